@@ -1,3 +1,11 @@
 pub mod Faults
 pub mod Files
 pub mod Images
+pub mod Memory
+pub mod MemoryCalls
+pub mod MemoryDisk
+pub mod MemoryHeld
+pub mod MemoryHistory
+pub mod MemoryPast
+pub mod MemoryStop
+pub mod MemoryTable

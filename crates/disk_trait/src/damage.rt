@@ -23,5 +23,8 @@ pub enum Damage {
     },
     /// What stands there has no reading, or doesn't fit what stands before it.
     #[error("{file:?} at {at} has no reading")]
-    Form { file: FileName, at: u64 },
+    Form {
+        file: FileName,
+        at: u64,
+    },
 }

@@ -7,7 +7,11 @@
 mod damage;
 mod disk;
 mod file_name;
+mod memory;
+mod settle;
 
 pub use damage::Damage;
 pub use disk::Disk;
 pub use file_name::{DiskError, Failed, FileKind, FileName};
+pub use memory::{DiskBytes, DiskCall, MemoryDisk, Pick};
+pub use settle::{cut_settled, write_settled};
