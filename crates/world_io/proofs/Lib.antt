@@ -1,0 +1,8 @@
+pub mod Counts
+pub mod Places
+pub mod Sorting
+pub mod Standing
+pub mod Listed
+pub mod Once
+mod Ascending
+mod Nothing

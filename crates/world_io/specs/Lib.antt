@@ -1,3 +1,13 @@
+pub mod Ascending
+pub mod Called
+pub mod Count
 pub mod Inbox
+pub mod Memory
+pub mod MemoryInbox
+pub mod MemoryOutbox
+pub mod MemoryStream
 pub mod Name
+pub mod NameLemmas
 pub mod Outbox
+pub mod StoreName
+pub mod Untold

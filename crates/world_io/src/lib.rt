@@ -7,15 +7,24 @@
 mod clock;
 mod error;
 mod inbox;
+mod memory;
 mod name;
 mod outbox;
+mod real;
 mod stream;
 
 pub use clock::{Clock, Gate};
 pub use error::WorldError;
 pub use inbox::Inbox;
+pub use memory::{
+    Calls, FreeGate, MemoryClock, MemoryInbox, MemoryOutbox, MemorySink, MemorySource, TurnGate,
+};
 pub use name::{Name, NameError};
 pub use outbox::Outbox;
+pub use real::{
+    FileSource, Folder, InboxFolder, MachineClock, OutboxFolder, OutputSink, StoreFolder,
+    make_folder,
+};
 pub use stream::{Sink, Source};
 
 /// The greatest content of a flow file, in bytes: 16 MiB.

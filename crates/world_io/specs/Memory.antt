@@ -1,0 +1,24 @@
+-- Files that stand in memory.
+use Rattle.std.specs.Prelude.{◌≡◌, ℕ, ◌<◌, true, false, List, [], ◌∷◌, Vec, length, map, slice_index_or, bytes_eq}
+use Rattle.std.specs.List.{AllByRecursion}
+use Rattle.std.specs.declared.alloc.Global.{Global}
+use Rattle.world_io.specs.Inbox.{InboxFile}
+
+-- a file, as an inbox shows it
+abbrev pub file_of : List ℕ × Vec ℕ Global → InboxFile
+file_of file = record { name = file.0; bytes = file.1.items }
+
+-- the names of the files
+abbrev pub names_of : List (List ℕ × Vec ℕ Global) → List (List ℕ)
+names_of files = map (λ file. file.0) files
+
+-- no text stands twice
+abbrev pub EachOnce : List (List ℕ) → Type 0
+EachOnce [] = Unit {0}
+EachOnce (name ∷ names) = AllByRecursion (λ other. bytes_eq name other ≡ false) names × EachOnce names
+
+-- the first place where a file of that name stands
+pub record IsPlaceOf (name : List ℕ) (files : List (List ℕ × Vec ℕ Global)) (place : ℕ) : Type 0 where
+  pub within : place < length files
+  pub here : (d : List ℕ × Vec ℕ Global) → bytes_eq (slice_index_or files place d).0 name ≡ true
+  pub first : (k : ℕ) (d : List ℕ × Vec ℕ Global) → k < place → bytes_eq (slice_index_or files k d).0 name ≡ false

@@ -1,0 +1,113 @@
+//! An outbox in memory.
+ghost use Rattle.std.specs.Prelude.{◌≡◌, ◌≢◌, ◌↔◌, true, ℕ, List, length, map, is_some, IfOk, OnOk, OnErr, IsErr, bytes_eq};
+ghost use Rattle.std.specs.List.{IsDistinct};
+ghost use Rattle.std.specs.Option.{option_copied};
+ghost use Rattle.std.proofs.lemmas.Map.Keys.{IsDistinct-prop};
+ghost use Rattle.world_io.specs.Inbox.{bytes_of};
+ghost use Rattle.world_io.specs.Outbox.{with_file};
+ghost use Rattle.world_io.specs.Memory.{EachOnce, file_of, names_of};
+
+use crate::memory::calls::Calls;
+use crate::memory::files::place_of;
+use crate::{Name, Outbox};
+use disk_trait::Failed;
+use std::alloc::AllocError;
+
+/// Keeps the files that are put into it. A call goes over them all.
+#[derive(Debug, Drop)]
+pub struct MemoryOutbox {
+    files: Vec<(Name, Vec<u8>)>,
+    /// Its calls so far.
+    pub calls: Calls,
+    ghost once: { IsDistinct bytes_eq (names_of files.items) } by { IsDistinct-prop bytes_eq (names_of files.items) },
+}
+
+impl MemoryOutbox {
+    ghost use Rattle.world_io.specs.MemoryOutbox.{files_standing};
+
+    /// An outbox in which these files stand. Its calls with the listed numbers fail, counted from 1.
+    pub fn new(files: Vec<(Name, Vec<u8>)>, failing: Vec<u64>) -> MemoryOutbox
+        requires { EachOnce (names_of files.items) }
+        ensures files { files_standing result ≡ map file_of files.items }
+        ensures standing { ⟦<MemoryOutbox as Outbox>⟧.standing result ≡ bytes_of (map file_of files.items) }
+        ensures faults { ⟦<MemoryOutbox as Outbox>⟧.faults result ≡ 0 }
+        ensures calls { result.calls ≡ record { failing = failing; count = 0; faults = 0 } }
+    {
+        MemoryOutbox {
+            files,
+            calls: Calls::new(failing),
+        }
+    }
+
+    /// What stands under the name.
+    pub fn standing(&self, name: &Name) -> Option<&[u8]>
+        ensures { option_copied result ≡ ⟦<MemoryOutbox as Outbox>⟧.standing self.now name.now }
+    {
+        let place = place_of(&self.files, name)?;
+        Some(&self.files[place].1)
+    }
+
+    /// How many files stand there.
+    pub fn count(&self) -> usize
+        ensures count { result ≡ length (files_standing self.now) }
+        ensures files { ⟦<MemoryOutbox as Outbox>⟧.standing self.now ≡ bytes_of (files_standing self.now) }
+        ensures once { EachOnce (map (λ file. file.name) (files_standing self.now)) }
+    {
+        self.files.len()
+    }
+}
+
+#[tactic(auto, using(crate::proofs::Counts::counts_any))]
+impl Outbox for MemoryOutbox {
+    ghost use Rattle.world_io.specs.Called.{Called, FailsNext};
+    ghost use Rattle.world_io.specs.MemoryOutbox.{files_standing, standing_in};
+
+    ghost tells = { true };
+
+    ghost standing = { standing_in };
+
+    ghost faults = { λ outbox. outbox.calls.faults };
+
+    fn holds(&mut self, name: &Name) -> Result<bool, Failed>
+        ensures holds { IfOk result (λ answer. answer ≡ is_some (standing_in self.old name.now)) }
+        ensures files { files_standing self.new ≡ files_standing self.old }
+        ensures fails { IsErr result ↔ FailsNext self.old.calls }
+        ensures called { Called self.old.calls self.new.calls (IsErr result) }
+    {
+        self.calls.begin()?;
+        Ok(place_of(&self.files, name).is_some())
+    }
+
+    /// Where memory refuses to grow, the call fails. A failed call changes nothing.
+    fn put(&mut self, name: &Name, bytes: &[u8]) -> Result<(), Failed>
+        ensures put { OnOk result (standing_in self.new ≡ with_file (standing_in self.old) name.now bytes.now) }
+        ensures others { (other : List ℕ) → other ≢ name.now → standing_in self.new other ≡ standing_in self.old other }
+        ensures failed { OnErr result (files_standing self.new ≡ files_standing self.old) }
+        ensures fails { FailsNext self.old.calls → IsErr result }
+        ensures called { Called self.old.calls self.new.calls (IsErr result) }
+    {
+        self.calls.begin()?;
+        match put_file(&mut self.files, name, bytes) {
+            Ok(()) => Ok(()),
+            Err(_) => Err(self.calls.fault()),
+        }
+    }
+}
+
+// Puts a file in place of the one of its name, or behind the others.
+fn put_file(files: &mut Vec<(Name, Vec<u8>)>, name: &Name, bytes: &[u8]) -> Result<(), AllocError>
+    requires { IsDistinct bytes_eq (names_of files.old.items) }
+    ensures put { OnOk result (bytes_of (map file_of files.new.items) ≡ with_file (bytes_of (map file_of files.old.items)) name.now bytes.now) }
+    ensures once { IsDistinct bytes_eq (names_of files.new.items) }
+    ensures err { OnErr result (files.new.items ≡ files.old.items) }
+{
+    let copy = Vec::from_slice(*files.allocator(), bytes)?;
+    match place_of(files, name) {
+        Some(place) => {
+            let file = &mut files[place];
+            file.1 = copy;
+        }
+        None => files.push((name.clone()?, copy))?,
+    }
+    Ok(())
+}
