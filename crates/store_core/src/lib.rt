@@ -1,13 +1,23 @@
-// A library with one function.
+//! The store of a flow: the queue of its files, kept in one log of gated entries.
 #![tactic(auto)]
 
-ghost use Rattle.std.specs.Prelude.{◌≡◌};
-ghost use Rattle.store_core.specs.Echo.{echo_of};
+mod block;
+mod bytes;
+mod entry;
+mod error;
+mod log;
+mod open;
+mod queue;
+mod queued;
+mod scan;
+mod store;
 
-// The `ensures` clause is the contract: what `echo` returns is `echo_of` of its argument, a definition
-// in `specs/Echo.antt`, which a caller's clause can cite too.
-pub fn echo(x: usize) -> usize
-    ensures { result ≡ echo_of x }
-{
-    x
-}
+pub use block::{Block, BlockEnd, PAYLOAD_MAX, append_block, read_block};
+pub use bytes::Bytes;
+pub use entry::{ADD_KIND, BEGIN_KIND, BEGIN_PAYLOAD, DROP_KIND, LogEntry, append_add, read_entry};
+pub use error::StoreError;
+pub use queued::Queued;
+pub use store::Store;
+
+#[cfg(test)]
+mod tests;

@@ -1,0 +1,8 @@
+pub mod Blocks
+pub mod Entries
+pub mod Heads
+pub mod Logs
+pub mod Mending
+pub mod ReadSoFar
+pub mod Spelled
+pub mod Stops

@@ -1,0 +1,38 @@
+-- The blocks that the store writes are those of its entries.
+use Rattle.std.proofs.Common.{ℕ, ◌<◌, ◌≤◌, List, [], length, arith, lit≤}
+use Rattle.world_io.specs.Name.{IsName}
+use Rattle.world_io.specs.declared.TheConstants.{CONTENT_MAX}
+use Rattle.store_core.specs.Block.{block}
+use Rattle.store_core.specs.Entry.{queued, add_kind, add_payload, begin_kind, begin_payload, drop_kind}
+use Rattle.store_core.specs.Kept.{IsBlockOf}
+use Rattle.store_core.specs.declared.entry.LogEntry.TheVariants.{Begin, Add, Drop}
+use Rattle.store_core.proofs.Blocks.{length-block, reading_of-block}
+use Rattle.world_io.specs.NameLemmas.{name-most}
+use Rattle.store_core.proofs.Entries.{length-add_payload, entry_at-add, entry_at-drop, entry_at-begin}
+
+pub spells_begin : IsBlockOf 0 Begin (block begin_kind begin_payload)
+spells_begin = record {
+  kind = begin_kind;
+  payload = begin_payload;
+  reads = λ rest. reading_of-block begin_kind begin_payload rest (lit≤ tt);
+  size = length-block begin_kind begin_payload;
+  says = entry_at-begin;
+}
+
+pub spells_drop : (place : ℕ) → 0 < place → IsBlockOf place Drop (block drop_kind [])
+spells_drop place later = record {
+  kind = drop_kind;
+  payload = [];
+  reads = λ rest. reading_of-block drop_kind [] rest (lit≤ tt);
+  size = length-block drop_kind [];
+  says = entry_at-drop place later;
+}
+
+pub spells_add : (place : ℕ) (name bytes : List ℕ) → 0 < place → IsName name → length bytes ≤ CONTENT_MAX → IsBlockOf place (Add (queued name bytes)) (block add_kind (add_payload name bytes))
+spells_add place name bytes later is small = record {
+  kind = add_kind;
+  payload = add_payload name bytes;
+  reads = λ rest. reading_of-block add_kind (add_payload name bytes) rest (omega (arith, length-add_payload name bytes, name-most name is));
+  size = length-block add_kind (add_payload name bytes);
+  says = entry_at-add place name bytes later is small;
+}
