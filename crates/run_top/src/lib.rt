@@ -1,13 +1,14 @@
-// A library with one function.
+//! The whole run of a flow: from the inbox through the store to the outbox.
 #![tactic(auto)]
 
-ghost use Rattle.std.specs.Prelude.{◌≡◌};
-ghost use Rattle.run_top.specs.Echo.{echo_of};
+mod command;
+mod moving;
+mod status;
 
-// The `ensures` clause is the contract: what `echo` returns is `echo_of` of its argument, a definition
-// in `specs/Echo.antt`, which a caller's clause can cite too.
-pub fn echo(x: usize) -> usize
-    ensures { result ≡ echo_of x }
-{
-    x
-}
+pub use command::{are_run, run};
+pub use status::{
+    DAMAGED, DISK_FAULT, DONE, INBOX_FAULT, OUT_OF_MEMORY, OUTBOX_FAULT, RunError, USAGE,
+};
+
+#[cfg(test)]
+mod tests;

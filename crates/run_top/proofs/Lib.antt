@@ -1,0 +1,4 @@
+pub mod Ends
+pub mod Journals
+pub mod Names
+pub mod Steps

@@ -1,0 +1,41 @@
+use Rattle.std.proofs.Common.{◌≡◌, ◌+◌, ℕ, List, ◌∷◌, drop, arith, sym, ◌∙◌, ap, subst}
+use Rattle.std.proofs.lemmas.List.{drop_more}
+use Rattle.world_io.specs.Inbox.{IsAscending}
+use Rattle.run_top.specs.Run.{IsLeftBut}
+use Rattle.run_top.proofs.Names.{left_at_first, left_after, ascends_behind}
+use Rattle.run_top.proofs.moving.move_all.Goals as goal
+
+pub loop-name-init : goal.loop-name-init
+loop-name-init g c = record {
+  works = c.in_ok-put_all.ensures.works;
+  kept = c.in_ok-put_all.ensures.kept;
+  empty = c.in_ok-put_all.ensures.empty;
+  goes_on = λ opened start in_told out_told run. c.in_ok-put_all.ensures.goes_on opened start (g.I.Inbox.left c.args.inbox.now) out_told run;
+  left = λ told. left_at_first c.args.names.now (g.I.Inbox.left c.args.inbox.now) (c.requires.names told);
+  disk_faults = c.put_all.ensures.disk_cause.never_falls;
+  inbox_faults = omega arith;
+  outbox_faults = c.put_all.ensures.outbox_cause.never_falls;
+}
+
+pub loop-name-preserved : goal.loop-name-preserved
+loop-name-preserved g c = record {
+  works = c.in_ok-put_all-2.ensures.works;
+  kept = c.in_ok-put_all-2.ensures.kept;
+  empty = c.in_ok-put_all-2.ensures.empty;
+  goes_on = λ opened start in_told out_told run.
+      c.in_ok-put_all-2.ensures.goes_on opened start (g.I.Inbox.left c.take.new.inbox) out_told
+      (c.in_ok-take.ensures.goes_on opened start (g.O.Outbox.standing c.loop-name.outbox) in_told (c.loop-name.invariant.goes_on opened start in_told out_told run));
+  left = λ told.
+      let names : List (List ℕ) = c.args.names.now in
+      let name : List ℕ = c.name-item.result in
+      let rest = drop (c.loop-name.name-index + 1) names in
+      let split : drop c.loop-name.name-index names ≡ name ∷ rest =
+      drop_more names c.loop-name.name-index name (omega arith) ∙ ap (λ (n : List ℕ). n ∷ rest) (sym c.name-item.is) in
+      left_after name rest (g.I.Inbox.left c.loop-name.inbox) (g.I.Inbox.left c.take.new.inbox)
+      (subst (λ (l : List (List ℕ)). IsAscending l) split (ascends_behind c.loop-name.name-index names c.requires.ascending))
+      (subst (λ (l : List (List ℕ)). IsLeftBut l (g.I.Inbox.left c.loop-name.inbox)) split (c.loop-name.invariant.left told))
+      (c.in_ok-take.ensures.left told);
+  disk_faults = omega (arith, c.loop-name.invariant.disk_faults, c.take.ensures.disk_cause.never_falls, c.put_all-in-loop-name.ensures.disk_cause.never_falls);
+  inbox_faults = omega (arith, c.loop-name.invariant.inbox_faults, c.take.ensures.inbox_cause.never_falls);
+  outbox_faults = omega (arith, c.loop-name.invariant.outbox_faults, c.put_all-in-loop-name.ensures.outbox_cause.never_falls);
+}

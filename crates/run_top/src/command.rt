@@ -1,0 +1,105 @@
+//! The command that the words say.
+ghost use Rattle.std.specs.Prelude.{◌≡◌, ◌⊎◌, ℕ, ◌+◌, ◌↔◌, true, false, List, IsTrue, IsErrOf, Ok, Err};
+ghost use Rattle.disk_trait.specs.Images.{next_moment};
+ghost use Rattle.disk_trait.specs.Faults.{CountsFaults};
+ghost use Rattle.disk_trait.specs.declared.damage.Damage.{Damage as TheDamage};
+ghost use Rattle.store_core.specs.State.{stands_for};
+ghost use Rattle.store_core.specs.declared.queued.Queued.{Queued};
+ghost use Rattle.run_top.specs.Run.{HasRun, IsNotOpened, status_at};
+ghost use Rattle.run_top.specs.Words.{is_run};
+
+use crate::moving::move_all;
+use crate::{DAMAGED, DISK_FAULT, DONE, INBOX_FAULT, OUT_OF_MEMORY, OUTBOX_FAULT, RunError, USAGE};
+use disk_trait::Disk;
+use std::alloc::Global;
+use store_core::Store;
+use world_io::{Clock, Gate, Inbox, Outbox, Sink, Source};
+
+/// Runs the command that the words say, and answers its status.
+///
+/// The one command is `run`: it opens the store on the disk, puts the files that wait there into the
+/// outbox, and then takes each file of the inbox of at most 16 MiB, in the order of their names, into the
+/// store and puts it into the outbox. The other devices aren't used yet.
+pub fn run<R, D: Disk, I: Inbox, O: Outbox, F: Source, S: Sink, C: Clock, G: Gate>(
+    _rt: &R,
+    alloc: Global,
+    words: &[String],
+    _lot: u64,
+    disk: &mut D,
+    inbox: &mut I,
+    outbox: &mut O,
+    _flow: &mut F,
+    _sink: &mut S,
+    _clock: &mut C,
+    _gate: &G,
+) -> u8
+    // The headline. Where the devices tell and the files stand for a queue, there is a journal of which all that
+    // HasRun says is true, from the moment behind the opening's first sync on; or that sync failed.
+    ensures headline { IsTrue D.tells → IsTrue I.tells → IsTrue O.tells → is_run words.now ≡ true → (queue : List Queued) → stands_for (D.held disk.old) ≡ Ok queue
+        → HasRun result (record { queue = queue; left = I.left inbox.old; outbox = O.standing outbox.old }) (D.held disk.new) (D.images disk.new)
+        (D.moment disk.old + 1) (D.moment disk.new) (I.left inbox.new) (O.standing outbox.new)
+        ⊎ (IsNotOpened result D.held D.moment D.images disk.old disk.new × (inbox.new ≡ inbox.old) × (outbox.new ≡ outbox.old)) }
+
+    // Each status has its cause.
+    ensures usage { result ≡ USAGE ↔ (is_run words.now ≡ false) }
+    ensures usage_untouched { result ≡ USAGE → (disk.new ≡ disk.old) × (inbox.new ≡ inbox.old) × (outbox.new ≡ outbox.old) }
+    ensures damaged { result ≡ DAMAGED → IsTrue D.tells → (damage : TheDamage) × (stands_for (D.held disk.old) ≡ Err damage) }
+    ensures damaged_untouched { result ≡ DAMAGED
+        → (D.held disk.new ≡ D.held disk.old) × (D.moment disk.new ≡ next_moment (D.moment disk.old)) × (inbox.new ≡ inbox.old) × (outbox.new ≡ outbox.old) }
+    ensures damage_found { IsTrue D.tells → is_run words.now ≡ true → (damage : TheDamage) → stands_for (D.held disk.old) ≡ Err damage
+        → (result ≡ DAMAGED) ⊎ (result ≡ DISK_FAULT) ⊎ (result ≡ OUT_OF_MEMORY) }
+    ensures disk_cause { CountsFaults (D.faults disk.old) (D.faults disk.new) (result ≡ DISK_FAULT) }
+    ensures inbox_cause { CountsFaults (I.faults inbox.old) (I.faults inbox.new) (result ≡ INBOX_FAULT) }
+    ensures outbox_cause { CountsFaults (O.faults outbox.old) (O.faults outbox.new) (result ≡ OUTBOX_FAULT) }
+    ensures statuses { (result ≡ DONE) ⊎ (result ≡ USAGE) ⊎ (result ≡ DAMAGED) ⊎ (result ≡ DISK_FAULT) ⊎ (result ≡ INBOX_FAULT) ⊎ (result ≡ OUTBOX_FAULT) ⊎ (result ≡ OUT_OF_MEMORY) }
+{
+    if !are_run(words) {
+        return USAGE;
+    }
+    match run_flow(alloc, disk, inbox, outbox) {
+        Ok(()) => DONE,
+        Err(error) => error.status(),
+    }
+}
+
+/// Whether the words are the one command.
+pub fn are_run(words: &[String]) -> bool
+    ensures { result ≡ is_run words.now }
+{
+    match words {
+        [word] => word.as_str() == "run",
+        _ => false,
+    }
+}
+
+// Opens the store, lists the inbox, and moves what there is.
+fn run_flow<D: Disk, I: Inbox, O: Outbox>(
+    alloc: Global,
+    disk: &mut D,
+    inbox: &mut I,
+    outbox: &mut O,
+) -> Result<(), RunError>
+    ensures headline { IsTrue D.tells → IsTrue I.tells → IsTrue O.tells → (queue : List Queued) → stands_for (D.held disk.old) ≡ Ok queue
+        → HasRun (status_at result) (record { queue = queue; left = I.left inbox.old; outbox = O.standing outbox.old }) (D.held disk.new) (D.images disk.new)
+        (D.moment disk.old + 1) (D.moment disk.new) (I.left inbox.new) (O.standing outbox.new)
+        ⊎ (IsNotOpened (status_at result) D.held D.moment D.images disk.old disk.new × (inbox.new ≡ inbox.old) × (outbox.new ≡ outbox.old)) }
+    ensures damaged { (damage : TheDamage) → IsErrOf result (RunError.Damaged damage) → IsTrue D.tells → stands_for (D.held disk.old) ≡ Err damage }
+    ensures damaged_untouched { (damage : TheDamage) → IsErrOf result (RunError.Damaged damage)
+        → (D.held disk.new ≡ D.held disk.old) × (D.moment disk.new ≡ next_moment (D.moment disk.old)) × (inbox.new ≡ inbox.old) × (outbox.new ≡ outbox.old) }
+    ensures damage_found { IsTrue D.tells → (damage : TheDamage) → stands_for (D.held disk.old) ≡ Err damage
+        → (result ≡ Err (RunError.Damaged damage)) ⊎ (result ≡ Err RunError.Disk) ⊎ (result ≡ Err RunError.Memory) }
+    ensures disk_cause { CountsFaults (D.faults disk.old) (D.faults disk.new) (IsErrOf result RunError.Disk) }
+    ensures inbox_cause { CountsFaults (I.faults inbox.old) (I.faults inbox.new) (IsErrOf result RunError.Inbox) }
+    ensures outbox_cause { CountsFaults (O.faults outbox.old) (O.faults outbox.new) (IsErrOf result RunError.Outbox) }
+{
+    let mut store = match Store::load(alloc, disk) {
+        Ok(store) => store,
+        Err(error) => return Err(RunError::from(error)),
+    };
+    let mut names = Vec::new(alloc);
+    if let Err(error) = inbox.list(&mut names) {
+        return Err(RunError::from(error));
+    }
+    move_all(alloc, &mut store, disk, inbox, outbox, names.as_slice())?;
+    Ok(())
+}
