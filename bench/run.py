@@ -1,0 +1,190 @@
+#!/usr/bin/env python3
+"""What the built program costs, beside a plain durable copy of the same files made in the same run.
+
+It times many small files and a few large ones, counts the syncs for each further file (by strace), and
+shows that twice the files cost about twice as much, and how memory grows. The plain copy is timed twice:
+by the commands `cp` and `sync` for each file and its folder, and by the same calls within one process,
+which is the harder measure, since it starts no process for each file.
+
+Figures depend on the machine: this is no test, and isn't run by one. It ends with 1 where the count of
+syncs or a growth isn't what is demanded.
+"""
+
+import os
+import pathlib
+import platform
+import random
+import re
+import shutil
+import statistics
+import subprocess
+import sys
+import time
+
+sys.path.insert(0, str(pathlib.Path(__file__).resolve().parent.parent / "tests"))
+sys.dont_write_bytecode = True
+
+from support import DONE, find_program, need, need_status, new_folder, options, read_files, run, write_files
+
+SYNCS = "fsync,fdatasync,sync,syncfs,sync_file_range,msync"
+
+# For each further file: two for the log's add, two for the outbox, two for the log's drop.
+SYNCS_OF_A_FILE = 6
+
+# Twice the files may take so many times as long, and a file's name so many bytes of memory.
+LEAST_TIME, MOST_TIME = 1.6, 2.5
+MEMORY_OF_A_NAME = 300
+
+
+def many(count, size):
+    return {f"file-{n:06}": random.randbytes(size) for n in range(count)}
+
+
+def copy_by_commands(source, target):
+    """`cp` and `sync` of each file, and `sync` of its folder, as a careful script would."""
+    script = 'cd "$1" && for f in *; do cp -- "$f" "$2/$f" && sync -- "$2/$f" && sync -- "$2" || exit 1; done'
+    subprocess.run(["sh", "-c", script, "copy", source, target], check=True)
+
+
+def copy_in_process(source, target):
+    folder = os.open(target, os.O_RDONLY)
+    for name in sorted(os.listdir(source)):
+        with open(source / name, "rb") as file:
+            content = file.read()
+        with open(target / name, "wb") as file:
+            file.write(content)
+            file.flush()
+            os.fsync(file.fileno())
+        os.fsync(folder)
+    os.close(folder)
+
+
+def timed(parent, files, body):
+    """The seconds of a copy of the files into a new folder."""
+    with new_folder(parent) as folder:
+        write_files(folder / "in", files)
+        (folder / "out").mkdir()
+        os.sync()
+        start = time.monotonic()
+        body(folder / "in", folder / "out")
+        seconds = time.monotonic() - start
+        need(read_files(folder / "out") == files, "the copy differs")
+        return seconds
+
+
+def flow(program, parent, files):
+    with new_folder(parent) as folder:
+        write_files(folder / "in", files)
+        os.sync()
+        ended = run(program, folder)
+        need_status(ended, DONE)
+        need(read_files(folder / "out") == files, "out holds other bytes than were sent")
+        return ended
+
+
+def middle(runs):
+    """The run of the median time."""
+    return sorted(runs, key=lambda ended: ended.seconds)[len(runs) // 2]
+
+
+def compare(program, parent, times, text, files):
+    total = sum(map(len, files.values())) / 1e6
+    ours, commands, process = [], [], []
+    # In turn, so that what else the machine does meets all three.
+    for _ in range(times):
+        ours.append(flow(program, parent, files))
+        commands.append(timed(parent, files, copy_by_commands))
+        process.append(timed(parent, files, copy_in_process))
+    ours, commands, process = middle(ours), statistics.median(commands), statistics.median(process)
+    count = len(files)
+
+    def line(name, seconds):
+        print(f"  {name:32} {seconds:8.2f} s {count / seconds:9.0f} files/s {total / seconds:8.1f} MB/s")
+
+    print(f"{text}: {count} files, {total:.1f} MB")
+    line("flow run", ours.seconds)
+    line("cp and sync, commands", commands)
+    line("the same calls in one process", process)
+    print(f"  ratio of time: {ours.seconds / commands:.2f} to the commands, "
+          f"{ours.seconds / process:.2f} to the calls in one process; "
+          f"peak of memory {ours.peak / 1e6:.1f} MB", flush=True)
+
+
+def syncs(program, parent, count):
+    """How many syncs a run over so many files asks of the system."""
+    with new_folder(parent) as folder:
+        write_files(folder / "in", many(count, 1024))
+        trace = folder / "trace"
+        command = ["strace", "-f", "-qq", "-e", "signal=none", "-e", f"trace={SYNCS}", "-o", trace, program, "run"]
+        ended = subprocess.run(command, cwd=folder, stdin=subprocess.DEVNULL)
+        need(ended.returncode == DONE, f"status {ended.returncode} under strace")
+        lines = trace.read_text().splitlines()
+        need(all(line.endswith("= 0") for line in lines), "a sync failed, or was cut in two")
+        kinds = {}
+        for line in lines:
+            kind = re.search(r"(\w+)\(", line).group(1)
+            kinds[kind] = kinds.get(kind, 0) + 1
+        return len(lines), kinds
+
+
+def count_syncs(program, parent):
+    opening, kinds = syncs(program, parent, 0)
+    print(f"syncs with no file: {opening} ({told(kinds)}): three folders made, a log begun", flush=True)
+    one, _ = syncs(program, parent, 1000)
+    two, kinds = syncs(program, parent, 2000)
+    slope = (two - one) / 1000
+    print(f"syncs with 1,000 files: {one}; with 2,000 files: {two} ({told(kinds)})")
+    print(f"  for each further file: {slope:g}, {SYNCS_OF_A_FILE} are demanded; "
+          f"beside them {one - 1000 * SYNCS_OF_A_FILE} for the opening")
+    return slope == SYNCS_OF_A_FILE
+
+
+def told(kinds):
+    return ", ".join(f"{count} {kind}" for kind, count in sorted(kinds.items()))
+
+
+def grows(program, parent, times):
+    once, twice = many(2000, 4096), many(4000, 4096)
+    one, two = [], []
+    for _ in range(times):
+        one.append(flow(program, parent, once))
+        two.append(flow(program, parent, twice))
+    one, two = middle(one), middle(two)
+    ratio = two.seconds / one.seconds
+    name = (two.peak - one.peak) / 2000
+    print(f"2,000 files take {one.seconds:.2f} s and 4,000 take {two.seconds:.2f} s: ratio {ratio:.2f}")
+    print(f"  peak of memory {one.peak / 1e6:.2f} and {two.peak / 1e6:.2f} MB: {name:.0f} bytes for each further "
+          "file, all of 4,096 bytes", flush=True)
+    return LEAST_TIME <= ratio <= MOST_TIME and name <= MEMORY_OF_A_NAME
+
+
+def machine(parent):
+    model = re.search(r"^model name\s*: (.*)$", pathlib.Path("/proc/cpuinfo").read_text(), re.MULTILINE)
+    with new_folder(parent) as folder:
+        kind = subprocess.run(["stat", "-f", "-c", "%T", folder], stdout=subprocess.PIPE, text=True).stdout.strip()
+    return (f"{time.strftime('%Y-%m-%d %H:%M')}, {os.cpu_count()} processors"
+            f"{' ' + model.group(1) if model else ''}, Linux {platform.release()}, file system {kind}")
+
+
+def main():
+    parser = options(__doc__)
+    parser.add_argument("--times", type=int, default=3, help="runs of each, the median counts (default 3)")
+    parser.add_argument("--no-strace", action="store_true", help="leave out the count of syncs")
+    given = parser.parse_args()
+    if not given.no_strace and shutil.which("strace") is None:
+        sys.exit("strace is missing: install it (on Debian: apt-get install -y strace), or give --no-strace")
+    program = find_program(given.program)
+    random.seed(1)
+    print(machine(given.folder))
+    print(f"bench/run.py --times {given.times}")
+    good = True
+    compare(program, given.folder, given.times, "small files", many(2000, 4096))
+    compare(program, given.folder, given.times, "large files", many(12, 16 * 1024 * 1024))
+    good &= grows(program, given.folder, given.times)
+    if not given.no_strace:
+        good &= count_syncs(program, given.folder)
+    print("as demanded" if good else "NOT as demanded")
+    sys.exit(0 if good else 1)
+
+
+main()

@@ -1,0 +1,355 @@
+#!/usr/bin/env python3
+"""Tries the built program over real folders: what it delivers, what it leaves, and how it refuses."""
+
+import os
+import pathlib
+import random
+import resource
+import signal
+import subprocess
+import time
+
+import log_format
+from support import (DAMAGED, DISK, DONE, INBOX, MEMORY, OUTBOX, USAGE, Report, Wrong, find_program,
+                     names, need, need_status, new_folder, options, parse_seeded, photo, read_files, run,
+                     write_files)
+
+CONTENT_MAX = 16_777_216
+
+THREE = {"a.txt": b"first", "b.csv": b"1,2\n3,4\n", "c": b""}
+
+
+class Cases:
+    def __init__(self, program, parent, count):
+        self.program = program
+        self.parent = parent
+        self.count = count
+
+    def folder(self):
+        return new_folder(self.parent)
+
+    def run(self, folder, *words, limits=None):
+        return run(self.program, folder, words or ("run",), limits)
+
+    def delivers(self, folder, files):
+        """The next run ends with 0, and `out` then holds these files and nothing else."""
+        ended = self.run(folder)
+        need_status(ended, DONE)
+        need(ended.said == b"", f"it printed {ended.said!r}")
+        need(names(folder / "out") == sorted(files), f"out holds {names(folder / 'out')[:8]}")
+        need(read_files(folder / "out") == files, "a file of out has other bytes")
+        need(waiting(folder) == [], "the store still holds a file")
+
+    # What is delivered.
+
+    def many(self):
+        with self.folder() as folder:
+            files = {f"file-{n:05}": random.randbytes(1024) for n in range(self.count)}
+            write_files(folder / "in", files)
+            self.delivers(folder, files)
+            need(names(folder / "in") == [], "in isn't empty")
+
+    def empty_file(self):
+        with self.folder() as folder:
+            write_files(folder / "in", {"empty": b""})
+            self.delivers(folder, {"empty": b""})
+
+    def no_files(self):
+        with self.folder() as folder:
+            self.delivers(folder, {})
+            need(names(folder) == ["in", "out", "store"], "the three folders aren't made")
+            need(log_format.log() == (folder / "store" / "log-1").read_bytes(), "the log isn't an empty one")
+
+    def largest(self):
+        with self.folder() as folder:
+            fits = random.randbytes(CONTENT_MAX)
+            write_files(folder / "in", {"fits": fits, "over": fits + b"1", "small": b"s"})
+            self.delivers(folder, {"fits": fits, "small": b"s"})
+            need(read_files(folder / "in") == {"over": fits + b"1"}, "the larger file didn't stay as it was")
+
+    def others_stay(self):
+        with self.folder() as folder:
+            inbox = folder / "in"
+            write_files(inbox, THREE)
+            (inbox / "folder").mkdir()
+            write_files(inbox / "folder", {"inner": b"stays"})
+            (inbox / "link").symlink_to("folder/inner")
+            (inbox / "broken").symlink_to("nowhere")
+            os.mkfifo(inbox / "pipe")
+            self.delivers(folder, THREE)
+            need(names(inbox) == ["broken", "folder", "link", "pipe"], f"in holds {names(inbox)}")
+            need((inbox / "folder" / "inner").read_bytes() == b"stays", "the folder's file changed")
+
+    def odd_names(self):
+        files = {"größe-水.txt": b"1", " ": b"2", "a\nb": b"3", "-rf": b"4", "\\": b"5", "...": b"6",
+                 "n" * 255: b"7", ".flow-aside-0": b"8", ".flow-aside-1": b"9", ".hidden": b"10"}
+        with self.folder() as folder:
+            write_files(folder / "in", files)
+            self.delivers(folder, files)
+
+    def replaces(self):
+        with self.folder() as folder:
+            write_files(folder / "in", {"a": b"newer"})
+            write_files(folder / "out", {"a": b"old and longer", "other": b"stays"})
+            self.delivers(folder, {"a": b"newer", "other": b"stays"})
+
+    def order(self):
+        """The log tells in which order the files came: by the bytes of their names."""
+        with self.folder() as folder:
+            write_files(folder / "in", {name: name.encode() for name in ("b", "a", "é", "B", "aa")})
+            need_status(self.run(folder), DONE)
+            frames = b"".join(log_format.add(name, name.encode()) + log_format.drop()
+                              for name in ("B", "a", "aa", "b", "é"))
+            need((folder / "store" / "log-1").read_bytes() == log_format.begin() + frames + b"\0",
+                 "the log isn't an add and a drop for each file, by name")
+
+    def twice(self):
+        with self.folder() as folder:
+            write_files(folder / "in", THREE)
+            self.delivers(folder, THREE)
+            before = photo(folder / "store", folder / "in", folder / "out")
+            self.delivers(folder, THREE)
+            need(photo(folder / "store", folder / "in", folder / "out") == before,
+                 "the second run changed something")
+            write_files(folder / "in", {"d": b"later"})
+            self.delivers(folder, {**THREE, "d": b"later"})
+
+    def other_entries(self):
+        """What stands in the store's folder under other names is left alone."""
+        with self.folder() as folder:
+            write_files(folder / "in", THREE)
+            others = {"notes": b"mine", "log-01": b"x", "log-": b"y", "LOG-1": b"z", "log-1.old": b"w"}
+            write_files(folder / "store", others)
+            before = photo(*(folder / "store" / name for name in others))
+            self.delivers(folder, THREE)
+            need(photo(*(folder / "store" / name for name in others)) == before, "one of them changed")
+
+    # What is refused, and what is left then.
+
+    def out_is_a_file(self):
+        with self.folder() as folder:
+            write_files(folder / "in", THREE)
+            write_files(folder, {"out": b"no folder"})
+            need_status(self.run(folder), OUTBOX)
+            need((folder / "out").read_bytes() == b"no folder", "out changed")
+            need(waiting(folder) == [(b"a.txt", THREE["a.txt"])], "the log doesn't hold the first file's bytes")
+            need(names(folder / "in") == ["b.csv", "c"], f"in holds {names(folder / 'in')}")
+            need_status(self.run(folder), OUTBOX)
+            need(waiting(folder) == [(b"a.txt", THREE["a.txt"])], "the second run lost it")
+            (folder / "out").unlink()
+            self.delivers(folder, THREE)
+
+    def out_has_a_folder(self):
+        with self.folder() as folder:
+            write_files(folder / "in", THREE)
+            (folder / "out" / "b.csv").mkdir(parents=True)
+            need_status(self.run(folder), OUTBOX)
+            need(waiting(folder) == [(b"b.csv", THREE["b.csv"])], "the log doesn't hold the file")
+            need(names(folder / "out") == ["a.txt", "b.csv"], f"out holds {names(folder / 'out')}")
+            (folder / "out" / "b.csv").rmdir()
+            self.delivers(folder, THREE)
+
+    def store_is_a_file(self):
+        with self.folder() as folder:
+            write_files(folder / "in", THREE)
+            write_files(folder, {"store": b"no folder"})
+            before = photo(folder / "in", folder / "store")
+            need_status(self.run(folder), DISK)
+            need(photo(folder / "in", folder / "store") == before, "in or store changed")
+            need(names(folder / "out") == [], "out isn't empty")
+            (folder / "store").unlink()
+            self.delivers(folder, THREE)
+
+    def log_is_a_folder(self):
+        with self.folder() as folder:
+            write_files(folder / "in", THREE)
+            (folder / "store" / "log-1").mkdir(parents=True)
+            before = photo(folder / "in")
+            need_status(self.run(folder), DISK)
+            need(photo(folder / "in") == before, "in changed")
+            (folder / "store" / "log-1").rmdir()
+            self.delivers(folder, THREE)
+
+    def in_is_a_file(self):
+        with self.folder() as folder:
+            write_files(folder, {"in": b"no folder"})
+            need_status(self.run(folder), INBOX)
+            need((folder / "in").read_bytes() == b"no folder", "in changed")
+            (folder / "in").unlink()
+            write_files(folder / "in", THREE)
+            self.delivers(folder, THREE)
+
+    def name_is_no_text(self):
+        with self.folder() as folder:
+            bad = b"caf\xe9"
+            write_files(folder / "in", {**THREE, os.fsdecode(bad): b"latin"})
+            before = photo(folder / "in")
+            need_status(self.run(folder), INBOX)
+            need(photo(folder / "in") == before, "in changed")
+            need(names(folder / "out") == [] and waiting(folder) == [], "something was taken")
+            os.unlink(os.path.join(os.fsencode(folder / "in"), bad))
+            self.delivers(folder, THREE)
+
+    def other_words(self):
+        words = ((), ("runs",), ("run", "run"), ("RUN",), ("",), ("run", ""), ("--help",), (" run",))
+        with self.folder() as folder:
+            write_files(folder / "in", THREE)
+            for part in ("store", "out"):
+                (folder / part).mkdir()
+            before = photo(folder)
+            for said in words:
+                need_status(run(self.program, folder, said), USAGE)
+            need(photo(folder) == before, "something in the folder changed")
+            self.delivers(folder, THREE)
+
+    def other_words_make_nothing(self):
+        with self.folder() as folder:
+            need_status(run(self.program, folder, ("runs",)), USAGE)
+            need(names(folder) == [], f"it made {names(folder)}")
+
+    def second_process(self):
+        with self.folder() as folder:
+            files = {f"{n:05}": random.randbytes(2000) for n in range(max(200, self.count))}
+            write_files(folder / "in", files)
+            first = start(self.program, folder)
+            try:
+                wait_for(lambda: (folder / "out").is_dir() and len(os.listdir(folder / "out")) > 3, first)
+                first.send_signal(signal.SIGSTOP)
+                wait_for(lambda: state_of(first.pid) == "T", first)
+                left = len(names(folder / "in"))
+                need(left > 0, "the first process was done too early")
+                before = photo(folder / "store", folder / "in", folder / "out")
+                need_status(self.run(folder), DISK)
+                need(photo(folder / "store", folder / "in", folder / "out") == before,
+                     "the second process touched something")
+                first.send_signal(signal.SIGCONT)
+                status = first.wait(120)
+                need(status == DONE, f"the first process ended with {status}")
+            finally:
+                first.kill()
+                first.wait()
+            need(read_files(folder / "out") == files and names(folder / "in") == [], "a file is missing")
+            self.delivers(folder, files)
+            return f"stopped with {left} of {len(files)} files left"
+
+    def write_is_refused(self):
+        """The system refuses a write of the log past a size, in the middle of it."""
+        with self.folder() as folder:
+            files = {f"{n:03}": random.randbytes(1000) for n in range(60)}
+            write_files(folder / "in", files)
+
+            def limits():
+                signal.signal(signal.SIGXFSZ, signal.SIG_IGN)
+                resource.setrlimit(resource.RLIMIT_FSIZE, (33_333, 33_333))
+
+            need_status(self.run(folder, limits=limits), DISK)
+            put = read_files(folder / "out")
+            left = read_files(folder / "in")
+            need(0 < len(put) < len(files), f"{len(put)} files were put")
+            need({**put, **left} == files, "a file is neither in out nor in in")
+            self.delivers(folder, files)
+            return f"{len(put)} files were put before it"
+
+    def memory_is_refused(self):
+        with self.folder() as folder:
+            files = {"large": random.randbytes(CONTENT_MAX), "small": b"s"}
+            write_files(folder / "in", files)
+            before = photo(folder / "in")
+
+            def limits():
+                resource.setrlimit(resource.RLIMIT_AS, (40_000_000, 40_000_000))
+
+            need_status(self.run(folder, limits=limits), MEMORY)
+            need(photo(folder / "in") == before, "in changed")
+            need(names(folder / "out") == [] and waiting(folder) == [], "something was taken")
+            self.delivers(folder, files)
+
+    def streams_are_closed(self):
+        """Where the standard streams are closed, nothing of theirs lands in a file of ours."""
+        with self.folder() as folder:
+            write_files(folder / "in", THREE)
+            status = subprocess.run(["sh", "-c", 'exec "$0" run <&- >&- 2>&-', self.program],
+                                    cwd=folder).returncode
+            need(status == DONE, f"status {status}")
+            need(read_files(folder / "out") == THREE, "out holds other files")
+            self.delivers(folder, THREE)
+
+    # What an earlier stop left.
+
+    def aside_is_swept(self):
+        with self.folder() as folder:
+            write_files(folder / "in", THREE)
+            for number in (0, 5):
+                (folder / "out" / f".flow-aside-{number}").mkdir(parents=True)
+                write_files(folder / "out" / f".flow-aside-{number}", {"part": b"half"})
+            self.delivers(folder, THREE)
+
+    def taken_twice(self):
+        """A removal from the inbox that a stop took back: the file is delivered a second time, the same."""
+        with self.folder() as folder:
+            write_files(folder / "in", {"a": b"one"})
+            self.delivers(folder, {"a": b"one"})
+            write_files(folder / "in", {"a": b"one"})
+            self.delivers(folder, {"a": b"one"})
+
+
+def waiting(folder):
+    return log_format.read((folder / "store" / "log-1").read_bytes())
+
+
+def start(program, folder):
+    return subprocess.Popen([program, "run"], cwd=folder, stdin=subprocess.DEVNULL,
+                            stdout=subprocess.DEVNULL, stderr=subprocess.DEVNULL)
+
+
+def state_of(pid):
+    return pathlib.Path(f"/proc/{pid}/stat").read_text().rpartition(")")[2].split()[0]
+
+
+def wait_for(holds, child):
+    for _ in range(60_000):
+        if holds():
+            return
+        if child.poll() is not None:
+            raise Wrong(f"the process ended early, with {child.returncode}")
+        time.sleep(0.001)
+    raise Wrong("it took more than a minute")
+
+
+def main():
+    parser = options(__doc__)
+    parser.add_argument("--count", type=int, default=1000, help="how many small files (default 1000)")
+    given, seed = parse_seeded(parser)
+    cases = Cases(find_program(given.program), given.folder, given.count)
+    report = Report()
+    print(f"folders: {given.count} small files, seed {seed}", flush=True)
+    for text, body in (
+            (f"{given.count} files of 1 KiB are delivered, and in is empty", cases.many),
+            ("an empty file is delivered", cases.empty_file),
+            ("with nothing to do the three folders and an empty log are made", cases.no_files),
+            ("a file of 16,777,216 bytes is delivered, and one of 16,777,217 stays", cases.largest),
+            ("a folder, two links and a pipe stay, and the files beside them are delivered", cases.others_stay),
+            ("names that need care are delivered", cases.odd_names),
+            ("a file of the same name in out is replaced, and another one stays", cases.replaces),
+            ("files are taken in the order of their names' bytes", cases.order),
+            ("a second run after status 0 ends with 0 and changes nothing", cases.twice),
+            ("other entries in store are left alone", cases.other_entries),
+            ("out is a file: 7, the log holds the bytes, and the next run delivers them", cases.out_is_a_file),
+            ("a folder stands under the name in out: 7, and later delivered", cases.out_has_a_folder),
+            ("store is a file: 5, in untouched", cases.store_is_a_file),
+            ("log-1 is a folder: 5, in untouched", cases.log_is_a_folder),
+            ("in is a file: 6", cases.in_is_a_file),
+            ("a name in in isn't UTF-8: 6, in untouched", cases.name_is_no_text),
+            ("other words than run: 2, nothing touched", cases.other_words),
+            ("other words than run in a new folder: nothing is made", cases.other_words_make_nothing),
+            ("a second process gets 5 and touches nothing, and the first ends with 0", cases.second_process),
+            ("a write that the system refuses: 5, nothing lost", cases.write_is_refused),
+            ("memory that the system refuses: 12, nothing lost", cases.memory_is_refused),
+            ("the standard streams are closed", cases.streams_are_closed),
+            ("what a stop left aside in out is swept", cases.aside_is_swept),
+            ("a file that comes back to in is delivered again", cases.taken_twice)):
+        report.case(text, body)
+    report.end()
+
+
+main()

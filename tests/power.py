@@ -1,0 +1,347 @@
+#!/usr/bin/env python3
+"""Cuts the power in a record of the built program's calls, and starts the program on what may be left.
+
+A run over a few files is recorded by strace. At each call of the record many stops are tried. What a stop
+leaves is drawn from what no sync has settled by then: of each write all, a part, or any bytes; of each name
+that came or went whether it did; of a rename both of its sides or none. Each is made a real folder, and the
+program is started there until it ends with 0. Then every file has to be in `out` with its bytes, and
+nothing may be left over.
+
+This is a model of a file system that settles no more than it is asked to. To show that the trial can find
+a loss, it is made again from records in which one kind of sync is left out; each of those has to lose.
+"""
+
+import os
+import random
+import re
+import shutil
+import subprocess
+
+import log_format
+from support import (DONE, Report, Wrong, find_program, names, need, new_folder, options, parse_seeded, read_files, run,
+                     write_files)
+
+FILES = {"a.txt": b"hi", "b": b"", "größe": bytes(range(256)) * 9}
+
+CHANGING = ("openat,open,creat,mkdir,mkdirat,rename,renameat,renameat2,unlink,unlinkat,rmdir,link,linkat,"
+            "symlink,symlinkat,write,writev,pwrite64,pwritev,pwritev2,truncate,ftruncate,fallocate,"
+            "copy_file_range,sendfile,fsync,fdatasync,sync,syncfs,sync_file_range")
+
+
+# The record.
+
+def record(program, folder):
+    """The changing calls of a run, each as its kind and what it works on; paths are below the folder."""
+    with new_folder() as aside:
+        trace = aside / "trace"
+        subprocess.run(["strace", "-f", "-qq", "-xx", "-y", "-s", "1000000", "-e", "signal=none",
+                        "-e", f"trace={CHANGING}", "-o", trace, program, "run"],
+                       cwd=folder, stdin=subprocess.DEVNULL, check=True)
+        lines = trace.read_text().splitlines()
+    calls = [call for line in lines for call in read_call(line, os.fsencode(folder.resolve()))]
+    need(calls, "the record is empty")
+    return calls
+
+
+def read_call(line, top):
+    found = re.match(r"^(?:\d+\s+)?(\w+)\((.*)\)\s*= (-?\d+)", line)
+    if found is None:
+        raise Wrong(f"a line of the record has no reading: {line[:80]}")
+    kind, given, answer = found.group(1), found.group(2), int(found.group(3))
+    if answer < 0:
+        return
+    texts = [bytes.fromhex(text.replace("\\x", "")) for text in re.findall(r'"((?:\\x[0-9a-f]{2})*)"', given)]
+    handles = [bytes.fromhex(text.replace("\\x", "")) for text in re.findall(r"<((?:\\x[0-9a-f]{2})*)>", given)]
+
+    def below(path, handle=None):
+        whole = os.path.normpath(os.path.join(handle or top, path))
+        return os.path.relpath(whole, top) if whole == top or whole.startswith(top + b"/") else None
+
+    if kind in ("openat", "open", "creat"):
+        # A file that this program makes, it makes anew. What is only read changes nothing.
+        path = below(texts[0], handles[0] if given.startswith(("AT_FDCWD<", *"0123456789")) else None)
+        if path is not None and "O_CREAT" in given:
+            need("O_EXCL" in given, f"a file that may be there is opened to be made: {line[:80]}")
+            yield ("create", path)
+    elif kind in ("mkdir", "mkdirat"):
+        yield ("mkdir", below(texts[-1], handles[0] if kind == "mkdirat" else None))
+    elif kind == "rename":
+        yield ("rename", below(texts[0]), below(texts[1]))
+    elif kind in ("unlink", "rmdir"):
+        yield (kind, below(texts[0]))
+    elif kind == "unlinkat":
+        yield ("rmdir" if "AT_REMOVEDIR" in given else "unlink", below(texts[0], handles[0]))
+    elif kind == "pwrite64":
+        need(answer == len(texts[0]), "a write was cut in two")
+        yield ("write", below(handles[0]), int(given.rsplit(", ", 1)[1]), texts[0])
+    elif kind == "write":
+        path = below(handles[0])
+        if path is not None:
+            need(answer == len(texts[0]), "a write was cut in two")
+            yield ("append", path, texts[0])
+    elif kind == "ftruncate":
+        yield ("cut", below(handles[0]), int(given.rsplit(", ", 1)[1]))
+    elif kind in ("fsync", "fdatasync"):
+        yield ("sync", below(handles[0]))
+    else:
+        raise Wrong(f"the record has a call that this script doesn't know: {line[:80]}")
+
+
+# What is on the disk, and what is pending.
+
+class File:
+    def __init__(self, settled=b""):
+        self.settled = settled
+        self.held = settled
+        self.pending = []
+
+    def change(self, step):
+        self.held = step(self.held)
+        self.pending.append(step)
+
+    def settle(self):
+        self.settled = self.held
+        self.pending = []
+
+
+class Folder:
+    def __init__(self):
+        self.settled = {}
+        self.held = {}
+        # Changes of entries, each with the number of the call that made it: a rename makes two.
+        self.pending = []
+
+    def change(self, call, name, node):
+        apply(self.held, name, node)
+        self.pending.append((call, name, node))
+
+    def settle(self):
+        self.settled = dict(self.held)
+        self.pending = []
+
+
+def apply(entries, name, node):
+    if node is None:
+        entries.pop(name, None)
+    else:
+        entries[name] = node
+
+
+def settled_tree(path):
+    """What stands in a real folder, with nothing pending."""
+    folder = Folder()
+    for entry in os.scandir(os.fsencode(path)):
+        if entry.is_dir(follow_symlinks=False):
+            folder.held[entry.name] = settled_tree(entry.path)
+        else:
+            with open(entry.path, "rb") as file:
+                folder.held[entry.name] = File(file.read())
+    folder.settle()
+    return folder
+
+
+def find(top, path):
+    node = top
+    for name in path.split(b"/"):
+        if name != b".":
+            node = node.held[name]
+    return node
+
+
+def split(top, path):
+    parent, _, name = path.rpartition(b"/")
+    return find(top, parent or b"."), name
+
+
+def replay(top, number, call):
+    """Does a call of the record."""
+    kind, path = call[0], call[1]
+    if kind in ("create", "mkdir"):
+        folder, name = split(top, path)
+        folder.change(number, name, File() if kind == "create" else Folder())
+    elif kind in ("unlink", "rmdir"):
+        folder, name = split(top, path)
+        folder.change(number, name, None)
+    elif kind == "rename":
+        (source, old), (target, new) = split(top, path), split(top, call[2])
+        node = source.held[old]
+        target.change(number, new, node)
+        source.change(number, old, None)
+    elif kind == "write":
+        find(top, path).change(overwrite(call[2], call[3]))
+    elif kind == "append":
+        file = find(top, path)
+        file.change(overwrite(len(file.held), call[2]))
+    elif kind == "cut":
+        find(top, path).change(lambda held: held[:call[2]])
+    elif kind == "sync":
+        find(top, path).settle()
+
+
+def overwrite(at, bytes_):
+    def step(held):
+        held = held.ljust(at, b"\0")
+        return held[:at] + bytes_ + held[at + len(bytes_):]
+    step.range = (at, bytes_)
+    return step
+
+
+# What a stop leaves.
+
+def drawn_file(file):
+    left = file.settled
+    for step in file.pending:
+        if not hasattr(step, "range"):
+            left = step(left) if random.random() < 0.5 else left
+            continue
+        at, bytes_ = step.range
+        if at > len(left):
+            left = left.ljust(at, b"\0")
+        way = random.choice(("all", "none", "front", "back", "any"))
+        if way == "all":
+            left = step(left)
+        elif way == "front":
+            some = random.randint(0, len(bytes_))
+            left = left[:at] + bytes_[:some] + left[at + some:]
+        elif way == "back":
+            some = random.randint(0, len(bytes_))
+            old = left[at:at + some].ljust(some, b"\0")
+            left = left[:at] + old + bytes_[some:] + left[at + len(bytes_):]
+        elif way == "any":
+            some = random.randint(0, len(bytes_))
+            left = left[:at] + random.randbytes(some) + left[at + some:]
+    return left
+
+
+def drawn_tree(folder, done):
+    """The entries that a stop leaves of a folder. `done` says of each pending call whether it counts."""
+    entries = dict(folder.settled)
+    for call, name, node in folder.pending:
+        if done.setdefault(call, random.random() < 0.5):
+            apply(entries, name, node)
+    return entries
+
+
+def lay(folder, path, done):
+    os.makedirs(path, exist_ok=True)
+    for name, node in drawn_tree(folder, done).items():
+        where = os.path.join(path, name)
+        if isinstance(node, Folder):
+            lay(node, where, done)
+        else:
+            with open(where, "wb") as file:
+                file.write(drawn_file(node))
+
+
+# The trial.
+
+def recovers(program, parent, top, what):
+    """Lays one image, and runs the program on it. Says what is wrong, or None."""
+    with new_folder(parent) as folder:
+        lay(top, os.fsencode(folder), {})
+        ended = run(program, folder)
+        if ended.status != DONE:
+            return f"{what}: status {ended.status}"
+        put = read_files(folder / "out")
+        if names(folder / "in"):
+            return f"{what}: in holds {names(folder / 'in')}"
+        if put != FILES:
+            lost = sorted(name for name, content in FILES.items() if put.get(name) != content)
+            return f"{what}: not delivered as sent: {lost}"
+        if names(folder / "out") != sorted(FILES):
+            return f"{what}: out holds {names(folder / 'out')}"
+        if log_format.read((folder / "store" / "log-1").read_bytes()):
+            return f"{what}: a file still waits"
+    return None
+
+
+def stops(program, parent, start, calls, picks):
+    """Tries stops behind each call of a record. Gives what went wrong, and how many were tried."""
+    top = settled_tree(start)
+    wrong, tried = [], 0
+    for number in range(len(calls) + 1):
+        if number:
+            replay(top, number, calls[number - 1])
+        for _ in range(picks):
+            tried += 1
+            found = recovers(program, parent, top, f"a stop behind call {number} of {len(calls)}")
+            if found is not None:
+                wrong.append(found)
+    return wrong, tried
+
+
+def recorded(program, parent, body):
+    """Makes a folder with the files in its inbox, records a run, and goes on with both."""
+    with new_folder(parent) as folder, new_folder(parent) as start:
+        write_files(folder / "in", FILES)
+        write_files(start / "in", FILES)
+        return body(start, record(program, folder))
+
+
+def nothing_is_lost(program, parent, picks):
+    def body(start, calls):
+        wrong, tried = stops(program, parent, start, calls, picks)
+        need(not wrong, f"{len(wrong)} of {tried} stops: {wrong[:3]}")
+        return f"{len(calls)} calls, {tried} stops"
+    return recorded(program, parent, body)
+
+
+def nothing_is_lost_twice(program, parent, picks, rounds):
+    """The power is cut at a random call, and then again while the program recovers."""
+    def body(start, calls):
+        wrong, tried = [], 0
+        for _ in range(rounds):
+            top = settled_tree(start)
+            for number in range(random.randint(1, len(calls))):
+                replay(top, number + 1, calls[number])
+            with new_folder(parent) as image, new_folder(parent) as copy:
+                lay(top, os.fsencode(image), {})
+                shutil.copytree(image, copy, dirs_exist_ok=True)
+                more, count = stops(program, parent, image, record(program, copy), picks)
+            wrong += more
+            tried += count
+        need(not wrong, f"{len(wrong)} of {tried} stops: {wrong[:3]}")
+        return f"{rounds} first stops, {tried} second ones"
+    return recorded(program, parent, body)
+
+
+def is_sync_of(call, kind):
+    if call[0] != "sync":
+        return False
+    path = call[1]
+    return {"log": path == b"store/log-1", "store": path == b"store", "out": path == b"out",
+            "part": path.startswith(b"out/.flow-aside-")}[kind]
+
+
+def a_loss_is_found(program, parent, picks, kind):
+    def body(start, calls):
+        fewer = [call for call in calls if not is_sync_of(call, kind)]
+        need(len(fewer) < len(calls), "there was no such sync")
+        wrong, tried = stops(program, parent, start, fewer, picks)
+        need(wrong, f"none of {tried} stops lost anything")
+        return f"{len(wrong)} of {tried} stops lose"
+    return recorded(program, parent, body)
+
+
+def main():
+    parser = options(__doc__)
+    parser.add_argument("--picks", type=int, default=20, help="stops at each call (default 20)")
+    given, seed = parse_seeded(parser)
+    program = find_program(given.program)
+    # What is on a disk is a model here, so a folder in memory does, and is much faster.
+    if given.folder is None and os.access("/dev/shm", os.W_OK):
+        given.folder = "/dev/shm"
+    print(f"power: {given.picks} stops at each call, seed {seed}", flush=True)
+    report = Report()
+    report.case("the power is cut at each call, and nothing is lost", nothing_is_lost, program, given.folder,
+                given.picks)
+    report.case("the power is cut again while a run recovers", nothing_is_lost_twice, program, given.folder,
+                max(1, given.picks // 10), max(2, given.picks // 2))
+    for kind, text in (("log", "the log"), ("store", "the store's folder"), ("part", "the file put aside"),
+                       ("out", "the outbox's folder")):
+        report.case(f"without the syncs of {text} a loss is found", a_loss_is_found, program, given.folder,
+                    min(max(given.picks, 4), 20), kind)
+    report.end()
+
+
+main()

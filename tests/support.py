@@ -1,0 +1,192 @@
+"""What the tests of the built program share: finding it, running it, and counting what passed."""
+
+import argparse
+import contextlib
+import hashlib
+import os
+import pathlib
+import random
+import shutil
+import signal
+import stat
+import subprocess
+import sys
+import tempfile
+import threading
+import time
+
+ROOT = pathlib.Path(__file__).resolve().parent.parent
+
+# Statuses of the program.
+DONE, USAGE, DAMAGED, DISK, INBOX, OUTBOX, MEMORY = 0, 2, 4, 5, 6, 7, 12
+
+# The longest that a single run may take, in seconds.
+LONGEST = 600
+
+
+def options(about):
+    """The options that each script has. `--program` names a built program; else it is built where due."""
+    parser = argparse.ArgumentParser(description=about)
+    parser.add_argument("--program", help="the built program (default: built where that is due)")
+    parser.add_argument("--folder", help="where temporary folders are made (default: the system's)")
+    return parser
+
+
+def parse_seeded(parser):
+    """The words, and a seed that everything at random is drawn from: that of `--seed`, or a new one."""
+    parser.add_argument("--seed", type=int, help="draw what is random as an earlier run did (default: anew)")
+    given = parser.parse_args()
+    seed = given.seed if given.seed is not None else random.randrange(2**32)
+    random.seed(seed)
+    return given, seed
+
+
+def find_program(named):
+    if named is None:
+        named = subprocess.run([ROOT / "tools" / "build"], check=True, stdout=subprocess.PIPE,
+                               text=True).stdout.strip()
+    path = pathlib.Path(named).resolve()
+    if not os.access(path, os.X_OK):
+        sys.exit(f"no program at {path}")
+    return str(path)
+
+
+@contextlib.contextmanager
+def new_folder(parent=None):
+    """A new folder that is removed at the end, whatever happened in it."""
+    path = pathlib.Path(tempfile.mkdtemp(prefix="flow-test-", dir=parent))
+    try:
+        yield path
+    finally:
+        shutil.rmtree(path)
+
+
+class Run:
+    """How a run ended: its status, its time by the clock and by the processor (in seconds), the peak of
+    its memory (in bytes), and what it printed."""
+
+    def __init__(self, status, seconds, busy, peak, said):
+        self.status = status
+        self.seconds = seconds
+        self.busy = busy
+        self.peak = peak
+        self.said = said
+
+
+def run(program, folder, words=("run",), limits=None):
+    """Runs the program in a folder to its end, and for LONGEST seconds at most."""
+    with tempfile.TemporaryFile() as said:
+        start = time.monotonic()
+        child = subprocess.Popen([program, *words], cwd=folder, stdin=subprocess.DEVNULL, stdout=said,
+                                 stderr=subprocess.STDOUT, preexec_fn=limits)
+        memory = Memory(child.pid)
+        clock = threading.Timer(LONGEST, os.kill, (child.pid, signal.SIGKILL))
+        clock.start()
+        _, ended, used = os.wait4(child.pid, 0)
+        seconds = time.monotonic() - start
+        clock.cancel()
+        memory.stop()
+        child.returncode = os.waitstatus_to_exitcode(ended)
+        said.seek(0)
+        return Run(child.returncode, seconds, used.ru_utime + used.ru_stime, memory.peak, said.read())
+
+
+class Memory(threading.Thread):
+    """Follows the peak of a process's memory, in bytes.
+
+    The system's own figure for an ended child counts this process's memory too, from which the child
+    was forked. So the peak is read again and again while the child runs; it never falls."""
+
+    def __init__(self, pid):
+        super().__init__(daemon=True)
+        self.path = pathlib.Path(f"/proc/{pid}/status")
+        self.peak = 0
+        self.ended = threading.Event()
+        self.start()
+
+    def run(self):
+        while True:
+            try:
+                for line in self.path.read_text().splitlines():
+                    if line.startswith("VmHWM:"):
+                        self.peak = max(self.peak, int(line.split()[1]) * 1024)
+            except OSError:
+                return
+            if self.ended.wait(0.002):
+                return
+
+    def stop(self):
+        self.ended.set()
+        self.join()
+
+
+def write_files(folder, files):
+    """Writes files, given as a map from names to bytes, into a folder that is made where it isn't."""
+    folder.mkdir(exist_ok=True)
+    for name, content in files.items():
+        with open(os.path.join(os.fsencode(folder), os.fsencode(name)), "wb") as file:
+            file.write(content)
+
+
+def read_files(folder):
+    """The regular files of a folder by name, with their bytes."""
+    return {entry.name: pathlib.Path(entry.path).read_bytes()
+            for entry in os.scandir(folder) if entry.is_file(follow_symlinks=False)}
+
+
+def names(folder):
+    return sorted(os.listdir(folder))
+
+
+def photo(*folders):
+    """All that stands in these folders: kind, times, size and bytes of each entry, and of the folders."""
+    seen = {}
+    for folder in folders:
+        if not os.path.lexists(folder):
+            seen[str(folder)] = None
+            continue
+        for path in [folder, *sorted(pathlib.Path(folder).rglob("*"))] if folder.is_dir() else [folder]:
+            found = os.lstat(path)
+            content = None
+            if stat.S_ISREG(found.st_mode):
+                content = hashlib.sha256(path.read_bytes()).hexdigest()
+            seen[str(path)] = (stat.S_IFMT(found.st_mode), found.st_ino, found.st_size,
+                               found.st_mtime_ns, found.st_ctime_ns, content)
+    return seen
+
+
+class Wrong(Exception):
+    """What a case found wrong."""
+
+
+def need(holds, what):
+    if not holds:
+        raise Wrong(what)
+
+
+def need_status(ended, status):
+    need(ended.status == status, f"status {ended.status} where {status} is wanted; it said {ended.said!r}")
+
+
+class Report:
+    """Runs cases, prints a line for each, and at the end how many passed."""
+
+    def __init__(self):
+        self.passed = 0
+        self.failed = 0
+
+    def case(self, text, body, *given):
+        start = time.monotonic()
+        try:
+            note = body(*given)
+        except Wrong as wrong:
+            self.failed += 1
+            print(f"FAILED  {text}: {wrong}", flush=True)
+            return
+        self.passed += 1
+        note = f" ({note})" if note else ""
+        print(f"ok      {text}{note}, {time.monotonic() - start:.1f} s", flush=True)
+
+    def end(self):
+        print(f"{self.passed} passed, {self.failed} failed", flush=True)
+        sys.exit(1 if self.failed or not self.passed else 0)
