@@ -11,7 +11,7 @@ use Rattle.std.specs.Ordering.{nat_cmp, is_eq}
 use Rattle.std.specs.Cmp.Lexicographic.{slice_cmp, texts_ties}
 use Rattle.std.specs.declared.cmp.Ordering.TheVariants.{Less}
 use Rattle.run_top.specs.Run.{IsTooLarge, IsGoneByEntry, IsOneOf, IsLeftBut, TakesOrLeaves}
-use Rattle.world_io.specs.declared.TheConstants.{CONTENT_MAX}
+use Rattle.flowfile_record.specs.declared.TheConstants.{CONTENT_MAX}
 use Rattle.run_top.specs.Machine.{Entry, WasGot}
 
 bool_cases : (b : Bool) → (b ≡ true) ⊎ (b ≡ false)

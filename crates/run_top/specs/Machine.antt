@@ -4,7 +4,7 @@ use Rattle.std.specs.Prelude.{◌≡◌, ◌⊎◌, ℕ, ◌+◌, ◌≤◌, nat
 use Rattle.std.specs.List.{AllByRecursion}
 use Rattle.world_io.specs.Inbox.{InboxFile, bytes_of, without}
 use Rattle.world_io.specs.Outbox.{with_file}
-use Rattle.world_io.specs.declared.TheConstants.{CONTENT_MAX}
+use Rattle.flowfile_record.specs.declared.TheConstants.{CONTENT_MAX}
 use Rattle.store_core.specs.Entry.{queued}
 use Rattle.store_core.specs.declared.queued.Queued.{Queued}
 

@@ -3,7 +3,7 @@ use Rattle.std.specs.Prelude.{◌≡◌, ◌≢◌, ◌⊎◌, ℕ, ◌<◌, ◌
 use Rattle.disk_trait.specs.Files.{Files}
 use Rattle.std.specs.List.{AllByRecursion}
 use Rattle.world_io.specs.Inbox.{InboxFile, bytes_of, without}
-use Rattle.world_io.specs.declared.TheConstants.{CONTENT_MAX}
+use Rattle.flowfile_record.specs.declared.TheConstants.{CONTENT_MAX}
 use Rattle.store_core.specs.declared.queued.Queued.{Queued}
 use Rattle.store_core.specs.State.{stands_for}
 use Rattle.disk_trait.specs.Images.{Since}

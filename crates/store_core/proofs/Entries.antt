@@ -7,9 +7,9 @@ use Rattle.std.proofs.Math.Bool.{and-true}
 use Rattle.std.specs.Str.{IsUtf8, is_utf8}
 use Rattle.std.proofs.lemmas.Str.{IsUtf8-from_is_utf8}
 use Rattle.std.proofs.lemmas.Bool.Decides.{nat_tests}
-use Rattle.world_io.specs.Name.{is_name, IsName}
-use Rattle.world_io.specs.NameLemmas.{name-most}
-use Rattle.world_io.specs.declared.TheConstants.{CONTENT_MAX}
+use Rattle.flowfile_record.specs.Name.{is_name, IsName}
+use Rattle.flowfile_record.specs.NameLemmas.{name-most}
+use Rattle.flowfile_record.specs.declared.TheConstants.{CONTENT_MAX}
 use Rattle.store_core.specs.declared.entry.LogEntry.TheVariants.{Begin, Add, Drop}
 use Rattle.store_core.specs.Entry.{queued, begin_kind, add_kind, drop_kind, begin_payload, add_payload, add_of, entry_at}
 

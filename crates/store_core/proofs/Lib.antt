@@ -1,4 +1,3 @@
-pub mod Blocks
 pub mod Entries
 pub mod Heads
 pub mod Logs

@@ -4,7 +4,7 @@ use Rattle.std.proofs.lemmas.List.{append-nil, drop_at}
 use Rattle.std.proofs.lemmas.Bool.Decides.{nat_tests}
 use Rattle.std.specs.Prelude.{Option, Result, Ok, Err}
 use Rattle.disk_trait.specs.declared.damage.Damage.{Damage}
-use Rattle.store_core.specs.Block.{Reading, reading_of}
+use Rattle.record_codec.specs.Block.{Reading, reading_of}
 use Rattle.store_core.specs.Entry.{entry_at}
 use Rattle.store_core.specs.Log.{Entries, entries_from, behind_gate, told, put_first, open_gate, closed_gate}
 use Rattle.store_core.specs.State.{queue_after, queue_after_all, queue_of}

@@ -1,13 +1,13 @@
 -- The blocks that the store writes are those of its entries.
 use Rattle.std.proofs.Common.{ℕ, ◌<◌, ◌≤◌, List, [], length, arith, lit≤}
-use Rattle.world_io.specs.Name.{IsName}
-use Rattle.world_io.specs.declared.TheConstants.{CONTENT_MAX}
-use Rattle.store_core.specs.Block.{block}
+use Rattle.flowfile_record.specs.Name.{IsName}
+use Rattle.flowfile_record.specs.declared.TheConstants.{CONTENT_MAX}
+use Rattle.record_codec.specs.Block.{block}
 use Rattle.store_core.specs.Entry.{queued, add_kind, add_payload, begin_kind, begin_payload, drop_kind}
 use Rattle.store_core.specs.Kept.{IsBlockOf}
 use Rattle.store_core.specs.declared.entry.LogEntry.TheVariants.{Begin, Add, Drop}
-use Rattle.store_core.proofs.Blocks.{length-block, reading_of-block}
-use Rattle.world_io.specs.NameLemmas.{name-most}
+use Rattle.record_codec.proofs.Blocks.{length-block, reading_of-block}
+use Rattle.flowfile_record.specs.NameLemmas.{name-most}
 use Rattle.store_core.proofs.Entries.{length-add_payload, entry_at-add, entry_at-drop, entry_at-begin}
 
 pub spells_begin : IsBlockOf 0 Begin (block begin_kind begin_payload)

@@ -1,8 +1,8 @@
 -- What the blocks of a log say.
 use Rattle.std.specs.Prelude.{ℕ, ◌+◌, ◌==◌, ◌&&◌, nat_le, List, [], ◌∷◌, ◌++◌, length, take, drop, bytes_eq, Option, None, Some, if◌then◌else◌}
 use Rattle.std.specs.Int.{w16, w32, from_be_bytes, to_be_bytes}
-use Rattle.world_io.specs.Name.{is_name}
-use Rattle.world_io.specs.declared.TheConstants.{CONTENT_MAX}
+use Rattle.flowfile_record.specs.Name.{is_name}
+use Rattle.flowfile_record.specs.declared.TheConstants.{CONTENT_MAX}
 use Rattle.store_core.specs.declared.queued.Queued.{Queued}
 use Rattle.store_core.specs.declared.entry.LogEntry.{LogEntry}
 use Rattle.store_core.specs.declared.entry.LogEntry.TheVariants.{Begin, Add, Drop}

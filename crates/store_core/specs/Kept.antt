@@ -2,7 +2,7 @@
 use Rattle.std.specs.Prelude.{◌≡◌, ℕ, ◌+◌, Bool, false, List, [], ◌∷◌, ◌++◌, length, Some, Result, Ok, Err}
 use Rattle.disk_trait.specs.Files.{Files}
 use Rattle.disk_trait.specs.declared.damage.Damage.{Damage}
-use Rattle.store_core.specs.Block.{Whole, reading_of}
+use Rattle.record_codec.specs.Block.{Whole, reading_of}
 use Rattle.store_core.specs.Entry.{entry_at}
 use Rattle.store_core.specs.Log.{Entries, entries_from, closed_gate, the_log}
 use Rattle.store_core.specs.State.{queue_after_all, stands_for}

@@ -5,7 +5,7 @@ use Rattle.disk_trait.specs.declared.damage.Damage.{Damage}
 use Rattle.disk_trait.specs.declared.damage.Damage.TheVariants.{Digest, Short, Form}
 use Rattle.disk_trait.specs.declared.file_name.FileName.{FileName}
 use Rattle.disk_trait.specs.declared.file_name.FileKind.TheVariants.{Log}
-use Rattle.store_core.specs.Block.{Reading, Whole, Cut, Long, Differs, reading_of}
+use Rattle.record_codec.specs.Block.{Reading, Whole, Cut, Long, Differs, reading_of}
 use Rattle.store_core.specs.Entry.{entry_at}
 use Rattle.store_core.specs.declared.entry.LogEntry.{LogEntry}
 

@@ -2,10 +2,8 @@
 use Rattle.std.specs.Prelude.{◌≡◌, ◌≢◌, ◌⊎◌, ℕ, ◌+◌, ◌-◌, ◌<◌, ◌≤◌, Bool, true, List, [], length, take, drop, slice_index, Option, None, Some, Result, Ok, Err}
 use Rattle.disk_trait.specs.declared.damage.Damage.{Damage}
 use Rattle.disk_trait.specs.declared.damage.Damage.TheVariants.{Digest, Short, Form}
-use Rattle.std.specs.Int.{w32, from_be_bytes}
-use Rattle.store_core.specs.Block.{reading_of}
-use Rattle.store_core.specs.declared.block.TheConstants.{PAYLOAD_MAX}
-use Rattle.store_core.specs.declared.block.BlockEnd.{BlockEnd}
+use Rattle.record_codec.specs.Block.{reading_of}
+use Rattle.record_codec.specs.declared.block.BlockEnd.{BlockEnd}
 use Rattle.store_core.specs.Log.{Entries, behind_gate, open_gate, closed_gate, the_log}
 use Rattle.store_core.specs.State.{queue_after, queue_after_all}
 use Rattle.store_core.specs.Kept.{IsFrames, IsBlockOf}
@@ -33,12 +31,6 @@ damage_at at (BlockEnd.Digest stored found) = Digest the_log at stored found
 -- these bytes behind the open gate at a place are damaged so
 abbrev pub BrokenAt : ℕ → List ℕ → Damage → Type 0
 BrokenAt at bytes damage = (following : ℕ → Result Entries Damage) → behind_gate at (reading_of bytes) following ≡ Err damage
-
--- the head of these bytes wants a block of so many bytes, and there are as many
-pub record IsWholeHead (n : ℕ) (bytes : List ℕ) : Type 0 where
-  pub size : n ≡ from_be_bytes w32 (take 4 bytes) + 37
-  pub short : n ≤ PAYLOAD_MAX + 37
-  pub whole : n ≤ length bytes
 
 -- behind this gate there is no entry; where it is said to be closed, it is there and closed
 pub record IsLastGate (at : ℕ) (log : List ℕ) (closed : Bool) : Type 0 where

@@ -1,13 +1,13 @@
 //! What the blocks of the log say.
 ghost use Rattle.std.specs.Prelude.{◌≡◌, ◌≤◌, ◌++◌, length, IfOk, OnOk, OnErr, MatchOption, if◌then◌else◌};
-ghost use Rattle.world_io.specs.Name.{is_name, IsName};
-ghost use Rattle.store_core.specs.Block.{block};
+ghost use Rattle.flowfile_record.specs.Name.{is_name, IsName};
+ghost use Rattle.record_codec.specs.Block.{block};
 ghost use Rattle.store_core.specs.Entry.{entry_at, queued, add_payload, add_of, add_kind};
 
-use crate::block::{begin_block, end_block, put};
 use crate::{Bytes, Queued};
+use flowfile_record::{CONTENT_MAX, Name, NameError};
+use record_codec::append_parts;
 use std::alloc::{AllocError, Global};
-use world_io::{CONTENT_MAX, Name, NameError};
 
 /// The kind of the block that begins a log.
 pub const BEGIN_KIND: u8 = 1;
@@ -33,8 +33,9 @@ pub enum LogEntry {
     Drop,
 }
 
-/// Appends the block of an Add: the name's length in two bytes, the name, the content's length in four
-/// bytes, and the content, each number big-endian.
+/// Appends the block of an Add, or, where there is no memory for it, nothing. Its payload is the name's
+/// length in two bytes, the name, the content's length in four bytes, and the content, each number
+/// big-endian.
 pub fn append_add(out: &mut Vec<u8>, name: &Name, bytes: &[u8]) -> Result<(), AllocError>
     requires { length bytes.now ≤ CONTENT_MAX }
     ensures ok { OnOk result (out.new.items ≡ out.old.items ++ block add_kind (add_payload name.now bytes.now)) }
@@ -42,17 +43,13 @@ pub fn append_add(out: &mut Vec<u8>, name: &Name, bytes: &[u8]) -> Result<(), Al
     ensures name { IsName name.now }
 {
     let name = name.text().as_bytes();
-    let start = begin_block(out, ADD_KIND, name.len() + bytes.len() + 6)?;
-    put(out, &(name.len() as u16).to_be_bytes());
-    put(out, name);
-    put(out, &(bytes.len() as u32).to_be_bytes());
-    put(out, bytes);
-    end_block(out, start);
-    Ok(())
+    let name_size = (name.len() as u16).to_be_bytes();
+    let size = (bytes.len() as u32).to_be_bytes();
+    append_parts(out, ADD_KIND, &[&name_size, name, &size, bytes])
 }
 
 /// The entry that a block of this kind and payload says at a place of the log, in bytes from its start;
-/// `None` where it says none. Its content is copied once.
+/// `None` where it says none.
 pub fn read_entry(
     alloc: Global,
     place: u64,

@@ -1,7 +1,6 @@
 //! The store of a flow: the queue of its files, kept in one log of gated entries.
 #![tactic(auto)]
 
-mod block;
 mod bytes;
 mod entry;
 mod error;
@@ -12,7 +11,6 @@ mod queued;
 mod scan;
 mod store;
 
-pub use block::{Block, BlockEnd, PAYLOAD_MAX, append_block, read_block};
 pub use bytes::Bytes;
 pub use entry::{ADD_KIND, BEGIN_KIND, BEGIN_PAYLOAD, DROP_KIND, LogEntry, append_add, read_entry};
 pub use error::StoreError;

@@ -26,7 +26,7 @@ pub const OPEN_GATE: u8 = 0x5A;
 pub const CLOSED_GATE: u8 = 0;
 
 /// Adds an entry to a log at rest whose last gate stands at `end`. `frame` is the entry's block with a
-/// closed gate behind it. Four device calls.
+/// closed gate behind it.
 pub fn append<D: Disk>(disk: &mut D, end: u64, frame: &[u8]) -> Result<(), Failed>
     requires room { end + 1 < 2 ^ 64 }
     requires at_rest { (c : Files) → D.images disk.old (D.moment disk.old) c → (queue : List Queued) × IsAtRest end queue (c the_log) }

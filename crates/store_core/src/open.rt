@@ -2,7 +2,7 @@
 ghost use Rattle.std.specs.Prelude.{◌≡◌, ℕ, ◌+◌, ◌^◌, ◌<◌, ◌≤◌, true, Bool, List, [], ◌∷◌, ◌++◌, length, IsTrue, IfOk, OnOk, IsErr, Ok};
 ghost use Rattle.disk_trait.specs.Images.{Since, IsOnly};
 ghost use Rattle.disk_trait.specs.Faults.{CountsFaults};
-ghost use Rattle.store_core.specs.Block.{block};
+ghost use Rattle.record_codec.specs.Block.{block};
 ghost use Rattle.store_core.specs.Entry.{begin_kind, begin_payload};
 ghost use Rattle.store_core.specs.Log.{closed_gate, the_log};
 ghost use Rattle.store_core.specs.State.{stands_for};

@@ -7,11 +7,12 @@ use std::alloc::{AllocError, Global};
 use std::marker::Model;
 use std::mem;
 
-/// A queue of files. Taking the first one moves none of the others.
+/// A queue of files.
 #[derive(Drop)]
 pub struct Queue {
     alloc: Global,
     items: Vec<Queued>,
+    // The place of the first file that waits, so that taking it moves none of the others.
     first: usize,
 }
 
@@ -60,11 +61,12 @@ impl Queue {
         let _ = self.items.pop();
     }
 
-    /// The first file leaves, and its content is given up. Once none is left, the room is used anew.
+    /// The first file leaves.
     pub fn drop_first(&mut self)
         requires { 0 < length self.old }
         ensures { self.new ≡ drop 1 self.old }
     {
+        // Its content is given up at once, and its place once none is left.
         let file = &mut self.items[self.first];
         file.bytes = Bytes::new(Vec::new(self.alloc));
         self.first += 1;

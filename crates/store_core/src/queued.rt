@@ -1,6 +1,6 @@
 //! A file in the queue.
 use crate::Bytes;
-use world_io::Name;
+use flowfile_record::Name;
 
 /// A file that waits to be put into the outbox.
 #[derive(Drop)]

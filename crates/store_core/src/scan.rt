@@ -3,15 +3,17 @@ ghost use Rattle.std.specs.Prelude.{◌≡◌, ℕ, ◌+◌, ◌^◌, ◌<◌, �
 ghost use Rattle.disk_trait.specs.Images.{Stays};
 ghost use Rattle.disk_trait.specs.Faults.{CountsFaults};
 ghost use Rattle.disk_trait.specs.declared.damage.Damage.{Damage as TheDamage};
+ghost use Rattle.record_codec.specs.Head.{IsWholeHead};
 ghost use Rattle.store_core.specs.Log.{entries_from, the_log};
 ghost use Rattle.store_core.specs.State.{stands_for};
 ghost use Rattle.store_core.specs.Kept.{IsBlockOf};
-ghost use Rattle.store_core.specs.Scan.{unless_misfit, after_entry, damage_at, BrokenAt, IsWholeHead, IsFrameAt, IsNextWithin, IsRead};
+ghost use Rattle.store_core.specs.Scan.{unless_misfit, after_entry, damage_at, BrokenAt, IsFrameAt, IsNextWithin, IsRead};
 
 use crate::log::{CLOSED_GATE, LOG, OPEN_GATE};
 use crate::queue::Queue;
-use crate::{BlockEnd, LogEntry, PAYLOAD_MAX, StoreError, read_block, read_entry};
+use crate::{LogEntry, StoreError, read_entry};
 use disk_trait::{Damage, Disk, Failed};
+use record_codec::{BlockEnd, PAYLOAD_MAX, read_block};
 use std::alloc::{AllocError, Global};
 
 /// What stands at a gate.

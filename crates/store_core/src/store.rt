@@ -4,9 +4,9 @@ ghost use Rattle.disk_trait.specs.Files.{Files};
 ghost use Rattle.disk_trait.specs.Images.{Since, IsOnly, Stays, next_moment};
 ghost use Rattle.disk_trait.specs.Faults.{CountsFaults};
 ghost use Rattle.disk_trait.specs.declared.damage.Damage.{Damage as TheDamage};
-ghost use Rattle.world_io.specs.Name.{IsName};
-ghost use Rattle.world_io.specs.declared.TheConstants.{CONTENT_MAX};
-ghost use Rattle.store_core.specs.Block.{block};
+ghost use Rattle.flowfile_record.specs.Name.{IsName};
+ghost use Rattle.flowfile_record.specs.declared.TheConstants.{CONTENT_MAX};
+ghost use Rattle.record_codec.specs.Block.{block};
 ghost use Rattle.store_core.specs.Entry.{queued, add_kind, add_payload};
 ghost use Rattle.store_core.specs.Log.{closed_gate};
 ghost use Rattle.store_core.specs.State.{stands_for};
@@ -19,12 +19,12 @@ use crate::queue::Queue;
 use crate::scan::read_log;
 use crate::{
     ADD_KIND, BEGIN_KIND, BEGIN_PAYLOAD, Bytes, DROP_KIND, Queued, StoreError, append_add,
-    append_block,
 };
 use disk_trait::Disk;
+use flowfile_record::Name;
+use record_codec::append_block;
 use std::alloc::{AllocError, Global};
 use std::marker::Model;
-use world_io::Name;
 
 /// A queue of files in memory and on a disk. It holds no disk: each call takes it, and it is the one that
 /// the store was opened on.
@@ -44,7 +44,7 @@ impl Model for Store {
 
     ghost use Rattle.std.specs.Prelude.{◌≡◌, ◌+◌, ◌^◌, ◌<◌, [], ◌∷◌, ◌++◌};
     ghost use Rattle.store_core.specs.Log.{closed_gate};
-    ghost use Rattle.store_core.specs.Block.{block};
+    ghost use Rattle.record_codec.specs.Block.{block};
     ghost use Rattle.store_core.specs.Entry.{drop_kind};
 
     ghost view = { λ store. record { files = store.queue; end = store.end; failed = store.failed } };
@@ -103,8 +103,9 @@ fn restore<D: Disk>(alloc: Global, disk: &mut D) -> Result<Store, StoreError>
 impl Store {
     /// Opens the store that stands on a disk, whatever a stop left of it, or makes one where there is none.
     ///
-    /// It begins with a sync, reads the log, and mends its end. `Damaged` comes exactly where the files
-    /// stand for no queue, and then nothing is written. After any error open again.
+    /// It begins with a sync, reads the log, and mends its end. `Damaged` comes only where the files stand for
+    /// no queue, and where they stand for none the answer is `Damaged`, `Disk` or `Memory`. With `Damaged` or
+    /// `Memory` nothing was written. After any error open again.
     pub fn load<D: Disk>(alloc: Global, disk: &mut D) -> Result<Store, StoreError>
         // The queue is the one that the files stand for.
         ensures opened { IfOk result (λ store. IsTrue D.tells → stands_for (D.held disk.old) ≡ Ok store.files) }
@@ -135,12 +136,12 @@ impl Store {
         self.queue.as_slice()
     }
 
-    /// A file of at most [`CONTENT_MAX`](world_io::CONTENT_MAX) bytes joins the queue. Answers the disk's
-    /// moment at which it was acknowledged.
+    /// A file of at most [`CONTENT_MAX`](flowfile_record::CONTENT_MAX) bytes joins the queue. Answers the
+    /// disk's moment at which it was acknowledged.
     ///
-    /// `MustReopen` comes exactly where an earlier call of this store met a failure of the disk. `Memory`
-    /// comes before the disk is touched. After `Disk` a stop may leave the queue with the file or without,
-    /// and the store has to be opened anew.
+    /// `MustReopen` comes exactly where an earlier call of this store answered `Disk`. After it, and
+    /// after `Memory`, store and disk are as before. After `Disk` a stop may leave the queue with the file or
+    /// without, and the store has to be opened anew.
     pub fn add<D: Disk>(
         &mut self,
         disk: &mut D,
@@ -176,8 +177,8 @@ impl Store {
         Ok(disk.moment())
     }
 
-    /// The first file leaves the queue. Answers the disk's moment at which that was acknowledged. It takes
-    /// no memory, and its errors come as those of [`add`](Store::add).
+    /// The first file leaves the queue. Answers the disk's moment at which that was acknowledged. It never
+    /// answers `Memory`, and its other errors come as those of [`add`](Store::add).
     pub fn drop_first<D: Disk>(&mut self, disk: &mut D) -> Result<u64, StoreError>
         requires some { 0 < length self.old.files }
         requires kept { IsKeptOn D.moment D.images self.old disk.old }

@@ -1,9 +1,9 @@
 use super::*;
 use disk_trait::{Damage, Disk, FileKind, FileName, MemoryDisk};
+use flowfile_record::Name;
 use std::alloc::{AllocError, Global};
 use std::process::Abort;
 use std::test::Fail;
-use world_io::Name;
 
 const LOG: FileName = FileName {
     kind: FileKind::Log,

@@ -4,5 +4,3 @@ pub mod Sorting
 pub mod Standing
 pub mod Listed
 pub mod Once
-mod Ascending
-mod Nothing

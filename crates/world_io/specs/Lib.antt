@@ -6,8 +6,4 @@ pub mod Memory
 pub mod MemoryInbox
 pub mod MemoryOutbox
 pub mod MemoryStream
-pub mod Name
-pub mod NameLemmas
 pub mod Outbox
-pub mod StoreName
-pub mod Untold

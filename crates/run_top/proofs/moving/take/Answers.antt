@@ -2,7 +2,7 @@ use Rattle.std.proofs.Common.{◌≡◌, ◌⊎◌, ⊎_elim, inl, inr, ℕ, tru
 use Rattle.std.specs.Prelude.{Ok, Some}
 use Rattle.disk_trait.specs.Files.{Files}
 use Rattle.world_io.specs.Inbox.{InboxFile, bytes_of, without}
-use Rattle.world_io.specs.declared.TheConstants.{CONTENT_MAX}
+use Rattle.flowfile_record.specs.declared.TheConstants.{CONTENT_MAX}
 use Rattle.store_core.specs.Entry.{queued}
 use Rattle.store_core.specs.State.{stands_for}
 use Rattle.store_core.specs.declared.queued.Queued.{Queued}

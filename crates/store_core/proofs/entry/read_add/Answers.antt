@@ -1,5 +1,5 @@
 use Rattle.std.proofs.Common.{◌≡◌, false, sym}
-use Rattle.world_io.specs.Name.{is_name}
+use Rattle.flowfile_record.specs.Name.{is_name}
 use Rattle.store_core.proofs.Entries.{is_name-not_utf8}
 use Rattle.store_core.proofs.entry.read_add.Goals as goal
 

@@ -3,7 +3,7 @@ use Rattle.std.specs.Prelude.{Ok, false}
 use Rattle.disk_trait.specs.Files.{Files}
 use Rattle.disk_trait.proofs.Moments.{one_after_another}
 use Rattle.store_core.specs.Log.{the_log}
-use Rattle.store_core.specs.Block.{block}
+use Rattle.record_codec.specs.Block.{block}
 use Rattle.store_core.specs.Entry.{begin_kind, begin_payload}
 use Rattle.store_core.specs.State.{stands_for}
 use Rattle.store_core.specs.Scan.{IsRead}

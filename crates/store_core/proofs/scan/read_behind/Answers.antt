@@ -3,9 +3,11 @@ use Rattle.std.proofs.lemmas.Result.{err_from_is_err_and}
 use Rattle.std.specs.Prelude.{Err}
 use Rattle.store_core.specs.Log.{the_log}
 use Rattle.store_core.specs.Kept.{IsBlockOf}
-use Rattle.store_core.specs.Scan.{BrokenAt, IsWholeHead}
+use Rattle.record_codec.specs.Head.{IsWholeHead}
+use Rattle.store_core.specs.Scan.{BrokenAt}
 use Rattle.store_core.specs.declared.error.StoreError.TheVariants.{Damaged}
-use Rattle.store_core.proofs.Heads.{whole_front, broken_front}
+use Rattle.record_codec.proofs.Heads.{whole_front}
+use Rattle.store_core.proofs.Heads.{broken_front}
 use Rattle.store_core.proofs.scan.read_behind.Goals as goal
 
 pub returns-in_err-entry-clause-damaged : goal.returns-in_err-entry-clause-damaged

@@ -2,7 +2,7 @@ use Rattle.std.proofs.Common.{◌≡◌, ◌+◌, ℕ, List, length, [], ◌∷�
 use Rattle.std.specs.Prelude.{false}
 use Rattle.disk_trait.specs.Files.{Files}
 use Rattle.store_core.specs.Log.{the_log, closed_gate}
-use Rattle.store_core.specs.Block.{block}
+use Rattle.record_codec.specs.Block.{block}
 use Rattle.store_core.specs.Entry.{queued, add_kind, add_payload}
 use Rattle.store_core.specs.Kept.{Kept, IsAtRest, EachAtRest}
 use Rattle.store_core.specs.declared.queued.Queued.{Queued}

@@ -4,7 +4,7 @@ use Rattle.disk_trait.specs.declared.damage.Damage.{Damage}
 use Rattle.disk_trait.specs.Files.{Files}
 use Rattle.disk_trait.specs.Images.{Since}
 use Rattle.store_core.specs.Log.{the_log, closed_gate}
-use Rattle.store_core.specs.Block.{block}
+use Rattle.record_codec.specs.Block.{block}
 use Rattle.store_core.specs.Entry.{drop_kind}
 use Rattle.store_core.specs.State.{stands_for, queue_after}
 use Rattle.store_core.specs.Kept.{Kept, IsAtRest, EachAtRest}

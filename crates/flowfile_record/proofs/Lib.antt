@@ -1,0 +1,6 @@
+pub mod Entries
+pub mod FieldLaws
+pub mod Held
+pub mod Identifiers
+pub mod Items
+pub mod Wholes

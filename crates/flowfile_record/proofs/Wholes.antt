@@ -1,0 +1,37 @@
+-- What a reader of all of some bytes owes, from the laws of the reading.
+use Rattle.std.proofs.Common.{◌≡◌, ℕ, List, length, Result, Ok, Err, sym, ap, subst, ◌∙◌}
+use Rattle.std.specs.Prelude.{IfOk}
+use Rattle.flowfile_record.specs.declared.error.CodecError.{CodecError}
+use Rattle.flowfile_record.specs.declared.fields.fault.FieldError.{FieldError}
+use Rattle.flowfile_record.specs.declared.fields.fault.FieldError.TheVariants as fields
+use Rattle.flowfile_record.specs.Field.{IsBytes, IsField}
+use Rattle.flowfile_record.specs.Reading.{Reading, Fails, placed, answer, Answers, whole}
+use Rattle.flowfile_record.proofs.FieldLaws.{whole_takes, whole_again}
+
+-- the answer of a reader of fields, with its place
+pub answers_ok : {A : Type 0} (size : ℕ) (x : A) (read : Result A ℕ) → read ≡ Ok x → Answers (Ok x) (answer size read)
+answers_ok size x read e = sym (ap (answer size) e)
+
+pub answers_err : {A : Type 0} (size : ℕ) (e : FieldError) (read : Result A ℕ) → Fails e read → Answers (Err (placed size e)) (answer size read)
+answers_err size fields.Memory read given = tt
+answers_err size (fields.Form left) read given = sym (ap (answer size) given)
+
+abbrev done : {A : Type 0} → A → Result A CodecError
+done x = Ok x
+
+same : {A : Type 0} (size : ℕ) (x : A) (read : Result A ℕ) → done x ≡ answer size read → read ≡ Ok x
+same size x (Ok y) e = cc
+same size x (Err left) e = absurd cc
+
+-- What is read stood there spelled so.
+pub is_found : {A : Type 0} (read : Reading A) (spell : A → List ℕ) (Has : A → Type 0) → IsField read spell Has → (bytes : List ℕ) (r : Result A CodecError) → IsBytes bytes
+    → Answers r (answer (length bytes) (whole read bytes)) → IfOk r (λ a. Has a × (bytes ≡ spell a))
+is_found read spell Has field bytes (Ok a) fits given = whole_takes read spell Has field bytes a fits (same (length bytes) a (whole read bytes) given)
+is_found read spell Has field bytes (Err e) fits given = tt
+
+-- What is spelled so is read.
+pub is_only : {A : Type 0} (read : Reading A) (spell : A → List ℕ) (Has : A → Type 0) → IsField read spell Has → (bytes : List ℕ) (r : Result A CodecError)
+    → Answers r (answer (length bytes) (whole read bytes)) → (a : A) → Has a → bytes ≡ spell a → Answers r (Ok a)
+is_only read spell Has field bytes r given a has e =
+    let one : whole read bytes ≡ Ok a = ap (whole read) e ∙ whole_again read spell Has field a has in
+    subst (Answers r) (ap (answer (length bytes)) one) given

@@ -1,0 +1,11 @@
+pub mod Attributes
+pub mod Events
+pub mod Field
+pub mod HeldPairs
+pub mod Identifier
+pub mod Kin
+pub mod Name
+pub mod NameLemmas
+pub mod OptionalText
+pub mod Reading
+pub mod Spelling

@@ -1,0 +1,407 @@
+//! The attributes of a flow file, held in the order of their keys' bytes.
+ghost use Rattle.std.specs.Prelude.{◌≡◌, ◌==◌, ◌+◌, ◌≤◌, length, sum_by, IsTrue, IfOk, IfErr, is_ok, Some, slice_get, if◌then◌else◌};
+ghost use Rattle.std.specs.Prelude.{map as each};
+ghost use Rattle.std.specs.List.{filter};
+ghost use Rattle.std.specs.Option.{option_map};
+ghost use Rattle.std.specs.Ordering.{nat_cmp};
+ghost use Rattle.std.specs.Cmp.Lexicographic.{slice_cmp};
+ghost use Rattle.std.specs.FinMap as map;
+ghost use Rattle.std.specs.FinMap.{put, is_sorted};
+ghost use Rattle.flowfile_record.specs.Attributes.{encoded_size, pair_size, IsWithinLimits, IsPutAnswer, put_answer, after_put, shared};
+ghost use Rattle.flowfile_record.specs.HeldPairs.{key_and_value, IsPlaceOf, IsGapFor};
+ghost use Rattle.flowfile_record.specs.OptionalText.{same_text};
+
+use crate::Text;
+use std::alloc::{AllocError, AllocFailed, Global};
+use std::cmp::Ordering;
+use std::marker::Model;
+use thiserror::Error;
+
+/// The greatest encoded size of a flow file's attributes, in bytes.
+pub const ATTRIBUTES_MAX: u64 = 65_536;
+
+/// The greatest length of a key, in bytes.
+pub const KEY_MAX: u64 = 255;
+
+/// Pairs of a key and a value, each key once, seen as a finite map. A key has 1 to 255 bytes and is never `uuid`.
+/// Their encoded size is at most 65,536 bytes.
+#[derive(Debug, Drop)]
+pub struct Attributes {
+    // Ascending by the bytes of the keys.
+    pairs: Vec<Pair>,
+    size: u64,
+}
+
+#[derive(Clone, Debug, Drop)]
+struct Pair {
+    key: Text,
+    value: Text,
+}
+
+/// What a put did.
+#[derive(Clone, Copy, Debug, PartialEq, Eq)]
+pub enum Put {
+    Stored,
+    /// The key is `uuid`, which can't be set.
+    Ignored,
+}
+
+/// Why a value couldn't be put under a key.
+#[derive(Clone, Copy, Debug, PartialEq, Eq, Error)]
+pub enum AttrError {
+    #[error("an attribute's key has 1 to 255 bytes")]
+    BadKey,
+    /// The encoded size that the attributes would have with it, in bytes.
+    #[error("the attributes would take {size} bytes")]
+    TooLarge { size: u64 },
+    #[error("out of memory")]
+    Memory,
+}
+
+impl Model for Attributes {
+    ghost use Rattle.std.specs.Prelude.{List, ℕ};
+    ghost use Rattle.std.specs.Coded.{coded_ℕ, coded_list};
+    ghost use Rattle.std.specs.FinMap.{code, from_sorted};
+    ghost use Rattle.flowfile_record.specs.Attributes.{AttributeMap};
+
+    ghost Value = { AttributeMap };
+
+    ghost coded = { code (coded_list coded_ℕ) (coded_list coded_ℕ) };
+
+    ghost use Rattle.flowfile_record.specs.HeldPairs.{map_of, IsHeld};
+
+    ghost view = { λ attributes. map_of attributes.pairs.items };
+
+    ghost invariant = { λ attributes. IsHeld attributes.pairs.items attributes.size };
+}
+
+impl Attributes {
+    /// No attributes.
+    pub fn new(alloc: Global) -> Attributes
+        ensures { result ≡ map.empty }
+    {
+        Attributes {
+            pairs: Vec::new(alloc),
+            size: COUNT_SIZE,
+        }
+    }
+
+    /// The value under a key.
+    pub fn get(&self, key: &str) -> Option<&str>
+        ensures value { option_map (λ value. value.now) result ≡ map.get self.now key.now }
+        ensures limits { IsWithinLimits self.now }
+    {
+        match place_of(&self.pairs, key) {
+            Ok(place) => Some(self.pairs[place].value.as_str()),
+            Err(_) => None,
+        }
+    }
+
+    /// How many pairs there are.
+    pub fn len(&self) -> u64
+        ensures { result ≡ map.len self.now }
+    {
+        self.pairs.len() as u64
+    }
+
+    pub fn is_empty(&self) -> bool
+        ensures { result ≡ (map.len self.now == 0) }
+    {
+        self.pairs.is_empty()
+    }
+
+    /// The pair at a place, counted from 0 in the order of the keys' bytes.
+    pub fn pair(&self, place: u64) -> Option<(&str, &str)>
+        ensures pair { option_map (λ pair. (pair.0.now, pair.1.now)) result ≡ slice_get (map.entries self.now) place }
+        ensures limits { IsWithinLimits self.now }
+    {
+        match self.pairs.get(place as usize) {
+            Some(pair) => Some((pair.key.as_str(), pair.value.as_str())),
+            None => None,
+        }
+    }
+
+    /// The encoded size, in bytes: 2 for the count, and for each pair its key, its value and 6 more.
+    pub fn size(&self) -> u64
+        ensures size { result ≡ encoded_size self.now }
+        ensures limits { IsWithinLimits self.now }
+    {
+        self.size
+    }
+
+    /// Puts a value under a key, in place of the one that stands there. The answer is `Ignored` exactly where the key
+    /// is `uuid`; `BadKey` where the key is empty or longer than 255 bytes; `TooLarge` where the encoded size would
+    /// pass 65,536 bytes; `Memory` where there is no memory for a copy. Nothing changes unless it is `Stored`.
+    pub fn put(&mut self, key: &str, value: &str) -> Result<Put, AttrError>
+        ensures answer { IsPutAnswer result (put_answer self.old key.now value.now) }
+        ensures after { self.new ≡ after_put result self.old key.now value.now }
+    {
+        if key == "uuid" {
+            return Ok(Put::Ignored);
+        }
+        if key.is_empty() || key.len() as u64 > KEY_MAX {
+            return Err(AttrError::BadKey);
+        }
+        let place = place_of(&self.pairs, key);
+        let size = size_with(&self.pairs, self.size, place, key, value);
+        if size > ATTRIBUTES_MAX {
+            return Err(AttrError::TooLarge { size });
+        }
+        store(&mut self.pairs, place, key, value)?;
+        self.size = size;
+        Ok(Put::Stored)
+    }
+
+    /// Takes the pair of a key away, and says whether it was there.
+    pub fn remove(&mut self, key: &str) -> bool
+        ensures was_there { result ≡ map.contains_key self.old key.now }
+        ensures after { self.new ≡ map.remove self.old key.now }
+    {
+        match place_of(&self.pairs, key) {
+            Ok(place) => {
+                let pair = self.pairs.remove(place);
+                self.size -= pair.size();
+                true
+            }
+            Err(_) => false,
+        }
+    }
+
+    /// Keeps the pairs that stand in the others too.
+    pub fn keep_shared(&mut self, others: &Attributes)
+        ensures { self.new ≡ shared self.old others.now }
+    {
+        keep_standing_in(&mut self.pairs, others);
+        self.size = size_of_all(&self.pairs);
+    }
+
+    /// A copy of these attributes.
+    pub fn copy(&self) -> Result<Attributes, AllocError>
+        ensures { IfOk result (λ copy. copy ≡ self.now) }
+    {
+        let pairs = self.pairs.clone()?;
+        Ok(Attributes {
+            pairs,
+            size: self.size,
+        })
+    }
+}
+
+// The bytes of the count, and those of a pair beside its key and its value.
+const COUNT_SIZE: u64 = 2;
+
+const PAIR_SIZE: u64 = 6;
+
+impl Pair {
+    fn size(&self) -> u64
+        requires { pair_size (key_and_value self.now) ≤ ATTRIBUTES_MAX }
+        ensures { result ≡ pair_size (key_and_value self.now) }
+    {
+        PAIR_SIZE + self.key.as_str().len() as u64 + self.value.as_str().len() as u64
+    }
+}
+
+fn size_of_all(pairs: &[Pair]) -> u64
+    requires { sum_by pair_size (each key_and_value pairs.now) + 2 ≤ ATTRIBUTES_MAX }
+    ensures { result ≡ sum_by pair_size (each key_and_value pairs.now) + 2 }
+{
+    let mut size = COUNT_SIZE;
+    for pair in pairs {
+        size += pair.size();
+    }
+    size
+}
+
+// Where the pair of a key stands, or where it would.
+fn place_of(pairs: &[Pair], key: &str) -> Result<usize, usize>
+    requires { IsTrue (is_sorted (slice_cmp nat_cmp) (each key_and_value pairs.now)) }
+    ensures found { IfOk result (IsPlaceOf (each key_and_value pairs.now) key.now) }
+    ensures absent { IfErr result (IsGapFor (each key_and_value pairs.now) key.now) }
+{
+    pairs.binary_search_by(
+        |pair: &Pair| -> Ordering
+            ensures { result ≡ slice_cmp nat_cmp pair.now.key key.entry.now }
+        { pair.key.as_str().cmp(key) },
+    )
+}
+
+// The encoded size with a value under a key, whose place `place_of` gave.
+fn size_with(pairs: &[Pair], size: u64, place: Result<usize, usize>, key: &str, value: &str) -> u64
+    requires size_is { size ≡ sum_by pair_size (each key_and_value pairs.now) + 2 }
+    requires size_within { size ≤ ATTRIBUTES_MAX }
+    requires key_within { length key.now ≤ KEY_MAX }
+    requires found { IfOk place (IsPlaceOf (each key_and_value pairs.now) key.now) }
+    requires absent { IfErr place (IsGapFor (each key_and_value pairs.now) key.now) }
+    ensures { result ≡ sum_by pair_size (put (slice_cmp nat_cmp) key.now value.now (each key_and_value pairs.now)) + 2 }
+{
+    match place {
+        Ok(place) => size - pairs[place].value.as_str().len() as u64 + value.len() as u64,
+        Err(_) => size + PAIR_SIZE + key.len() as u64 + value.len() as u64,
+    }
+}
+
+// Puts a value under a key, whose place `place_of` gave.
+fn store(
+    pairs: &mut Vec<Pair>,
+    place: Result<usize, usize>,
+    key: &str,
+    value: &str,
+) -> Result<(), AllocError>
+    requires found { IfOk place (IsPlaceOf (each key_and_value pairs.old.items) key.now) }
+    requires absent { IfErr place (IsGapFor (each key_and_value pairs.old.items) key.now) }
+    ensures { each key_and_value pairs.new.items ≡ (if is_ok result then put (slice_cmp nat_cmp) key.now value.now (each key_and_value pairs.old.items) else each key_and_value pairs.old.items) }
+{
+    let alloc = *pairs.allocator();
+    let value = Text::from_str(alloc, value)?;
+    match place {
+        Ok(place) => pairs[place].value = value,
+        Err(place) => {
+            let key = Text::from_str(alloc, key)?;
+            pairs.insert(place, Pair { key, value })?;
+        }
+    }
+    Ok(())
+}
+
+// Keeps the pairs that stand in the attributes.
+fn keep_standing_in(pairs: &mut Vec<Pair>, attributes: &Attributes)
+    ensures { pairs.new.items ≡ filter (λ pair. same_text (Some pair.value) (map.get attributes.now pair.key)) pairs.old.items }
+{
+    pairs.retain(
+        |pair: &Pair| -> bool
+            ensures { result ≡ same_text (Some pair.now.value) (map.get attributes.entry.now pair.now.key) }
+        { stands_in(pair, attributes) },
+    );
+}
+
+fn stands_in(pair: &Pair, attributes: &Attributes) -> bool
+    ensures { result ≡ same_text (Some pair.now.value) (map.get attributes.now pair.now.key) }
+{
+    match attributes.get(pair.key.as_str()) {
+        Some(value) => pair.value.as_str() == value,
+        None => false,
+    }
+}
+
+impl From<AllocError> for AttrError {
+    ghost use Rattle.flowfile_record.specs.declared.attributes.AttrError.TheVariants.{Memory};
+
+    ghost from_gives = { λ _ error. error ≡ Memory };
+
+    fn from(_: AllocError) -> AttrError {
+        AttrError::Memory
+    }
+}
+
+impl<T: Drop> From<AllocFailed<T>> for AttrError {
+    ghost use Rattle.flowfile_record.specs.declared.attributes.AttrError.TheVariants.{Memory};
+
+    ghost from_gives = { λ _ error. error ≡ Memory };
+
+    fn from(_: AllocFailed<T>) -> AttrError {
+        AttrError::Memory
+    }
+}
+
+#[cfg(test)]
+mod tests {
+    use super::*;
+    use std::test::Fail;
+
+    #[test]
+    fn a_pair_is_put_read_and_removed(rt: HostRuntime) -> Result<(), Fail> {
+        let mut attributes = Attributes::new(rt.alloc());
+        assert!(rt; attributes.is_empty());
+        assert_eq!(rt; attributes.put("filename", "a.txt"), Ok(Put::Stored));
+        assert_eq!(rt; attributes.len(), 1);
+        assert_eq!(rt; attributes.size(), 21);
+        assert_eq!(rt; attributes.get("filename"), Some("a.txt"));
+        assert_eq!(rt; attributes.get("path"), None);
+        assert_eq!(rt; attributes.pair(0), Some(("filename", "a.txt")));
+        assert_eq!(rt; attributes.pair(1), None);
+        assert!(rt; attributes.remove("filename"));
+        assert!(rt; !attributes.remove("filename"));
+        assert_eq!(rt; attributes.size(), 2);
+        Ok(())
+    }
+
+    #[test]
+    fn keys_stand_in_the_order_of_their_bytes(rt: HostRuntime) -> Result<(), Fail> {
+        let mut attributes = Attributes::new(rt.alloc());
+        for (key, value) in [("é", "1"), ("b", "2"), ("Z", "3"), ("ab", "4"), ("a", "5")] {
+            assert_eq!(rt; attributes.put(key, value), Ok(Put::Stored));
+        }
+        assert_eq!(rt; attributes.put("ab", "longer"), Ok(Put::Stored));
+        let pairs = [
+            ("Z", "3"),
+            ("a", "5"),
+            ("ab", "longer"),
+            ("b", "2"),
+            ("é", "1"),
+        ];
+        for (place, pair) in pairs.iter().enumerate() {
+            assert_eq!(rt; attributes.pair(place as u64), Some(*pair));
+        }
+        assert_eq!(rt; attributes.len(), 5);
+        assert_eq!(rt; attributes.size(), 2 + 7 + 10 + 30);
+        Ok(())
+    }
+
+    #[test]
+    fn a_key_has_1_to_255_bytes_and_is_not_uuid(rt: HostRuntime) -> Result<(), Fail> {
+        let longest = "k".repeat(rt.alloc(), 255)?;
+        let too_long = "k".repeat(rt.alloc(), 256)?;
+        let mut attributes = Attributes::new(rt.alloc());
+        assert_eq!(rt; attributes.put("", "v"), Err(AttrError::BadKey));
+        assert_eq!(rt;
+            attributes.put(too_long.as_str(), "v"),
+            Err(AttrError::BadKey)
+        );
+        assert_eq!(rt; attributes.put("uuid", "v"), Ok(Put::Ignored));
+        assert!(rt; attributes.is_empty());
+        assert_eq!(rt; attributes.put(longest.as_str(), "v"), Ok(Put::Stored));
+        assert_eq!(rt; attributes.put("UUID", ""), Ok(Put::Stored));
+        assert_eq!(rt; attributes.len(), 2);
+        Ok(())
+    }
+
+    #[test]
+    fn the_size_stops_at_65_536(rt: HostRuntime) -> Result<(), Fail> {
+        let fills = "v".repeat(rt.alloc(), 65_527)?;
+        let passes = "v".repeat(rt.alloc(), 65_528)?;
+        let mut attributes = Attributes::new(rt.alloc());
+        assert_eq!(rt;
+            attributes.put("k", passes.as_str()),
+            Err(AttrError::TooLarge { size: 65_537 })
+        );
+        assert_eq!(rt; attributes.put("k", fills.as_str()), Ok(Put::Stored));
+        assert_eq!(rt; attributes.size(), 65_536);
+        assert_eq!(rt;
+            attributes.put("k", passes.as_str()),
+            Err(AttrError::TooLarge { size: 65_537 })
+        );
+        assert_eq!(rt;
+            attributes.put("l", ""),
+            Err(AttrError::TooLarge { size: 65_543 })
+        );
+        assert_eq!(rt; attributes.put("k", ""), Ok(Put::Stored));
+        assert_eq!(rt; attributes.size(), 9);
+        Ok(())
+    }
+
+    #[test]
+    fn what_both_hold_is_kept(rt: HostRuntime) -> Result<(), Fail> {
+        let mut attributes = Attributes::new(rt.alloc());
+        for (key, value) in [("a", "1"), ("b", "2"), ("c", "3")] {
+            assert_eq!(rt; attributes.put(key, value), Ok(Put::Stored));
+        }
+        let mut others = attributes.copy()?;
+        assert_eq!(rt; others.put("b", "other"), Ok(Put::Stored));
+        assert!(rt; others.remove("a"));
+        attributes.keep_shared(&others);
+        assert_eq!(rt; attributes.pair(0), Some(("c", "3")));
+        assert_eq!(rt; attributes.len(), 1);
+        assert_eq!(rt; attributes.size(), 10);
+        Ok(())
+    }
+}

@@ -1,0 +1,34 @@
+//! The vocabulary of the engine: flow files with their attributes, what a session made of them, the events that
+//! tell of it, and the state that a store keeps.
+//!
+//! Nothing here knows a device, a file of the store, or a processor. A text is UTF-8; moments are milliseconds;
+//! sizes are bytes; digests are SHA-256 (FIPS 180-4).
+#![tactic(auto)]
+
+mod attributes;
+mod content;
+mod error;
+mod event;
+pub mod fields;
+mod flow_file;
+mod identifier;
+mod name;
+mod sequence;
+mod stored;
+mod text;
+mod worked;
+
+pub use attributes::{ATTRIBUTES_MAX, AttrError, Attributes, KEY_MAX, Put};
+pub use content::ContentRef;
+pub use error::CodecError;
+pub use event::{Event, EventCounts, EventKind};
+pub use flow_file::FlowFile;
+pub use identifier::uuid_of;
+pub use name::{Name, NameError};
+pub use sequence::{Bytes, Numbers, Sequence};
+pub use stored::{ActiveFile, ActiveList, BatchList, Stored, SwapBatch};
+pub use text::{Text, TextList};
+pub use worked::{Body, End, Origin, Outcome, Sent, Worked, WorkedList};
+
+/// The greatest content of a flow file, in bytes: 16 MiB.
+pub const CONTENT_MAX: u64 = 16_777_216;

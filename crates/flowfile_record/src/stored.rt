@@ -1,0 +1,41 @@
+//! The state of a flow that a store keeps.
+use crate::{FlowFile, Numbers, Sequence, TextList};
+
+/// What a store keeps: its id, the digest of its flow's text, the flow's connections, how many files each processor
+/// has generated, the numbers that come next (0 for the last event means none yet), the active flow files and the
+/// batches that are swapped out.
+#[derive(Debug, Drop)]
+pub struct Stored {
+    pub store: u64,
+    pub flow: [u8; 32],
+    pub connections: TextList,
+    pub counts: Numbers,
+    pub next_number: u64,
+    pub next_arrival: u64,
+    pub last_event: u64,
+    pub next_batch: u64,
+    pub files: ActiveList,
+    pub batches: BatchList,
+}
+
+/// An active flow file, and the place of the connection whose queue it is in.
+#[derive(Debug, Drop)]
+pub struct ActiveFile {
+    pub connection: u16,
+    pub file: FlowFile,
+}
+
+pub type ActiveList = Sequence<ActiveFile>;
+
+/// A batch of flow files that is swapped out of a connection's queue: its number, how many files it has, and the
+/// sums, in bytes, of their contents and of their encoded records.
+#[derive(Clone, Copy, Debug, PartialEq, Eq)]
+pub struct SwapBatch {
+    pub connection: u16,
+    pub batch: u64,
+    pub files: u64,
+    pub bytes: u64,
+    pub encoded: u64,
+}
+
+pub type BatchList = Sequence<SwapBatch>;

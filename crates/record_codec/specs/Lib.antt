@@ -1,0 +1,12 @@
+pub mod ActiveFile
+pub mod Block
+pub mod EntryReading
+pub mod EntrySpelling
+pub mod FileReading
+pub mod FileSpelling
+pub mod Head
+pub mod Snapshot
+pub mod SnapshotReading
+pub mod StoreHead
+pub mod StoreHeadReading
+pub mod Texts

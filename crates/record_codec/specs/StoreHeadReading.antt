@@ -1,0 +1,25 @@
+-- Reading the head of a snapshot from left to right, up to the first field that can't be read.
+use Rattle.std.specs.Prelude.{ℕ, ◌==◌, ◌^◌, nat_lt}
+use Rattle.std.specs.Int.{w64}
+use Rattle.flowfile_record.specs.Reading.{Reading, ◌then◌, made, such, byte_at, raw_at, uint_at, number_at, numbers_at}
+use Rattle.record_codec.specs.declared.head.Head.{Head}
+use Rattle.record_codec.specs.Texts.{texts_at}
+
+-- of the spelling of snapshots
+unfoldable pub version_at : Reading ℕ
+version_at = such (λ version. version == 1) byte_at
+
+unfoldable pub store_at : Reading ℕ
+store_at = such (λ store. nat_lt store (2 ^ 60)) (uint_at w64)
+
+unfoldable pub head_at : Reading Head
+head_at = made (λ h. record {
+  store = h.1.0;
+  flow = h.1.1.0;
+  connections = h.1.1.1.0;
+  counts = h.1.1.1.1.0;
+  next_number = h.1.1.1.1.1.0;
+  next_arrival = h.1.1.1.1.1.1.0;
+  last_event = h.1.1.1.1.1.1.1.0;
+  next_batch = h.1.1.1.1.1.1.1.1;
+}) (version_at then store_at then raw_at 32 then texts_at then numbers_at then number_at then number_at then number_at then number_at)

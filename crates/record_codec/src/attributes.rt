@@ -1,0 +1,119 @@
+//! The attributes of a flow file.
+ghost use Rattle.std.specs.Prelude.{◌≡◌, ◌-◌, ◌<◌, ◌^◌, ◌++◌, length, true, IfOk, OnOk, OnErr, slice_get, if◌then◌else◌};
+ghost use Rattle.std.specs.Option.{option_map};
+ghost use Rattle.std.specs.FinMap.{empty, entries, insert, len};
+ghost use Rattle.flowfile_record.specs.Attributes.{IsWithinLimits};
+ghost use Rattle.flowfile_record.specs.Reading.{Gives};
+ghost use Rattle.flowfile_record.specs.Spelling.{Keeps};
+ghost use Rattle.record_codec.specs.FileReading.{may_follow, may_hold, pair_at, pairs_at, attributes_at};
+ghost use Rattle.record_codec.specs.FileSpelling as spelling;
+
+use flowfile_record::fields::{
+    FieldError, read_long, read_text, read_u16, write_long, write_text, write_u16,
+};
+use flowfile_record::{AttrError, Attributes, KEY_MAX, Put};
+use std::alloc::{AllocError, Global};
+
+#[tactic(auto, unfolding(crate::specs::FileReading::attributes_at))]
+pub(crate) fn read_attributes(
+    alloc: Global,
+    bytes: &[u8],
+) -> Result<(Attributes, &[u8]), FieldError>
+    ensures { Gives (λ x. (x.0, x.1.now)) result (attributes_at bytes.now) }
+{
+    let (count, rest) = read_u16(bytes)?;
+    read_pairs(alloc, count, rest)
+}
+
+fn read_pairs(alloc: Global, count: u16, bytes: &[u8]) -> Result<(Attributes, &[u8]), FieldError>
+    ensures { Gives (λ x. (x.0, x.1.now)) result (pairs_at count empty bytes.now) }
+{
+    let mut attributes = Attributes::new(alloc);
+    let mut rest = bytes;
+    for _ in 0..count {
+        rest = read_pair(&mut attributes, rest)?;
+    }
+    Ok((attributes, rest))
+}
+
+// A pair whose key comes behind those that are there.
+#[tactic(auto, unfolding(crate::specs::FileReading::pair_at))]
+fn read_pair<'a>(attributes: &mut Attributes, bytes: &'a [u8]) -> Result<&'a [u8], FieldError>
+    ensures { Gives (λ rest. (attributes.new, rest.now)) result (pair_at attributes.old bytes.now) }
+{
+    let (key, value_bytes) = read_text(bytes)?;
+    if !may_follow(attributes, key) {
+        return Err(FieldError::Form {
+            left: bytes.len() as u64,
+        });
+    }
+    let (value, rest) = read_long(value_bytes)?;
+    if !store(attributes, key, value)? {
+        return Err(FieldError::Form {
+            left: value_bytes.len() as u64,
+        });
+    }
+    Ok(rest)
+}
+
+// Whether there is room for a pair whose key may follow; if so it is stored.
+fn store(attributes: &mut Attributes, key: &str, value: &str) -> Result<bool, AllocError>
+    requires { may_follow attributes.old key.now ≡ true }
+    ensures room { IfOk result (λ stored. stored ≡ may_hold attributes.old key.now value.now) }
+    ensures after { IfOk result (λ stored. attributes.new ≡ (if stored then insert attributes.old key.now value.now else attributes.old)) }
+{
+    match attributes.put(key, value) {
+        Ok(Put::Stored) => Ok(true),
+        Ok(Put::Ignored) => Ok(false),
+        Err(AttrError::BadKey) => Ok(false),
+        Err(AttrError::TooLarge { .. }) => Ok(false),
+        Err(AttrError::Memory) => Err(AllocError),
+    }
+}
+
+#[tactic(auto, unfolding(crate::specs::FileReading::may_follow))]
+fn may_follow(attributes: &Attributes, key: &str) -> bool
+    ensures { result ≡ may_follow attributes.now key.now }
+{
+    if key.is_empty() || key.len() as u64 > KEY_MAX || key == "uuid" {
+        return false;
+    }
+    match last_key(attributes) {
+        None => true,
+        Some(last) => last < key,
+    }
+}
+
+fn last_key(attributes: &Attributes) -> Option<&str>
+    ensures { option_map (λ key. key.now) result ≡ option_map (λ pair. pair.0) (slice_get (entries attributes.now) (len attributes.now - 1)) }
+{
+    match attributes.pair(attributes.len().saturating_sub(1)) {
+        Some((key, _)) => Some(key),
+        None => None,
+    }
+}
+
+#[tactic(auto, unfolding(crate::specs::FileSpelling::attributes))]
+pub(crate) fn write_attributes(out: &mut Vec<u8>, attributes: &Attributes) -> Result<(), AllocError>
+    requires { IsWithinLimits attributes.now }
+    ensures ok { OnOk result (out.new.items ≡ out.old.items ++ spelling.attributes attributes.now) }
+    ensures err { OnErr result (Keeps out.old.items out.new.items) }
+{
+    write_u16(out, attributes.len() as u16)?;
+    let mut place = 0;
+    while let Some((key, value)) = attributes.pair(place) {
+        write_pair(out, key, value)?;
+        place += 1;
+    }
+    Ok(())
+}
+
+fn write_pair(out: &mut Vec<u8>, key: &str, value: &str) -> Result<(), AllocError>
+    requires key { length key.now < 2 ^ 16 }
+    requires value { length value.now < 2 ^ 32 }
+    ensures ok { OnOk result (out.new.items ≡ out.old.items ++ spelling.pair (key.now, value.now)) }
+    ensures err { OnErr result (Keeps out.old.items out.new.items) }
+{
+    write_text(out, key)?;
+    write_long(out, value)
+}

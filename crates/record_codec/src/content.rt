@@ -1,0 +1,69 @@
+//! References to contents.
+ghost use Rattle.std.specs.Prelude.{◌≡◌, ◌++◌, OnOk, OnErr};
+ghost use Rattle.flowfile_record.specs.Reading.{Reads};
+ghost use Rattle.flowfile_record.specs.Spelling.{Keeps};
+ghost use Rattle.record_codec.specs.FileReading.{slot_at, size_at, content_ref_at};
+ghost use Rattle.record_codec.specs.FileSpelling as spelling;
+
+use flowfile_record::fields::{
+    Unread, read_digest, read_number, read_u32, read_u64, write_digest, write_u32, write_u64,
+};
+use flowfile_record::{CONTENT_MAX, ContentRef};
+use std::alloc::AllocError;
+
+/// Resource claims are fewer.
+const SLOTS_END: u32 = 65_536;
+
+#[tactic(auto, unfolding(crate::specs::FileReading::content_ref_at))]
+pub(crate) fn read_content_ref(bytes: &[u8]) -> Result<(ContentRef, &[u8]), Unread>
+    ensures { Reads (λ x. (x.0, x.1.now)) result (content_ref_at bytes.now) }
+{
+    let (slot, rest) = read_slot(bytes)?;
+    let (offset, rest) = read_number(rest)?;
+    let (size, rest) = read_size(rest)?;
+    let (digest, rest) = read_digest(rest)?;
+    let content = ContentRef {
+        slot,
+        offset,
+        size,
+        digest,
+    };
+    Ok((content, rest))
+}
+
+#[tactic(auto, unfolding(crate::specs::FileReading::slot_at))]
+fn read_slot(bytes: &[u8]) -> Result<(u32, &[u8]), Unread>
+    ensures { Reads (λ x. (x.0, x.1.now)) result (slot_at bytes.now) }
+{
+    let (slot, rest) = read_u32(bytes)?;
+    if slot >= SLOTS_END {
+        return Err(Unread {
+            left: bytes.len() as u64,
+        });
+    }
+    Ok((slot, rest))
+}
+
+#[tactic(auto, unfolding(crate::specs::FileReading::size_at))]
+fn read_size(bytes: &[u8]) -> Result<(u64, &[u8]), Unread>
+    ensures { Reads (λ x. (x.0, x.1.now)) result (size_at bytes.now) }
+{
+    let (size, rest) = read_u64(bytes)?;
+    if size > CONTENT_MAX {
+        return Err(Unread {
+            left: bytes.len() as u64,
+        });
+    }
+    Ok((size, rest))
+}
+
+#[tactic(auto, unfolding(crate::specs::FileSpelling::content_ref))]
+pub(crate) fn write_content_ref(out: &mut Vec<u8>, content: &ContentRef) -> Result<(), AllocError>
+    ensures ok { OnOk result (out.new.items ≡ out.old.items ++ spelling.content_ref content.now) }
+    ensures err { OnErr result (Keeps out.old.items out.new.items) }
+{
+    write_u32(out, content.slot)?;
+    write_u64(out, content.offset)?;
+    write_u64(out, content.size)?;
+    write_digest(out, &content.digest)
+}

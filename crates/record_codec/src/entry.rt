@@ -1,0 +1,119 @@
+//! The entries of a log.
+ghost use Rattle.std.specs.Prelude.{◌≡◌, ◌++◌, ℕ, length, IfOk, OnOk, OnErr, Ok};
+ghost use Rattle.flowfile_record.specs.Field.{HasOneSpelling};
+ghost use Rattle.flowfile_record.specs.Reading.{Answers, answer, whole};
+ghost use Rattle.record_codec.specs.EntryReading.{entry_at};
+ghost use Rattle.record_codec.specs.EntrySpelling.{entry as spelling, kind_of, IsEntry, IsEntryOf};
+ghost use Rattle.record_codec.specs.declared.entry.LogEntry.{LogEntry as Entry};
+
+mod read;
+mod write;
+
+use flowfile_record::{CodecError, FlowFile, Numbers, Sequence};
+use std::alloc::{AllocError, Global};
+
+/// A flow file, and the place of the connection that it is placed into.
+#[derive(Debug, Drop)]
+pub struct Placed {
+    pub connection: u16,
+    pub file: FlowFile,
+}
+
+/// Files and where they are placed.
+pub type PlacedList = Sequence<Placed>;
+
+/// The place of a processor that makes files from nothing, and how many it has made.
+#[derive(Clone, Copy, Debug, PartialEq, Eq)]
+pub struct Generator {
+    pub place: u16,
+    pub count: u64,
+}
+
+/// What a session of a processor did: the files that are gone from their queue, those that are placed, and the
+/// counters behind it. `generator` is the processor where it is one.
+#[derive(Debug, Drop)]
+pub struct SessionEntry {
+    pub processor: u16,
+    pub moment: u64,
+    pub gone: Numbers,
+    pub placed: PlacedList,
+    pub next_number: u64,
+    pub next_arrival: u64,
+    pub last_event: u64,
+    pub generator: Option<Generator>,
+}
+
+/// Files of a connection that expired.
+#[derive(Debug, Drop)]
+pub struct ExpireEntry {
+    pub connection: u16,
+    pub moment: u64,
+    pub numbers: Numbers,
+    pub last_event: u64,
+}
+
+/// Files of a connection that were swapped out into a batch.
+#[derive(Debug, Drop)]
+pub struct SwapOutEntry {
+    pub connection: u16,
+    pub batch: u64,
+    pub numbers: Numbers,
+}
+
+/// An entry of a log. Connections and processors are named by their places in the flow.
+#[derive(Debug, Drop)]
+pub enum LogEntry {
+    /// The first entry of each log, with the log's number.
+    Begin { log: u64 },
+    Session(SessionEntry),
+    Expire(ExpireEntry),
+    SwapOut(SwapOutEntry),
+    /// A batch of a connection that was swapped in again.
+    SwapIn { connection: u16, batch: u64 },
+}
+
+impl LogEntry {
+    /// The kind of the entry's block, from 1 to 5.
+    pub fn kind(&self) -> u8
+        ensures { result ≡ kind_of self.now }
+    {
+        match self {
+            LogEntry::Begin { .. } => 1,
+            LogEntry::Session(_) => 2,
+            LogEntry::Expire(_) => 3,
+            LogEntry::SwapOut(_) => 4,
+            LogEntry::SwapIn { .. } => 5,
+        }
+    }
+}
+
+/// Appends the one spelling of an entry, the payload of its block, or, where there is no memory for it, nothing.
+pub fn write_entry(out: &mut Vec<u8>, entry: &LogEntry) -> Result<(), AllocError>
+    requires { IsEntry entry.now }
+    ensures ok { OnOk result (out.new.items ≡ out.old.items ++ spelling entry.now) }
+    ensures err { OnErr result (out.new.items ≡ out.old.items) }
+{
+    let start = out.len();
+    let written = write::write_fields(out, entry);
+    if written.is_err() {
+        out.truncate(start);
+    }
+    written
+}
+
+/// The entry of a kind that the bytes spell, all of them. No entry has a kind outside 1 to 5, which is `Form` at 0.
+pub fn read_entry(alloc: Global, kind: u8, bytes: &[u8]) -> Result<LogEntry, CodecError>
+    // What is read is spelled so.
+    ensures found { IfOk result (λ entry. IsEntryOf kind entry × (bytes.now ≡ spelling entry)) }
+    // What is spelled so is read, unless memory runs out.
+    ensures only { (entry : Entry) → IsEntryOf kind entry → bytes.now ≡ spelling entry → Answers result (Ok entry) }
+    // Which place can't be read.
+    ensures exact { Answers result (answer (length bytes.now) (whole (entry_at kind) bytes.now)) }
+{
+    read::read_answer(alloc, kind, bytes)
+}
+
+/// Of one kind, one entry has one spelling, and no spelling is a proper front of another.
+pub fn entries_have_one_spelling()
+    ensures { (kind : ℕ) → HasOneSpelling spelling (IsEntryOf kind) }
+{}

@@ -1,0 +1,215 @@
+//! Reading the entries of a log.
+ghost use Rattle.std.specs.Prelude.{◌≡◌, length};
+ghost use Rattle.flowfile_record.specs.Reading.{Reads, Gives, Answers, answer, whole, items_at, listed_at};
+ghost use Rattle.record_codec.specs.EntryReading.{version_at, begin_at, placed_at, count_at, generator_at, session_at, expire_at, swap_out_at, swap_in_at, entry_at};
+
+use crate::entry::{
+    ExpireEntry, Generator, LogEntry, Placed, PlacedList, SessionEntry, SwapOutEntry,
+};
+use crate::flow_file::read_flow_file;
+use flowfile_record::CodecError;
+use flowfile_record::fields::{
+    FieldError, Unread, read_number, read_numbers, read_u8, read_u16, read_u32, read_u64,
+};
+use std::alloc::Global;
+
+/// The place of no generator.
+pub(crate) const NO_GENERATOR: u16 = 65_535;
+
+/// The version of the log's format.
+pub(crate) const VERSION: u8 = 1;
+
+pub(crate) fn read_answer(alloc: Global, kind: u8, bytes: &[u8]) -> Result<LogEntry, CodecError>
+    ensures { Answers result (answer (length bytes.now) (whole (entry_at kind) bytes.now)) }
+{
+    match read_all(alloc, kind, bytes) {
+        Ok(entry) => Ok(entry),
+        Err(error) => Err(error.within(bytes)),
+    }
+}
+
+fn read_all(alloc: Global, kind: u8, bytes: &[u8]) -> Result<LogEntry, FieldError>
+    ensures { Gives (λ entry. entry) result (whole (entry_at kind) bytes.now) }
+{
+    let (entry, rest) = read_of_kind(alloc, kind, bytes)?;
+    if !rest.is_empty() {
+        return Err(FieldError::Form {
+            left: rest.len() as u64,
+        });
+    }
+    Ok(entry)
+}
+
+#[tactic(auto, unfolding(crate::specs::EntryReading::entry_at))]
+fn read_of_kind(alloc: Global, kind: u8, bytes: &[u8]) -> Result<(LogEntry, &[u8]), FieldError>
+    ensures { Gives (λ x. (x.0, x.1.now)) result (entry_at kind bytes.now) }
+{
+    match kind {
+        1 => Ok(read_begin(bytes)?),
+        2 => {
+            let (session, rest) = read_session(alloc, bytes)?;
+            Ok((LogEntry::Session(session), rest))
+        }
+        3 => {
+            let (expire, rest) = read_expire(alloc, bytes)?;
+            Ok((LogEntry::Expire(expire), rest))
+        }
+        4 => {
+            let (swap_out, rest) = read_swap_out(alloc, bytes)?;
+            Ok((LogEntry::SwapOut(swap_out), rest))
+        }
+        5 => Ok(read_swap_in(bytes)?),
+        _ => Err(FieldError::Form {
+            left: bytes.len() as u64,
+        }),
+    }
+}
+
+#[tactic(auto, unfolding(crate::specs::EntryReading::begin_at))]
+fn read_begin(bytes: &[u8]) -> Result<(LogEntry, &[u8]), Unread>
+    ensures { Reads (λ x. (x.0, x.1.now)) result (begin_at bytes.now) }
+{
+    let (_, rest) = read_version(bytes)?;
+    let (log, rest) = read_number(rest)?;
+    Ok((LogEntry::Begin { log }, rest))
+}
+
+#[tactic(auto, unfolding(crate::specs::EntryReading::version_at))]
+fn read_version(bytes: &[u8]) -> Result<(u8, &[u8]), Unread>
+    ensures { Reads (λ x. (x.0, x.1.now)) result (version_at bytes.now) }
+{
+    let (version, rest) = read_u8(bytes)?;
+    if version != VERSION {
+        return Err(Unread {
+            left: bytes.len() as u64,
+        });
+    }
+    Ok((version, rest))
+}
+
+#[tactic(auto, unfolding(crate::specs::EntryReading::session_at))]
+fn read_session(alloc: Global, bytes: &[u8]) -> Result<(SessionEntry, &[u8]), FieldError>
+    ensures { Gives (λ x. (x.0, x.1.now)) result (session_at bytes.now) }
+{
+    let (processor, rest) = read_u16(bytes)?;
+    let (moment, rest) = read_u64(rest)?;
+    let (gone, rest) = read_numbers(alloc, rest)?;
+    let (placed, rest) = read_placed_list(alloc, rest)?;
+    let (next_number, rest) = read_number(rest)?;
+    let (next_arrival, rest) = read_number(rest)?;
+    let (last_event, rest) = read_number(rest)?;
+    let (generator, rest) = read_generator(rest)?;
+    let session = SessionEntry {
+        processor,
+        moment,
+        gone,
+        placed,
+        next_number,
+        next_arrival,
+        last_event,
+        generator,
+    };
+    Ok((session, rest))
+}
+
+#[tactic(auto, unfolding(flowfile_record::specs::Reading::listed_at))]
+fn read_placed_list(alloc: Global, bytes: &[u8]) -> Result<(PlacedList, &[u8]), FieldError>
+    ensures { Gives (λ x. (x.0, x.1.now)) result (listed_at placed_at bytes.now) }
+{
+    let (count, rest) = read_u32(bytes)?;
+    let (items, rest) = read_placed_items(alloc, count, rest)?;
+    Ok((PlacedList::from(items), rest))
+}
+
+fn read_placed_items(
+    alloc: Global,
+    count: u32,
+    bytes: &[u8],
+) -> Result<(Vec<Placed>, &[u8]), FieldError>
+    ensures { Gives (λ x. (x.0.items, x.1.now)) result (items_at placed_at count bytes.now) }
+{
+    let mut items = Vec::new(alloc);
+    let mut rest = bytes;
+    for _ in 0..count {
+        let (item, after) = read_placed(alloc, rest)?;
+        items.push(item)?;
+        rest = after;
+    }
+    Ok((items, rest))
+}
+
+#[tactic(auto, unfolding(crate::specs::EntryReading::placed_at))]
+fn read_placed(alloc: Global, bytes: &[u8]) -> Result<(Placed, &[u8]), FieldError>
+    ensures { Gives (λ x. (x.0, x.1.now)) result (placed_at bytes.now) }
+{
+    let (connection, rest) = read_u16(bytes)?;
+    let (file, rest) = read_flow_file(alloc, rest)?;
+    Ok((Placed { connection, file }, rest))
+}
+
+#[tactic(auto, unfolding(crate::specs::EntryReading::generator_at))]
+fn read_generator(bytes: &[u8]) -> Result<(Option<Generator>, &[u8]), Unread>
+    ensures { Reads (λ x. (x.0, x.1.now)) result (generator_at bytes.now) }
+{
+    let (place, rest) = read_u16(bytes)?;
+    let (count, rest) = read_count(place, rest)?;
+    if place == NO_GENERATOR {
+        return Ok((None, rest));
+    }
+    Ok((Some(Generator { place, count }), rest))
+}
+
+// The count behind the place of a generator, or 0.
+#[tactic(auto, unfolding(crate::specs::EntryReading::count_at))]
+fn read_count(place: u16, bytes: &[u8]) -> Result<(u64, &[u8]), Unread>
+    ensures { Reads (λ x. (x.0, x.1.now)) result (count_at place bytes.now) }
+{
+    let (count, rest) = read_number(bytes)?;
+    if place == NO_GENERATOR && count != 0 {
+        return Err(Unread {
+            left: bytes.len() as u64,
+        });
+    }
+    Ok((count, rest))
+}
+
+#[tactic(auto, unfolding(crate::specs::EntryReading::expire_at))]
+fn read_expire(alloc: Global, bytes: &[u8]) -> Result<(ExpireEntry, &[u8]), FieldError>
+    ensures { Gives (λ x. (x.0, x.1.now)) result (expire_at bytes.now) }
+{
+    let (connection, rest) = read_u16(bytes)?;
+    let (moment, rest) = read_u64(rest)?;
+    let (numbers, rest) = read_numbers(alloc, rest)?;
+    let (last_event, rest) = read_number(rest)?;
+    let expire = ExpireEntry {
+        connection,
+        moment,
+        numbers,
+        last_event,
+    };
+    Ok((expire, rest))
+}
+
+#[tactic(auto, unfolding(crate::specs::EntryReading::swap_out_at))]
+fn read_swap_out(alloc: Global, bytes: &[u8]) -> Result<(SwapOutEntry, &[u8]), FieldError>
+    ensures { Gives (λ x. (x.0, x.1.now)) result (swap_out_at bytes.now) }
+{
+    let (connection, rest) = read_u16(bytes)?;
+    let (batch, rest) = read_number(rest)?;
+    let (numbers, rest) = read_numbers(alloc, rest)?;
+    let swap_out = SwapOutEntry {
+        connection,
+        batch,
+        numbers,
+    };
+    Ok((swap_out, rest))
+}
+
+#[tactic(auto, unfolding(crate::specs::EntryReading::swap_in_at))]
+fn read_swap_in(bytes: &[u8]) -> Result<(LogEntry, &[u8]), Unread>
+    ensures { Reads (λ x. (x.0, x.1.now)) result (swap_in_at bytes.now) }
+{
+    let (connection, rest) = read_u16(bytes)?;
+    let (batch, rest) = read_number(rest)?;
+    Ok((LogEntry::SwapIn { connection, batch }, rest))
+}

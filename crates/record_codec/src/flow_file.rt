@@ -1,0 +1,114 @@
+//! Flow files.
+ghost use Rattle.std.specs.Prelude.{◌≡◌, ◌++◌, length, IfOk, OnOk, OnErr, Ok};
+ghost use Rattle.flowfile_record.specs.Field.{HasOneSpelling};
+ghost use Rattle.flowfile_record.specs.Reading.{Reads, Gives, Answers, answer, whole};
+ghost use Rattle.flowfile_record.specs.Spelling.{Keeps};
+ghost use Rattle.flowfile_record.specs.declared.flow_file.FlowFile.{FlowFile as File};
+ghost use Rattle.record_codec.specs.FileReading.{file_number_at, flow_file_at};
+ghost use Rattle.record_codec.specs.FileSpelling.{flow_file, IsFlowFile};
+
+use crate::attributes::{read_attributes, write_attributes};
+use crate::content::{read_content_ref, write_content_ref};
+use flowfile_record::fields::{FieldError, Unread, read_number, read_u64, write_u64};
+use flowfile_record::{CodecError, FlowFile};
+use std::alloc::{AllocError, Global};
+
+/// Appends the one spelling of a flow file, or, where there is no memory for it, nothing.
+pub fn write_file(out: &mut Vec<u8>, file: &FlowFile) -> Result<(), AllocError>
+    requires { IsFlowFile file.now }
+    ensures ok { OnOk result (out.new.items ≡ out.old.items ++ flow_file file.now) }
+    ensures err { OnErr result (out.new.items ≡ out.old.items) }
+{
+    let start = out.len();
+    let written = write_flow_file(out, file);
+    if written.is_err() {
+        out.truncate(start);
+    }
+    written
+}
+
+/// The flow file that the bytes spell, all of them.
+pub fn read_file(alloc: Global, bytes: &[u8]) -> Result<FlowFile, CodecError>
+    // What is read is spelled so.
+    ensures found { IfOk result (λ file. IsFlowFile file × (bytes.now ≡ flow_file file)) }
+    // What is spelled so is read, unless memory runs out.
+    ensures only { (file : File) → IsFlowFile file → bytes.now ≡ flow_file file → Answers result (Ok file) }
+    // Which place can't be read.
+    ensures exact { Answers result (answer (length bytes.now) (whole flow_file_at bytes.now)) }
+{
+    read_answer(alloc, bytes)
+}
+
+/// One flow file has one spelling, and no spelling is a proper front of another.
+pub fn flow_files_have_one_spelling()
+    ensures { HasOneSpelling flow_file IsFlowFile }
+{}
+
+fn read_answer(alloc: Global, bytes: &[u8]) -> Result<FlowFile, CodecError>
+    ensures { Answers result (answer (length bytes.now) (whole flow_file_at bytes.now)) }
+{
+    match read_all(alloc, bytes) {
+        Ok(file) => Ok(file),
+        Err(error) => Err(error.within(bytes)),
+    }
+}
+
+fn read_all(alloc: Global, bytes: &[u8]) -> Result<FlowFile, FieldError>
+    ensures { Gives (λ file. file) result (whole flow_file_at bytes.now) }
+{
+    let (file, rest) = read_flow_file(alloc, bytes)?;
+    if !rest.is_empty() {
+        return Err(FieldError::Form {
+            left: rest.len() as u64,
+        });
+    }
+    Ok(file)
+}
+
+#[tactic(auto, unfolding(crate::specs::FileReading::flow_file_at))]
+pub(crate) fn read_flow_file(alloc: Global, bytes: &[u8]) -> Result<(FlowFile, &[u8]), FieldError>
+    ensures { Gives (λ x. (x.0, x.1.now)) result (flow_file_at bytes.now) }
+{
+    let (number, rest) = read_file_number(bytes)?;
+    let (attributes, rest) = read_attributes(alloc, rest)?;
+    let (content, rest) = read_content_ref(rest)?;
+    let (entered, rest) = read_u64(rest)?;
+    let (penalty_end, rest) = read_u64(rest)?;
+    let (arrival, rest) = read_number(rest)?;
+    let file = FlowFile {
+        number,
+        attributes,
+        content,
+        entered,
+        penalty_end,
+        arrival,
+    };
+    Ok((file, rest))
+}
+
+#[tactic(auto, unfolding(crate::specs::FileReading::file_number_at))]
+fn read_file_number(bytes: &[u8]) -> Result<(u64, &[u8]), Unread>
+    ensures { Reads (λ x. (x.0, x.1.now)) result (file_number_at bytes.now) }
+{
+    let (number, rest) = read_number(bytes)?;
+    if number < 1 {
+        return Err(Unread {
+            left: bytes.len() as u64,
+        });
+    }
+    Ok((number, rest))
+}
+
+#[tactic(auto, unfolding(crate::specs::FileSpelling::flow_file))]
+pub(crate) fn write_flow_file(out: &mut Vec<u8>, file: &FlowFile) -> Result<(), AllocError>
+    requires { IsFlowFile file.now }
+    ensures ok { OnOk result (out.new.items ≡ out.old.items ++ flow_file file.now) }
+    ensures err { OnErr result (Keeps out.old.items out.new.items) }
+{
+    write_u64(out, file.number)?;
+    write_attributes(out, &file.attributes)?;
+    write_content_ref(out, &file.content)?;
+    write_u64(out, file.entered)?;
+    write_u64(out, file.penalty_end)?;
+    write_u64(out, file.arrival)
+}

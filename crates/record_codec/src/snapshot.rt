@@ -1,0 +1,182 @@
+//! The other blocks of a snapshot.
+ghost use Rattle.std.specs.Prelude.{◌≡◌, ◌++◌, ℕ, length, IfOk, IfSome, IfNone, OnOk, OnErr, Ok};
+ghost use Rattle.flowfile_record.specs.Field.{HasOneSpelling};
+ghost use Rattle.flowfile_record.specs.Reading.{Reads, answer, whole};
+ghost use Rattle.flowfile_record.specs.Spelling.{Keeps};
+ghost use Rattle.flowfile_record.specs.declared.stored.SwapBatch.{SwapBatch as Batch};
+ghost use Rattle.record_codec.specs.declared.snapshot.SnapshotKind.{SnapshotKind as Kind};
+ghost use Rattle.record_codec.specs.Snapshot.{kind_code, IsBatch, IsEnding};
+ghost use Rattle.record_codec.specs.Snapshot as spelling;
+ghost use Rattle.record_codec.specs.SnapshotReading.{batch_at, ending_at};
+
+use flowfile_record::fields::{
+    FieldError, Unread, read_number, read_u16, read_u64, write_u16, write_u64,
+};
+use flowfile_record::{CodecError, SwapBatch};
+use std::alloc::AllocError;
+
+/// What a block of a snapshot holds: the head, then the active flow files, the batches that are swapped out, and the
+/// end.
+#[derive(Clone, Copy, Debug, PartialEq, Eq)]
+pub enum SnapshotKind {
+    Head = 10,
+    File = 11,
+    Batch = 12,
+    End = 13,
+}
+
+impl SnapshotKind {
+    /// The kind of the block.
+    pub fn code(self) -> u8
+        ensures { result ≡ kind_code self }
+    {
+        self as u8
+    }
+
+    /// What a block of this kind holds, if it is one of a snapshot.
+    pub fn from_code(kind: u8) -> Option<SnapshotKind>
+        ensures found { IfSome result (λ holds. kind_code holds ≡ kind) }
+        ensures none { IfNone result ((holds : Kind) → kind_code holds ≡ kind → ⊥) }
+    {
+        match kind {
+            10 => Some(SnapshotKind::Head),
+            11 => Some(SnapshotKind::File),
+            12 => Some(SnapshotKind::Batch),
+            13 => Some(SnapshotKind::End),
+            _ => None,
+        }
+    }
+}
+
+/// Appends the one spelling of a batch, or, where there is no memory for it, nothing. A batch's number and its count of
+/// files have to be below 2^62.
+pub fn write_batch(out: &mut Vec<u8>, batch: &SwapBatch) -> Result<(), AllocError>
+    requires { IsBatch batch.now }
+    ensures ok { OnOk result (out.new.items ≡ out.old.items ++ spelling.batch batch.now) }
+    ensures err { OnErr result (out.new.items ≡ out.old.items) }
+{
+    let start = out.len();
+    let written = write_batch_fields(out, batch);
+    if written.is_err() {
+        out.truncate(start);
+    }
+    written
+}
+
+/// The batch that the bytes spell, all of them; else `Form`, at the first field that can't be read, or at what is left
+/// over.
+pub fn read_batch(bytes: &[u8]) -> Result<SwapBatch, CodecError>
+    // What is read is spelled so.
+    ensures found { IfOk result (λ value. IsBatch value × (bytes.now ≡ spelling.batch value)) }
+    // What is spelled so is read.
+    ensures only { (value : Batch) → IsBatch value → bytes.now ≡ spelling.batch value → result ≡ Ok value }
+    // Which place can't be read.
+    ensures exact { result ≡ answer (length bytes.now) (whole batch_at bytes.now) }
+{
+    read_batch_answer(bytes)
+}
+
+/// One batch has one spelling, and no spelling is a proper front of another.
+pub fn batches_have_one_spelling()
+    ensures { HasOneSpelling spelling.batch IsBatch }
+{}
+
+/// Appends the one spelling of an end behind so many blocks, or, where there is no memory for it, nothing.
+pub fn write_end(out: &mut Vec<u8>, blocks: u64) -> Result<(), AllocError>
+    ensures ok { OnOk result (out.new.items ≡ out.old.items ++ spelling.ending blocks) }
+    ensures err { OnErr result (out.new.items ≡ out.old.items) }
+{
+    out.extend_from_slice(&blocks.to_be_bytes())
+}
+
+/// The number of the blocks before an end, which the bytes spell, all of them; else `Form`, at 0 where they are fewer
+/// than 8, and at what is left over where they are more.
+pub fn read_end(bytes: &[u8]) -> Result<u64, CodecError>
+    // What is read is spelled so.
+    ensures found { IfOk result (λ blocks. IsEnding blocks × (bytes.now ≡ spelling.ending blocks)) }
+    // What is spelled so is read.
+    ensures only { (blocks : ℕ) → IsEnding blocks → bytes.now ≡ spelling.ending blocks → result ≡ Ok blocks }
+    // Which place can't be read.
+    ensures exact { result ≡ answer (length bytes.now) (whole ending_at bytes.now) }
+{
+    read_end_answer(bytes)
+}
+
+/// One end has one spelling, and no spelling is a proper front of another.
+pub fn ends_have_one_spelling()
+    ensures { HasOneSpelling spelling.ending IsEnding }
+{}
+
+fn read_batch_answer(bytes: &[u8]) -> Result<SwapBatch, CodecError>
+    ensures { result ≡ answer (length bytes.now) (whole batch_at bytes.now) }
+{
+    match read_whole_batch(bytes) {
+        Ok(batch) => Ok(batch),
+        Err(unread) => Err(FieldError::from(unread).within(bytes)),
+    }
+}
+
+fn read_whole_batch(bytes: &[u8]) -> Result<SwapBatch, Unread>
+    ensures { Reads (λ value. value) result (whole batch_at bytes.now) }
+{
+    let (batch, rest) = read_batch_fields(bytes)?;
+    if !rest.is_empty() {
+        return Err(Unread {
+            left: rest.len() as u64,
+        });
+    }
+    Ok(batch)
+}
+
+#[tactic(auto, unfolding(crate::specs::SnapshotReading::batch_at))]
+fn read_batch_fields(bytes: &[u8]) -> Result<(SwapBatch, &[u8]), Unread>
+    ensures { Reads (λ x. (x.0, x.1.now)) result (batch_at bytes.now) }
+{
+    let (connection, rest) = read_u16(bytes)?;
+    let (batch, rest) = read_number(rest)?;
+    let (files, rest) = read_number(rest)?;
+    let (content_bytes, rest) = read_u64(rest)?;
+    let (encoded, rest) = read_u64(rest)?;
+    let batch = SwapBatch {
+        connection,
+        batch,
+        files,
+        bytes: content_bytes,
+        encoded,
+    };
+    Ok((batch, rest))
+}
+
+#[tactic(auto, unfolding(crate::specs::Snapshot::batch))]
+fn write_batch_fields(out: &mut Vec<u8>, batch: &SwapBatch) -> Result<(), AllocError>
+    ensures ok { OnOk result (out.new.items ≡ out.old.items ++ spelling.batch batch.now) }
+    ensures err { OnErr result (Keeps out.old.items out.new.items) }
+{
+    write_u16(out, batch.connection)?;
+    write_u64(out, batch.batch)?;
+    write_u64(out, batch.files)?;
+    write_u64(out, batch.bytes)?;
+    write_u64(out, batch.encoded)?;
+    Ok(())
+}
+
+fn read_end_answer(bytes: &[u8]) -> Result<u64, CodecError>
+    ensures { result ≡ answer (length bytes.now) (whole ending_at bytes.now) }
+{
+    match read_whole_end(bytes) {
+        Ok(blocks) => Ok(blocks),
+        Err(unread) => Err(FieldError::from(unread).within(bytes)),
+    }
+}
+
+fn read_whole_end(bytes: &[u8]) -> Result<u64, Unread>
+    ensures { Reads (λ blocks. blocks) result (whole ending_at bytes.now) }
+{
+    let (blocks, rest) = read_u64(bytes)?;
+    if !rest.is_empty() {
+        return Err(Unread {
+            left: rest.len() as u64,
+        });
+    }
+    Ok(blocks)
+}

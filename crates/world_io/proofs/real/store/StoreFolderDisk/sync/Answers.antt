@@ -1,5 +1,0 @@
-use Rattle.world_io.proofs.Nothing.{since_nothing}
-use Rattle.world_io.proofs.real.store.StoreFolderDisk.sync.Goals as goal
-
-pub returns-clause-images : goal.returns-clause-images
-returns-clause-images g c = since_nothing _ _ _ _ c.settle-answer.ensures.later

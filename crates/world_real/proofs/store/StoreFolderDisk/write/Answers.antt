@@ -1,0 +1,5 @@
+use Rattle.world_real.proofs.Nothing.{since_nothing}
+use Rattle.world_real.proofs.store.StoreFolderDisk.write.Goals as goal
+
+pub returns-clause-images : goal.returns-clause-images
+returns-clause-images g c = since_nothing _ _ _ _ c.write_at-answer.ensures.later

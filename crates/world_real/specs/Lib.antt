@@ -1,0 +1,2 @@
+pub mod StoreName
+pub mod Untold

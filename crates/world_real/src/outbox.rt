@@ -1,0 +1,174 @@
+//! An outbox over a folder.
+ghost use Rattle.std.specs.Prelude.{◌≡◌, false, None};
+ghost use Rattle.world_real.specs.Untold.{told_by_none};
+
+use crate::faults::counted;
+use crate::folder::{Entry, Folder, Place, create_file, entry_at, open_folder};
+use crate::numbered::{is_no_text, read_number};
+use disk_trait::Failed;
+use flowfile_record::Name;
+use std::alloc::Global;
+use std::fs::{self, File};
+use std::io::{self, ErrorKind, Write};
+use std::rt::Files;
+use world_io::Outbox;
+
+/// What the name of a folder begins with in which a file stands before it gets its name.
+const ASIDE: &str = ".flow-aside-";
+
+/// A folder that files are put into.
+///
+/// A put that answered Ok is settled, and no reader sees a part of it: it is written in a folder of its
+/// own, settled, and given its name. That folder is `.flow-aside-N` in the outbox, N being the least
+/// number where nothing or a folder stands. Whatever folder stands under such a name is what a stop
+/// left, and is removed with all that it holds.
+#[derive(Drop)]
+pub struct OutboxFolder<'r, R> {
+    place: Place<'r, R>,
+    /// Whether it is known that no earlier put left a folder there.
+    is_swept: bool,
+    faults: u64,
+}
+
+impl<'r, R: Files<File = File> + Alloc + Sync> OutboxFolder<'r, R> {
+    /// The outbox over a folder, with no fault.
+    pub fn new(rt: &'r R, alloc: Global, folder: Folder<'r>) -> OutboxFolder<'r, R>
+        ensures { ⟦<OutboxFolder<'r, R> as Outbox>⟧.faults result ≡ 0 }
+    {
+        OutboxFolder {
+            place: Place { rt, alloc, folder },
+            is_swept: false,
+            faults: 0,
+        }
+    }
+}
+
+impl<'r, R: Files<File = File> + Alloc + Sync> Outbox for OutboxFolder<'r, R> {
+    ghost tells = { false };
+
+    ghost standing = { λ _ _. None };
+
+    ghost faults = { λ outbox. outbox.faults };
+
+    fn holds(&mut self, name: &Name) -> Result<bool, Failed> {
+        let answer = holds(&self.place, name);
+        counted(&mut self.faults, answer)
+    }
+
+    fn put(&mut self, name: &Name, bytes: &[u8]) -> Result<(), Failed> {
+        let answer = put(&self.place, &mut self.is_swept, name.text(), bytes);
+        counted(&mut self.faults, answer)
+    }
+}
+
+fn holds<R: Files>(place: &Place<'_, R>, name: &Name) -> io::Result<bool> {
+    match entry_at(place.rt, place.entry(name.text())?.as_str())? {
+        Entry::File(_) | Entry::Other => Ok(true),
+        Entry::Folder => Ok(false),
+        Entry::Nothing => {
+            is_folder(place.rt, place.path()?)?;
+            Ok(false)
+        }
+    }
+}
+
+fn is_folder<R: Files>(rt: &R, path: &str) -> io::Result<()> {
+    if fs::metadata(rt, path)?.is_dir() {
+        Ok(())
+    } else {
+        Err(ErrorKind::NotADirectory.into())
+    }
+}
+
+fn put<R: Files<File = File> + Alloc>(
+    place: &Place<'_, R>,
+    is_swept: &mut bool,
+    name: &str,
+    bytes: &[u8],
+) -> io::Result<()> {
+    if !*is_swept {
+        sweep(place)?;
+        *is_swept = true;
+    }
+    let path = place.entry(name)?;
+    if let Entry::Folder = entry_at(place.rt, path.as_str())? {
+        return Err(ErrorKind::IsADirectory.into());
+    }
+    let aside = pick_aside(place, name)?;
+    *is_swept = false;
+    let answer = put_through(place, aside.as_str(), path.as_str(), bytes);
+    if answer.is_err() {
+        // The next put looks again for what this one leaves.
+        let _ = fs::remove_dir_all(place.rt, aside.as_str());
+    } else {
+        *is_swept = true;
+    }
+    answer
+}
+
+/// Removes what earlier puts left aside.
+fn sweep<R: Files<File = File> + Alloc>(place: &Place<'_, R>) -> io::Result<()> {
+    for entry in fs::read_dir(&place.rt, place.path()?)? {
+        match entry {
+            Ok(entry) if is_aside(entry.file_name()) => {
+                remove_folder(place.rt, place.entry(entry.file_name())?.as_str())?;
+            }
+            Ok(_) => {}
+            Err(error) if is_no_text(&error) => {}
+            Err(error) => return Err(error),
+        }
+    }
+    Ok(())
+}
+
+fn is_aside(name: &str) -> bool {
+    match name.strip_prefix(ASIDE) {
+        Some(digits) => read_number(digits).is_some(),
+        None => false,
+    }
+}
+
+fn remove_folder<R: Files + Alloc>(rt: &R, path: &str) -> io::Result<()> {
+    match entry_at(rt, path)? {
+        Entry::Folder => fs::remove_dir_all(rt, path),
+        Entry::Nothing | Entry::File(_) | Entry::Other => Ok(()),
+    }
+}
+
+/// A path in the outbox where nothing stands, for the folder of a put under `name`.
+fn pick_aside<R: Files + Alloc>(place: &Place<'_, R>, name: &str) -> io::Result<String> {
+    for number in 0..u64::MAX {
+        let aside = format!(in place.alloc; "{ASIDE}{number}")?;
+        let path = place.entry(aside.as_str())?;
+        if aside.as_str() != name && is_free(place.rt, path.as_str())? {
+            return Ok(path);
+        }
+    }
+    Err(ErrorKind::AlreadyExists.into())
+}
+
+fn is_free<R: Files + Alloc>(rt: &R, path: &str) -> io::Result<bool> {
+    remove_folder(rt, path)?;
+    match entry_at(rt, path)? {
+        Entry::Nothing => Ok(true),
+        Entry::File(_) | Entry::Folder | Entry::Other => Ok(false),
+    }
+}
+
+fn put_through<R: Files<File = File>>(
+    place: &Place<'_, R>,
+    aside: &str,
+    path: &str,
+    bytes: &[u8],
+) -> io::Result<()> {
+    fs::create_dir(place.rt, aside)?;
+    let part = format!(in place.alloc; "{aside}/part")?;
+    let mut file = create_file(place.rt, part.as_str())?;
+    file.write_all(bytes)?;
+    file.sync_all()?;
+    drop(file);
+    fs::rename(place.rt, part.as_str(), path)?;
+    fs::remove_dir(place.rt, aside)?;
+    // Last, so that it settles both the name and the end of what stood aside.
+    open_folder(place.rt, place.path()?)?.sync_all()
+}
