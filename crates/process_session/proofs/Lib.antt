@@ -1,0 +1,11 @@
+pub mod Beginning
+pub mod Changing
+pub mod Encoded
+pub mod Faulting
+pub mod FinishFiles
+pub mod FinishLaws
+pub mod FinishPlaces
+pub mod Joining
+pub mod Pairs
+pub mod Refusing
+pub mod Sound

@@ -1,0 +1,6 @@
+use Rattle.std.proofs.Common.{◌≡◌, drop}
+use Rattle.process_session.specs.Faults.{ended_files}
+use Rattle.process_session.proofs.session.Session.check_all_open.Given as goal
+
+abbrev pub invariant-loop-place : goal.invariant-loop-place
+invariant-loop-place l = ended_files l.self l.places ≡ ended_files l.self (drop l.place-index l.places)

@@ -1,0 +1,31 @@
+use Rattle.std.proofs.Common.{◌≡◌, ◌*◌, ◌≤◌, List, length, map, sum_by, sym, ◌∙◌, ap, subst, arith}
+use Rattle.std.specs.List.{All}
+use Rattle.flowfile_record.specs.declared.attributes.TheConstants.{ATTRIBUTES_MAX}
+use Rattle.process_session.specs.declared.file.File.{File}
+use Rattle.process_session.specs.declared.file.Source.{Source}
+use Rattle.process_session.specs.declared.file.Taken.{Taken}
+use Rattle.process_session.specs.declared.limits.TheConstants.{TAKEN_MAX}
+use Rattle.process_session.specs.Bench.{HasItsSize, IsBodyOf, IsWhole, file_size, source_of, taken_files}
+use Rattle.process_session.proofs.Beginning.{bodies_taken, length-sources, length-taken_files, sources_whole}
+use Rattle.process_session.proofs.session.Session.new.Goals as goal
+
+pub invariant_of-result : goal.invariant_of-result
+invariant_of-result c =
+    let taken : List Taken = c.into_vec.result.items in
+    let begun = c.in_ok-begun.begun in
+    let begins = c.in_ok-begun.ensures in
+    let few : length taken ≤ TAKEN_MAX = subst (λ (files : List Taken). length files ≤ TAKEN_MAX) (sym c.into_vec.ensures) c.requires.few in
+    let whole : All IsWhole taken = subst (All IsWhole) (sym c.into_vec.ensures) c.requires.whole in
+    let sources : length begun.sources.items ≡ length taken = ap length begins.sources ∙ length-sources taken in
+    let files : length begun.files.items ≡ length taken = ap length begins.files ∙ length-taken_files 0 taken in
+    let mapped : length (map source_of taken) ≡ length taken = length-sources taken in
+    let small : begun.counted ≤ length taken * ATTRIBUTES_MAX = begins.small in
+    record {
+      summed = begins.summed ∙ ap (sum_by file_size) (sym begins.files);
+      attributes = omega arith;
+      handed = omega arith;
+      few = omega arith;
+      taken = omega arith;
+      whole = subst (All (λ (source : Source). HasItsSize source.bytes source.size)) (sym begins.sources) (sources_whole taken whole);
+      bodies = subst (All (λ (file : File). IsBodyOf begun.sources.items file.body)) (sym begins.files) (subst (λ (of : List Source). All (λ (file : File). IsBodyOf of file.body) (taken_files 0 taken)) (sym begins.sources) (bodies_taken (map source_of taken) 0 taken (omega arith)));
+    }

@@ -1,0 +1,76 @@
+-- Which reasons each call of a session has to refuse, in the order in which they are tested.
+use Rattle.std.specs.Prelude.{ℕ, ◌+◌, Bool, true, false, List, [], ◌∷◌, length, Option, None, Some, unwrap_or, if◌then◌else◌}
+use Rattle.std.specs.List.{list_any}
+use Rattle.std.specs.FinMap.{insert, remove}
+use Rattle.flowfile_record.specs.Attributes.{is_uuid}
+use Rattle.process_session.specs.Bench.{Bench, attributes_at, counted_size, content_size, is_made_at}
+use Rattle.process_session.specs.Changes.{with_put, with_removed, with_written, with_appended, with_created, with_received, with_child, with_joined, with_clone, with_range, common_attributes}
+use Rattle.process_session.specs.Refusals.{Fault, first_fault, unknown_file, already_ended, no_relationship, made_here, no_bytes, range_outside, content_too_large, bad_key, attributes_too_large, already_sent, session_full, not_accounted}
+
+abbrev pub fault_of_content : Bench → ℕ → Fault
+fault_of_content bench place = first_fault (unknown_file bench place ∷ no_bytes bench place ∷ [])
+
+abbrev pub fault_of_penalize : Bench → ℕ → Fault
+fault_of_penalize bench place = first_fault (unknown_file bench place ∷ already_ended bench place ∷ [])
+
+abbrev pub fault_of_remove : Bench → ℕ → Fault
+fault_of_remove bench place = first_fault (unknown_file bench place ∷ already_ended bench place ∷ [])
+
+abbrev pub fault_of_transfer : Bench → ℕ → ℕ → Fault
+fault_of_transfer bench place relationship = first_fault (unknown_file bench place ∷ already_ended bench place ∷ no_relationship bench relationship ∷ [])
+
+abbrev pub fault_of_route : Bench → ℕ → ℕ → Fault
+fault_of_route bench place relationship = first_fault (unknown_file bench place ∷ already_ended bench place ∷ no_relationship bench relationship ∷ [])
+
+abbrev pub fault_of_transfer_back : Bench → ℕ → Fault
+fault_of_transfer_back bench place = first_fault (unknown_file bench place ∷ already_ended bench place ∷ made_here bench place ∷ [])
+
+abbrev pub fault_of_send : Bench → ℕ → Fault
+fault_of_send bench place = first_fault (unknown_file bench place ∷ already_ended bench place ∷ already_sent bench ∷ [])
+
+abbrev pub fault_of_put : Bench → ℕ → List ℕ → List ℕ → Fault
+fault_of_put bench place key value =
+    let attributes = insert (attributes_at bench place) key value in
+    let of_key = if is_uuid key then [] else bad_key key ∷ attributes_too_large (counted_size (is_made_at bench place) attributes) ∷ session_full (with_put bench place key value) ∷ [] in
+    first_fault (unknown_file bench place ∷ already_ended bench place ∷ of_key)
+
+abbrev pub fault_of_remove_attribute : Bench → ℕ → List ℕ → Fault
+fault_of_remove_attribute bench place key =
+    let attributes = remove (attributes_at bench place) key in
+    first_fault (unknown_file bench place ∷ already_ended bench place ∷ attributes_too_large (counted_size (is_made_at bench place) attributes) ∷ session_full (with_removed bench place key) ∷ [])
+
+abbrev pub fault_of_write : Bench → ℕ → List ℕ → Fault
+fault_of_write bench place bytes = first_fault (unknown_file bench place ∷ already_ended bench place ∷ content_too_large (length bytes) ∷ session_full (with_written bench place bytes) ∷ [])
+
+abbrev pub fault_of_append : Bench → ℕ → List ℕ → Fault
+fault_of_append bench place bytes = first_fault (unknown_file bench place ∷ already_ended bench place ∷ no_bytes bench place ∷ content_too_large (content_size bench place + length bytes) ∷ session_full (with_appended bench place bytes) ∷ [])
+
+abbrev pub fault_of_create : Bench → Fault
+fault_of_create bench = first_fault (session_full (with_created bench) ∷ [])
+
+abbrev pub fault_of_receive : Bench → List ℕ → Fault
+fault_of_receive bench bytes = first_fault (content_too_large (length bytes) ∷ session_full (with_received bench bytes) ∷ [])
+
+abbrev pub fault_of_create_from : Bench → ℕ → Fault
+fault_of_create_from bench parent = first_fault (unknown_file bench parent ∷ already_ended bench parent ∷ attributes_too_large (counted_size true (attributes_at bench parent)) ∷ session_full (with_child bench parent) ∷ [])
+
+-- the first of several files that is unknown, and the first that has ended
+abbrev pub unknown_files : Bench → List ℕ → Fault
+unknown_files bench [] = None
+unknown_files bench (place ∷ places) = first_fault (unknown_file bench place ∷ unknown_files bench places ∷ [])
+
+abbrev pub ended_files : Bench → List ℕ → Fault
+ended_files bench [] = None
+ended_files bench (place ∷ places) = first_fault (already_ended bench place ∷ ended_files bench places ∷ [])
+
+abbrev pub fault_of_create_joined : Bench → List ℕ → Fault
+fault_of_create_joined bench parents = first_fault (unknown_files bench parents ∷ ended_files bench parents ∷ attributes_too_large (counted_size true (common_attributes bench parents)) ∷ session_full (with_joined bench parents) ∷ [])
+
+abbrev pub fault_of_clone : Bench → ℕ → Fault
+fault_of_clone bench of = first_fault (unknown_file bench of ∷ already_ended bench of ∷ attributes_too_large (counted_size true (attributes_at bench of)) ∷ session_full (with_clone bench of) ∷ [])
+
+abbrev pub fault_of_clone_range : Bench → ℕ → ℕ → ℕ → Fault
+fault_of_clone_range bench of offset size = first_fault (unknown_file bench of ∷ already_ended bench of ∷ range_outside bench of offset size ∷ attributes_too_large (counted_size true (attributes_at bench of)) ∷ session_full (with_range bench of offset size) ∷ [])
+
+abbrev pub fault_of_finish : Bench → Fault
+fault_of_finish bench = first_fault (not_accounted bench ∷ [])

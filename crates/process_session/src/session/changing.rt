@@ -1,0 +1,177 @@
+//! How contents and attributes change.
+ghost use Rattle.std.specs.Prelude.{◌≡◌, ◌+◌, ◌<◌, ◌≤◌, ◌++◌, ◌∷◌, [], length, is_ok, true, IfOk, IfErr, OnOk, OnErr, All, unwrap_or, if◌then◌else◌};
+ghost use Rattle.std.specs.Result.{result_err};
+ghost use Rattle.std.specs.FinMap.{contains_key, insert, remove};
+ghost use Rattle.flowfile_record.specs.Attributes.{is_uuid};
+ghost use Rattle.process_session.specs.Bench.{HasItsSize, IsBodyOf, attribute_size, attributes_at, attributes_in, body_bytes, bytes_in};
+ghost use Rattle.process_session.specs.Changes.{with_written, with_appended, with_put, with_removed, change_at};
+ghost use Rattle.process_session.specs.Faults.{fault_of_write, fault_of_append, fault_of_put, fault_of_remove_attribute};
+ghost use Rattle.process_session.specs.Refusals.{IsRefusal, already_ended, content_too_large, first_fault, past_limits, unknown_file};
+
+use super::Session;
+use super::bodies::{body_bytes, joined_bytes};
+use super::checks::{check_attributes, check_content, check_key};
+use crate::file::{File, Source};
+use crate::{SessionError, WRITTEN_MAX};
+use flowfile_record::{Body, Bytes, Put};
+use std::alloc::{AllocError, Global};
+
+impl Session {
+    /// The content of a file is replaced.
+    pub fn write(&mut self, place: u32, bytes: Vec<u8>) -> Result<(), SessionError>
+        ensures refusal { result_err result ≡ fault_of_write self.old place bytes.items }
+        ensures after { self.new ≡ (if is_ok result then with_written self.old place bytes.items else self.old) }
+    {
+        let size = bytes.len() as u64;
+        self.check_write(place, size)?;
+        write_file(&mut self.files, place, Bytes::from(bytes));
+        self.handed += size;
+        Ok(())
+    }
+
+    /// Whether a content of so many bytes may be written.
+    #[tactic(auto, using(crate::proofs::Refusing::pass, crate::proofs::Refusing::stop, crate::proofs::Refusing::no_fault))]
+    fn check_write(&self, place: u32, size: u64) -> Result<(), SessionError>
+        ensures refusal { result_err result ≡ first_fault (unknown_file self.now place ∷ already_ended self.now place ∷ content_too_large size ∷ past_limits (length self.now.files) (attribute_size self.now) (self.now.handed + size) ∷ []) }
+        ensures there { OnOk result (place < length self.now.files) }
+        ensures handed { OnOk result (self.now.handed + size ≤ WRITTEN_MAX) }
+    {
+        self.check_known(place)?;
+        self.check_open(place)?;
+        check_content(size)?;
+        self.check_written(size)
+    }
+
+    /// The content of a file is extended.
+    pub fn append(&mut self, place: u32, bytes: &[u8]) -> Result<(), SessionError>
+        ensures refusal { IsRefusal result (fault_of_append self.old place bytes.now) }
+        ensures after { self.new ≡ (if is_ok result then with_appended self.old place bytes.now else self.old) }
+    {
+        self.check_known(place)?;
+        self.check_open(place)?;
+        let size = self.check_bytes(place)?;
+        let more = bytes.len() as u64;
+        check_content(size + more)?;
+        self.check_written(more)?;
+        let sources = self.sources.as_slice();
+        append_file(self.alloc, sources, &mut self.files, place, bytes)?;
+        self.handed += more;
+        Ok(())
+    }
+
+    /// Puts a value under a key of a file's attributes, in place of an earlier one. For the key `uuid` it answers
+    /// `Ignored`, and changes nothing.
+    #[tactic(auto, using(crate::proofs::Refusing::refusals))]
+    pub fn put_attribute(&mut self, place: u32, key: &str, value: &str) -> Result<Put, SessionError>
+        ensures refusal { IsRefusal result (fault_of_put self.old place key.now value.now) }
+        ensures put { IfOk result (λ put. put ≡ (if is_uuid key.now then Put.Ignored else Put.Stored)) }
+        ensures after { self.new ≡ (if is_ok result then with_put self.old place key.now value.now else self.old) }
+    {
+        self.check_known(place)?;
+        self.check_open(place)?;
+        if key == "uuid" {
+            return Ok(Put::Ignored);
+        }
+        check_key(key)?;
+        let old = self.size_at(place);
+        let new = self.size_with(place, key, value);
+        check_attributes(new)?;
+        self.check_attribute_room(old, new)?;
+        put_in_file(&mut self.files, place, key, value)?;
+        self.counted = self.counted - old + new;
+        Ok(Put::Stored)
+    }
+
+    /// Removes a key and its value from a file's attributes, and tells whether it was there.
+    #[tactic(auto, using(crate::proofs::Refusing::refusals))]
+    pub fn remove_attribute(&mut self, place: u32, key: &str) -> Result<bool, SessionError>
+        ensures refusal { result_err result ≡ fault_of_remove_attribute self.old place key.now }
+        ensures was_there { IfOk result (λ was_there. was_there ≡ contains_key (attributes_at self.old place) key.now) }
+        ensures after { self.new ≡ (if is_ok result then with_removed self.old place key.now else self.old) }
+    {
+        self.check_known(place)?;
+        self.check_open(place)?;
+        let old = self.size_at(place);
+        let new = self.size_without(place, key);
+        check_attributes(new)?;
+        self.check_attribute_room(old, new)?;
+        let was_there = remove_from_file(&mut self.files, place, key);
+        self.counted = self.counted - old + new;
+        Ok(was_there)
+    }
+}
+
+fn write_file(files: &mut Vec<File>, place: u32, bytes: Bytes)
+    requires { place < length files.old.items }
+    ensures { files.new.items ≡ change_at (λ file. record file { body = Body.New bytes; written = true }) place files.old.items }
+{
+    let file = &mut files[place as usize];
+    file.body = Body::New(bytes);
+    file.written = true;
+}
+
+/// Bytes of the file's own grow in place; others are copied.
+fn append_file(
+    alloc: Global,
+    sources: &[Source],
+    files: &mut Vec<File>,
+    place: u32,
+    more: &[u8],
+) -> Result<(), AllocError>
+    requires there { place < length files.old.items }
+    requires whole { All (λ source. HasItsSize source.bytes source.size) sources.now }
+    requires inside { All (λ file. IsBodyOf sources.now file.body) files.old.items }
+    ensures ok { OnOk result (files.new.items ≡ change_at (λ file. record file { body = Body.New (unwrap_or (bytes_in sources.now files.old.items place) [] ++ more.now); written = true }) place files.old.items) }
+    ensures err { OnErr result (files.new.items ≡ files.old.items) }
+{
+    let file = &mut files[place as usize];
+    extend_body(alloc, sources, &mut file.body, more)?;
+    file.written = true;
+    Ok(())
+}
+
+fn extend_body(
+    alloc: Global,
+    sources: &[Source],
+    body: &mut Body,
+    more: &[u8],
+) -> Result<(), AllocError>
+    requires whole { All (λ source. HasItsSize source.bytes source.size) sources.now }
+    requires inside { IsBodyOf sources.now body.old }
+    ensures ok { OnOk result (body.new ≡ Body.New (unwrap_or (body_bytes sources.now body.old) [] ++ more.now)) }
+    ensures err { OnErr result (body.new ≡ body.old) }
+{
+    if let Body::New(bytes) = body {
+        return bytes.extend_from_slice(more);
+    }
+    let old = body_bytes(sources, body).unwrap_or(&[]);
+    let all = joined_bytes(alloc, old, more)?;
+    *body = Body::New(all);
+    Ok(())
+}
+
+fn put_in_file(
+    files: &mut Vec<File>,
+    place: u32,
+    key: &str,
+    value: &str,
+) -> Result<(), SessionError>
+    requires { place < length files.old.items }
+    ensures ok { OnOk result (files.new.items ≡ change_at (λ file. record file { attributes = insert (attributes_in files.old.items place) key.now value.now }) place files.old.items) }
+    ensures err { IfErr result (λ error. (error ≡ SessionError.Memory) × (files.new.items ≡ files.old.items)) }
+{
+    let file = &mut files[place as usize];
+    match file.attributes.put(key, value) {
+        Ok(Put::Stored) => Ok(()),
+        _ => Err(SessionError::Memory),
+    }
+}
+
+fn remove_from_file(files: &mut Vec<File>, place: u32, key: &str) -> bool
+    requires { place < length files.old.items }
+    ensures was_there { result ≡ contains_key (attributes_in files.old.items place) key.now }
+    ensures after { files.new.items ≡ change_at (λ file. record file { attributes = remove (attributes_in files.old.items place) key.now }) place files.old.items }
+{
+    let file = &mut files[place as usize];
+    file.attributes.remove(key)
+}
