@@ -1,0 +1,16 @@
+pub mod AllChars
+pub mod Answered
+pub mod Chars
+pub mod Complete
+pub mod Fits
+pub mod Forms
+pub mod Fronts
+pub mod Named
+pub mod Numerals
+pub mod PieceLists
+pub mod Pieces
+pub mod Places
+pub mod Quotes
+pub mod Sound
+pub mod Steps
+pub mod Stopped

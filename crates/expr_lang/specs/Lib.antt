@@ -1,0 +1,13 @@
+pub mod Bytes
+pub mod Functions
+pub mod Gives
+pub mod Grammar
+pub mod Meaning
+pub mod Names
+pub mod JoinedText
+pub mod Reading
+pub mod Runs
+pub mod Seen
+pub mod Tree
+pub mod Value
+pub mod View
