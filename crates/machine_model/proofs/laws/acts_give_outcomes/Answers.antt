@@ -1,0 +1,5 @@
+use Rattle.machine_model.proofs.Acted.{act-gives}
+use Rattle.machine_model.proofs.laws.acts_give_outcomes.Goals as goal
+
+pub returns : goal.returns
+returns c = act-gives

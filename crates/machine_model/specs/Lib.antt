@@ -1,0 +1,16 @@
+pub mod Acknowledged
+pub mod Acting
+pub mod Due
+pub mod Events
+pub mod Files
+pub mod Kinds
+pub mod Laws
+pub mod Lineage
+pub mod Order
+pub mod Placing
+pub mod Quiet
+pub mod Settling
+pub mod Sound
+pub mod Stepping
+pub mod Taking
+pub mod Tries

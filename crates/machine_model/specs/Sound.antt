@@ -1,0 +1,131 @@
+-- Which flows are sound: what a reader of flows accepts, and what every law over a flow asks of it.
+use Rattle.std.specs.Prelude.{◌≢◌, ℕ, ◌^◌, ◌≤◌, ◌==◌, ◌&&◌, ◌||◌, nat_lt, nat_le, not, Bool, true, false, List, [], ◌∷◌, length, map, IsTrue, All, Option, Some, None, slice_get, codes, count_by, if◌then◌else◌}
+use Rattle.std.specs.List.{list_all, enumerate_from, AllPairs}
+use Rattle.std.specs.Ordering.{nat_cmp, is_lt}
+use Rattle.std.specs.Cmp.Lexicographic.{slice_cmp}
+use Rattle.flowfile_record.specs.declared.TheConstants.{CONTENT_MAX}
+use Rattle.prioritizer.specs.declared.prioritizer.Prioritizer.{Prioritizer}
+use Rattle.machine_model.specs.declared.flow.Connection.{Connection}
+use Rattle.machine_model.specs.declared.flow.Flow.{Flow}
+use Rattle.machine_model.specs.declared.flow.Processor.{Processor}
+use Rattle.machine_model.specs.declared.flow.QueueLimits.{QueueLimits}
+use Rattle.machine_model.specs.declared.kind.Kind.{Kind}
+use Rattle.machine_model.specs.declared.kind.Kind.TheVariants.{GetFile, GenerateFlowFile, PutFile, UpdateAttribute, RouteOnAttribute, AttributesToJson, DuplicateFlowFile, CryptographicHashContent, SplitText, ReplaceText, ExtractText, RouteOnContent, MergeContent, SegmentContent, ModifyBytes}
+use Rattle.machine_model.specs.declared.kind.MergeStrategy.{MergeStrategy}
+use Rattle.machine_model.specs.declared.kind.MergeStrategy.TheVariants.{BinPacking, Defragment}
+use Rattle.machine_model.specs.declared.kind.Replacement.{Replacement}
+use Rattle.machine_model.specs.declared.kind.Replacement.TheVariants as replace
+use Rattle.machine_model.specs.Kinds.{is_source, relationships_of, is_among}
+
+-- 1 to 64 letters, digits, underscores, dots and dashes
+abbrev pub is_id_byte : ℕ → Bool
+is_id_byte c =
+    (nat_le 65 c && nat_le c 90) || (nat_le 97 c && nat_le c 122) || (nat_le 48 c && nat_le c 57)
+    || (c == 95) || (c == 46) || (c == 45)
+
+abbrev pub is_id : List ℕ → Bool
+is_id id = nat_le 1 (length id) && nat_le (length id) 64 && list_all is_id_byte id
+
+-- each text stands once
+abbrev pub are_distinct_texts : List (List ℕ) → Bool
+are_distinct_texts [] = true
+are_distinct_texts (name ∷ names) = not (is_among name names) && are_distinct_texts names
+
+abbrev pub within : (least n most : ℕ) → Bool
+within least n most = nat_le least n && nat_le n most
+
+-- names of 1 to 255 bytes, ascending by their bytes, at most 64
+abbrev pub are_ascending : List (List ℕ) → Bool
+are_ascending [] = true
+are_ascending (name ∷ []) = true
+are_ascending (name ∷ next ∷ names) = is_lt (slice_cmp nat_cmp name next) && are_ascending (next ∷ names)
+
+abbrev pub are_own_names : List (List ℕ) → Bool
+are_own_names names = nat_le (length names) 64 && list_all (λ name. within 1 (length name) 255) names && are_ascending names
+
+-- own relationships aren't named as the one that is there anyway
+abbrev pub are_own_relationships : List (List ℕ) → Bool
+are_own_relationships names = are_own_names names && not (is_among (codes "unmatched") names)
+
+abbrev pub are_entries_sound : MergeStrategy → (minimum maximum : ℕ) → Bool
+are_entries_sound BinPacking minimum maximum = nat_le minimum maximum
+are_entries_sound Defragment minimum maximum = true
+
+abbrev pub is_replacement_sound : Replacement → Bool
+is_replacement_sound (replace.Regex search template) = true
+is_replacement_sound (replace.Literal search value) = nat_lt 0 (length search)
+
+-- the properties lie within their limits
+abbrev pub is_sound_kind : Kind → Bool
+is_sound_kind (GetFile filter) = true
+is_sound_kind (GenerateFlowFile count text) = nat_le count 1_000_000
+is_sound_kind (PutFile conflict) = true
+is_sound_kind (UpdateAttribute own) = are_own_names (map (λ property. property.name) own)
+is_sound_kind (RouteOnAttribute own) = are_own_relationships (map (λ property. property.name) own)
+is_sound_kind (AttributesToJson destination names) = true
+is_sound_kind (DuplicateFlowFile copies) = within 1 copies 999
+is_sound_kind CryptographicHashContent = true
+is_sound_kind (SplitText lines) = within 1 lines 1_000_000_000
+is_sound_kind (ReplaceText replacement) = is_replacement_sound replacement
+is_sound_kind (ExtractText own) = are_own_names (map (λ property. property.name) own)
+is_sound_kind (RouteOnContent requirement own) = are_own_relationships (map (λ property. property.name) own)
+is_sound_kind (MergeContent strategy minimum maximum) = within 1 minimum 1000 && within 1 maximum 1000 && are_entries_sound strategy minimum maximum
+is_sound_kind (SegmentContent size) = within 1 size CONTENT_MAX
+is_sound_kind (ModifyBytes start end) = nat_le start CONTENT_MAX && nat_le end CONTENT_MAX
+
+-- a day of milliseconds at most
+abbrev pub is_sound_processor : Processor → Bool
+is_sound_processor processor =
+    is_id processor.id && is_sound_kind processor.kind && within 1 processor.tasks 16 && nat_le processor.penalty 86_400_000
+    && are_distinct_texts processor.terminated
+    && list_all (λ name. is_among name (relationships_of processor.kind)) processor.terminated
+
+abbrev pub are_sound_limits : QueueLimits → Bool
+are_sound_limits limits =
+    nat_le limits.expiration (2 ^ 53) && nat_le limits.objects (2 ^ 53) && nat_le limits.bytes (2 ^ 53) && within 2 limits.swap 40_000
+
+-- its ends are processors, no source stands at its end, and its names are relationships of its source
+abbrev pub has_relationships : Connection → Option Processor → Bool
+has_relationships connection None = false
+has_relationships connection (Some source) = list_all (λ name. is_among name (relationships_of source.kind)) connection.relationships
+
+abbrev pub may_be_target : Option Processor → Bool
+may_be_target None = false
+may_be_target (Some target) = not (is_source target.kind)
+
+abbrev pub is_sound_connection : Flow → Connection → Bool
+is_sound_connection flow connection =
+    is_id connection.id && are_sound_limits connection.limits
+    && nat_lt 0 (length connection.relationships) && are_distinct_texts connection.relationships
+    && has_relationships connection (slice_get flow.processors connection.source)
+    && may_be_target (slice_get flow.processors connection.target)
+
+-- how many connections a relationship of a processor leads to
+abbrev pub carries : ℕ → List ℕ → Connection → Bool
+carries processor name connection = (connection.source == processor) && is_among name connection.relationships
+
+abbrev pub connection_count : Flow → ℕ → List ℕ → ℕ
+connection_count flow processor name = count_by (carries processor name) flow.connections
+
+-- a relationship is terminated, or leads to 1 to 8 connections
+abbrev pub is_sound_relationship : Flow → ℕ → Processor → List ℕ → Bool
+is_sound_relationship flow place processor name =
+    if is_among name processor.terminated then connection_count flow place name == 0
+    else within 1 (connection_count flow place name) 8
+
+abbrev pub are_sound_relationships : Flow → ℕ × Processor → Bool
+are_sound_relationships flow (place, processor) = list_all (is_sound_relationship flow place processor) (relationships_of processor.kind)
+
+-- each prioritizer stands once
+abbrev pub EachOnce : List Prioritizer → Type 0
+EachOnce list = AllPairs (λ one other. one ≢ other) list
+
+pub record IsSound (flow : Flow) : Type 0 where
+  pub processor_count : length flow.processors ≤ 256
+  pub connection_count : length flow.connections ≤ 1024
+  pub processor_ids : IsTrue (are_distinct_texts (map (λ processor. processor.id) flow.processors))
+  pub connection_ids : IsTrue (are_distinct_texts (map (λ connection. connection.id) flow.connections))
+  pub processors : IsTrue (list_all is_sound_processor flow.processors)
+  pub connections : IsTrue (list_all (is_sound_connection flow) flow.connections)
+  pub relationships : IsTrue (list_all (are_sound_relationships flow) (enumerate_from 0 flow.processors))
+  pub prioritizers : All (λ connection. EachOnce connection.order) flow.connections

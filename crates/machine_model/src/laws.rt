@@ -1,0 +1,63 @@
+//! What holds of the machine's definitions, each law as the contract of a function that does nothing.
+ghost use Rattle.machine_model.specs.Laws.{NoneGoesBeforeItself, GoingBeforeChains, ArrivalsTell, OrderKeepsFiles, OrderHolds, OrderIsOnly, BestIsBest, BestIsOnly, ReplayOfOneMore, ReplayOfJoined, ActsGiveOutcomes, SettlingKeepsNumbers, StepsKeepNumbers, ReplaysKeepNumbers, SettlingNumbersEvents, StepsNumberEvents, ReplaysNumberEvents, ReplaysAddEvents, SettlingTellsKin, StepsTellKin, ReplaysTellKin};
+
+/// The order of a queue is a total one of files whose arrivals differ.
+pub fn order_is_total()
+    ensures irreflexive { NoneGoesBeforeItself }
+    ensures transitive { GoingBeforeChains }
+    ensures total { ArrivalsTell }
+{}
+
+/// What a queue's order makes of files are the same files, none behind one that it goes before; where their arrivals
+/// differ, no other list is that.
+pub fn order_sorts()
+    ensures same_files { OrderKeepsFiles }
+    ensures ordered { OrderHolds }
+    ensures only { OrderIsOnly }
+{}
+
+/// The best file is an eligible one that no eligible one goes before, and where arrivals differ the only such; there
+/// is none exactly where no file is eligible.
+pub fn best_is_first()
+    ensures first { BestIsBest }
+    ensures only { BestIsOnly }
+{}
+
+/// A replay goes on from where the replay of a journal's front ends.
+pub fn replay_goes_on()
+    ensures one_more { ReplayOfOneMore }
+    ensures joined { ReplayOfJoined }
+{}
+
+/// A processor makes of the files that it took all of them, each once and in turn, and then files whose parents stand
+/// before them.
+pub fn acts_give_outcomes()
+    ensures { ActsGiveOutcomes }
+{}
+
+/// A session leaves the queues well numbered, whatever outcome it had.
+pub fn settling_keeps_numbers()
+    ensures { SettlingKeepsNumbers }
+{}
+
+/// No two files of the queues ever have one number or one arrival, and the next ones are higher than all. A swapped
+/// file's batch is 1 or higher, and lower than the next.
+pub fn replays_keep_numbers()
+    ensures one_step { StepsKeepNumbers }
+    ensures replay { ReplaysKeepNumbers }
+{}
+
+/// Events are numbered 1, 2, 3 and so on; new ones stand behind those that there are, of which none changes.
+pub fn replays_number_events()
+    ensures settling { SettlingNumbersEvents }
+    ensures one_step { StepsNumberEvents }
+    ensures replay { ReplaysNumberEvents }
+    ensures adds { ReplaysAddEvents }
+{}
+
+/// The ancestry that events tell of is that which sessions made.
+pub fn replays_tell_kin()
+    ensures settling { SettlingTellsKin }
+    ensures one_step { StepsTellKin }
+    ensures replay { ReplaysTellKin }
+{}

@@ -1,0 +1,34 @@
+//! The machine: what a flow means, one whole session at a time.
+//!
+//! The definitions stand in `specs/`. The machine's flow files hold their bytes, its queues are plain lists, and it
+//! knows no claim, count, log, gate, lock or thread. docs/MODEL.md reads them aloud.
+#![tactic(auto)]
+
+mod filter;
+mod flow;
+mod given;
+mod journal;
+mod kind;
+mod laws;
+mod pattern;
+mod state;
+#[cfg(test)]
+mod tests;
+pub mod tries;
+mod world;
+
+pub use filter::Filter;
+pub use flow::{Connection, ConnectionList, Flow, Processor, ProcessorList, QueueLimits};
+pub use given::Given;
+pub use journal::{Entry, EntryList, Step};
+pub use kind::{
+    Conflict, Destination, Kind, MatchRequirement, MergeStrategy, OwnExpression, OwnExpressionList,
+    OwnPattern, OwnPatternList, Replacement, TakeRule,
+};
+pub use laws::{
+    acts_give_outcomes, best_is_first, order_is_total, order_sorts, replay_goes_on,
+    replays_keep_numbers, replays_number_events, replays_tell_kin, settling_keeps_numbers,
+};
+pub use pattern::Pattern;
+pub use state::{EventList, Kinship, KinshipList, Queue, QueueList, QueuedFile, State};
+pub use world::{Delivery, DeliveryList, NameList, World};
