@@ -5,6 +5,7 @@ Of a log that a stop may leave, the files that wait are delivered, and its end i
 gives status 4, and nothing is written anywhere.
 """
 
+import hashlib
 import re
 import struct
 
@@ -117,14 +118,48 @@ def damaged(program, parent, case):
         need(names(folder) == ["in", "out", "store"], f"it made {names(folder)}")
 
 
+def dumps():
+    """The examples in bytes of docs/STORE.md, in their order: each begins at place 0."""
+    text = (ROOT / "docs" / "STORE.md").read_text()
+    found = []
+    for place, digits in re.findall(r"^([0-9a-f]{3})  ((?:[0-9a-f]{2} ?)+)", text, re.MULTILINE):
+        if int(place, 16) == 0:
+            found.append(b"")
+        need(int(place, 16) == len(found[-1]), f"the line at {place} stands {len(found[-1]):x} bytes from the start")
+        found[-1] += bytes.fromhex(digits)
+    return found
+
+
+def session_example(_program, _parent):
+    """The block of a session in the docs is what the format says: its length, and the digest of kind and payload."""
+    data = dumps()[1]
+    size = int.from_bytes(data[:4], "big")
+    need(len(data) == size + 37, f"a block of {size} bytes of payload has {len(data)} bytes")
+    need(data[4] == 2, f"kind {data[4]}")
+    need(hashlib.sha256(data[4:-32]).digest() == data[-32:], "another digest")
+    need(data[5:-32] == session_payload(), "it isn't what the format says")
+
+
+def session_payload():
+    """That session's payload, from the format alone."""
+    file = b"".join([
+        number(1, 8), number(1, 2), number(8, 2), b"filename", number(5, 4), b"a.txt",
+        number(0, 4), number(0, 8), number(2, 8), hashlib.sha256(b"hi").digest(),
+        number(1000, 8), number(0, 8), number(1, 8),
+    ])
+    return b"".join([
+        number(0, 2), number(1000, 8), number(0, 4), number(1, 4), number(0, 2), file,
+        number(2, 8), number(2, 8), number(1, 8), number(65535, 2), number(0, 8),
+    ])
+
+
+def number(value, size):
+    return value.to_bytes(size, "big")
+
+
 def example(program, parent):
     """The worked example of the docs is what the format says, and what the program writes."""
-    text = (ROOT / "docs" / "STORE.md").read_text()
-    lines = re.findall(r"^([0-9a-f]{3})  ((?:[0-9a-f]{2} ?)+)", text, re.MULTILINE)
-    data = b""
-    for place, digits in lines:
-        need(int(place, 16) == len(data), f"the line at {place} stands {len(data):x} bytes from the start")
-        data += bytes.fromhex(digits)
+    data = dumps()[0]
     need(data == log(add("a.txt", b"hi"), drop()), "it isn't what the format says")
     with new_folder(parent) as folder:
         write_files(folder / "in", {"a.txt": b"hi"})
@@ -155,6 +190,7 @@ def main():
     report = Report()
     print("logs: written from the format alone", flush=True)
     report.case("the worked example of docs/STORE.md", example, program, given.folder)
+    report.case("the block of a session in docs/STORE.md", session_example, program, given.folder)
     report.case("a changed bit is told, unless it is a gate's", changed_bits, program, given.folder)
     for case in SOUND:
         report.case(f"opens: {case}", sound, program, given.folder, case)
