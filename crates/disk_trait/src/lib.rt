@@ -14,4 +14,4 @@ pub use damage::Damage;
 pub use disk::Disk;
 pub use file_name::{DiskError, Failed, FileKind, FileName};
 pub use memory::{DiskBytes, DiskCall, MemoryDisk, Pick};
-pub use settle::{cut_settled, write_settled};
+pub use settle::{cut_synced, write_synced};

@@ -7,7 +7,7 @@ ghost use Rattle.disk_trait.specs.Faults.{CountsFaults};
 use crate::{Disk, Failed, FileName};
 
 /// Writes over a file and settles the disk: a write and a sync.
-pub fn write_settled<D: Disk>(
+pub fn write_synced<D: Disk>(
     disk: &mut D,
     file: FileName,
     at: u64,
@@ -26,7 +26,7 @@ pub fn write_settled<D: Disk>(
 }
 
 /// Cuts a file and settles the disk: a cut and a sync.
-pub fn cut_settled<D: Disk>(disk: &mut D, file: FileName, size: u64) -> Result<(), Failed>
+pub fn cut_synced<D: Disk>(disk: &mut D, file: FileName, size: u64) -> Result<(), Failed>
     requires { IsTrue D.tells → size ≤ length (D.held disk.old file) }
     ensures settled { OnOk result (IsOnly (D.held disk.new) (D.images disk.new (D.moment disk.new))) }
     ensures cut { OnOk result (IsTrue D.tells → At file (λ old new. new ≡ take size old) (D.held disk.old) (D.held disk.new)) }

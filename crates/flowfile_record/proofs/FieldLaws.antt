@@ -1,4 +1,4 @@
--- What is read is spelled so, and what is spelled so is read again: for each plain field, and for what is made of them.
+-- What is read is encoded so, and what is encoded so is read again: for each plain field, and for what is made of them.
 use Rattle.std.proofs.Common.{◌≡◌, ℕ, zero, suc, ◌+◌, ◌^◌, ◌<◌, ◌≤◌, ◌&&◌, nat_lt, Bool, true, false, cond, eqb, ltb, leb, List, [], ◌∷◌, ◌++◌, length, take, drop, Result, Ok, Err, IsTrue, refl, sym, ap, subst, ◌∙◌, append_assoc, arith, inl, inr}
 use Rattle.std.specs.Prelude.{All}
 use Rattle.std.specs.List.{flat_map}
@@ -10,8 +10,8 @@ use Rattle.std.proofs.lemmas.List.Elements.{All-nil, All-cons, All-head, All-tai
 use Rattle.std.proofs.lemmas.List.Concat.{flat_map-cons}
 use Rattle.std.proofs.lemmas.Nat.{be_bytes_2, be_bytes_4, be_bytes_8, from_be_bytes-to_be_bytes_2, from_be_bytes-to_be_bytes_4, from_be_bytes-to_be_bytes_8}
 use Rattle.std.proofs.lemmas.Str.{IsUtf8-from_is_utf8, is_utf8-from_IsUtf8}
-use Rattle.flowfile_record.specs.Spelling.{byte, text, long, listed, numbers, IsNumber, IsText, IsLong, AreListed, AreNumbers, IsDigest}
-use Rattle.flowfile_record.specs.Field.{IsBytes, Takes, IsField, HasOneSpelling}
+use Rattle.flowfile_record.specs.Encoding.{byte, text, long, listed, numbers, IsNumber, IsText, IsLong, AreListed, AreNumbers, IsDigest}
+use Rattle.flowfile_record.specs.Field.{IsBytes, Takes, IsField, HasOneEncoding}
 use Rattle.flowfile_record.specs.Reading.{Reading, ◌>>=◌, ◌then◌, made, such, whole, items_at, byte_at, raw_at, uint_at, number_at, chars_at, utf8_at, text_at, long_at, listed_at, numbers_at}
 
 IsBytes-drop : (n : ℕ) (bytes : List ℕ) → IsBytes bytes → IsBytes (drop n bytes)
@@ -50,28 +50,28 @@ ok_is x y e = cc
 pub Takes-then : (a x b y c : List ℕ) → Takes a x b → Takes b y c → Takes a (x ++ y) c
 Takes-then a x b y c p q = record { parts = p.parts ∙ ap (λ (t : List ℕ). x ++ t) q.parts ∙ sym (append_assoc x y c); rest_fits = q.rest_fits }
 
--- ---- one value has one spelling, and none is a proper front of another
+-- ---- one value has one encoding, and none is a proper front of another
 
-pub only_one : {A : Type 0} (read : Reading A) (spell : A → List ℕ) (Has : A → Type 0) → IsField read spell Has → HasOneSpelling spell Has
-only_one {A = A} read spell Has field a b x y has_a has_b e =
+pub only_one : {A : Type 0} (read : Reading A) (encode : A → List ℕ) (Has : A → Type 0) → IsField read encode Has → HasOneEncoding encode Has
+only_one {A = A} read encode Has field a b x y has_a has_b e =
     let same : done (a, x) ≡ done (b, y) = sym (field.again a x has_a) ∙ ap read e ∙ field.again b y has_b in
     let both = ok_is (a, x) (b, y) same in
     (ap (λ (p : A × List ℕ). p.0) both, ap (λ (p : A × List ℕ). p.1) both)
 
 -- ---- all of the bytes
 
-pub whole_takes : {A : Type 0} (read : Reading A) (spell : A → List ℕ) (Has : A → Type 0) → IsField read spell Has → (bytes : List ℕ) (a : A) → IsBytes bytes → whole read bytes ≡ Ok a → Has a × (bytes ≡ spell a)
-whole_takes {A = A} read spell Has field bytes a fits e =
+pub whole_takes : {A : Type 0} (read : Reading A) (encode : A → List ℕ) (Has : A → Type 0) → IsField read encode Has → (bytes : List ℕ) (a : A) → IsBytes bytes → whole read bytes ≡ Ok a → Has a × (bytes ≡ encode a)
+whole_takes {A = A} read encode Has field bytes a fits e =
     let b = bind_ok (read bytes) (λ x. cond (eqb (length x.1) 0) (Ok x.0) (Err (length x.1))) a e in
     let g = guard_holds (eqb (length b.0.1) 0) (length b.0.1) b.0.0 a b.2 in
     let t = field.takes bytes b.0 fits b.1 in
     let nothing : b.0.1 ≡ [] = nil_from_length b.0.1 (eqb-true _ _ g.0) in
-    let all : bytes ≡ spell b.0.0 = t.0.parts ∙ ap (λ (r : List ℕ). spell b.0.0 ++ r) nothing ∙ append-nil (spell b.0.0) in
-    subst (λ (v : A). Has v × (bytes ≡ spell v)) g.1 (t.1, all)
+    let all : bytes ≡ encode b.0.0 = t.0.parts ∙ ap (λ (r : List ℕ). encode b.0.0 ++ r) nothing ∙ append-nil (encode b.0.0) in
+    subst (λ (v : A). Has v × (bytes ≡ encode v)) g.1 (t.1, all)
 
-pub whole_again : {A : Type 0} (read : Reading A) (spell : A → List ℕ) (Has : A → Type 0) → IsField read spell Has → (a : A) → Has a → whole read (spell a) ≡ Ok a
-whole_again read spell Has field a has =
-    let one : read (spell a) ≡ Ok (a, []) = ap read (sym (append-nil (spell a))) ∙ field.again a [] has in
+pub whole_again : {A : Type 0} (read : Reading A) (encode : A → List ℕ) (Has : A → Type 0) → IsField read encode Has → (a : A) → Has a → whole read (encode a) ≡ Ok a
+whole_again read encode Has field a has =
+    let one : read (encode a) ≡ Ok (a, []) = ap read (sym (append-nil (encode a))) ∙ field.again a [] has in
     rw one refl
 
 -- ---- two fields, a value made of fields, and a test
@@ -94,19 +94,19 @@ pair_is r t s u F G first second = record {
 pub made_is : {A B : Type 0} (make : A → B) (parts : B → A) (r : Reading A) (s : A → List ℕ) (t : B → List ℕ) (F : A → Type 0) (G : B → Type 0) → IsField r s F
     → ((b : B) → make (parts b) ≡ b) → ((a : A) → t (make a) ≡ s a) → ((a : A) → F a → G (make a)) → ((b : B) → G b → F (parts b))
     → IsField (made make r) t G
-made_is make parts r s t F G field whole_of spelled has had = record {
+made_is make parts r s t F G field whole_of encoded has had = record {
   takes = λ bytes x fits e.
       let a = bind_ok (r bytes) (λ a. Ok (make a.0, a.1)) x e in
       let p = field.takes bytes a.0 fits a.1 in
       subst (λ y. Takes bytes (t y.0) y.1 × G y.0) (ok_is (make a.0.0, a.0.1) x a.2)
-      (subst (λ w. Takes bytes w a.0.1) (sym (spelled a.0.0)) p.0, has a.0.0 p.1);
+      (subst (λ w. Takes bytes w a.0.1) (sym (encoded a.0.0)) p.0, has a.0.0 p.1);
   again = λ b rest h.
-      let w : t b ≡ s (parts b) = ap t (sym (whole_of b)) ∙ spelled (parts b) in
+      let w : t b ≡ s (parts b) = ap t (sym (whole_of b)) ∙ encoded (parts b) in
       let one : r (t b ++ rest) ≡ Ok (parts b, rest) = ap (λ (v : List ℕ). r (v ++ rest)) w ∙ field.again (parts b) rest (had b h) in
       rw (one, whole_of b) refl;
 }
 
--- the same, where only the values that have a spelling are made so
+-- the same, where only the values that have an encoding are made so
 pub made_from : {A B : Type 0} (make : A → B) (r : Reading A) (s : A → List ℕ) (t : B → List ℕ) (F : A → Type 0) (G : B → Type 0) → IsField r s F
     → ((a : A) → F a → (t (make a) ≡ s a) × G (make a)) → ((b : B) → G b → (a : A) × F a × (make a ≡ b))
     → IsField (made make r) t G

@@ -23,15 +23,15 @@ same : {A : Type 0} (size : ℕ) (x : A) (read : Result A ℕ) → done x ≡ an
 same size x (Ok y) e = cc
 same size x (Err left) e = absurd cc
 
--- What is read stood there spelled so.
-pub is_found : {A : Type 0} (read : Reading A) (spell : A → List ℕ) (Has : A → Type 0) → IsField read spell Has → (bytes : List ℕ) (r : Result A CodecError) → IsBytes bytes
-    → Answers r (answer (length bytes) (whole read bytes)) → IfOk r (λ a. Has a × (bytes ≡ spell a))
-is_found read spell Has field bytes (Ok a) fits given = whole_takes read spell Has field bytes a fits (same (length bytes) a (whole read bytes) given)
-is_found read spell Has field bytes (Err e) fits given = tt
+-- What is read stood there encoded so.
+pub is_found : {A : Type 0} (read : Reading A) (encode : A → List ℕ) (Has : A → Type 0) → IsField read encode Has → (bytes : List ℕ) (r : Result A CodecError) → IsBytes bytes
+    → Answers r (answer (length bytes) (whole read bytes)) → IfOk r (λ a. Has a × (bytes ≡ encode a))
+is_found read encode Has field bytes (Ok a) fits given = whole_takes read encode Has field bytes a fits (same (length bytes) a (whole read bytes) given)
+is_found read encode Has field bytes (Err e) fits given = tt
 
--- What is spelled so is read.
-pub is_only : {A : Type 0} (read : Reading A) (spell : A → List ℕ) (Has : A → Type 0) → IsField read spell Has → (bytes : List ℕ) (r : Result A CodecError)
-    → Answers r (answer (length bytes) (whole read bytes)) → (a : A) → Has a → bytes ≡ spell a → Answers r (Ok a)
-is_only read spell Has field bytes r given a has e =
-    let one : whole read bytes ≡ Ok a = ap (whole read) e ∙ whole_again read spell Has field a has in
+-- What is encoded so is read.
+pub is_only : {A : Type 0} (read : Reading A) (encode : A → List ℕ) (Has : A → Type 0) → IsField read encode Has → (bytes : List ℕ) (r : Result A CodecError)
+    → Answers r (answer (length bytes) (whole read bytes)) → (a : A) → Has a → bytes ≡ encode a → Answers r (Ok a)
+is_only read encode Has field bytes r given a has e =
+    let one : whole read bytes ≡ Ok a = ap (whole read) e ∙ whole_again read encode Has field a has in
     subst (Answers r) (ap (answer (length bytes)) one) given

@@ -1,4 +1,4 @@
--- What a reading of a field owes to the field's spelling.
+-- What a reading of a field owes to the field's encoding.
 use Rattle.std.specs.Prelude.{◌≡◌, ℕ, ◌<◌, List, ◌++◌, Ok, slice_index}
 use Rattle.flowfile_record.specs.Reading.{Reading}
 
@@ -10,12 +10,12 @@ pub record Takes (bytes text rest : List ℕ) : Type 0 where
   pub parts : bytes ≡ text ++ rest
   pub rest_fits : IsBytes rest
 
--- What is read is a value that has a spelling, and stood there spelled so. What is spelled so is read, whatever
+-- What is read is a value that has an encoding, and stood there encoded so. What is encoded so is read, whatever
 -- follows it.
-pub record IsField {A : Type 0} (read : Reading A) (spell : A → List ℕ) (Has : A → Type 0) : Type 0 where
-  pub takes : (bytes : List ℕ) (x : A × List ℕ) → IsBytes bytes → read bytes ≡ Ok x → Takes bytes (spell x.0) x.1 × Has x.0
-  pub again : (a : A) (rest : List ℕ) → Has a → read (spell a ++ rest) ≡ Ok (a, rest)
+pub record IsField {A : Type 0} (read : Reading A) (encode : A → List ℕ) (Has : A → Type 0) : Type 0 where
+  pub takes : (bytes : List ℕ) (x : A × List ℕ) → IsBytes bytes → read bytes ≡ Ok x → Takes bytes (encode x.0) x.1 × Has x.0
+  pub again : (a : A) (rest : List ℕ) → Has a → read (encode a ++ rest) ≡ Ok (a, rest)
 
--- One value has one spelling, and no spelling is a proper front of another.
-abbrev pub HasOneSpelling : {A : Type 0} → (A → List ℕ) → (A → Type 0) → Type 0
-HasOneSpelling {A = A} spell Has = (a b : A) (x y : List ℕ) → Has a → Has b → spell a ++ x ≡ spell b ++ y → (a ≡ b) × (x ≡ y)
+-- One value has one encoding, and no encoding is a proper front of another.
+abbrev pub HasOneEncoding : {A : Type 0} → (A → List ℕ) → (A → Type 0) → Type 0
+HasOneEncoding {A = A} encode Has = (a b : A) (x y : List ℕ) → Has a → Has b → encode a ++ x ≡ encode b ++ y → (a ≡ b) × (x ≡ y)

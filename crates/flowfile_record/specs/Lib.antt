@@ -6,6 +6,8 @@ pub mod Identifier
 pub mod Kin
 pub mod Name
 pub mod NameLemmas
+pub mod NamedFile
 pub mod OptionalText
+pub mod Outcome
 pub mod Reading
-pub mod Spelling
+pub mod Encoding

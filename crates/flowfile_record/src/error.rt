@@ -4,7 +4,7 @@ use thiserror::Error;
 /// Why bytes couldn't be read as a value.
 #[derive(Clone, Copy, Debug, PartialEq, Eq, Error)]
 pub enum CodecError {
-    /// The bytes aren't one whole spelling of a value. `at` is the place, in bytes from their start, of the first
+    /// The bytes aren't one whole encoding of a value. `at` is the place, in bytes from their start, of the first
     /// field that can't be read, or of what is left over.
     #[error("no value stands at byte {at}")]
     Form { at: u64 },

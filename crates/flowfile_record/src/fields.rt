@@ -1,4 +1,4 @@
-//! The plain fields of a spelling: numbers (big-endian), texts, lists of numbers and digests.
+//! The plain fields of an encoding: numbers (big-endian), texts, lists of numbers and digests.
 //!
 //! A reader takes a field from the front of some bytes, and gives its value and the bytes behind it. Where the
 //! field can't be read, it tells how many bytes are left from the field on. A writer adds a field at the end.
@@ -8,7 +8,7 @@ mod read;
 mod write;
 
 pub use fault::{FieldError, Unread};
-pub use law::{numbers_are_read_as_spelled, texts_are_read_as_spelled};
+pub use law::{numbers_are_read_as_encoded, texts_are_read_as_encoded};
 pub use read::{
     read_digest, read_long, read_number, read_numbers, read_text, read_u8, read_u16, read_u32,
     read_u64,

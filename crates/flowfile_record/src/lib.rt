@@ -12,6 +12,7 @@ mod event;
 pub mod fields;
 mod flow_file;
 mod identifier;
+mod limits;
 mod name;
 mod sequence;
 mod stored;
@@ -24,9 +25,13 @@ pub use error::CodecError;
 pub use event::{Event, EventCounts, EventKind};
 pub use flow_file::FlowFile;
 pub use identifier::uuid_of;
+pub use limits::{FILENAME_SIZE, FILES_MAX, SESSION_ATTRIBUTES_MAX, TAKEN_MAX, WRITTEN_MAX};
 pub use name::{Name, NameError};
 pub use sequence::{Bytes, Numbers, Sequence};
-pub use stored::{ActiveFile, ActiveList, BatchList, Stored, SwapBatch};
+pub use stored::{
+    ActiveFile, ActiveList, BatchList, Counted, EventList, FileList, Placed, PlacedList, Stored,
+    SwapBatch,
+};
 pub use text::{Text, TextList};
 pub use worked::{Body, End, Origin, Outcome, Sent, Worked, WorkedList};
 

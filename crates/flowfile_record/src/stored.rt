@@ -1,5 +1,5 @@
 //! The state of a flow that a store keeps.
-use crate::{FlowFile, Numbers, Sequence, TextList};
+use crate::{Bytes, Event, FlowFile, Numbers, Sequence, TextList};
 
 /// What a store keeps: its id, the digest of its flow's text, the flow's connections, how many files each processor
 /// has generated, the numbers that come next (0 for the last event means none yet), the active flow files and the
@@ -39,3 +39,25 @@ pub struct SwapBatch {
 }
 
 pub type BatchList = Sequence<SwapBatch>;
+
+/// A flow file that a session places into the queue of a connection. `fresh` is its content where that isn't in the
+/// store yet; then the slot and the offset of its reference mean nothing.
+#[derive(Debug, Drop)]
+pub struct Placed {
+    pub connection: u16,
+    pub file: FlowFile,
+    pub fresh: Option<Bytes>,
+}
+
+pub type PlacedList = Sequence<Placed>;
+
+pub type EventList = Sequence<Event>;
+
+pub type FileList = Sequence<FlowFile>;
+
+/// The place of a processor that makes files from nothing, and how many it has made.
+#[derive(Clone, Copy, Debug, PartialEq, Eq)]
+pub struct Counted {
+    pub processor: u16,
+    pub count: u64,
+}

@@ -1,4 +1,4 @@
--- What is read of an active flow file is spelled so, and what is spelled so is read again.
+-- What is read of an active flow file is encoded so, and what is encoded so is read again.
 use Rattle.std.proofs.Common.{◌^◌, ◌<◌, ◌++◌, refl}
 use Rattle.std.specs.Int.{w16, to_be_bytes}
 use Rattle.flowfile_record.specs.Field.{IsField}
@@ -6,7 +6,7 @@ use Rattle.flowfile_record.specs.Reading.{◌then◌, uint_at}
 use Rattle.flowfile_record.proofs.FieldLaws.{pair_is, made_is, u16_is}
 use Rattle.record_codec.specs.ActiveFile.{active_file, active_file_at, IsActiveFile}
 use Rattle.record_codec.specs.FileReading.{flow_file_at}
-use Rattle.record_codec.specs.FileSpelling.{flow_file, IsFlowFile}
+use Rattle.record_codec.specs.FileEncoding.{flow_file, IsFlowFile}
 use Rattle.record_codec.proofs.FileLaws.{flow_file_is}
 
 pub active_file_is : IsField active_file_at active_file IsActiveFile

@@ -1,4 +1,4 @@
--- Attributes: reading them pair by pair, and what is spelled so is read, and what is read is spelled so.
+-- Attributes: reading them pair by pair, and what is encoded so is read, and what is read is encoded so.
 use Rattle.std.proofs.Common.{◌≡◌, ℕ, zero, suc, ◌+◌, ◌-◌, ◌*◌, ◌^◌, ◌<◌, ◌≤◌, not, true, List, [], ◌∷◌, ◌++◌, length, take, sum_by, IsTrue, Option, Some, None, Result, Ok, Err, refl, sym, ap, subst, ◌∙◌, append_assoc, add-one, arith}
 use Rattle.std.specs.Prelude.{All, slice_get}
 use Rattle.std.specs.List.{flat_map}
@@ -15,13 +15,13 @@ use Rattle.std.proofs.lemmas.List.Sums.{sum_by-cons, sum_by-append, sum_by_push}
 use Rattle.flowfile_record.specs.Attributes.{AttributeMap, IsPair, IsWithinLimits, encoded_size, pair_size, has_key_length, is_uuid}
 use Rattle.flowfile_record.specs.Field.{IsBytes, Takes, IsField}
 use Rattle.flowfile_record.specs.Reading.{◌>>=◌, such, text_at, long_at, uint_at, Fails}
-use Rattle.flowfile_record.specs.Spelling.{text, long, IsText, IsLong}
+use Rattle.flowfile_record.specs.Encoding.{text, long, IsText, IsLong}
 use Rattle.flowfile_record.specs.declared.attributes.TheConstants.{ATTRIBUTES_MAX, KEY_MAX}
 use Rattle.flowfile_record.specs.declared.fields.fault.FieldError.{FieldError}
 use Rattle.flowfile_record.specs.declared.fields.fault.FieldError.TheVariants as fields
 use Rattle.flowfile_record.proofs.FieldLaws.{bind_ok, ok_is, Takes-then, such_is, text_is, long_is, u16_is}
 use Rattle.record_codec.specs.FileReading.{may_follow, may_hold, pair_at, pairs_at, attributes_at}
-use Rattle.record_codec.specs.FileSpelling.{pair, attributes}
+use Rattle.record_codec.specs.FileEncoding.{pair, attributes}
 use Rattle.record_codec.proofs.Keys.{Pair, all_before, insert_last, comes_behind}
 use Rattle.record_codec.proofs.Puts.{keeps_rule}
 
@@ -67,7 +67,7 @@ unfolding size_of
 six_each [] = omega arith
 six_each (p ∷ ps) = omega (arith, six_each ps, sum_by-cons pair_size p ps)
 
--- the pairs are so few that their count has a spelling
+-- the pairs are so few that their count has an encoding
 pub are_few : (m : AttributeMap) → IsWithinLimits m → len m < 2 ^ 16
 unfolding encoded_size size_of
 are_few m limits = omega (arith, limits.size, six_each (entries m), len-entries m)

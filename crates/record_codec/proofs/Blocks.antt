@@ -1,4 +1,4 @@
--- What blocks that were spelled are read as, and what is known of bytes that are read as one.
+-- What blocks that were encoded are read as, and what is known of bytes that are read as one.
 use Rattle.std.proofs.Common.{◌≡◌, ◌≢◌, inl, inr, lit<, ℕ, ◌+◌, ◌<◌, ◌≤◌, ltb, cond, Bool, true, false, List, [], ◌∷◌, ◌++◌, length, get_or, take, drop, bytes_eq, refl, sym, ap, subst, ◌∙◌, append_assoc, arith}
 use Rattle.std.specs.Int.{w32, from_be_bytes, to_be_bytes}
 use Rattle.std.proofs.lemmas.List.{length-append, take-append-drop, length-take-le, length-take, length-drop, get_or-take, get_or_past, take_at, drop_at, take-append-le, drop-append-le}
@@ -127,10 +127,10 @@ reading_of-same bytes rest kind payload is =
     let split = subst (λ l. IsWhole l kind payload) (sym (take-append-drop n bytes)) whole in
     reading_of-whole (take n bytes ++ rest) kind payload (whole_of-front (take n bytes) rest kind payload (length-take-le n bytes whole.fits) (drop n bytes) split)
 
--- bytes below 256 that hold a whole block are spelled as it is
-pub spelled-whole : (bytes : List ℕ) (kind : ℕ) (payload : List ℕ) → ((i : ℕ) → get_or bytes i 0 < 256) → IsWhole bytes kind payload → take (length payload + 37) bytes ≡ block kind payload
+-- bytes below 256 that hold a whole block are encoded as it is
+pub encoded-whole : (bytes : List ℕ) (kind : ℕ) (payload : List ℕ) → ((i : ℕ) → get_or bytes i 0 < 256) → IsWhole bytes kind payload → take (length payload + 37) bytes ≡ block kind payload
 unfolding block
-spelled-whole bytes kind payload small whole =
+encoded-whole bytes kind payload small whole =
     let n = length payload in
     let head : to_be_bytes w32 n ≡ take 4 bytes = be_bytes_4 (take 4 bytes) n (length-take-le 4 bytes (omega (arith, whole.fits))) (small_front 4) (sym whole.size) in
     let parts : take (4 + (n + 1) + 32) bytes ≡ take 4 bytes ++ take (n + 1) (drop 4 bytes) ++ take 32 (drop (4 + (n + 1)) bytes) =

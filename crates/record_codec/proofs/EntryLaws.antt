@@ -1,15 +1,15 @@
--- Entries of a log: what is read is spelled so, and what is spelled so is read again.
+-- Entries of a log: what is read is encoded so, and what is encoded so is read again.
 use Rattle.std.proofs.Common.{◌≡◌, ◌≢◌, ℕ, ◌^◌, ◌<◌, ◌==◌, ◌||◌, not, eqb, Bool, true, false, cond, List, ◌++◌, length, IsTrue, Option, Some, None, Ok, Err, refl, sym, ap, subst, ◌∙◌, append_assoc, arith}
 use Rattle.std.specs.Int.{w16, w64, to_be_bytes}
 use Rattle.std.proofs.lemmas.Bool.{eqb-true, eqb-false, ne_eqb}
 use Rattle.flowfile_record.specs.Field.{IsBytes, Takes, IsField}
 use Rattle.flowfile_record.specs.Reading.{Reading, ◌>>=◌, ◌then◌, made, byte_at, uint_at, number_at, numbers_at, listed_at}
-use Rattle.flowfile_record.specs.Spelling.{byte, listed, numbers, IsNumber, AreListed, AreNumbers}
+use Rattle.flowfile_record.specs.Encoding.{byte, listed, numbers, IsNumber, AreListed, AreNumbers}
 use Rattle.flowfile_record.proofs.FieldLaws.{bind_ok, ok_is, Takes-then, pair_is, made_is, made_from, such_is, byte_is, u16_is, u64_is, number_is, numbers_is, listed_is}
 use Rattle.record_codec.specs.FileReading.{flow_file_at}
-use Rattle.record_codec.specs.FileSpelling.{flow_file, IsFlowFile}
+use Rattle.record_codec.specs.FileEncoding.{flow_file, IsFlowFile}
 use Rattle.record_codec.specs.EntryReading.{version_at, begin_at, placed_at, count_at, generator_at, session_at, expire_at, swap_out_at, swap_in_at, entry_at}
-use Rattle.record_codec.specs.EntrySpelling.{placed, generator, counters, session, expire, swap_out, entry, IsPlace, IsMoment, IsPlaced, IsGenerator, IsSession, IsExpire, IsSwapOut, IsEntryOf}
+use Rattle.record_codec.specs.EntryEncoding.{placed, generator, counters, session, expire, swap_out, entry, IsPlace, IsMoment, IsPlaced, IsGenerator, IsSession, IsExpire, IsSwapOut, IsEntryOf}
 use Rattle.record_codec.specs.declared.entry.Placed.{Placed}
 use Rattle.flowfile_record.specs.declared.flow_file.FlowFile.{FlowFile}
 use Rattle.record_codec.specs.declared.entry.Generator.{Generator}
@@ -44,20 +44,20 @@ count_is place = such_is (λ n. not (place == 65_535) || n == 0) number_at (to_b
 abbrev made_of : ℕ → ℕ → Option Generator
 made_of place count = cond (eqb place 65_535) None (Some (record { place = place; count = count }))
 
-spelled_none : (count : ℕ) → (count == 0) ≡ true → generator None ≡ to_be_bytes w16 65_535 ++ to_be_bytes w64 count
+encoded_none : (count : ℕ) → (count == 0) ≡ true → generator None ≡ to_be_bytes w16 65_535 ++ to_be_bytes w64 count
 unfolding generator
-spelled_none count e = rw (eqb-true count 0 e) refl
+encoded_none count e = rw (eqb-true count 0 e) refl
 
 below : (place : ℕ) → place < 2 ^ 16 → eqb place 65_535 ≡ false → place < 65_535
 below place lt e =
     let other : place ≢ 65_535 = eqb-false place 65_535 e in
     omega arith
 
-generator_spelled : (place count : ℕ) (none : Bool) → place < 2 ^ 16 → IsNumber count → eqb place 65_535 ≡ none → (not none || count == 0) ≡ true
+generator_encoded : (place count : ℕ) (none : Bool) → place < 2 ^ 16 → IsNumber count → eqb place 65_535 ≡ none → (not none || count == 0) ≡ true
     → (generator (cond none None (Some (record { place = place; count = count }))) ≡ to_be_bytes w16 place ++ to_be_bytes w64 count) × IsGenerator (cond none None (Some (record { place = place; count = count })))
 unfolding generator
-generator_spelled place count true lt is e h = (ap (λ (n : ℕ). to_be_bytes w16 n ++ to_be_bytes w64 0) (sym (eqb-true place 65_535 e)) ∙ ap (λ (n : ℕ). to_be_bytes w16 place ++ to_be_bytes w64 n) (sym (eqb-true count 0 h)), tt)
-generator_spelled place count false lt is e h = (refl, (below place lt e, is))
+generator_encoded place count true lt is e h = (ap (λ (n : ℕ). to_be_bytes w16 n ++ to_be_bytes w64 0) (sym (eqb-true place 65_535 e)) ∙ ap (λ (n : ℕ). to_be_bytes w16 place ++ to_be_bytes w64 n) (sym (eqb-true count 0 h)), tt)
+generator_encoded place count false lt is e h = (refl, (below place lt e, is))
 
 generator_takes : (bytes : List ℕ) (x : Option Generator × List ℕ) → IsBytes bytes → generator_at bytes ≡ Ok x → Takes bytes (generator x.0) x.1 × IsGenerator x.0
 unfolding generator_at
@@ -67,7 +67,7 @@ generator_takes bytes x fits e =
     let place = u16_is.takes bytes a.0 fits a.1 in
     let count = (count_is a.0.0).takes a.0.1 b.0 place.0.rest_fits b.1 in
     let both = Takes-then bytes (to_be_bytes w16 a.0.0) a.0.1 (to_be_bytes w64 b.0.0) b.0.1 place.0 count.0 in
-    let said = generator_spelled a.0.0 b.0.0 (eqb a.0.0 65_535) place.1 count.1.0 refl count.1.1 in
+    let said = generator_encoded a.0.0 b.0.0 (eqb a.0.0 65_535) place.1 count.1.0 refl count.1.1 in
     subst (λ (y : Option Generator × List ℕ). Takes bytes (generator y.0) y.1 × IsGenerator y.0) (ok_is (made_of a.0.0 b.0.0, b.0.1) x b.2)
     (subst (λ (w : List ℕ). Takes bytes w b.0.1) (sym said.0) both, said.1)
 

@@ -1,17 +1,17 @@
--- Flow files: what is read is spelled so, and what is spelled so is read again.
+-- Flow files: what is read is encoded so, and what is encoded so is read again.
 use Rattle.std.proofs.Common.{ℕ, ◌^◌, ◌<◌, ◌≤◌, nat_lt, nat_le, List, IsTrue, refl, append_assoc, arith}
 use Rattle.std.specs.Int.{w32, w64, to_be_bytes}
 use Rattle.std.proofs.lemmas.Bool.{ltb-true, lt-ltb, leb-true, le-leb}
 use Rattle.flowfile_record.specs.Attributes.{AttributeMap, IsWithinLimits}
 use Rattle.flowfile_record.specs.Field.{IsField}
 use Rattle.flowfile_record.specs.Reading.{◌then◌, uint_at, number_at, raw_at}
-use Rattle.flowfile_record.specs.Spelling.{IsNumber, IsDigest}
+use Rattle.flowfile_record.specs.Encoding.{IsNumber, IsDigest}
 use Rattle.flowfile_record.specs.declared.TheConstants.{CONTENT_MAX}
 use Rattle.flowfile_record.specs.declared.content.ContentRef.{ContentRef}
 use Rattle.flowfile_record.specs.declared.flow_file.FlowFile.{FlowFile}
 use Rattle.flowfile_record.proofs.FieldLaws.{pair_is, made_is, such_is, said_is, u32_is, u64_is, number_is, digest_is}
 use Rattle.record_codec.specs.FileReading.{attributes_at, slot_at, size_at, content_ref_at, file_number_at, flow_file_at}
-use Rattle.record_codec.specs.FileSpelling.{attributes, content_ref, IsContentRef, flow_file, IsFlowFile}
+use Rattle.record_codec.specs.FileEncoding.{attributes, content_ref, IsContentRef, flow_file, IsFlowFile}
 use Rattle.record_codec.proofs.AttributeLaws.{attributes_is}
 
 abbrev IsSlot : ℕ → Type 0

@@ -1,10 +1,10 @@
--- What is read of a head is spelled so, and what is spelled so is read again.
+-- What is read of a head is encoded so, and what is encoded so is read again.
 use Rattle.std.proofs.Common.{◌≡◌, ℕ, ◌^◌, ◌<◌, ◌==◌, nat_lt, List, ◌++◌, IsTrue, refl, sym, ap, ◌∙◌, append_assoc, eq-eqb, arith}
 use Rattle.std.specs.Int.{w64, to_be_bytes}
 use Rattle.std.proofs.lemmas.Bool.{ltb-true, lt-ltb, eqb-true}
 use Rattle.flowfile_record.specs.Field.{IsField}
 use Rattle.flowfile_record.specs.Reading.{Reading, ◌then◌, byte_at, raw_at, uint_at, number_at, text_at, numbers_at}
-use Rattle.flowfile_record.specs.Spelling.{byte, text, numbers, IsNumber, IsText, AreNumbers, IsDigest}
+use Rattle.flowfile_record.specs.Encoding.{byte, text, numbers, IsNumber, IsText, AreNumbers, IsDigest}
 use Rattle.flowfile_record.proofs.FieldLaws.{pair_is, made_from, such_is, said_is, byte_is, digest_is, u64_is, number_is, text_is, listed_is, numbers_is}
 use Rattle.record_codec.specs.declared.head.Head.{Head}
 use Rattle.record_codec.specs.StoreHead.{head, IsHead}
@@ -44,38 +44,38 @@ abbrev fields_at : Reading Fields
 fields_at = version_at then store_at then raw_at 32 then texts_at then numbers_at then number_at then number_at then number_at then number_at
 
 -- the fields behind the version
-abbrev spelled_behind : Fields → List ℕ
-spelled_behind h =
+abbrev encoded_behind : Fields → List ℕ
+encoded_behind h =
     to_be_bytes w64 h.1.0 ++ (h.1.1.0 ++ (texts h.1.1.1.0 ++ (numbers h.1.1.1.1.0
     ++ (to_be_bytes w64 h.1.1.1.1.1.0 ++ (to_be_bytes w64 h.1.1.1.1.1.1.0 ++ (to_be_bytes w64 h.1.1.1.1.1.1.1.0 ++ to_be_bytes w64 h.1.1.1.1.1.1.1.1))))))
 
-abbrev spelled : Fields → List ℕ
-spelled h = byte h.0 ++ spelled_behind h
+abbrev encoded : Fields → List ℕ
+encoded h = byte h.0 ++ encoded_behind h
 
 regroup : (a b c d e f g h i : List ℕ) → a ++ b ++ c ++ d ++ e ++ f ++ g ++ h ++ i ≡ a ++ (b ++ (c ++ (d ++ (e ++ (f ++ (g ++ (h ++ i)))))))
 regroup a b c d e f g h i = simp append_assoc
 
-spelled_so : (h : Fields) → h.0 ≡ 1 → head (head_of h) ≡ spelled h
+encoded_so : (h : Fields) → h.0 ≡ 1 → head (head_of h) ≡ encoded h
 unfolding head
-spelled_so h version =
+encoded_so h version =
     regroup (byte 1) (to_be_bytes w64 h.1.0) h.1.1.0 (texts h.1.1.1.0) (numbers h.1.1.1.1.0) (to_be_bytes w64 h.1.1.1.1.1.0) (to_be_bytes w64 h.1.1.1.1.1.1.0) (to_be_bytes w64 h.1.1.1.1.1.1.1.0) (to_be_bytes w64 h.1.1.1.1.1.1.1.1)
-    ∙ ap (λ (v : ℕ). byte v ++ spelled_behind h) (sym version)
+    ∙ ap (λ (v : ℕ). byte v ++ encoded_behind h) (sym version)
 
 abbrev AreFields : Fields → Type 0
 AreFields h =
     (h.0 ≡ 1) × ((h.1.0 < 2 ^ 60) × (IsDigest h.1.1.0 × (AreTexts h.1.1.1.0 × (AreNumbers h.1.1.1.1.0
     × (IsNumber h.1.1.1.1.1.0 × (IsNumber h.1.1.1.1.1.1.0 × (IsNumber h.1.1.1.1.1.1.1.0 × IsNumber h.1.1.1.1.1.1.1.1)))))))
 
-fields_are : IsField fields_at spelled AreFields
+fields_are : IsField fields_at encoded AreFields
 fields_are =
     pair_is _ _ _ _ _ _ version_is (pair_is _ _ _ _ _ _ store_is (pair_is _ _ _ _ _ _ digest_is (pair_is _ _ _ _ _ _ texts_is (pair_is _ _ _ _ _ _ numbers_is
     (pair_is _ _ _ _ _ _ number_is (pair_is _ _ _ _ _ _ number_is (pair_is _ _ _ _ _ _ number_is number_is)))))))
 
 pub head_is : IsField head_at head IsHead
 unfolding head_at
-head_is = made_from head_of fields_at spelled head AreFields IsHead fields_are
+head_is = made_from head_of fields_at encoded head AreFields IsHead fields_are
     (λ a has. (
-      spelled_so a has.0,
+      encoded_so a has.0,
       record {
         store = has.1.0;
         flow = has.1.1.0;

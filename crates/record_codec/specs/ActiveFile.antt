@@ -1,16 +1,16 @@
--- Flow files with the connection whose queue they are active in: how they are spelled, which have a spelling, and how
+-- Flow files with the connection whose queue they are active in: how they are encoded, which have an encoding, and how
 -- they are read.
 use Rattle.std.specs.Prelude.{ℕ, ◌<◌, ◌^◌, List, ◌++◌}
 use Rattle.std.specs.Int.{w16, to_be_bytes}
 use Rattle.flowfile_record.specs.Reading.{Reading, ◌then◌, made, uint_at}
 use Rattle.flowfile_record.specs.declared.stored.ActiveFile.{ActiveFile}
 use Rattle.record_codec.specs.FileReading.{flow_file_at}
-use Rattle.record_codec.specs.FileSpelling.{flow_file, IsFlowFile}
+use Rattle.record_codec.specs.FileEncoding.{flow_file, IsFlowFile}
 
 unfoldable pub active_file : ActiveFile → List ℕ
 active_file a = to_be_bytes w16 a.connection ++ flow_file a.file
 
--- an active flow file that has a spelling
+-- an active flow file that has an encoding
 pub record IsActiveFile (a : ActiveFile) : Type 0 where
   pub connection : a.connection < 2 ^ 16
   pub file : IsFlowFile a.file

@@ -1,4 +1,4 @@
--- Blocks: how a payload is spelled in a file of the store, and what stands at the head of some bytes.
+-- Blocks: how a payload is encoded in a file of the store, and what stands at the head of some bytes.
 use Rattle.std.specs.Prelude.{ℕ, ◌+◌, nat_lt, List, ◌∷◌, ◌++◌, length, take, drop, slice_index, bytes_eq, Result, Ok, Err, if◌then◌else◌}
 use Rattle.std.specs.Int.{w32, from_be_bytes, to_be_bytes}
 use Rattle.sha2.specs.Sha256.{sha256}

@@ -1,9 +1,9 @@
 pub mod ActiveFile
 pub mod Block
 pub mod EntryReading
-pub mod EntrySpelling
+pub mod EntryEncoding
 pub mod FileReading
-pub mod FileSpelling
+pub mod FileEncoding
 pub mod Head
 pub mod Snapshot
 pub mod SnapshotReading

@@ -1,7 +1,7 @@
--- How the other blocks of a snapshot are spelled, and what has a spelling. Numbers are big-endian.
+-- How the other blocks of a snapshot are encoded, and what has an encoding. Numbers are big-endian.
 use Rattle.std.specs.Prelude.{ℕ, ◌<◌, ◌^◌, List, ◌++◌}
 use Rattle.std.specs.Int.{w16, w64, to_be_bytes}
-use Rattle.flowfile_record.specs.Spelling.{IsNumber}
+use Rattle.flowfile_record.specs.Encoding.{IsNumber}
 use Rattle.flowfile_record.specs.declared.stored.SwapBatch.{SwapBatch}
 use Rattle.record_codec.specs.declared.snapshot.SnapshotKind.{SnapshotKind}
 use Rattle.record_codec.specs.declared.snapshot.SnapshotKind.TheVariants as kinds
@@ -16,7 +16,7 @@ kind_code kinds.End = 13
 unfoldable pub batch : SwapBatch → List ℕ
 batch b = to_be_bytes w16 b.connection ++ to_be_bytes w64 b.batch ++ to_be_bytes w64 b.files ++ to_be_bytes w64 b.bytes ++ to_be_bytes w64 b.encoded
 
--- a batch that has a spelling
+-- a batch that has an encoding
 pub record IsBatch (b : SwapBatch) : Type 0 where
   pub connection : b.connection < 2 ^ 16
   pub batch : IsNumber b.batch

@@ -1,7 +1,7 @@
--- How the head of a snapshot is spelled, and which heads have a spelling. Numbers are big-endian.
+-- How the head of a snapshot is encoded, and which heads have an encoding. Numbers are big-endian.
 use Rattle.std.specs.Prelude.{ℕ, ◌<◌, ◌^◌, List, ◌++◌}
 use Rattle.std.specs.Int.{w64, to_be_bytes}
-use Rattle.flowfile_record.specs.Spelling.{byte, numbers, IsNumber, AreNumbers, IsDigest}
+use Rattle.flowfile_record.specs.Encoding.{byte, numbers, IsNumber, AreNumbers, IsDigest}
 use Rattle.record_codec.specs.declared.head.Head.{Head}
 use Rattle.record_codec.specs.Texts.{texts, AreTexts}
 
@@ -10,7 +10,7 @@ head h =
     byte 1 ++ to_be_bytes w64 h.store ++ h.flow ++ texts h.connections ++ numbers h.counts
     ++ to_be_bytes w64 h.next_number ++ to_be_bytes w64 h.next_arrival ++ to_be_bytes w64 h.last_event ++ to_be_bytes w64 h.next_batch
 
--- a head that has a spelling
+-- a head that has an encoding
 pub record IsHead (h : Head) : Type 0 where
   pub store : h.store < 2 ^ 60
   pub flow : IsDigest h.flow

@@ -5,7 +5,7 @@ use Rattle.flowfile_record.specs.Reading.{Reading, ◌then◌, made, such, byte_
 use Rattle.record_codec.specs.declared.head.Head.{Head}
 use Rattle.record_codec.specs.Texts.{texts_at}
 
--- of the spelling of snapshots
+-- of the encoding of snapshots
 unfoldable pub version_at : Reading ℕ
 version_at = such (λ version. version == 1) byte_at
 

@@ -1,7 +1,7 @@
--- Lists of texts: how they are spelled, which have a spelling, and how they are read.
+-- Lists of texts: how they are encoded, which have an encoding, and how they are read.
 use Rattle.std.specs.Prelude.{ℕ, List}
 use Rattle.flowfile_record.specs.Reading.{Reading, text_at, listed_at}
-use Rattle.flowfile_record.specs.Spelling.{text, listed, IsText, AreListed}
+use Rattle.flowfile_record.specs.Encoding.{text, listed, IsText, AreListed}
 
 abbrev pub texts : List (List ℕ) → List ℕ
 texts ts = listed text ts

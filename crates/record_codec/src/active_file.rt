@@ -1,8 +1,8 @@
 //! Flow files with the queue that they are active in.
 ghost use Rattle.std.specs.Prelude.{◌≡◌, ◌++◌, length, IfOk, OnOk, OnErr, Ok};
-ghost use Rattle.flowfile_record.specs.Field.{HasOneSpelling};
+ghost use Rattle.flowfile_record.specs.Field.{HasOneEncoding};
 ghost use Rattle.flowfile_record.specs.Reading.{Gives, Answers, answer, whole};
-ghost use Rattle.flowfile_record.specs.Spelling.{Keeps};
+ghost use Rattle.flowfile_record.specs.Encoding.{Keeps};
 ghost use Rattle.flowfile_record.specs.declared.stored.ActiveFile.{ActiveFile as Active};
 ghost use Rattle.record_codec.specs.ActiveFile.{active_file, active_file_at, IsActiveFile};
 
@@ -11,7 +11,7 @@ use flowfile_record::fields::{FieldError, read_u16, write_u16};
 use flowfile_record::{ActiveFile, CodecError};
 use std::alloc::{AllocError, Global};
 
-/// Appends the one spelling of an active flow file, or, where there is no memory for it, nothing.
+/// Appends the one encoding of an active flow file, or, where there is no memory for it, nothing.
 pub fn write_active_file(out: &mut Vec<u8>, active: &ActiveFile) -> Result<(), AllocError>
     requires { IsActiveFile active.now }
     ensures ok { OnOk result (out.new.items ≡ out.old.items ++ active_file active.now) }
@@ -25,12 +25,12 @@ pub fn write_active_file(out: &mut Vec<u8>, active: &ActiveFile) -> Result<(), A
     written
 }
 
-/// The active flow file that the bytes spell, all of them; else `Form`, at the first field that can't be read, or at
+/// The active flow file that the bytes encode, all of them; else `Form`, at the first field that can't be read, or at
 /// what is left over.
 pub fn read_active_file(alloc: Global, bytes: &[u8]) -> Result<ActiveFile, CodecError>
-    // What is read is spelled so.
+    // What is read is encoded so.
     ensures found { IfOk result (λ active. IsActiveFile active × (bytes.now ≡ active_file active)) }
-    // What is spelled so is read, unless memory runs out.
+    // What is encoded so is read, unless memory runs out.
     ensures only { (active : Active) → IsActiveFile active → bytes.now ≡ active_file active → Answers result (Ok active) }
     // Which place can't be read.
     ensures exact { Answers result (answer (length bytes.now) (whole active_file_at bytes.now)) }
@@ -38,9 +38,9 @@ pub fn read_active_file(alloc: Global, bytes: &[u8]) -> Result<ActiveFile, Codec
     read_answer(alloc, bytes)
 }
 
-/// One active flow file has one spelling, and no spelling is a proper front of another.
-pub fn active_files_have_one_spelling()
-    ensures { HasOneSpelling active_file IsActiveFile }
+/// One active flow file has one encoding, and no encoding is a proper front of another.
+pub fn active_files_have_one_encoding()
+    ensures { HasOneEncoding active_file IsActiveFile }
 {}
 
 fn read_answer(alloc: Global, bytes: &[u8]) -> Result<ActiveFile, CodecError>

@@ -4,9 +4,9 @@ ghost use Rattle.std.specs.Option.{option_map};
 ghost use Rattle.std.specs.FinMap.{empty, entries, insert, len};
 ghost use Rattle.flowfile_record.specs.Attributes.{IsWithinLimits};
 ghost use Rattle.flowfile_record.specs.Reading.{Gives};
-ghost use Rattle.flowfile_record.specs.Spelling.{Keeps};
+ghost use Rattle.flowfile_record.specs.Encoding.{Keeps};
 ghost use Rattle.record_codec.specs.FileReading.{may_follow, may_hold, pair_at, pairs_at, attributes_at};
-ghost use Rattle.record_codec.specs.FileSpelling as spelling;
+ghost use Rattle.record_codec.specs.FileEncoding as encoding;
 
 use flowfile_record::fields::{
     FieldError, read_long, read_text, read_u16, write_long, write_text, write_u16,
@@ -93,10 +93,10 @@ fn last_key(attributes: &Attributes) -> Option<&str>
     }
 }
 
-#[tactic(auto, unfolding(crate::specs::FileSpelling::attributes))]
+#[tactic(auto, unfolding(crate::specs::FileEncoding::attributes))]
 pub(crate) fn write_attributes(out: &mut Vec<u8>, attributes: &Attributes) -> Result<(), AllocError>
     requires { IsWithinLimits attributes.now }
-    ensures ok { OnOk result (out.new.items ≡ out.old.items ++ spelling.attributes attributes.now) }
+    ensures ok { OnOk result (out.new.items ≡ out.old.items ++ encoding.attributes attributes.now) }
     ensures err { OnErr result (Keeps out.old.items out.new.items) }
 {
     write_u16(out, attributes.len() as u16)?;
@@ -111,7 +111,7 @@ pub(crate) fn write_attributes(out: &mut Vec<u8>, attributes: &Attributes) -> Re
 fn write_pair(out: &mut Vec<u8>, key: &str, value: &str) -> Result<(), AllocError>
     requires key { length key.now < 2 ^ 16 }
     requires value { length value.now < 2 ^ 32 }
-    ensures ok { OnOk result (out.new.items ≡ out.old.items ++ spelling.pair (key.now, value.now)) }
+    ensures ok { OnOk result (out.new.items ≡ out.old.items ++ encoding.pair (key.now, value.now)) }
     ensures err { OnErr result (Keeps out.old.items out.new.items) }
 {
     write_text(out, key)?;

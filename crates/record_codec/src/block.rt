@@ -1,4 +1,4 @@
-//! Blocks: how a payload is spelled in a file of the store.
+//! Blocks: how a payload is encoded in a file of the store.
 //!
 //! A block is the payload's length in four bytes (big-endian), the kind, the payload, and the SHA-256
 //! digest (FIPS 180-4) of the kind and the payload: 37 bytes beside the payload.
@@ -134,9 +134,9 @@ fn digest_of(bytes: &[u8]) -> [u8; 32]
 pub fn read_block(bytes: &[u8], at: u64) -> Result<Block, BlockEnd>
     requires { at ≤ length bytes.now }
     ensures read { result ≡ answer_at at (reading_of (drop at bytes.now)) }
-    // What was read stands in these bytes, which are spelled as it is.
+    // What was read stands in these bytes, which are encoded as it is.
     ensures whole { IfOk result (λ found. reading_of (drop at bytes.now) ≡ Whole found.kind (slice_range bytes.now found.start found.end)) }
-    ensures spelled { IfOk result (λ found. take (found.next - at) (drop at bytes.now) ≡ block found.kind (slice_range bytes.now found.start found.end)) }
+    ensures encoded { IfOk result (λ found. take (found.next - at) (drop at bytes.now) ≡ block found.kind (slice_range bytes.now found.start found.end)) }
     ensures within { IfOk result (λ found. (found.start ≤ found.end) × (found.end + 32 ≡ found.next) × (found.next ≤ length bytes.now)) }
 {
     let rest = &bytes[at as usize..];

@@ -1,9 +1,9 @@
 //! References to contents.
 ghost use Rattle.std.specs.Prelude.{◌≡◌, ◌++◌, OnOk, OnErr};
 ghost use Rattle.flowfile_record.specs.Reading.{Reads};
-ghost use Rattle.flowfile_record.specs.Spelling.{Keeps};
+ghost use Rattle.flowfile_record.specs.Encoding.{Keeps};
 ghost use Rattle.record_codec.specs.FileReading.{slot_at, size_at, content_ref_at};
-ghost use Rattle.record_codec.specs.FileSpelling as spelling;
+ghost use Rattle.record_codec.specs.FileEncoding as encoding;
 
 use flowfile_record::fields::{
     Unread, read_digest, read_number, read_u32, read_u64, write_digest, write_u32, write_u64,
@@ -57,9 +57,9 @@ fn read_size(bytes: &[u8]) -> Result<(u64, &[u8]), Unread>
     Ok((size, rest))
 }
 
-#[tactic(auto, unfolding(crate::specs::FileSpelling::content_ref))]
+#[tactic(auto, unfolding(crate::specs::FileEncoding::content_ref))]
 pub(crate) fn write_content_ref(out: &mut Vec<u8>, content: &ContentRef) -> Result<(), AllocError>
-    ensures ok { OnOk result (out.new.items ≡ out.old.items ++ spelling.content_ref content.now) }
+    ensures ok { OnOk result (out.new.items ≡ out.old.items ++ encoding.content_ref content.now) }
     ensures err { OnErr result (Keeps out.old.items out.new.items) }
 {
     write_u32(out, content.slot)?;

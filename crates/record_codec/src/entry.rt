@@ -1,9 +1,9 @@
 //! The entries of a log.
 ghost use Rattle.std.specs.Prelude.{◌≡◌, ◌++◌, ℕ, length, IfOk, OnOk, OnErr, Ok};
-ghost use Rattle.flowfile_record.specs.Field.{HasOneSpelling};
+ghost use Rattle.flowfile_record.specs.Field.{HasOneEncoding};
 ghost use Rattle.flowfile_record.specs.Reading.{Answers, answer, whole};
 ghost use Rattle.record_codec.specs.EntryReading.{entry_at};
-ghost use Rattle.record_codec.specs.EntrySpelling.{entry as spelling, kind_of, IsEntry, IsEntryOf};
+ghost use Rattle.record_codec.specs.EntryEncoding.{entry as encoding, kind_of, IsEntry, IsEntryOf};
 ghost use Rattle.record_codec.specs.declared.entry.LogEntry.{LogEntry as Entry};
 
 mod read;
@@ -87,10 +87,10 @@ impl LogEntry {
     }
 }
 
-/// Appends the one spelling of an entry, the payload of its block, or, where there is no memory for it, nothing.
+/// Appends the one encoding of an entry, the payload of its block, or, where there is no memory for it, nothing.
 pub fn write_entry(out: &mut Vec<u8>, entry: &LogEntry) -> Result<(), AllocError>
     requires { IsEntry entry.now }
-    ensures ok { OnOk result (out.new.items ≡ out.old.items ++ spelling entry.now) }
+    ensures ok { OnOk result (out.new.items ≡ out.old.items ++ encoding entry.now) }
     ensures err { OnErr result (out.new.items ≡ out.old.items) }
 {
     let start = out.len();
@@ -101,19 +101,19 @@ pub fn write_entry(out: &mut Vec<u8>, entry: &LogEntry) -> Result<(), AllocError
     written
 }
 
-/// The entry of a kind that the bytes spell, all of them. No entry has a kind outside 1 to 5, which is `Form` at 0.
+/// The entry of a kind that the bytes encode, all of them. No entry has a kind outside 1 to 5, which is `Form` at 0.
 pub fn read_entry(alloc: Global, kind: u8, bytes: &[u8]) -> Result<LogEntry, CodecError>
-    // What is read is spelled so.
-    ensures found { IfOk result (λ entry. IsEntryOf kind entry × (bytes.now ≡ spelling entry)) }
-    // What is spelled so is read, unless memory runs out.
-    ensures only { (entry : Entry) → IsEntryOf kind entry → bytes.now ≡ spelling entry → Answers result (Ok entry) }
+    // What is read is encoded so.
+    ensures found { IfOk result (λ entry. IsEntryOf kind entry × (bytes.now ≡ encoding entry)) }
+    // What is encoded so is read, unless memory runs out.
+    ensures only { (entry : Entry) → IsEntryOf kind entry → bytes.now ≡ encoding entry → Answers result (Ok entry) }
     // Which place can't be read.
     ensures exact { Answers result (answer (length bytes.now) (whole (entry_at kind) bytes.now)) }
 {
     read::read_answer(alloc, kind, bytes)
 }
 
-/// Of one kind, one entry has one spelling, and no spelling is a proper front of another.
-pub fn entries_have_one_spelling()
-    ensures { (kind : ℕ) → HasOneSpelling spelling (IsEntryOf kind) }
+/// Of one kind, one entry has one encoding, and no encoding is a proper front of another.
+pub fn entries_have_one_encoding()
+    ensures { (kind : ℕ) → HasOneEncoding encoding (IsEntryOf kind) }
 {}

@@ -1,11 +1,11 @@
 //! Flow files.
 ghost use Rattle.std.specs.Prelude.{◌≡◌, ◌++◌, length, IfOk, OnOk, OnErr, Ok};
-ghost use Rattle.flowfile_record.specs.Field.{HasOneSpelling};
+ghost use Rattle.flowfile_record.specs.Field.{HasOneEncoding};
 ghost use Rattle.flowfile_record.specs.Reading.{Reads, Gives, Answers, answer, whole};
-ghost use Rattle.flowfile_record.specs.Spelling.{Keeps};
+ghost use Rattle.flowfile_record.specs.Encoding.{Keeps};
 ghost use Rattle.flowfile_record.specs.declared.flow_file.FlowFile.{FlowFile as File};
 ghost use Rattle.record_codec.specs.FileReading.{file_number_at, flow_file_at};
-ghost use Rattle.record_codec.specs.FileSpelling.{flow_file, IsFlowFile};
+ghost use Rattle.record_codec.specs.FileEncoding.{flow_file, IsFlowFile};
 
 use crate::attributes::{read_attributes, write_attributes};
 use crate::content::{read_content_ref, write_content_ref};
@@ -13,7 +13,7 @@ use flowfile_record::fields::{FieldError, Unread, read_number, read_u64, write_u
 use flowfile_record::{CodecError, FlowFile};
 use std::alloc::{AllocError, Global};
 
-/// Appends the one spelling of a flow file, or, where there is no memory for it, nothing.
+/// Appends the one encoding of a flow file, or, where there is no memory for it, nothing.
 pub fn write_file(out: &mut Vec<u8>, file: &FlowFile) -> Result<(), AllocError>
     requires { IsFlowFile file.now }
     ensures ok { OnOk result (out.new.items ≡ out.old.items ++ flow_file file.now) }
@@ -27,11 +27,11 @@ pub fn write_file(out: &mut Vec<u8>, file: &FlowFile) -> Result<(), AllocError>
     written
 }
 
-/// The flow file that the bytes spell, all of them.
+/// The flow file that the bytes encode, all of them.
 pub fn read_file(alloc: Global, bytes: &[u8]) -> Result<FlowFile, CodecError>
-    // What is read is spelled so.
+    // What is read is encoded so.
     ensures found { IfOk result (λ file. IsFlowFile file × (bytes.now ≡ flow_file file)) }
-    // What is spelled so is read, unless memory runs out.
+    // What is encoded so is read, unless memory runs out.
     ensures only { (file : File) → IsFlowFile file → bytes.now ≡ flow_file file → Answers result (Ok file) }
     // Which place can't be read.
     ensures exact { Answers result (answer (length bytes.now) (whole flow_file_at bytes.now)) }
@@ -39,9 +39,9 @@ pub fn read_file(alloc: Global, bytes: &[u8]) -> Result<FlowFile, CodecError>
     read_answer(alloc, bytes)
 }
 
-/// One flow file has one spelling, and no spelling is a proper front of another.
-pub fn flow_files_have_one_spelling()
-    ensures { HasOneSpelling flow_file IsFlowFile }
+/// One flow file has one encoding, and no encoding is a proper front of another.
+pub fn flow_files_have_one_encoding()
+    ensures { HasOneEncoding flow_file IsFlowFile }
 {}
 
 fn read_answer(alloc: Global, bytes: &[u8]) -> Result<FlowFile, CodecError>
@@ -99,7 +99,7 @@ fn read_file_number(bytes: &[u8]) -> Result<(u64, &[u8]), Unread>
     Ok((number, rest))
 }
 
-#[tactic(auto, unfolding(crate::specs::FileSpelling::flow_file))]
+#[tactic(auto, unfolding(crate::specs::FileEncoding::flow_file))]
 pub(crate) fn write_flow_file(out: &mut Vec<u8>, file: &FlowFile) -> Result<(), AllocError>
     requires { IsFlowFile file.now }
     ensures ok { OnOk result (out.new.items ≡ out.old.items ++ flow_file file.now) }

@@ -1,11 +1,11 @@
 //! The head of a snapshot.
 ghost use Rattle.std.specs.Prelude.{◌≡◌, ◌++◌, length, IfOk, OnOk, OnErr, Ok};
 ghost use Rattle.flowfile_record.specs.Reading.{Reads, Gives, Answers, answer, whole};
-ghost use Rattle.flowfile_record.specs.Field.{HasOneSpelling};
-ghost use Rattle.flowfile_record.specs.Spelling.{Keeps};
+ghost use Rattle.flowfile_record.specs.Field.{HasOneEncoding};
+ghost use Rattle.flowfile_record.specs.Encoding.{Keeps};
 ghost use Rattle.record_codec.specs.declared.head.Head.{Head as TheHead};
 ghost use Rattle.record_codec.specs.StoreHead.{IsHead};
-ghost use Rattle.record_codec.specs.StoreHead as spelling;
+ghost use Rattle.record_codec.specs.StoreHead as encoding;
 ghost use Rattle.record_codec.specs.StoreHeadReading.{version_at, store_at, head_at};
 
 use crate::texts::{read_texts, write_texts};
@@ -16,7 +16,7 @@ use flowfile_record::fields::{
 use flowfile_record::{CodecError, Numbers, TextList};
 use std::alloc::{AllocError, Global};
 
-/// Of the spelling of snapshots.
+/// Of the encoding of snapshots.
 const VERSION: u8 = 1;
 
 /// The ids of stores are below it.
@@ -25,7 +25,7 @@ const STORES_END: u64 = 1 << 60;
 /// What a store keeps beside its flow files: its id, the digest of its flow's text, the flow's connections, how many
 /// files each processor has generated, and the numbers that come next (0 for the last event means none yet).
 ///
-/// It has a spelling where the store is below 2^60, the counts and numbers are below 2^62, a connection has fewer than
+/// It has an encoding where the store is below 2^60, the counts and numbers are below 2^62, a connection has fewer than
 /// 65,536 bytes, and each list has fewer than 2^32 items.
 #[derive(Debug, Drop)]
 pub struct Head {
@@ -39,10 +39,10 @@ pub struct Head {
     pub next_batch: u64,
 }
 
-/// Appends the one spelling of a head, or, where there is no memory for it, nothing.
+/// Appends the one encoding of a head, or, where there is no memory for it, nothing.
 pub fn write_head(out: &mut Vec<u8>, head: &Head) -> Result<(), AllocError>
     requires { IsHead head.now }
-    ensures ok { OnOk result (out.new.items ≡ out.old.items ++ spelling.head head.now) }
+    ensures ok { OnOk result (out.new.items ≡ out.old.items ++ encoding.head head.now) }
     ensures err { OnErr result (out.new.items ≡ out.old.items) }
 {
     let start = out.len();
@@ -53,22 +53,22 @@ pub fn write_head(out: &mut Vec<u8>, head: &Head) -> Result<(), AllocError>
     written
 }
 
-/// The head that the bytes spell, all of them; else `Form`, at the first field that can't be read, or at what is left
+/// The head that the bytes encode, all of them; else `Form`, at the first field that can't be read, or at what is left
 /// over.
 pub fn read_head(alloc: Global, bytes: &[u8]) -> Result<Head, CodecError>
-    // What is read is spelled so.
-    ensures found { IfOk result (λ value. IsHead value × (bytes.now ≡ spelling.head value)) }
-    // What is spelled so is read, unless memory runs out.
-    ensures only { (value : TheHead) → IsHead value → bytes.now ≡ spelling.head value → Answers result (Ok value) }
+    // What is read is encoded so.
+    ensures found { IfOk result (λ value. IsHead value × (bytes.now ≡ encoding.head value)) }
+    // What is encoded so is read, unless memory runs out.
+    ensures only { (value : TheHead) → IsHead value → bytes.now ≡ encoding.head value → Answers result (Ok value) }
     // Which place can't be read.
     ensures exact { Answers result (answer (length bytes.now) (whole head_at bytes.now)) }
 {
     read_answer(alloc, bytes)
 }
 
-/// One head has one spelling, and no spelling is a proper front of another.
-pub fn heads_have_one_spelling()
-    ensures { HasOneSpelling spelling.head IsHead }
+/// One head has one encoding, and no encoding is a proper front of another.
+pub fn heads_have_one_encoding()
+    ensures { HasOneEncoding encoding.head IsHead }
 {}
 
 fn read_answer(alloc: Global, bytes: &[u8]) -> Result<Head, CodecError>
@@ -147,7 +147,7 @@ fn read_store(bytes: &[u8]) -> Result<(u64, &[u8]), Unread>
 #[tactic(auto, unfolding(crate::specs::StoreHead::head))]
 fn write_fields(out: &mut Vec<u8>, head: &Head) -> Result<(), AllocError>
     requires { IsHead head.now }
-    ensures ok { OnOk result (out.new.items ≡ out.old.items ++ spelling.head head.now) }
+    ensures ok { OnOk result (out.new.items ≡ out.old.items ++ encoding.head head.now) }
     ensures err { OnErr result (Keeps out.old.items out.new.items) }
 {
     write_u8(out, VERSION)?;

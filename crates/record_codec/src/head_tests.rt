@@ -39,7 +39,7 @@ const FAULTS: [(usize, [u8; 8], u64); 10] = [
     (97, [0x40, 0, 0, 0, 0, 0, 0, 0], 97),
 ];
 
-fn spelled(alloc: Global) -> Result<Vec<u8>, AllocError> {
+fn encoded(alloc: Global) -> Result<Vec<u8>, AllocError> {
     let mut bytes = Vec::from_slice(alloc, &ORIGIN)?;
     bytes.extend_from_slice(&LISTS)?;
     bytes.extend_from_slice(&COUNTERS)?;
@@ -47,8 +47,8 @@ fn spelled(alloc: Global) -> Result<Vec<u8>, AllocError> {
 }
 
 // The same with these bytes put at a place.
-fn spelled_with(alloc: Global, place: usize, put: &[u8]) -> Result<Vec<u8>, AllocError> {
-    let mut bytes = spelled(alloc)?;
+fn encoded_with(alloc: Global, place: usize, put: &[u8]) -> Result<Vec<u8>, AllocError> {
+    let mut bytes = encoded(alloc)?;
     for (byte, new) in bytes.iter_mut().skip(place).zip(put) {
         *byte = *new;
     }
@@ -74,7 +74,7 @@ fn written_again(alloc: Global, bytes: &[u8]) -> Result<Vec<u8>, AllocError> {
 
 #[test]
 fn a_head_is_read(rt: HostRuntime) -> Result<(), Fail> {
-    let bytes = spelled(rt.alloc())?;
+    let bytes = encoded(rt.alloc())?;
     let head = read_head(rt.alloc(), &bytes).ok().ok_or("a head")?;
     assert_eq!(rt; head.store, 0x0012_3456_789a_bcde);
     assert_eq!(rt; head.flow, [7; 32]);
@@ -93,7 +93,7 @@ fn a_head_is_read(rt: HostRuntime) -> Result<(), Fail> {
 
 #[test]
 fn a_head_is_written(rt: HostRuntime) -> Result<(), Fail> {
-    let bytes = spelled(rt.alloc())?;
+    let bytes = encoded(rt.alloc())?;
     let out = written_again(rt.alloc(), &bytes)?;
     assert_eq!(rt; out.len(), 111);
     assert_eq!(rt; &out[..6], b"before".as_slice());
@@ -104,7 +104,7 @@ fn a_head_is_written(rt: HostRuntime) -> Result<(), Fail> {
 #[test]
 fn what_is_no_head(rt: HostRuntime) -> Result<(), Fail> {
     for (place, put, wanted) in FAULTS {
-        let bytes = spelled_with(rt.alloc(), place, &put)?;
+        let bytes = encoded_with(rt.alloc(), place, &put)?;
         assert_eq!(rt; place_of(read_head(rt.alloc(), &bytes)), Some(wanted));
     }
     Ok(())
@@ -112,7 +112,7 @@ fn what_is_no_head(rt: HostRuntime) -> Result<(), Fail> {
 
 #[test]
 fn the_last_store_is_read(rt: HostRuntime) -> Result<(), Fail> {
-    let bytes = spelled_with(rt.alloc(), 1, &[0x0f, 255, 255, 255, 255, 255, 255, 255])?;
+    let bytes = encoded_with(rt.alloc(), 1, &[0x0f, 255, 255, 255, 255, 255, 255, 255])?;
     let head = read_head(rt.alloc(), &bytes).ok().ok_or("a head")?;
     assert_eq!(rt; head.store, 0x0fff_ffff_ffff_ffff);
     Ok(())
@@ -120,7 +120,7 @@ fn the_last_store_is_read(rt: HostRuntime) -> Result<(), Fail> {
 
 #[test]
 fn a_head_that_is_cut_or_goes_on(rt: HostRuntime) -> Result<(), Fail> {
-    let mut bytes = spelled(rt.alloc())?;
+    let mut bytes = encoded(rt.alloc())?;
     bytes.push(0)?;
     assert_eq!(rt; place_of(read_head(rt.alloc(), &bytes)), Some(105));
     bytes.truncate(104);

@@ -1,12 +1,12 @@
 //! The other blocks of a snapshot.
 ghost use Rattle.std.specs.Prelude.{◌≡◌, ◌++◌, ℕ, length, IfOk, IfSome, IfNone, OnOk, OnErr, Ok};
-ghost use Rattle.flowfile_record.specs.Field.{HasOneSpelling};
+ghost use Rattle.flowfile_record.specs.Field.{HasOneEncoding};
 ghost use Rattle.flowfile_record.specs.Reading.{Reads, answer, whole};
-ghost use Rattle.flowfile_record.specs.Spelling.{Keeps};
+ghost use Rattle.flowfile_record.specs.Encoding.{Keeps};
 ghost use Rattle.flowfile_record.specs.declared.stored.SwapBatch.{SwapBatch as Batch};
 ghost use Rattle.record_codec.specs.declared.snapshot.SnapshotKind.{SnapshotKind as Kind};
 ghost use Rattle.record_codec.specs.Snapshot.{kind_code, IsBatch, IsEnding};
-ghost use Rattle.record_codec.specs.Snapshot as spelling;
+ghost use Rattle.record_codec.specs.Snapshot as encoding;
 ghost use Rattle.record_codec.specs.SnapshotReading.{batch_at, ending_at};
 
 use flowfile_record::fields::{
@@ -48,11 +48,11 @@ impl SnapshotKind {
     }
 }
 
-/// Appends the one spelling of a batch, or, where there is no memory for it, nothing. A batch's number and its count of
+/// Appends the one encoding of a batch, or, where there is no memory for it, nothing. A batch's number and its count of
 /// files have to be below 2^62.
 pub fn write_batch(out: &mut Vec<u8>, batch: &SwapBatch) -> Result<(), AllocError>
     requires { IsBatch batch.now }
-    ensures ok { OnOk result (out.new.items ≡ out.old.items ++ spelling.batch batch.now) }
+    ensures ok { OnOk result (out.new.items ≡ out.old.items ++ encoding.batch batch.now) }
     ensures err { OnErr result (out.new.items ≡ out.old.items) }
 {
     let start = out.len();
@@ -63,48 +63,48 @@ pub fn write_batch(out: &mut Vec<u8>, batch: &SwapBatch) -> Result<(), AllocErro
     written
 }
 
-/// The batch that the bytes spell, all of them; else `Form`, at the first field that can't be read, or at what is left
+/// The batch that the bytes encode, all of them; else `Form`, at the first field that can't be read, or at what is left
 /// over.
 pub fn read_batch(bytes: &[u8]) -> Result<SwapBatch, CodecError>
-    // What is read is spelled so.
-    ensures found { IfOk result (λ value. IsBatch value × (bytes.now ≡ spelling.batch value)) }
-    // What is spelled so is read.
-    ensures only { (value : Batch) → IsBatch value → bytes.now ≡ spelling.batch value → result ≡ Ok value }
+    // What is read is encoded so.
+    ensures found { IfOk result (λ value. IsBatch value × (bytes.now ≡ encoding.batch value)) }
+    // What is encoded so is read.
+    ensures only { (value : Batch) → IsBatch value → bytes.now ≡ encoding.batch value → result ≡ Ok value }
     // Which place can't be read.
     ensures exact { result ≡ answer (length bytes.now) (whole batch_at bytes.now) }
 {
     read_batch_answer(bytes)
 }
 
-/// One batch has one spelling, and no spelling is a proper front of another.
-pub fn batches_have_one_spelling()
-    ensures { HasOneSpelling spelling.batch IsBatch }
+/// One batch has one encoding, and no encoding is a proper front of another.
+pub fn batches_have_one_encoding()
+    ensures { HasOneEncoding encoding.batch IsBatch }
 {}
 
-/// Appends the one spelling of an end behind so many blocks, or, where there is no memory for it, nothing.
+/// Appends the one encoding of an end behind so many blocks, or, where there is no memory for it, nothing.
 pub fn write_end(out: &mut Vec<u8>, blocks: u64) -> Result<(), AllocError>
-    ensures ok { OnOk result (out.new.items ≡ out.old.items ++ spelling.ending blocks) }
+    ensures ok { OnOk result (out.new.items ≡ out.old.items ++ encoding.ending blocks) }
     ensures err { OnErr result (out.new.items ≡ out.old.items) }
 {
     out.extend_from_slice(&blocks.to_be_bytes())
 }
 
-/// The number of the blocks before an end, which the bytes spell, all of them; else `Form`, at 0 where they are fewer
+/// The number of the blocks before an end, which the bytes encode, all of them; else `Form`, at 0 where they are fewer
 /// than 8, and at what is left over where they are more.
 pub fn read_end(bytes: &[u8]) -> Result<u64, CodecError>
-    // What is read is spelled so.
-    ensures found { IfOk result (λ blocks. IsEnding blocks × (bytes.now ≡ spelling.ending blocks)) }
-    // What is spelled so is read.
-    ensures only { (blocks : ℕ) → IsEnding blocks → bytes.now ≡ spelling.ending blocks → result ≡ Ok blocks }
+    // What is read is encoded so.
+    ensures found { IfOk result (λ blocks. IsEnding blocks × (bytes.now ≡ encoding.ending blocks)) }
+    // What is encoded so is read.
+    ensures only { (blocks : ℕ) → IsEnding blocks → bytes.now ≡ encoding.ending blocks → result ≡ Ok blocks }
     // Which place can't be read.
     ensures exact { result ≡ answer (length bytes.now) (whole ending_at bytes.now) }
 {
     read_end_answer(bytes)
 }
 
-/// One end has one spelling, and no spelling is a proper front of another.
-pub fn ends_have_one_spelling()
-    ensures { HasOneSpelling spelling.ending IsEnding }
+/// One end has one encoding, and no encoding is a proper front of another.
+pub fn ends_have_one_encoding()
+    ensures { HasOneEncoding encoding.ending IsEnding }
 {}
 
 fn read_batch_answer(bytes: &[u8]) -> Result<SwapBatch, CodecError>
@@ -149,7 +149,7 @@ fn read_batch_fields(bytes: &[u8]) -> Result<(SwapBatch, &[u8]), Unread>
 
 #[tactic(auto, unfolding(crate::specs::Snapshot::batch))]
 fn write_batch_fields(out: &mut Vec<u8>, batch: &SwapBatch) -> Result<(), AllocError>
-    ensures ok { OnOk result (out.new.items ≡ out.old.items ++ spelling.batch batch.now) }
+    ensures ok { OnOk result (out.new.items ≡ out.old.items ++ encoding.batch batch.now) }
     ensures err { OnErr result (Keeps out.old.items out.new.items) }
 {
     write_u16(out, batch.connection)?;

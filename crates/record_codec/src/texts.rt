@@ -1,9 +1,9 @@
 //! Lists of texts.
 ghost use Rattle.std.specs.Prelude.{◌≡◌, ◌++◌, OnOk, OnErr};
 ghost use Rattle.flowfile_record.specs.Reading.{Gives, text_at, items_at};
-ghost use Rattle.flowfile_record.specs.Spelling.{Keeps};
+ghost use Rattle.flowfile_record.specs.Encoding.{Keeps};
 ghost use Rattle.record_codec.specs.Texts.{AreTexts, texts_at};
-ghost use Rattle.record_codec.specs.Texts as spelling;
+ghost use Rattle.record_codec.specs.Texts as encoding;
 
 use flowfile_record::fields::{FieldError, read_text, read_u32, write_text, write_u32};
 use flowfile_record::{Text, TextList};
@@ -43,7 +43,7 @@ fn read_own_text(alloc: Global, bytes: &[u8]) -> Result<(Text, &[u8]), FieldErro
 /// A list of texts, behind its count in four bytes.
 pub(crate) fn write_texts(out: &mut Vec<u8>, texts: &[Text]) -> Result<(), AllocError>
     requires { AreTexts texts.now }
-    ensures ok { OnOk result (out.new.items ≡ out.old.items ++ spelling.texts texts.now) }
+    ensures ok { OnOk result (out.new.items ≡ out.old.items ++ encoding.texts texts.now) }
     ensures err { OnErr result (Keeps out.old.items out.new.items) }
 {
     write_u32(out, texts.len() as u32)?;

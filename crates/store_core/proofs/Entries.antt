@@ -1,4 +1,4 @@
--- What an entry's payload that was spelled is read as.
+-- What an entry's payload that was encoded is read as.
 use Rattle.std.proofs.Common.{◌≡◌, ◌≢◌, ◌⊎◌, inl, inr, ℕ, ◌+◌, ◌<◌, ◌≤◌, ◌==◌, ◌&&◌, leb, Bool, true, false, List, [], ◌++◌, length, take, drop, Some, refl, append_assoc, arith, None, cond}
 use Rattle.std.specs.Int.{w16, w32, from_be_bytes, to_be_bytes}
 use Rattle.std.proofs.lemmas.List.{length-append, take_at, drop_at}

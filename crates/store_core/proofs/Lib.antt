@@ -3,5 +3,5 @@ pub mod Heads
 pub mod Logs
 pub mod Mending
 pub mod ReadSoFar
-pub mod Spelled
+pub mod Encoded
 pub mod Stops

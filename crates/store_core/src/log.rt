@@ -13,7 +13,7 @@ ghost use Rattle.store_core.specs.Kept.{IsAtRest, IsBlockOf, EachAtRest};
 ghost use Rattle.store_core.specs.declared.queued.Queued.{Queued};
 ghost use Rattle.store_core.specs.declared.entry.LogEntry.{LogEntry};
 
-use disk_trait::{Disk, Failed, FileKind, FileName, write_settled};
+use disk_trait::{Disk, Failed, FileKind, FileName, write_synced};
 
 /// The store's one log.
 pub const LOG: FileName = FileName {
@@ -44,7 +44,7 @@ pub fn append<D: Disk>(disk: &mut D, end: u64, frame: &[u8]) -> Result<(), Faile
     ensures room { OnOk result (end + length frame.now + 1 < 2 ^ 64) }
     ensures cause { CountsFaults (D.faults disk.old) (D.faults disk.new) (IsErr result) }
 {
-    write_settled(disk, LOG, end + 1, frame)?;
-    write_settled(disk, LOG, end, &[OPEN_GATE])?;
+    write_synced(disk, LOG, end + 1, frame)?;
+    write_synced(disk, LOG, end, &[OPEN_GATE])?;
     Ok(())
 }

@@ -12,7 +12,7 @@ ghost use Rattle.store_core.specs.declared.queued.Queued.{Queued as TheFile};
 
 use crate::log::{CLOSED_GATE, LOG, append};
 use crate::scan::Scan;
-use disk_trait::{Disk, Failed, cut_settled, write_settled};
+use disk_trait::{Disk, Failed, cut_synced, write_synced};
 
 /// Cuts what stands behind the last gate, at `end`, of a log of this size.
 pub fn cut_tail<D: Disk>(disk: &mut D, end: u64, size: u64) -> Result<(), Failed>
@@ -29,7 +29,7 @@ pub fn cut_tail<D: Disk>(disk: &mut D, end: u64, size: u64) -> Result<(), Failed
     ensures cause { CountsFaults (D.faults disk.old) (D.faults disk.new) (IsErr result) }
 {
     if size - end > 1 {
-        cut_settled(disk, LOG, end + 1)?;
+        cut_synced(disk, LOG, end + 1)?;
     }
     Ok(())
 }
@@ -48,7 +48,7 @@ pub fn close_gate<D: Disk>(disk: &mut D, end: u64, closed: bool) -> Result<(), F
     ensures cause { CountsFaults (D.faults disk.old) (D.faults disk.new) (IsErr result) }
 {
     if !closed {
-        write_settled(disk, LOG, end, &[CLOSED_GATE])?;
+        write_synced(disk, LOG, end, &[CLOSED_GATE])?;
     }
     Ok(())
 }
@@ -64,7 +64,7 @@ pub fn clear<D: Disk>(disk: &mut D, size: u64) -> Result<(), Failed>
     ensures cause { CountsFaults (D.faults disk.old) (D.faults disk.new) (IsErr result) }
 {
     if size > 0 {
-        cut_settled(disk, LOG, 0)?;
+        cut_synced(disk, LOG, 0)?;
     }
     Ok(())
 }

@@ -91,7 +91,7 @@ fn add_and_drop<D: Disk>(alloc: Global, disk: &mut D, name: &Name) -> Option<[St
 }
 
 // A new store, with a file, and again without.
-fn spelled<D: Disk>(rt: &impl Abort, alloc: Global, disk: &mut D) -> Result<(), Fail> {
+fn encoded<D: Disk>(rt: &impl Abort, alloc: Global, disk: &mut D) -> Result<(), Fail> {
     let mut store = Store::load(alloc, disk)?;
     assert!(rt; log_is(alloc, disk, &[&BEGUN, &[0]])?);
     store = Store::load(alloc, disk)?;
@@ -109,8 +109,8 @@ fn spelled<D: Disk>(rt: &impl Abort, alloc: Global, disk: &mut D) -> Result<(), 
 }
 
 #[test]
-fn a_log_is_spelled_as_its_format_says(rt: HostRuntime) -> Result<(), Fail> {
-    spelled(&rt, rt.alloc(), &mut MemoryDisk::new(Vec::new(rt.alloc())))
+fn a_log_is_encoded_as_its_format_says(rt: HostRuntime) -> Result<(), Fail> {
+    encoded(&rt, rt.alloc(), &mut MemoryDisk::new(Vec::new(rt.alloc())))
 }
 
 fn mended<D: Disk>(rt: &impl Abort, alloc: Global, disk: &mut D) -> Result<(), Fail> {

@@ -1,8 +1,8 @@
 //! A field at the end of some bytes.
 ghost use Rattle.std.specs.Prelude.{◌≡◌, ◌<◌, ◌^◌, ◌++◌, ◌∷◌, [], length, OnOk, OnErr};
 ghost use Rattle.std.specs.Int.{w16, w32, w64, to_be_bytes};
-ghost use Rattle.flowfile_record.specs.Spelling.{Keeps};
-ghost use Rattle.flowfile_record.specs.Spelling as spelling;
+ghost use Rattle.flowfile_record.specs.Encoding.{Keeps};
+ghost use Rattle.flowfile_record.specs.Encoding as encoding;
 
 use std::alloc::AllocError;
 
@@ -38,7 +38,7 @@ pub fn write_u64(out: &mut Vec<u8>, number: u64) -> Result<(), AllocError>
 /// A text behind its length in two bytes.
 pub fn write_text(out: &mut Vec<u8>, text: &str) -> Result<(), AllocError>
     requires { length text.now < 2 ^ 16 }
-    ensures ok { OnOk result (out.new.items ≡ out.old.items ++ spelling.text text.now) }
+    ensures ok { OnOk result (out.new.items ≡ out.old.items ++ encoding.text text.now) }
     ensures err { OnErr result (Keeps out.old.items out.new.items) }
 {
     write_u16(out, text.len() as u16)?;
@@ -48,7 +48,7 @@ pub fn write_text(out: &mut Vec<u8>, text: &str) -> Result<(), AllocError>
 /// A text behind its length in four bytes.
 pub fn write_long(out: &mut Vec<u8>, text: &str) -> Result<(), AllocError>
     requires { length text.now < 2 ^ 32 }
-    ensures ok { OnOk result (out.new.items ≡ out.old.items ++ spelling.long text.now) }
+    ensures ok { OnOk result (out.new.items ≡ out.old.items ++ encoding.long text.now) }
     ensures err { OnErr result (Keeps out.old.items out.new.items) }
 {
     write_u32(out, text.len() as u32)?;
@@ -65,7 +65,7 @@ pub fn write_digest(out: &mut Vec<u8>, digest: &[u8; 32]) -> Result<(), AllocErr
 /// A list of numbers, behind its count in four bytes.
 pub fn write_numbers(out: &mut Vec<u8>, numbers: &[u64]) -> Result<(), AllocError>
     requires { length numbers.now < 2 ^ 32 }
-    ensures ok { OnOk result (out.new.items ≡ out.old.items ++ spelling.numbers numbers.now) }
+    ensures ok { OnOk result (out.new.items ≡ out.old.items ++ encoding.numbers numbers.now) }
     ensures err { OnErr result (Keeps out.old.items out.new.items) }
 {
     write_u32(out, numbers.len() as u32)?;

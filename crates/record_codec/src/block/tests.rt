@@ -8,7 +8,7 @@ const BLOCK_OF_ABC: [u8; 40] = [
 ];
 
 #[test]
-fn a_block_is_spelled_behind_what_is_there(rt: HostRuntime) -> Result<(), Fail> {
+fn a_block_is_encoded_behind_what_is_there(rt: HostRuntime) -> Result<(), Fail> {
     let mut out = vec![in rt.alloc(); 7u8]?;
     append_block(&mut out, 31, b"abc")?;
     assert_eq!(rt;
@@ -28,7 +28,7 @@ fn a_block_is_spelled_behind_what_is_there(rt: HostRuntime) -> Result<(), Fail> 
 }
 
 #[test]
-fn a_payload_in_parts_is_spelled_as_a_whole_one(rt: HostRuntime) -> Result<(), Fail> {
+fn a_payload_in_parts_is_encoded_as_a_whole_one(rt: HostRuntime) -> Result<(), Fail> {
     let mut out = Vec::new(rt.alloc());
     append_parts(&mut out, 31, &[b"a", b"", b"bc"])?;
     assert_eq!(rt; out.as_slice(), BLOCK_OF_ABC.as_slice());

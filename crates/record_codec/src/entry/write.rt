@@ -1,7 +1,7 @@
 //! Writing the entries of a log.
 ghost use Rattle.std.specs.Prelude.{◌≡◌, ◌++◌, OnOk, OnErr};
-ghost use Rattle.flowfile_record.specs.Spelling.{Keeps, AreListed, AreNumbers, listed, numbers as numbers_spelling};
-ghost use Rattle.record_codec.specs.EntrySpelling.{placed as placed_spelling, generator as generator_spelling, session as session_spelling, counters, expire as expire_spelling, swap_out as swap_out_spelling, entry as spelling, IsEntry, IsPlaced, IsSession, IsExpire, IsSwapOut};
+ghost use Rattle.flowfile_record.specs.Encoding.{Keeps, AreListed, AreNumbers, listed, numbers as numbers_encoding};
+ghost use Rattle.record_codec.specs.EntryEncoding.{placed as placed_encoding, generator as generator_encoding, session as session_encoding, counters, expire as expire_encoding, swap_out as swap_out_encoding, entry as encoding, IsEntry, IsPlaced, IsSession, IsExpire, IsSwapOut};
 
 use crate::entry::read::{NO_GENERATOR, VERSION};
 use crate::entry::{
@@ -12,10 +12,10 @@ use flowfile_record::Numbers;
 use flowfile_record::fields::{write_numbers, write_u8, write_u16, write_u32, write_u64};
 use std::alloc::AllocError;
 
-#[tactic(auto, unfolding(crate::specs::EntrySpelling::entry))]
+#[tactic(auto, unfolding(crate::specs::EntryEncoding::entry))]
 pub(crate) fn write_fields(out: &mut Vec<u8>, entry: &LogEntry) -> Result<(), AllocError>
     requires { IsEntry entry.now }
-    ensures ok { OnOk result (out.new.items ≡ out.old.items ++ spelling entry.now) }
+    ensures ok { OnOk result (out.new.items ≡ out.old.items ++ encoding entry.now) }
     ensures err { OnErr result (Keeps out.old.items out.new.items) }
 {
     match entry {
@@ -33,10 +33,10 @@ pub(crate) fn write_fields(out: &mut Vec<u8>, entry: &LogEntry) -> Result<(), Al
     }
 }
 
-#[tactic(auto, unfolding(crate::specs::EntrySpelling::session))]
+#[tactic(auto, unfolding(crate::specs::EntryEncoding::session))]
 fn write_session(out: &mut Vec<u8>, session: &SessionEntry) -> Result<(), AllocError>
     requires { IsSession session.now }
-    ensures ok { OnOk result (out.new.items ≡ out.old.items ++ session_spelling session.now) }
+    ensures ok { OnOk result (out.new.items ≡ out.old.items ++ session_encoding session.now) }
     ensures err { OnErr result (Keeps out.old.items out.new.items) }
 {
     write_u16(out, session.processor)?;
@@ -46,7 +46,7 @@ fn write_session(out: &mut Vec<u8>, session: &SessionEntry) -> Result<(), AllocE
     write_counters(out, session)
 }
 
-#[tactic(auto, unfolding(crate::specs::EntrySpelling::counters))]
+#[tactic(auto, unfolding(crate::specs::EntryEncoding::counters))]
 fn write_counters(out: &mut Vec<u8>, session: &SessionEntry) -> Result<(), AllocError>
     ensures ok { OnOk result (out.new.items ≡ out.old.items ++ counters session.now) }
     ensures err { OnErr result (Keeps out.old.items out.new.items) }
@@ -59,7 +59,7 @@ fn write_counters(out: &mut Vec<u8>, session: &SessionEntry) -> Result<(), Alloc
 
 fn write_number_list(out: &mut Vec<u8>, numbers: &Numbers) -> Result<(), AllocError>
     requires { AreNumbers numbers.now }
-    ensures ok { OnOk result (out.new.items ≡ out.old.items ++ numbers_spelling numbers.now) }
+    ensures ok { OnOk result (out.new.items ≡ out.old.items ++ numbers_encoding numbers.now) }
     ensures err { OnErr result (Keeps out.old.items out.new.items) }
 {
     write_numbers(out, numbers.as_slice())
@@ -67,7 +67,7 @@ fn write_number_list(out: &mut Vec<u8>, numbers: &Numbers) -> Result<(), AllocEr
 
 fn write_placed_list(out: &mut Vec<u8>, placed: &PlacedList) -> Result<(), AllocError>
     requires { AreListed IsPlaced placed.now }
-    ensures ok { OnOk result (out.new.items ≡ out.old.items ++ listed placed_spelling placed.now) }
+    ensures ok { OnOk result (out.new.items ≡ out.old.items ++ listed placed_encoding placed.now) }
     ensures err { OnErr result (Keeps out.old.items out.new.items) }
 {
     write_u32(out, placed.len() as u32)?;
@@ -77,19 +77,19 @@ fn write_placed_list(out: &mut Vec<u8>, placed: &PlacedList) -> Result<(), Alloc
     Ok(())
 }
 
-#[tactic(auto, unfolding(crate::specs::EntrySpelling::placed))]
+#[tactic(auto, unfolding(crate::specs::EntryEncoding::placed))]
 fn write_placed(out: &mut Vec<u8>, placed: &Placed) -> Result<(), AllocError>
     requires { IsPlaced placed.now }
-    ensures ok { OnOk result (out.new.items ≡ out.old.items ++ placed_spelling placed.now) }
+    ensures ok { OnOk result (out.new.items ≡ out.old.items ++ placed_encoding placed.now) }
     ensures err { OnErr result (Keeps out.old.items out.new.items) }
 {
     write_u16(out, placed.connection)?;
     write_flow_file(out, &placed.file)
 }
 
-#[tactic(auto, unfolding(crate::specs::EntrySpelling::generator))]
+#[tactic(auto, unfolding(crate::specs::EntryEncoding::generator))]
 fn write_generator(out: &mut Vec<u8>, generator: Option<Generator>) -> Result<(), AllocError>
-    ensures ok { OnOk result (out.new.items ≡ out.old.items ++ generator_spelling generator) }
+    ensures ok { OnOk result (out.new.items ≡ out.old.items ++ generator_encoding generator) }
     ensures err { OnErr result (Keeps out.old.items out.new.items) }
 {
     match generator {
@@ -104,10 +104,10 @@ fn write_generator(out: &mut Vec<u8>, generator: Option<Generator>) -> Result<()
     }
 }
 
-#[tactic(auto, unfolding(crate::specs::EntrySpelling::expire))]
+#[tactic(auto, unfolding(crate::specs::EntryEncoding::expire))]
 fn write_expire(out: &mut Vec<u8>, expire: &ExpireEntry) -> Result<(), AllocError>
     requires { IsExpire expire.now }
-    ensures ok { OnOk result (out.new.items ≡ out.old.items ++ expire_spelling expire.now) }
+    ensures ok { OnOk result (out.new.items ≡ out.old.items ++ expire_encoding expire.now) }
     ensures err { OnErr result (Keeps out.old.items out.new.items) }
 {
     write_u16(out, expire.connection)?;
@@ -116,10 +116,10 @@ fn write_expire(out: &mut Vec<u8>, expire: &ExpireEntry) -> Result<(), AllocErro
     write_u64(out, expire.last_event)
 }
 
-#[tactic(auto, unfolding(crate::specs::EntrySpelling::swap_out))]
+#[tactic(auto, unfolding(crate::specs::EntryEncoding::swap_out))]
 fn write_swap_out(out: &mut Vec<u8>, swap_out: &SwapOutEntry) -> Result<(), AllocError>
     requires { IsSwapOut swap_out.now }
-    ensures ok { OnOk result (out.new.items ≡ out.old.items ++ swap_out_spelling swap_out.now) }
+    ensures ok { OnOk result (out.new.items ≡ out.old.items ++ swap_out_encoding swap_out.now) }
     ensures err { OnErr result (Keeps out.old.items out.new.items) }
 {
     write_u16(out, swap_out.connection)?;

@@ -2,7 +2,7 @@ use Rattle.std.proofs.Common.{◌++◌, ℕ, List, take, sym, ap, ◌∙◌, app
 use Rattle.std.specs.List.{flat_map}
 use Rattle.std.specs.Int.{w16, to_be_bytes}
 use Rattle.std.specs.FinMap.{entries, len, len-entries}
-use Rattle.record_codec.specs.FileSpelling.{pair, attributes}
+use Rattle.record_codec.specs.FileEncoding.{pair, attributes}
 use Rattle.record_codec.proofs.AttributeLaws.{are_few, texts_fit, one_more, all_written}
 use Rattle.record_codec.proofs.attributes.write_attributes.Goals as goal
 

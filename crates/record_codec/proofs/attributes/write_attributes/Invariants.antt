@@ -2,7 +2,7 @@ use Rattle.std.proofs.Common.{◌≡◌, ◌++◌, ◌≤◌, ◌-◌, length, t
 use Rattle.std.specs.List.{flat_map}
 use Rattle.std.specs.FinMap.{entries, len}
 use Rattle.std.specs.Int.{w16, to_be_bytes}
-use Rattle.record_codec.specs.FileSpelling.{pair}
+use Rattle.record_codec.specs.FileEncoding.{pair}
 use Rattle.record_codec.proofs.attributes.write_attributes.Given as goal
 
 abbrev pub invariant-loop-key : goal.invariant-loop-key

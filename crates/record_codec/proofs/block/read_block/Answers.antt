@@ -4,7 +4,7 @@ use Rattle.std.proofs.lemmas.List.{take_rest, drop-drop, drop_more, length-take-
 use Rattle.std.proofs.lemmas.Slice.Eq.{bytes_eq-Decides}
 use Rattle.sha2.specs.Sha256.{sha256}
 use Rattle.record_codec.specs.declared.block.TheConstants.{PAYLOAD_MAX}
-use Rattle.record_codec.proofs.Blocks.{IsWhole, reading_of-whole, spelled-whole, reading_of-head_cut, reading_of-long, reading_of-payload_cut, reading_of-differs}
+use Rattle.record_codec.proofs.Blocks.{IsWhole, reading_of-whole, encoded-whole, reading_of-head_cut, reading_of-long, reading_of-payload_cut, reading_of-differs}
 use Rattle.record_codec.proofs.block.read_block.Goals as goal
 
 size_of_head : (bytes : List ℕ) → from_be_bytes w32 (get_or bytes 0 0 ∷ get_or bytes 1 0 ∷ get_or bytes 2 0 ∷ get_or bytes 3 0 ∷ []) ≡ from_be_bytes w32 (take 4 bytes)
@@ -114,6 +114,6 @@ returns c =
     record {
       read = rw (reading, length_is, next);
       whole = reading;
-      spelled = rw span (spelled-whole bytes _ _ (small_behind c.args.bytes.now at c.type_inv.bytes) whole);
+      encoded = rw span (encoded-whole bytes _ _ (small_behind c.args.bytes.now at c.type_inv.bytes) whole);
       within = (omega arith, omega arith, omega (arith, length-drop at c.args.bytes.now));
     }

@@ -1,7 +1,7 @@
 use Rattle.std.proofs.Common.{arith}
 use Rattle.flowfile_record.proofs.Wholes.{is_found, is_only}
 use Rattle.record_codec.specs.EntryReading.{entry_at}
-use Rattle.record_codec.specs.EntrySpelling.{entry, IsEntryOf}
+use Rattle.record_codec.specs.EntryEncoding.{entry, IsEntryOf}
 use Rattle.record_codec.proofs.EntryLaws.{entry_is}
 use Rattle.record_codec.proofs.entry.read_entry.Goals as goal
 

@@ -1,7 +1,7 @@
 use Rattle.std.proofs.Common.{arith}
 use Rattle.flowfile_record.proofs.Wholes.{is_found, is_only}
 use Rattle.record_codec.specs.FileReading.{flow_file_at}
-use Rattle.record_codec.specs.FileSpelling.{flow_file, IsFlowFile}
+use Rattle.record_codec.specs.FileEncoding.{flow_file, IsFlowFile}
 use Rattle.record_codec.proofs.FileLaws.{flow_file_is}
 use Rattle.record_codec.proofs.flow_file.read_file.Goals as goal
 

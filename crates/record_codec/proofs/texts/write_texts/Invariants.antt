@@ -1,7 +1,7 @@
 use Rattle.std.proofs.Common.{◌≡◌, ◌++◌, length, take}
 use Rattle.std.specs.List.{flat_map}
 use Rattle.std.specs.Int.{w32, to_be_bytes}
-use Rattle.flowfile_record.specs.Spelling.{text}
+use Rattle.flowfile_record.specs.Encoding.{text}
 use Rattle.record_codec.proofs.texts.write_texts.Given as goal
 
 abbrev pub invariant-loop-text : goal.invariant-loop-text

@@ -10,7 +10,7 @@ use Rattle.store_core.specs.Scan.{IsRead}
 use Rattle.store_core.specs.Kept.{IsAtRest}
 use Rattle.store_core.specs.declared.entry.LogEntry.TheVariants.{Begin}
 use Rattle.store_core.proofs.Mending.{nothing_there}
-use Rattle.store_core.proofs.Spelled.{spells_begin}
+use Rattle.store_core.proofs.Encoded.{encodes_begin}
 use Rattle.store_core.proofs.open.begin.Goals as goal
 
 pub returns-in_err-close_gate-clause-images : goal.returns-in_err-close_gate-clause-images
@@ -29,7 +29,7 @@ returns-in_err-append-clause-images g c =
     let P : Files → Type 0 = λ c'. stands_for c' ≡ Ok [] in
     let read : IsTrue g.D.Disk.tells → IsRead 0 [] false (g.D.Disk.held c.clear.new.disk the_log) = λ told. nothing_there _ (c.in_ok-clear.ensures.empty told) in
     let closed = one_after_another g.D.Disk.moment g.D.Disk.images c.args.disk.now c.clear.new.disk c.close_gate.new.disk P P P c.clear.ensures.images (c.close_gate.ensures.images [] read) (λ c' p. p) (λ c' p. p) in
-    let begun = c.append.ensures.images [] Begin (block begin_kind begin_payload) (c.in_ok-close_gate.ensures.at_rest [] read) spells_begin c.requires.frame in
+    let begun = c.append.ensures.images [] Begin (block begin_kind begin_payload) (c.in_ok-close_gate.ensures.at_rest [] read) encodes_begin c.requires.frame in
     one_after_another g.D.Disk.moment g.D.Disk.images c.args.disk.now c.close_gate.new.disk c.append.new.disk P _ P closed begun (λ c' p. p) (λ c' either. ⊎_elim (λ p. p) (λ p. p) either)
 
 pub returns-clause-images : goal.returns-clause-images
@@ -37,11 +37,11 @@ returns-clause-images g c =
     let P : Files → Type 0 = λ c'. stands_for c' ≡ Ok [] in
     let read : IsTrue g.D.Disk.tells → IsRead 0 [] false (g.D.Disk.held c.clear.new.disk the_log) = λ told. nothing_there _ (c.in_ok-clear.ensures.empty told) in
     let closed = one_after_another g.D.Disk.moment g.D.Disk.images c.args.disk.now c.clear.new.disk c.close_gate.new.disk P P P c.clear.ensures.images (c.close_gate.ensures.images [] read) (λ c' p. p) (λ c' p. p) in
-    let begun = c.append.ensures.images [] Begin (block begin_kind begin_payload) (c.in_ok-close_gate.ensures.at_rest [] read) spells_begin c.requires.frame in
+    let begun = c.append.ensures.images [] Begin (block begin_kind begin_payload) (c.in_ok-close_gate.ensures.at_rest [] read) encodes_begin c.requires.frame in
     one_after_another g.D.Disk.moment g.D.Disk.images c.args.disk.now c.close_gate.new.disk c.append.new.disk P _ P closed begun (λ c' p. p) (λ c' either. ⊎_elim (λ p. p) (λ p. p) either)
 
 pub returns-clause-at_rest : goal.returns-clause-at_rest
 returns-clause-at_rest g c =
     let read : IsTrue g.D.Disk.tells → IsRead 0 [] false (g.D.Disk.held c.clear.new.disk the_log) = λ told. nothing_there _ (c.in_ok-clear.ensures.empty told) in
-    let added = c.in_ok-append.ensures.added [] [] Begin (block begin_kind begin_payload) (c.in_ok-close_gate.ensures.at_rest [] read) spells_begin c.requires.frame refl in
+    let added = c.in_ok-append.ensures.added [] [] Begin (block begin_kind begin_payload) (c.in_ok-close_gate.ensures.at_rest [] read) encodes_begin c.requires.frame refl in
     λ c' left. subst (λ (n : ℕ). IsAtRest n [] (c' the_log)) (omega arith) (added c' left)

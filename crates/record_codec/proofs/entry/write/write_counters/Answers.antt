@@ -1,6 +1,6 @@
 use Rattle.std.specs.Int.{w64, to_be_bytes}
 use Rattle.std.proofs.lemmas.Result.{on_ok_weaker}
-use Rattle.record_codec.specs.EntrySpelling.{counters, generator}
+use Rattle.record_codec.specs.EntryEncoding.{counters, generator}
 use Rattle.record_codec.proofs.Chains.{written4}
 use Rattle.record_codec.proofs.entry.write.write_counters.Goals as goal
 

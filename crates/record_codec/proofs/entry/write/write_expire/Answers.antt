@@ -1,7 +1,7 @@
 use Rattle.std.specs.Int.{w16, w64, to_be_bytes}
 use Rattle.std.proofs.lemmas.Result.{on_ok_weaker}
-use Rattle.flowfile_record.specs.Spelling.{numbers}
-use Rattle.record_codec.specs.EntrySpelling.{expire}
+use Rattle.flowfile_record.specs.Encoding.{numbers}
+use Rattle.record_codec.specs.EntryEncoding.{expire}
 use Rattle.record_codec.proofs.Chains.{written4}
 use Rattle.record_codec.proofs.entry.write.write_expire.Goals as goal
 

@@ -1,6 +1,6 @@
 use Rattle.std.proofs.Common.{sym, subst}
 use Rattle.std.specs.Prelude.{All}
-use Rattle.record_codec.specs.EntrySpelling.{IsPlaced}
+use Rattle.record_codec.specs.EntryEncoding.{IsPlaced}
 use Rattle.record_codec.proofs.entry.write.write_placed_list.Goals as goal
 
 pub write_placed-requires : goal.write_placed-requires

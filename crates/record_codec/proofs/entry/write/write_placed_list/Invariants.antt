@@ -1,7 +1,7 @@
 use Rattle.std.proofs.Common.{◌≡◌, ◌++◌, length, take}
 use Rattle.std.specs.List.{flat_map}
 use Rattle.std.specs.Int.{w32, to_be_bytes}
-use Rattle.record_codec.specs.EntrySpelling.{placed}
+use Rattle.record_codec.specs.EntryEncoding.{placed}
 use Rattle.record_codec.proofs.entry.write.write_placed_list.Given as goal
 
 abbrev pub invariant-loop-one : goal.invariant-loop-one

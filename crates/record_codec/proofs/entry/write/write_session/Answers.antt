@@ -1,7 +1,7 @@
 use Rattle.std.specs.Int.{w16, w64, to_be_bytes}
 use Rattle.std.proofs.lemmas.Result.{on_ok_weaker}
-use Rattle.flowfile_record.specs.Spelling.{numbers, listed}
-use Rattle.record_codec.specs.EntrySpelling.{session, counters, placed}
+use Rattle.flowfile_record.specs.Encoding.{numbers, listed}
+use Rattle.record_codec.specs.EntryEncoding.{session, counters, placed}
 use Rattle.record_codec.proofs.Chains.{written5}
 use Rattle.record_codec.proofs.entry.write.write_session.Goals as goal
 

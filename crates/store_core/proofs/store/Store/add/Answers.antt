@@ -8,7 +8,7 @@ use Rattle.store_core.specs.Kept.{Kept, IsAtRest, EachAtRest}
 use Rattle.store_core.specs.declared.queued.Queued.{Queued}
 use Rattle.store_core.specs.declared.entry.LogEntry.TheVariants.{Add}
 use Rattle.store_core.proofs.Stops.{at_rest_gives, stands_for-log}
-use Rattle.store_core.proofs.Spelled.{spells_add}
+use Rattle.store_core.proofs.Encoded.{encodes_add}
 use Rattle.store_core.proofs.store.Store.add.Given.{Over}
 use Rattle.store_core.proofs.store.Store.add.Goals as goal
 
@@ -20,9 +20,9 @@ returns-in_default-clause-images g c works =
     subst (λ (n : ℕ). EachAtRest n files (g.D.Disk.images c.args.disk.now (g.D.Disk.moment c.args.disk.now))) (sym ends) (c.requires.kept.at_rest works) in
     let file : Queued = queued c.args.name.now c.args.bytes.now in
     let bytes : List ℕ = block add_kind (add_payload c.args.name.now c.args.bytes.now) in
-    let spells = spells_add c.self.inside.end c.args.name.now c.args.bytes.now c.self.invariant.begun c.add_frame.ensures.name c.requires.size in
+    let encodes = encodes_add c.self.inside.end c.args.name.now c.args.bytes.now c.self.invariant.begun c.add_frame.ensures.name c.requires.size in
     let frame : c.as_slice.result.now ≡ bytes ++ closed_gate ∷ [] = c.as_slice.ensures.value ∙ c.in_ok-frame.ensures.frame in
-    c.append.ensures.images files (Add file) bytes rest spells frame
+    c.append.ensures.images files (Add file) bytes rest encodes frame
 
 pub returns-clause-images : goal.returns-clause-images
 returns-clause-images g c works =
@@ -32,9 +32,9 @@ returns-clause-images g c works =
     subst (λ (n : ℕ). EachAtRest n files (g.D.Disk.images c.args.disk.now (g.D.Disk.moment c.args.disk.now))) (sym ends) (c.requires.kept.at_rest works) in
     let file : Queued = queued c.args.name.now c.args.bytes.now in
     let bytes : List ℕ = block add_kind (add_payload c.args.name.now c.args.bytes.now) in
-    let spells = spells_add c.self.inside.end c.args.name.now c.args.bytes.now c.self.invariant.begun c.add_frame.ensures.name c.requires.size in
+    let encodes = encodes_add c.self.inside.end c.args.name.now c.args.bytes.now c.self.invariant.begun c.add_frame.ensures.name c.requires.size in
     let frame : c.as_slice.result.now ≡ bytes ++ closed_gate ∷ [] = c.as_slice.ensures.value ∙ c.in_ok-frame.ensures.frame in
-    c.append.ensures.images files (Add file) bytes rest spells frame
+    c.append.ensures.images files (Add file) bytes rest encodes frame
 
 at_rest : (g : Over) (c : goal.After-drop-frame-2 g) → c.self.inside.failed ≡ false → (c' : Files) → g.D.Disk.images c.append.new.disk (g.D.Disk.moment c.append.new.disk) c'
     → IsAtRest (c.self.inside.end + c.len.result) c.push.new.self (c' the_log)
@@ -46,9 +46,9 @@ at_rest g c working c' left =
     subst (λ (n : ℕ). EachAtRest n files (g.D.Disk.images c.args.disk.now (g.D.Disk.moment c.args.disk.now))) (sym ends) (c.requires.kept.at_rest works) in
     let file : Queued = queued c.args.name.now c.args.bytes.now in
     let bytes : List ℕ = block add_kind (add_payload c.args.name.now c.args.bytes.now) in
-    let spells = spells_add c.self.inside.end c.args.name.now c.args.bytes.now c.self.invariant.begun c.add_frame.ensures.name c.requires.size in
+    let encodes = encodes_add c.self.inside.end c.args.name.now c.args.bytes.now c.self.invariant.begun c.add_frame.ensures.name c.requires.size in
     let frame : c.as_slice.result.now ≡ bytes ++ closed_gate ∷ [] = c.as_slice.ensures.value ∙ c.in_ok-frame.ensures.frame in
-    let added = c.in-Ok.ensures.added files (files ++ file ∷ []) (Add file) bytes rest spells frame refl c' left in
+    let added = c.in-Ok.ensures.added files (files ++ file ∷ []) (Add file) bytes rest encodes frame refl c' left in
     let queue : files ++ file ∷ [] ≡ c.push.new.self =
     sym (c.in_ok-push.ensures.ok ∙ ap (λ (q : List Queued). q ++ c.in_ok-file.file ∷ []) (ap (λ (s : Kept). s.files) c.self.view_is) ∙ ap (λ (f : Queued). files ++ f ∷ []) c.in_ok-file.ensures) in
     let place : c.self.inside.end + length c.as_slice.result.now ≡ c.self.inside.end + c.len.result = omega (arith, c.as_slice.ensures.len) in

@@ -11,7 +11,7 @@ use Rattle.store_core.specs.Kept.{Kept, IsAtRest, EachAtRest}
 use Rattle.store_core.specs.declared.queued.Queued.{Queued}
 use Rattle.store_core.specs.declared.entry.LogEntry.TheVariants.{Drop}
 use Rattle.store_core.proofs.Stops.{at_rest_gives, stands_for-log}
-use Rattle.store_core.proofs.Spelled.{spells_drop}
+use Rattle.store_core.proofs.Encoded.{encodes_drop}
 use Rattle.store_core.proofs.store.Store.drop_first.Given.{Over}
 use Rattle.store_core.proofs.store.Store.drop_first.Goals as goal
 
@@ -26,11 +26,11 @@ returns-in_default-clause-images g c works =
     let rest : EachAtRest c.self.inside.end files (g.D.Disk.images c.args.disk.now (g.D.Disk.moment c.args.disk.now)) =
     subst (λ (n : ℕ). EachAtRest n files (g.D.Disk.images c.args.disk.now (g.D.Disk.moment c.args.disk.now))) (sym ends) (c.requires.kept.at_rest works) in
     let bytes : List ℕ = block drop_kind [] in
-    let spells = spells_drop c.self.inside.end c.self.invariant.begun in
+    let encodes = encodes_drop c.self.inside.end c.self.invariant.begun in
     let frame : c.as_slice.result.now ≡ bytes ++ closed_gate ∷ [] = c.as_slice.ensures.value ∙ c.self.invariant.drops in
     let fits = drops files c.self.inside.end c.requires.some in
     subst (λ (r : Result (List Queued) Damage). Since g.D.Disk.moment g.D.Disk.images c.args.disk.now c.append.new.disk (λ c'. (stands_for c' ≡ Ok files) ⊎ (stands_for c' ≡ r))) fits
-    (c.append.ensures.images files Drop bytes rest spells frame)
+    (c.append.ensures.images files Drop bytes rest encodes frame)
 
 pub returns-clause-images : goal.returns-clause-images
 returns-clause-images g c works =
@@ -39,11 +39,11 @@ returns-clause-images g c works =
     let rest : EachAtRest c.self.inside.end files (g.D.Disk.images c.args.disk.now (g.D.Disk.moment c.args.disk.now)) =
     subst (λ (n : ℕ). EachAtRest n files (g.D.Disk.images c.args.disk.now (g.D.Disk.moment c.args.disk.now))) (sym ends) (c.requires.kept.at_rest works) in
     let bytes : List ℕ = block drop_kind [] in
-    let spells = spells_drop c.self.inside.end c.self.invariant.begun in
+    let encodes = encodes_drop c.self.inside.end c.self.invariant.begun in
     let frame : c.as_slice.result.now ≡ bytes ++ closed_gate ∷ [] = c.as_slice.ensures.value ∙ c.self.invariant.drops in
     let fits = drops files c.self.inside.end c.requires.some in
     subst (λ (r : Result (List Queued) Damage). Since g.D.Disk.moment g.D.Disk.images c.args.disk.now c.append.new.disk (λ c'. (stands_for c' ≡ Ok files) ⊎ (stands_for c' ≡ r))) fits
-    (c.append.ensures.images files Drop bytes rest spells frame)
+    (c.append.ensures.images files Drop bytes rest encodes frame)
 
 at_rest : (g : Over) (c : goal.After-moment g) → c.self.inside.failed ≡ false → (c' : Files) → g.D.Disk.images c.append.new.disk (g.D.Disk.moment c.append.new.disk) c'
     → IsAtRest (c.self.inside.end + c.len.result) c.drop_first.new.self (c' the_log)
@@ -54,9 +54,9 @@ at_rest g c working c' left =
     let rest : EachAtRest c.self.inside.end files (g.D.Disk.images c.args.disk.now (g.D.Disk.moment c.args.disk.now)) =
     subst (λ (n : ℕ). EachAtRest n files (g.D.Disk.images c.args.disk.now (g.D.Disk.moment c.args.disk.now))) (sym ends) (c.requires.kept.at_rest works) in
     let bytes : List ℕ = block drop_kind [] in
-    let spells = spells_drop c.self.inside.end c.self.invariant.begun in
+    let encodes = encodes_drop c.self.inside.end c.self.invariant.begun in
     let frame : c.as_slice.result.now ≡ bytes ++ closed_gate ∷ [] = c.as_slice.ensures.value ∙ c.self.invariant.drops in
-    let dropped = c.in-Ok.ensures.added files (drop 1 files) Drop bytes rest spells frame (drops files c.self.inside.end c.requires.some) c' left in
+    let dropped = c.in-Ok.ensures.added files (drop 1 files) Drop bytes rest encodes frame (drops files c.self.inside.end c.requires.some) c' left in
     let queue : drop 1 files ≡ c.drop_first.new.self = sym (c.drop_first.ensures ∙ ap (λ (s : Kept). drop 1 s.files) c.self.view_is) in
     let place : c.self.inside.end + length c.as_slice.result.now ≡ c.self.inside.end + c.len.result = omega (arith, c.as_slice.ensures.len) in
     subst (λ (n : ℕ). IsAtRest n c.drop_first.new.self (c' the_log)) place (subst (λ (q : List Queued). IsAtRest (c.self.inside.end + length c.as_slice.result.now) q (c' the_log)) queue dropped)

@@ -1,5 +1,5 @@
 use Rattle.flowfile_record.proofs.FieldLaws.{text_is, long_is, numbers_is}
-use Rattle.flowfile_record.proofs.fields.law.texts_are_read_as_spelled.Goals as goal
+use Rattle.flowfile_record.proofs.fields.law.texts_are_read_as_encoded.Goals as goal
 
 pub returns-clause-text : goal.returns-clause-text
 returns-clause-text c = text_is

@@ -1,9 +1,9 @@
--- How a flow file is spelled, and which flow files have a spelling. Numbers are big-endian.
+-- How a flow file is encoded, and which flow files have an encoding. Numbers are big-endian.
 use Rattle.std.specs.Prelude.{ℕ, ◌<◌, ◌≤◌, ◌^◌, List, ◌++◌}
 use Rattle.std.specs.List.{flat_map}
 use Rattle.std.specs.Int.{w16, w32, w64, to_be_bytes}
 use Rattle.std.specs.FinMap.{len, entries}
-use Rattle.flowfile_record.specs.Spelling.{text, long, IsNumber, IsDigest}
+use Rattle.flowfile_record.specs.Encoding.{text, long, IsNumber, IsDigest}
 use Rattle.flowfile_record.specs.Attributes.{AttributeMap, IsWithinLimits}
 use Rattle.flowfile_record.specs.declared.TheConstants.{CONTENT_MAX}
 use Rattle.flowfile_record.specs.declared.content.ContentRef.{ContentRef}
@@ -31,7 +31,7 @@ flow_file f =
     to_be_bytes w64 f.number ++ attributes f.attributes ++ content_ref f.content
     ++ to_be_bytes w64 f.entered ++ to_be_bytes w64 f.penalty_end ++ to_be_bytes w64 f.arrival
 
--- a flow file that has a spelling
+-- a flow file that has an encoding
 pub record IsFlowFile (f : FlowFile) : Type 0 where
   pub first_number : 1 ≤ f.number
   pub number : IsNumber f.number

@@ -1,4 +1,4 @@
--- How plain fields are spelled, and what has a spelling. Numbers are big-endian.
+-- How plain fields are encoded, and what has an encoding. Numbers are big-endian.
 use Rattle.std.specs.Prelude.{◌≡◌, ℕ, ◌<◌, ◌^◌, List, [], ◌∷◌, ◌++◌, length, All}
 use Rattle.std.specs.List.{flat_map}
 use Rattle.std.specs.Int.{w16, w32, w64, to_be_bytes}
@@ -22,7 +22,7 @@ listed item xs = to_be_bytes w32 (length xs) ++ flat_map item xs
 abbrev pub numbers : List ℕ → List ℕ
 numbers ns = listed (to_be_bytes w64) ns
 
--- ---- what has a spelling
+-- ---- what has an encoding
 
 -- of a file, an arrival, an event, a batch or a log, a counter of these, and a count
 abbrev pub IsNumber : ℕ → Type 0

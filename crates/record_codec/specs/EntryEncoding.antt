@@ -1,8 +1,8 @@
--- How the entries of a log are spelled, and which have a spelling.
+-- How the entries of a log are encoded, and which have an encoding.
 use Rattle.std.specs.Prelude.{◌≡◌, ℕ, ◌<◌, ◌^◌, List, ◌++◌, Option, Some, None}
 use Rattle.std.specs.Int.{w16, w64, to_be_bytes}
-use Rattle.flowfile_record.specs.Spelling.{byte, listed, numbers, IsNumber, AreListed, AreNumbers}
-use Rattle.record_codec.specs.FileSpelling.{flow_file, IsFlowFile}
+use Rattle.flowfile_record.specs.Encoding.{byte, listed, numbers, IsNumber, AreListed, AreNumbers}
+use Rattle.record_codec.specs.FileEncoding.{flow_file, IsFlowFile}
 use Rattle.record_codec.specs.declared.entry.Placed.{Placed}
 use Rattle.record_codec.specs.declared.entry.Generator.{Generator}
 use Rattle.record_codec.specs.declared.entry.SessionEntry.{SessionEntry}
@@ -11,7 +11,7 @@ use Rattle.record_codec.specs.declared.entry.SwapOutEntry.{SwapOutEntry}
 use Rattle.record_codec.specs.declared.entry.LogEntry.{LogEntry}
 use Rattle.record_codec.specs.declared.entry.LogEntry.TheVariants.{Begin, Session, Expire, SwapOut, SwapIn}
 
--- ---- spellings
+-- ---- encodings
 
 unfoldable pub placed : Placed → List ℕ
 placed p = to_be_bytes w16 p.connection ++ flow_file p.file
@@ -49,7 +49,7 @@ kind_of (Expire e) = 3
 kind_of (SwapOut s) = 4
 kind_of (SwapIn connection batch) = 5
 
--- ---- what has a spelling
+-- ---- what has an encoding
 
 abbrev pub IsPlace : ℕ → Type 0
 IsPlace place = place < 2 ^ 16

@@ -10,8 +10,8 @@ use Rattle.record_codec.proofs.Blocks.{length-block, reading_of-block}
 use Rattle.flowfile_record.specs.NameLemmas.{name-most}
 use Rattle.store_core.proofs.Entries.{length-add_payload, entry_at-add, entry_at-drop, entry_at-begin}
 
-pub spells_begin : IsBlockOf 0 Begin (block begin_kind begin_payload)
-spells_begin = record {
+pub encodes_begin : IsBlockOf 0 Begin (block begin_kind begin_payload)
+encodes_begin = record {
   kind = begin_kind;
   payload = begin_payload;
   reads = λ rest. reading_of-block begin_kind begin_payload rest (lit≤ tt);
@@ -19,8 +19,8 @@ spells_begin = record {
   says = entry_at-begin;
 }
 
-pub spells_drop : (place : ℕ) → 0 < place → IsBlockOf place Drop (block drop_kind [])
-spells_drop place later = record {
+pub encodes_drop : (place : ℕ) → 0 < place → IsBlockOf place Drop (block drop_kind [])
+encodes_drop place later = record {
   kind = drop_kind;
   payload = [];
   reads = λ rest. reading_of-block drop_kind [] rest (lit≤ tt);
@@ -28,8 +28,8 @@ spells_drop place later = record {
   says = entry_at-drop place later;
 }
 
-pub spells_add : (place : ℕ) (name bytes : List ℕ) → 0 < place → IsName name → length bytes ≤ CONTENT_MAX → IsBlockOf place (Add (queued name bytes)) (block add_kind (add_payload name bytes))
-spells_add place name bytes later is small = record {
+pub encodes_add : (place : ℕ) (name bytes : List ℕ) → 0 < place → IsName name → length bytes ≤ CONTENT_MAX → IsBlockOf place (Add (queued name bytes)) (block add_kind (add_payload name bytes))
+encodes_add place name bytes later is small = record {
   kind = add_kind;
   payload = add_payload name bytes;
   reads = λ rest. reading_of-block add_kind (add_payload name bytes) rest (omega (arith, length-add_payload name bytes, name-most name is));

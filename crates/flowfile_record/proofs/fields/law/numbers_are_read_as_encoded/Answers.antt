@@ -1,5 +1,5 @@
 use Rattle.flowfile_record.proofs.FieldLaws.{byte_is, u16_is, u32_is, u64_is, number_is, digest_is}
-use Rattle.flowfile_record.proofs.fields.law.numbers_are_read_as_spelled.Goals as goal
+use Rattle.flowfile_record.proofs.fields.law.numbers_are_read_as_encoded.Goals as goal
 
 pub returns-clause-u8 : goal.returns-clause-u8
 returns-clause-u8 c = byte_is
