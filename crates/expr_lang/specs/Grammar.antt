@@ -18,6 +18,7 @@ use Rattle.expr_lang.specs.Bytes.{is_space, starts_name, is_name_byte, escaped}
 use Rattle.expr_lang.specs.Names.{nullary_name, unary_name, binary_name}
 use Rattle.expr_lang.specs.Tree.{Term, attribute, constant, alone, with_one, with_two, Part, byte, embedded, Tree, whole, joined}
 use Rattle.expr_lang.specs.Value.{text, number, truth}
+use Rattle.expr_lang.specs.declared.reader.TheConstants.{DEPTH_MAX, TEXT_MAX}
 
 abbrev pub AreSpaces : List ℕ → Type 0
 AreSpaces bytes = IsTrue (list_all is_space bytes)
@@ -104,7 +105,7 @@ MayFollowDollar (c ∷ cs) = (c ≢ 36) × (c ≢ 123)
 -- the text begins with this piece, and behind is what stands behind it
 abbrev pub IsPiece : List ℕ → Part → List ℕ → Type 0
 IsPiece bytes (byte c) behind = (bytes ≡ c ∷ behind) × (c ≡ 36 → MayFollowDollar behind)
-IsPiece bytes (embedded t) behind = (front : List ℕ) × IsEmbedded 16 front t × (bytes ≡ front ++ behind)
+IsPiece bytes (embedded t) behind = (front : List ℕ) × IsEmbedded DEPTH_MAX front t × (bytes ≡ front ++ behind)
 
 abbrev pub ArePieces : List ℕ → List Part → List ℕ → Type 0
 ArePieces bytes [] behind = bytes ≡ behind
@@ -116,8 +117,8 @@ IsNotOneEmbedded _ = Unit {0}
 
 -- the text has this tree
 abbrev pub IsText : List ℕ → Tree → Type 0
-IsText bytes (whole t) = (length bytes ≤ 4096) × IsEmbedded 16 bytes t
-IsText bytes (joined parts) = (length bytes ≤ 4096) × ArePieces bytes parts [] × IsNotOneEmbedded parts
+IsText bytes (whole t) = (length bytes ≤ TEXT_MAX) × IsEmbedded DEPTH_MAX bytes t
+IsText bytes (joined parts) = (length bytes ≤ TEXT_MAX) × ArePieces bytes parts [] × IsNotOneEmbedded parts
 
 -- something stands here, and no piece
 pub record IsNoPiece (bytes : List ℕ) : Type 0 where
@@ -134,4 +135,4 @@ pub record EndsUnread (bytes : List ℕ) (place : ℕ) : Type 0 where
 
 -- the place from which the text can't be read: 0 where it is too long, else that of the first piece that can't be
 abbrev pub IsBadAt : List ℕ → ℕ → Type 0
-IsBadAt bytes place = ((4096 < length bytes) × (place ≡ 0)) ⊎ ((length bytes ≤ 4096) × EndsUnread bytes place)
+IsBadAt bytes place = ((TEXT_MAX < length bytes) × (place ≡ 0)) ⊎ ((length bytes ≤ TEXT_MAX) × EndsUnread bytes place)

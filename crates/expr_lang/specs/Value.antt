@@ -6,6 +6,7 @@ use Rattle.std.specs.Str.{all_ascii_digits}
 use Rattle.std.specs.Str.Parse.{signed_digits_value, without_leading_sign}
 use Rattle.expr_lang.specs.declared.error.EvalError.{EvalError}
 use Rattle.expr_lang.specs.declared.error.EvalError.TheVariants.{NotANumber, NotABool, Overflow, TooLong}
+use Rattle.expr_lang.specs.declared.val.TheConstants.{VALUE_MAX}
 
 pub data Value : Type 0 where
   text : List ℕ → Value
@@ -32,7 +33,7 @@ fitting z = if fits z then Ok (number z) else Err Overflow
 
 -- the text, where it has at most 65,536 bytes
 abbrev pub bounded : List ℕ → Answer Value
-bounded s = if nat_le (length s) 65536 then Ok (text s) else Err TooLong
+bounded s = if nat_le (length s) VALUE_MAX then Ok (text s) else Err TooLong
 
 -- a number is written in decimal, with no zero too many
 abbrev pub as_text : Value → List ℕ

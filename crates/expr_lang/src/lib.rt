@@ -5,6 +5,7 @@
 mod error;
 mod evaluator;
 mod function;
+mod laws;
 mod reader;
 mod stop;
 mod subject;
@@ -14,10 +15,8 @@ mod val;
 pub use error::{EvalError, ExprError};
 pub use evaluator::value;
 pub use function::{Binary, Function, Nullary, Unary};
-pub use reader::{TEXT_MAX, parse};
+pub use laws::limits_of_the_language;
+pub use reader::{DEPTH_MAX, TEXT_MAX, parse};
 pub use subject::Subject;
 pub use syntax::{Call, Embedded, Expr, Operand, Piece};
 pub use val::{VALUE_MAX, Val};
-
-#[cfg(test)]
-mod tests;

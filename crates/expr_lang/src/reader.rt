@@ -1,5 +1,5 @@
 //! Reading a text with embedded expressions.
-ghost use Rattle.std.specs.Prelude.{◌≡◌, ℕ, ◌==◌, ◌&&◌, List, [], ◌++◌, map, IfOk, IfErr, string_bytes};
+ghost use Rattle.std.specs.Prelude.{◌≡◌, ℕ, ◌==◌, ◌&&◌, ◌<◌, List, [], ◌++◌, length, map, Err, IfOk, IfErr, string_bytes};
 ghost use Rattle.expr_lang.specs.Gives.{GivesTree, RefusesAt, IsSoundRefusal, IsUnreadAt};
 ghost use Rattle.expr_lang.specs.declared.error.ExprError.TheVariants.{Memory};
 ghost use Rattle.expr_lang.specs.Grammar.{ArePieces, IsText, IsBadAt};
@@ -26,13 +26,15 @@ use text::split_first;
 pub const TEXT_MAX: u64 = 4_096;
 
 /// How deep embedded expressions may nest. The outermost one counts.
-const DEPTH_MAX: u64 = 16;
+pub const DEPTH_MAX: u64 = 16;
 
 /// Reads a text of at most 4,096 bytes whose embedded expressions nest at most 16 deep. `Bad` comes exactly where the
-/// text isn't in the grammar, `Memory` where there is no memory for what is read.
+/// text isn't in the grammar, `Memory` where there is no memory for what is read. A longer text is `Bad` at 0, also
+/// where there is no memory.
 pub fn parse(alloc: Global, text: &str) -> Result<Expr, ExprError>
     ensures read { IfOk result (λ expr. IsText text.now (tree_of expr)) }
     ensures bad { IfErr result (IsSoundRefusal text.now) }
+    ensures long { TEXT_MAX < length text.now → result ≡ Err (ExprError.Bad 0) }
     // No text has two trees, or a tree and a bad place, or two bad places.
     ensures every_tree { (tree : Tree) → IsText text.now tree → GivesTree result tree }
     ensures every_place { (place : ℕ) → IsBadAt text.now place → RefusesAt result place }

@@ -70,6 +70,3 @@ fn compare_by(list: &[Prioritizer], a: &Rank, b: &Rank) -> Ordering
     }
     a.arrival.cmp(&b.arrival)
 }
-
-#[cfg(test)]
-mod tests;

@@ -58,28 +58,3 @@ impl Prioritizer {
         }
     }
 }
-
-#[cfg(test)]
-mod tests {
-    use super::*;
-
-    const NAMES: [&str; 4] = [
-        "FirstInFirstOut",
-        "NewestFlowFileFirst",
-        "OldestFlowFileFirst",
-        "PriorityAttribute",
-    ];
-
-    #[test]
-    fn names_are_read(rt: HostRuntime) {
-        for name in NAMES {
-            match Prioritizer::named(name) {
-                Some(found) => assert!(rt; found.name() == name, "{name}"),
-                None => assert!(rt; false, "{name}"),
-            }
-        }
-        for name in ["", "firstInFirstOut", "PriorityAttribute ", "Oldest"] {
-            assert!(rt; Prioritizer::named(name).is_none(), "{name}");
-        }
-    }
-}
