@@ -34,26 +34,34 @@ pub fn optional_word(value: &Value) -> Result<Option<&str>> {
     Ok(Some(text))
 }
 
-/// A text: one, or a list of parts, each a text or a pair of a text and how often it stands there.
+/// A text: one, or a list of parts. A part is a text, or a list of a text, how often it stands there, and how often all
+/// of that does.
 pub fn text(alloc: Global, value: &Value) -> Result<String> {
     if let Some(text) = value.as_str() {
         return Ok(String::from_str(alloc, text)?);
     }
     let mut text = String::new(alloc);
     for part in items(value)? {
-        push_part(&mut text, part)?;
+        text.push_str(part_text(alloc, part)?.as_str())?;
     }
     Ok(text)
 }
 
-fn push_part(text: &mut String, part: &Value) -> Result<()> {
+fn part_text(alloc: Global, part: &Value) -> Result<String> {
     if let Some(once) = part.as_str() {
-        text.push_str(once)?;
-        return Ok(());
+        return Ok(String::from_str(alloc, once)?);
     }
-    let repeated = word(item(part, 0)?)?;
-    for _ in 0..number(item(part, 1)?)? {
-        text.push_str(repeated)?;
+    let run = repeated(alloc, word(item(part, 0)?)?, number(item(part, 1)?)?)?;
+    match part.get(2) {
+        Some(times) => repeated(alloc, run.as_str(), number(times)?),
+        None => Ok(run),
     }
-    Ok(())
+}
+
+fn repeated(alloc: Global, text: &str, count: u64) -> Result<String> {
+    let mut all = String::new(alloc);
+    for _ in 0..count {
+        all.push_str(text)?;
+    }
+    Ok(all)
 }

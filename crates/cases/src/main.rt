@@ -2,9 +2,12 @@
 //! the output says what came out of it.
 #![tactic(auto)]
 
+mod encodings;
 mod expressions;
 mod json;
 mod orders;
+mod records;
+mod sessions;
 
 use anyhow::{Result, bail};
 use serde_json::Value;
@@ -37,6 +40,31 @@ fn answer_of(alloc: Global, case: &Value) -> Result<String> {
     }
     if let Some(text) = case.get("value") {
         return expressions::valued(alloc, text, case);
+    }
+    answer_of_records(alloc, case)
+}
+
+fn answer_of_records(alloc: Global, case: &Value) -> Result<String> {
+    if let Some(text) = case.get("name") {
+        return records::named(alloc, text);
+    }
+    if let Some(pair) = case.get("identifier") {
+        return records::identified(alloc, pair);
+    }
+    if let Some(calls) = case.get("attributes") {
+        return records::attributes(alloc, calls);
+    }
+    if let Some(pair) = case.get("block") {
+        return encodings::block(alloc, pair);
+    }
+    if let Some(bytes) = case.get("block bytes") {
+        return encodings::block_read(alloc, bytes, case);
+    }
+    if let Some(form) = case.get("record") {
+        return encodings::record(alloc, form, case);
+    }
+    if let Some(content) = case.get("session") {
+        return sessions::session(alloc, content, case);
     }
     bail!("a case that tries nothing")
 }

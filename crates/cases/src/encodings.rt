@@ -1,0 +1,99 @@
+//! Cases of encodings: what is read, and what is written.
+use crate::json::{item, member, number, text, word};
+use anyhow::{Context, Result, bail};
+use flowfile_record::CodecError;
+use record_codec::{append_block, read_block, read_entry, read_file, read_head, write_entry, write_file, write_head};
+use serde_json::Value;
+use std::alloc::Global;
+
+/// A block of a kind and a payload, in hexadecimal.
+pub fn block(alloc: Global, pair: &Value) -> Result<String> {
+    let payload = bytes(alloc, item(pair, 1)?)?;
+    let mut out = Vec::new(alloc);
+    append_block(&mut out, kind(item(pair, 0)?)?, payload.as_slice())?;
+    Ok(hex::encode(alloc, out.as_slice())?)
+}
+
+/// Where the block at an offset of some bytes stands.
+pub fn block_read(alloc: Global, value: &Value, case: &Value) -> Result<String> {
+    let bytes = bytes(alloc, value)?;
+    let offset = number(member(case, "at")?)?;
+    if offset > bytes.len() as u64 {
+        bail!("the offset is past the end");
+    }
+    match read_block(bytes.as_slice(), offset) {
+        Ok(found) => {
+            let (kind, start, end, next) = (found.kind, found.start, found.end, found.next);
+            Ok(format!(in alloc; "kind {kind}, payload {start} to {end}, next {next}")?)
+        }
+        Err(error) => Ok(format!(in alloc; "{error}")?),
+    }
+}
+
+/// Whether some bytes are a value's encoding, and whether that value is encoded so.
+pub fn record(alloc: Global, form: &Value, case: &Value) -> Result<String> {
+    let given = bytes(alloc, member(case, "bytes")?)?;
+    match rewritten(alloc, word(form)?, given.as_slice())? {
+        Ok(out) if out.as_slice() == given.as_slice() => Ok(String::from_str(alloc, "read, and written the same")?),
+        Ok(out) => Ok(hex::encode(alloc, out.as_slice())?),
+        Err(error) => Ok(format!(in alloc; "{error}")?),
+    }
+}
+
+// What reading a value, and writing what was read, gives.
+fn rewritten(alloc: Global, form: &str, given: &[u8]) -> Result<Result<Vec<u8>, CodecError>> {
+    match form {
+        "flow file" => file_rewritten(alloc, given),
+        "head" => head_rewritten(alloc, given),
+        "entry" => entry_rewritten(alloc, given),
+        _ => bail!("no form of a record"),
+    }
+}
+
+fn file_rewritten(alloc: Global, given: &[u8]) -> Result<Result<Vec<u8>, CodecError>> {
+    let file = match read_file(alloc, given) {
+        Ok(file) => file,
+        Err(error) => return Ok(Err(error)),
+    };
+    let mut out = Vec::new(alloc);
+    write_file(&mut out, &file)?;
+    Ok(Ok(out))
+}
+
+fn head_rewritten(alloc: Global, given: &[u8]) -> Result<Result<Vec<u8>, CodecError>> {
+    let head = match read_head(alloc, given) {
+        Ok(head) => head,
+        Err(error) => return Ok(Err(error)),
+    };
+    let mut out = Vec::new(alloc);
+    write_head(&mut out, &head)?;
+    Ok(Ok(out))
+}
+
+// The first byte is the kind.
+fn entry_rewritten(alloc: Global, given: &[u8]) -> Result<Result<Vec<u8>, CodecError>> {
+    let (kind, payload) = given.split_first().context("no kind")?;
+    let entry = match read_entry(alloc, *kind, payload) {
+        Ok(entry) => entry,
+        Err(error) => return Ok(Err(error)),
+    };
+    let mut out = Vec::new(alloc);
+    out.push(*kind)?;
+    write_entry(&mut out, &entry)?;
+    Ok(Ok(out))
+}
+
+fn kind(value: &Value) -> Result<u8> {
+    match u8::try_from(number(value)?) {
+        Ok(kind) => Ok(kind),
+        Err(_) => bail!("no kind of a block"),
+    }
+}
+
+fn bytes(alloc: Global, value: &Value) -> Result<Vec<u8>> {
+    let digits = text(alloc, value)?;
+    match hex::decode(alloc, digits.as_str()) {
+        Ok(bytes) => Ok(bytes),
+        Err(error) => bail!("{error}"),
+    }
+}
