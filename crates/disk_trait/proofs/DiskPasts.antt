@@ -49,6 +49,7 @@ pub since_passed : (p : Past) (n : ℕ) → p.now ≤ n → IsPast p → Since (
 unfolding left_at calls_until file_after
 since_passed p n late past = record {
   later = late;
+  begun = late;
   past = λ k c le left. left;
   kept = λ k c le left. left;
   each = λ k c from to left. left_late p k p.now c past from (omega arith) left;
@@ -144,6 +145,7 @@ module _ (p : Past) (u : FileTable) (call : DiskCall) (n : ℕ) (first : (f : Fi
       → Since (λ past. past.now) left_at p (pushed p u call n) Q
   since_pushed past next Q stays steps = record {
     later = omega arith;
+    begun = omega arith;
     past = λ k c le left. left_before k c past (omega arith) left;
     kept = λ k c le left. left_before_back k c past (omega arith) left;
     each = λ k c from to left. ⊎_elim
@@ -183,6 +185,7 @@ module _ (p : Past) (u : FileTable) (n : ℕ) (past : IsPast p) (late : p.now �
   pub since_kept : (Q : Files → Type 0) → ((c : Files) → left_at p p.now c → Q c) → Since (λ past. past.now) left_at p (kept_to p u n) Q
   since_kept Q stays = record {
     later = late;
+    begun = late;
     past = λ k c le left. left_kept k c left;
     kept = λ k c le left. left_kept_back k c left;
     each = λ k c from to left. stays c (left_late p k p.now c past from (omega arith) (left_kept k c left));

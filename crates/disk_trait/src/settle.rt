@@ -16,7 +16,6 @@ pub fn write_synced<D: Disk>(
     requires { IsTrue D.tells → at ≤ length (D.held disk.old file) }
     ensures settled { OnOk result (IsOnly (D.held disk.new) (D.images disk.new (D.moment disk.new))) }
     ensures written { OnOk result (IsTrue D.tells → At file (Overwritten at bytes.now) (D.held disk.old) (D.held disk.new)) }
-    ensures torn { IsTrue D.tells → At file (Torn at (length bytes.now)) (D.held disk.old) (D.held disk.new) }
     ensures images { Since D.moment D.images disk.old disk.new (After (At file (Torn at (length bytes.now))) (D.images disk.old (D.moment disk.old))) }
     ensures fits { OnOk result (at + length bytes.now < 2 ^ 64) }
     ensures cause { CountsFaults (D.faults disk.old) (D.faults disk.new) (IsErr result) }
@@ -30,7 +29,6 @@ pub fn cut_synced<D: Disk>(disk: &mut D, file: FileName, size: u64) -> Result<()
     requires { IsTrue D.tells → size ≤ length (D.held disk.old file) }
     ensures settled { OnOk result (IsOnly (D.held disk.new) (D.images disk.new (D.moment disk.new))) }
     ensures cut { OnOk result (IsTrue D.tells → At file (λ old new. new ≡ take size old) (D.held disk.old) (D.held disk.new)) }
-    ensures shortened { IsTrue D.tells → At file (Shortened size) (D.held disk.old) (D.held disk.new) }
     ensures images { Since D.moment D.images disk.old disk.new (After (At file (Shortened size)) (D.images disk.old (D.moment disk.old))) }
     ensures cause { CountsFaults (D.faults disk.old) (D.faults disk.new) (IsErr result) }
 {
