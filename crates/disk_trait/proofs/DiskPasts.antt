@@ -1,5 +1,5 @@
 -- How the past of a disk in memory goes on.
-use Rattle.std.proofs.Common.{◌≡◌, ℕ, ◌+◌, ◌<◌, ◌≤◌, true, false, leb, List, [], ◌∷◌, ◌++◌, length, get_or, take, refl, sym, ◌∙◌, ap, subst, ⊎_elim, arith}
+use Rattle.std.proofs.Common.{◌≡◌, ℕ, ◌+◌, ◌^◌, ◌<◌, ◌≤◌, true, false, leb, List, [], ◌∷◌, ◌++◌, length, get_or, take, refl, sym, ◌∙◌, ap, subst, ⊎_elim, arith}
 use Rattle.std.specs.List.{count_by}
 use Rattle.std.proofs.lemmas.Bool.{cases_lt, lt-leb}
 use Rattle.std.proofs.lemmas.List.{take_all, take-append-le, length_push, get_or_append_left, get_or_push}
@@ -39,6 +39,7 @@ is_past_passed p n late past = record {
   inside = past.inside;
   sound = past.sound;
   absent = past.absent;
+  ends = past.ends;
 }
 
 pub left_late : (p : Past) (k j : ℕ) (c : Files) → IsPast p → p.now ≤ k → p.now ≤ j → left_at p k c → left_at p j c
@@ -89,8 +90,9 @@ module _ (p : Past) (u : FileTable) (call : DiskCall) (n : ℕ) (first : (f : Fi
       → ((f : FileName) → IsImage (after_call f call (last p f)) (after_call f call (last p f)).held)
       → ((f : FileName) → has_file u f ≡ false → has_file p.table f ≡ false)
       → ((f : FileName) → has_file u f ≡ false → ((after_call f call (last p f)).held ≡ []) × ((after_call f call (last p f)).synced ≡ []))
+      → ((f : FileName) → 2 ^ 64 ≤ f.number → (after_call f call (last p f)).greatest ≡ 0)
       → IsPast (pushed p u call n)
-  is_past_pushed past late made fit sound had absent = record {
+  is_past_pushed past late made fit sound had absent ends = record {
     paired = length_push p.moments n ∙ ap (λ m. m + 1) past.paired ∙ sym (length_push p.calls call);
     passed = All-push (λ t. t ≤ n) p.moments n (All-weaker (λ t. t ≤ p.now) (λ t. t ≤ n) (λ t h. omega (arith, h, late)) p.moments past.passed) (omega arith);
     made = λ f. made f ∙ ap (λ (s : FileState). s.held) (sym (file_last (length (p.calls ++ call ∷ [])) f (omega (arith, length_push p.calls call))));
@@ -111,6 +113,10 @@ module _ (p : Past) (u : FileTable) (call : DiskCall) (n : ℕ) (first : (f : Fi
     absent = λ m f none. ⊎_elim
         (λ (lt : length p.calls < m). subst (λ (s : FileState). (s.held ≡ []) × (s.synced ≡ [])) (sym (file_last m f lt)) (absent f none))
         (λ (le : m ≤ length p.calls). subst (λ (s : FileState). (s.held ≡ []) × (s.synced ≡ [])) (sym (file_before m f le)) (past.absent m f (had f none)))
+        (cases_lt (length p.calls) m);
+    ends = λ m f big. ⊎_elim
+        (λ (lt : length p.calls < m). subst (λ (s : FileState). s.greatest ≡ 0) (sym (file_last m f lt)) (ends f big))
+        (λ (le : m ≤ length p.calls). subst (λ (s : FileState). s.greatest ≡ 0) (sym (file_before m f le)) (past.ends m f big))
         (cases_lt (length p.calls) m);
   }
 
@@ -172,6 +178,7 @@ module _ (p : Past) (u : FileTable) (n : ℕ) (past : IsPast p) (late : p.now �
     inside = λ m f lt. subst (λ s. fits f (get_or p.calls m Sync) s ≡ true) (sym (file_kept m f)) (past.inside m f lt);
     sound = λ m f. subst (λ (s : FileState). IsImage s s.held) (sym (file_kept m f)) (past.sound m f);
     absent = λ m f none. subst (λ (s : FileState). (s.held ≡ []) × (s.synced ≡ [])) (sym (file_kept m f)) (past.absent m f (had f none));
+    ends = λ m f big. subst (λ (s : FileState). s.greatest ≡ 0) (sym (file_kept m f)) (past.ends m f big);
   }
 
   left_kept : (k : ℕ) (c : Files) → left_at (kept_to p u n) k c → left_at p k c

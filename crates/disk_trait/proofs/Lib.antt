@@ -8,3 +8,4 @@ pub mod FileNames
 pub mod FileTables
 mod MemoryLists
 pub mod Moments
+pub mod Search

@@ -9,3 +9,4 @@ pub mod MemoryHistory
 pub mod MemoryPast
 pub mod MemoryStop
 pub mod MemoryTable
+pub mod Search

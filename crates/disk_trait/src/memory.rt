@@ -1,7 +1,7 @@
 //! A disk in memory: it keeps a record of its calls, so a stop may be tried at each moment.
 ghost use Rattle.std.specs.Prelude.{◌≡◌, ℕ, ◌+◌, ◌-◌, ◌^◌, ◌<◌, ◌≤◌, min, [], true, refl, IsErr};
 ghost use Rattle.disk_trait.specs.Files.{Files};
-ghost use Rattle.disk_trait.specs.MemoryHeld.{held_is_left};
+ghost use Rattle.disk_trait.specs.MemoryHeld.{held_is_left, left_ends};
 ghost use Rattle.disk_trait.specs.MemoryHistory.{past_of};
 ghost use Rattle.disk_trait.specs.MemoryPast.{left_at};
 ghost use Rattle.disk_trait.specs.MemoryTable.{bytes_of};
@@ -117,6 +117,8 @@ impl Disk for MemoryDisk {
     ghost held_is_left = { λ disk tells. held_is_left (past_of disk.history) disk.history.past };
 
     ghost left_is_told = { λ disk k files left. refl };
+
+    ghost images_end = { λ disk k files file left big. left_ends (past_of disk.history) disk.history.past k files file left big };
 
     fn files(&mut self, kind: FileKind, list: &mut Vec<u64>) -> Result<(), DiskError> {
         if self.failing.next() {

@@ -29,7 +29,8 @@ impl History {
 
     /// A past with no calls.
     pub(crate) fn new(table: FileTable) -> History
-        requires { (f : FileName) → bytes_of table f ≡ first_of table f }
+        requires begins { (f : FileName) → bytes_of table f ≡ first_of table f }
+        requires ends { (f : FileName) → 2 ^ 64 ≤ f.number → bytes_of table f ≡ [] }
         ensures table { result.table ≡ table }
         ensures calls { result.done.calls.items ≡ [] }
         ensures moment { result.moment ≡ 0 }
