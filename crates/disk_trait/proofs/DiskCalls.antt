@@ -11,7 +11,7 @@ use Rattle.disk_trait.specs.declared.memory.table.FileTable.{FileTable}
 use Rattle.disk_trait.specs.MemoryCalls.{Notes, HasSameCalls}
 use Rattle.disk_trait.specs.Files.{Files, At, Overwritten, Torn, Shortened}
 use Rattle.disk_trait.specs.Images.{After, Since, IsOnly}
-use Rattle.disk_trait.specs.Memory.{FileState, settled, changed, same_name, after_call, fits, state_after, IsImage}
+use Rattle.disk_trait.specs.Memory.{FileState, durable, changed, same_name, after_call, fits, state_after, IsImage}
 use Rattle.disk_trait.specs.MemoryTable.{bytes_of, first_of, has_file}
 use Rattle.disk_trait.specs.MemoryHeld.{until_all}
 use Rattle.disk_trait.specs.MemoryPast.{Past, IsPast, file_after, left_at}
@@ -65,10 +65,10 @@ write_sound at bytes s h sound =
     let b = sound.no_longer in
     record { no_shorter = omega arith; no_longer = omega arith; same = kept }
   where
-    kept : (i : ℕ) → i < length (overwritten at bytes s.held) → (in_range at (length bytes) i || s.unsettled i) ≡ false → slice_index (overwritten at bytes s.held) i ≡ slice_index s.synced i
+    kept : (i : ℕ) → i < length (overwritten at bytes s.held) → (in_range at (length bytes) i || s.pending i) ≡ false → slice_index (overwritten at bytes s.held) i ≡ slice_index s.synced i
     kept i lt still =
         let l = length-overwritten at bytes s.held h in
-        let parts = or_parts (in_range at (length bytes) i) (s.unsettled i) still in
+        let parts = or_parts (in_range at (length bytes) i) (s.pending i) still in
         ⊎_elim
         (λ (front : i < at). overwritten-front at bytes s.held i h front ∙ sound.same i (omega arith) parts.1)
         (λ (back : at + length bytes ≤ i). overwritten-back at bytes s.held i h back ∙ sound.same i (omega arith) parts.1)
@@ -82,20 +82,20 @@ cut_sound size s sound =
     let b = sound.no_longer in
     record { no_shorter = omega arith; no_longer = omega arith; same = kept }
   where
-    kept : (i : ℕ) → i < length (take size s.held) → (leb size i || s.unsettled i) ≡ false → slice_index (take size s.held) i ≡ slice_index s.synced i
+    kept : (i : ℕ) → i < length (take size s.held) → (leb size i || s.pending i) ≡ false → slice_index (take size s.held) i ≡ slice_index s.synced i
     kept i lt still =
         let l = length-take size s.held in
-        let parts = or_parts (leb size i) (s.unsettled i) still in
+        let parts = or_parts (leb size i) (s.pending i) still in
         get_or-take size s.held i 0 (omega arith) ∙ sound.same i (omega arith) parts.1
 
-pub settled_sound : (bytes : List ℕ) → IsSound (settled bytes)
-unfolding settled
-settled_sound bytes = record { no_shorter = omega arith; no_longer = omega arith; same = λ i lt still. refl }
+pub durable_sound : (bytes : List ℕ) → IsSound (durable bytes)
+unfolding durable
+durable_sound bytes = record { no_shorter = omega arith; no_longer = omega arith; same = λ i lt still. refl }
 
 -- right after a sync a stop leaves what is held
-pub settled_only : (bytes c : List ℕ) → IsImage (settled bytes) c → c ≡ bytes
-unfolding settled
-settled_only bytes c image = ext_get_or 0 c bytes (omega (arith, image.no_shorter, image.no_longer)) (λ i lt. image.same i lt refl)
+pub durable_only : (bytes c : List ℕ) → IsImage (durable bytes) c → c ≡ bytes
+unfolding durable
+durable_only bytes c image = ext_get_or 0 c bytes (omega (arith, image.no_shorter, image.no_longer)) (λ i lt. image.same i lt refl)
 
 -- ---- a call and a file
 
@@ -117,7 +117,7 @@ module _ (name : FileName) (size : ℕ) where
   unfolding after_call
   cut_there f s there = cond-false (same_name name f) _ _ there
 
-sync_each : (f : FileName) (s : FileState) → after_call f Sync s ≡ settled s.held
+sync_each : (f : FileName) (s : FileState) → after_call f Sync s ≡ durable s.held
 unfolding after_call
 sync_each f s = refl
 
@@ -129,17 +129,17 @@ synced-changed : (held : List ℕ) (touched : ℕ → Bool) (s : FileState) → 
 unfolding changed
 synced-changed held touched s = refl
 
-pub held-settled : (bytes : List ℕ) → (settled bytes).held ≡ bytes
-unfolding settled
-held-settled bytes = refl
+pub held-durable : (bytes : List ℕ) → (durable bytes).held ≡ bytes
+unfolding durable
+held-durable bytes = refl
 
-synced-settled : (bytes : List ℕ) → (settled bytes).synced ≡ bytes
-unfolding settled
-synced-settled bytes = refl
+synced-durable : (bytes : List ℕ) → (durable bytes).synced ≡ bytes
+unfolding durable
+synced-durable bytes = refl
 
-greatest-settled : (bytes : List ℕ) → (settled bytes).greatest ≡ length bytes
-unfolding settled
-greatest-settled bytes = refl
+greatest-durable : (bytes : List ℕ) → (durable bytes).greatest ≡ length bytes
+unfolding durable
+greatest-durable bytes = refl
 
 -- a name that a call can give, and one that it can't
 named_apart : (name f : FileName) → name.number < 2 ^ 64 → 2 ^ 64 ≤ f.number → same_name name f ≡ false
@@ -319,24 +319,24 @@ module _ (p : Past) (u : FileTable) (name : FileName) (size : ℕ) (n : ℕ) (pa
 -- ---- a sync
 
 module _ (p : Past) (n : ℕ) (past : IsPast p) (next : n ≡ p.now + 1) where
-  sync_now : (f : FileName) → after_call f Sync (last p f) ≡ settled (bytes_of p.table f)
-  sync_now f = sync_each f (last p f) ∙ ap settled (sym (past.made f))
+  sync_now : (f : FileName) → after_call f Sync (last p f) ≡ durable (bytes_of p.table f)
+  sync_now f = sync_each f (last p f) ∙ ap durable (sym (past.made f))
 
   held_ends : (f : FileName) → 2 ^ 64 ≤ f.number → length (bytes_of p.table f) ≡ 0
   held_ends f big = omega (arith, ap length (past.made f), (past.sound (length p.calls) f).no_longer, past.ends (length p.calls) f big)
 
   pub is_past_synced : IsPast (pushed p p.table Sync n)
   is_past_synced = is_past_pushed p p.table Sync n (λ f. refl) past (omega arith)
-      (λ f. sym (ap (λ (s : FileState). s.held) (sync_now f) ∙ held-settled _))
+      (λ f. sym (ap (λ (s : FileState). s.held) (sync_now f) ∙ held-durable _))
       (λ f. fits_sync f (last p f))
-      (λ f. subst (λ (s : FileState). IsSound s) (sym (sync_now f)) (settled_sound (bytes_of p.table f)))
+      (λ f. subst (λ (s : FileState). IsSound s) (sym (sync_now f)) (durable_sound (bytes_of p.table f)))
       (λ f none. none)
       (λ f none. subst (λ (s : FileState). (s.held ≡ []) × (s.synced ≡ [])) (sym (sync_now f))
-      (held-settled _ ∙ past.made f ∙ (past.absent (length p.calls) f none).0, synced-settled _ ∙ past.made f ∙ (past.absent (length p.calls) f none).0))
-      (λ f big. subst (λ (s : FileState). s.greatest ≡ 0) (sym (sync_now f)) (greatest-settled _ ∙ held_ends f big))
+      (held-durable _ ∙ past.made f ∙ (past.absent (length p.calls) f none).0, synced-durable _ ∙ past.made f ∙ (past.absent (length p.calls) f none).0))
+      (λ f big. subst (λ (s : FileState). s.greatest ≡ 0) (sym (sync_now f)) (greatest-durable _ ∙ held_ends f big))
 
   only_held : (c : Files) → ((f : FileName) → IsImage (after_call f Sync (last p f)) (c f)) → (f : FileName) → c f ≡ bytes_of p.table f
-  only_held c images f = settled_only (bytes_of p.table f) (c f) (subst (λ s. IsImage s (c f)) (sync_now f) (images f))
+  only_held c images f = durable_only (bytes_of p.table f) (c f) (subst (λ s. IsImage s (c f)) (sync_now f) (images f))
 
   held_left : (c : Files) → ((f : FileName) → c f ≡ bytes_of p.table f) → left_at p p.now c
   unfolding left_at
@@ -346,33 +346,33 @@ module _ (p : Past) (n : ℕ) (past : IsPast p) (next : n ≡ p.now + 1) where
   pub since_synced : Since (λ past. past.now) left_at p (pushed p p.table Sync n) (left_at p p.now)
   since_synced = since_pushed p p.table Sync n (λ f. refl) past next (left_at p p.now) (λ c left. left) (λ c images. held_left c (only_held c images))
 
-  pub settled_now : IsOnly (bytes_of p.table) (left_at (pushed p p.table Sync n) n)
-  settled_now c left = λ i f. only_held c (left_last p p.table Sync n (λ g. refl) c past (omega arith) left) f i
+  pub synced_now : IsOnly (bytes_of p.table) (left_at (pushed p p.table Sync n) n)
+  synced_now c left = λ i f. only_held c (left_last p p.table Sync n (λ g. refl) c past (omega arith) left) f i
 
 -- ---- a past with no calls
 
 abbrev pub begun : FileTable → Past
 begun t = record { table = t; calls = []; moments = []; now = 0 }
 
-file_begun : (t : FileTable) (m : ℕ) (f : FileName) → file_after (begun t) m f ≡ settled (first_of t f)
+file_begun : (t : FileTable) (m : ℕ) (f : FileName) → file_after (begun t) m f ≡ durable (first_of t f)
 unfolding file_after
-file_begun t m f = ap (λ calls. state_after f (settled (first_of t f)) calls) (take_all {A = DiskCall} m [] (omega arith))
+file_begun t m f = ap (λ calls. state_after f (durable (first_of t f)) calls) (take_all {A = DiskCall} m [] (omega arith))
 
 pub is_past_begun : (t : FileTable) → ((f : FileName) → bytes_of t f ≡ first_of t f) → ((f : FileName) → 2 ^ 64 ≤ f.number → bytes_of t f ≡ []) → IsPast (begun t)
 is_past_begun t same ends = record {
   paired = refl;
   passed = All-nil (λ moment. moment ≤ 0);
-  made = λ f. same f ∙ sym (held-settled _) ∙ ap (λ (s : FileState). s.held) (sym (file_begun t 0 f));
+  made = λ f. same f ∙ sym (held-durable _) ∙ ap (λ (s : FileState). s.held) (sym (file_begun t 0 f));
   inside = λ m f lt. absurd (omega (arith, lt));
-  sound = λ m f. subst (λ (s : FileState). IsSound s) (sym (file_begun t m f)) (settled_sound (first_of t f));
+  sound = λ m f. subst (λ (s : FileState). IsSound s) (sym (file_begun t m f)) (durable_sound (first_of t f));
   absent = λ m f none. subst (λ (s : FileState). (s.held ≡ []) × (s.synced ≡ [])) (sym (file_begun t m f))
-      (let empty = sym (same f) ∙ absent_bytes t f none in (held-settled _ ∙ empty, synced-settled _ ∙ empty));
-  ends = λ m f big. subst (λ (s : FileState). s.greatest ≡ 0) (sym (file_begun t m f)) (greatest-settled _ ∙ ap length (sym (same f) ∙ ends f big));
+      (let empty = sym (same f) ∙ absent_bytes t f none in (held-durable _ ∙ empty, synced-durable _ ∙ empty));
+  ends = λ m f big. subst (λ (s : FileState). s.greatest ≡ 0) (sym (file_begun t m f)) (greatest-durable _ ∙ ap length (sym (same f) ∙ ends f big));
 }
 
 pub only_begun : (t : FileTable) → ((f : FileName) → bytes_of t f ≡ first_of t f) → IsOnly (bytes_of t) (left_at (begun t) 0)
 unfolding left_at
-only_begun t same c left = λ i f. (settled_only (first_of t f) (c f) (subst (λ s. IsImage s (c f)) (file_begun t _ f) (left f)) ∙ sym (same f)) i
+only_begun t same c left = λ i f. (durable_only (first_of t f) (c f) (subst (λ s. IsImage s (c f)) (file_begun t _ f) (left f)) ∙ sym (same f)) i
 
 -- ---- the two outcomes of a call
 
@@ -439,11 +439,11 @@ module _ {T E : Type 0} (t : FileTable) (done done' : CallList) (now : ℕ) (pas
     images = since_kept (past_with t done now) t (now + 1) past (omega arith) (λ f. refl) _ (λ c left. left);
   }
 
-  pub sync_settles : (r : Result T E) → OnOk r (Notes done done' Sync (now + 1)) → OnOk r (IsOnly (bytes_of t) (left_at (past_with t done' (now + 1)) (now + 1)))
-  sync_settles (Ok x) notes =
+  pub sync_makes_durable : (r : Result T E) → OnOk r (Notes done done' Sync (now + 1)) → OnOk r (IsOnly (bytes_of t) (left_at (past_with t done' (now + 1)) (now + 1)))
+  sync_makes_durable (Ok x) notes =
       at_calls (λ calls moments. IsOnly (bytes_of t) (left_at record { table = t; calls = calls; moments = moments; now = now + 1 } (now + 1))) _ _ _ _ notes.calls notes.moments
-      (settled_now (past_with t done now) (now + 1) past refl)
-  sync_settles (Err e) notes = tt
+      (synced_now (past_with t done now) (now + 1) past refl)
+  sync_makes_durable (Err e) notes = tt
 
 -- where a write is done, its range ends below 2^64
 pub write_fits : {T E : Type 0} (r : Result T E) (t u : FileTable) (name : FileName) (at : ℕ) (bytes : List ℕ) → is_err r ≡ false → at ≤ length (bytes_of t name)

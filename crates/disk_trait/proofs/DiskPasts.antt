@@ -11,7 +11,7 @@ use Rattle.disk_trait.specs.declared.memory.call.DiskCall.TheVariants.{Sync}
 use Rattle.disk_trait.specs.declared.memory.table.FileTable.{FileTable}
 use Rattle.disk_trait.specs.Files.{Files}
 use Rattle.disk_trait.specs.Images.{Since}
-use Rattle.disk_trait.specs.Memory.{FileState, settled, after_call, fits, state_after, IsImage}
+use Rattle.disk_trait.specs.Memory.{FileState, durable, after_call, fits, state_after, IsImage}
 use Rattle.disk_trait.specs.MemoryTable.{bytes_of, first_of, has_file}
 use Rattle.disk_trait.specs.MemoryHeld.{count_all, until_all}
 use Rattle.disk_trait.specs.MemoryPast.{Past, IsPast, file_after, calls_until, file_at, left_at}
@@ -73,17 +73,17 @@ module _ (p : Past) (u : FileTable) (call : DiskCall) (n : ℕ) (first : (f : Fi
   file_before : (m : ℕ) (f : FileName) → m ≤ length p.calls → file_after (pushed p u call n) m f ≡ file_after p m f
   unfolding file_after
   file_before m f le =
-      ap (λ bytes. state_after f (settled bytes) (take m (p.calls ++ call ∷ []))) (first f) ∙ ap (λ calls. state_after f (settled (first_of p.table f)) calls) (take-append-le m p.calls (call ∷ []) le)
+      ap (λ bytes. state_after f (durable bytes) (take m (p.calls ++ call ∷ []))) (first f) ∙ ap (λ calls. state_after f (durable (first_of p.table f)) calls) (take-append-le m p.calls (call ∷ []) le)
 
   file_last : (m : ℕ) (f : FileName) → length p.calls < m → file_after (pushed p u call n) m f ≡ after_call f call (last p f)
   unfolding file_after
   file_last m f lt =
       let all : take m (p.calls ++ call ∷ []) ≡ p.calls ++ call ∷ [] = take_all m (p.calls ++ call ∷ []) (omega (arith, length_push p.calls call)) in
       let those : take (length p.calls) p.calls ≡ p.calls = take_all (length p.calls) p.calls (omega arith) in
-      ap (λ bytes. state_after f (settled bytes) (take m (p.calls ++ call ∷ []))) (first f)
-      ∙ ap (λ calls. state_after f (settled (first_of p.table f)) calls) all
-      ∙ state_after-push f (settled (first_of p.table f)) p.calls call
-      ∙ ap (λ calls. after_call f call (state_after f (settled (first_of p.table f)) calls)) (sym those)
+      ap (λ bytes. state_after f (durable bytes) (take m (p.calls ++ call ∷ []))) (first f)
+      ∙ ap (λ calls. state_after f (durable (first_of p.table f)) calls) all
+      ∙ state_after-push f (durable (first_of p.table f)) p.calls call
+      ∙ ap (λ calls. after_call f call (state_after f (durable (first_of p.table f)) calls)) (sym those)
 
   pub is_past_pushed : IsPast p → p.now ≤ n → ((f : FileName) → bytes_of u f ≡ (after_call f call (last p f)).held)
       → ((f : FileName) → fits f call (last p f) ≡ true)
@@ -168,7 +168,7 @@ kept_to p u n = record { table = u; calls = p.calls; moments = p.moments; now = 
 module _ (p : Past) (u : FileTable) (n : ℕ) (past : IsPast p) (late : p.now ≤ n) (first : (f : FileName) → first_of u f ≡ first_of p.table f) where
   file_kept : (m : ℕ) (f : FileName) → file_after (kept_to p u n) m f ≡ file_after p m f
   unfolding file_after
-  file_kept m f = ap (λ bytes. state_after f (settled bytes) (take m p.calls)) (first f)
+  file_kept m f = ap (λ bytes. state_after f (durable bytes) (take m p.calls)) (first f)
 
   pub is_past_kept : ((f : FileName) → bytes_of u f ≡ bytes_of p.table f) → ((f : FileName) → has_file u f ≡ false → has_file p.table f ≡ false) → IsPast (kept_to p u n)
   is_past_kept same had = record {

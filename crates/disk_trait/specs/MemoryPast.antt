@@ -1,7 +1,7 @@
 -- The past of a disk in memory: its files, and the calls that made them, each with its moment.
 use Rattle.std.specs.Prelude.{◌≡◌, ℕ, ◌^◌, ◌<◌, ◌≤◌, nat_le, true, false, slice_index_or, List, [], length, take, count_by, All}
 use Rattle.disk_trait.specs.Files.{Files}
-use Rattle.disk_trait.specs.Memory.{FileState, settled, state_after, fits, IsImage}
+use Rattle.disk_trait.specs.Memory.{FileState, durable, state_after, fits, IsImage}
 use Rattle.disk_trait.specs.MemoryTable.{bytes_of, first_of, has_file}
 use Rattle.disk_trait.specs.declared.file_name.FileName.{FileName}
 use Rattle.disk_trait.specs.declared.memory.call.DiskCall.{DiskCall}
@@ -18,7 +18,7 @@ pub record Past : Type 0 where
 
 -- a file after the first n calls
 unfoldable pub file_after : Past → ℕ → FileName → FileState
-file_after past n file = state_after file (settled (first_of past.table file)) (take n past.calls)
+file_after past n file = state_after file (durable (first_of past.table file)) (take n past.calls)
 
 -- how many of the calls came up to a moment
 unfoldable pub calls_until : Past → ℕ → ℕ

@@ -78,7 +78,7 @@ pub trait Disk: Send {
     /// Makes all that was written durable. After Ok a read gives what it gave before, and a stop leaves that; after a
     /// failure a read may give any of the images, and all that was pending is pending still.
     fn sync(&mut self) -> Result<(), Failed>
-        ensures settled { OnOk result (IsOnly (held self.new) (images self.new (moment self.new))) }
+        ensures synced { OnOk result (IsOnly (held self.new) (images self.new (moment self.new))) }
         ensures held { OnOk result (held self.new ≡ held self.old) }
         ensures images { Since moment images self.old self.new (images self.old (moment self.old)) }
         ensures moment { moment self.new ≡ next_moment (moment self.old) }

@@ -8,10 +8,10 @@ mod damage;
 mod disk;
 mod file_name;
 mod memory;
-mod settle;
+mod synced;
 
 pub use damage::Damage;
 pub use disk::Disk;
 pub use file_name::{DiskError, Failed, FileKind, FileName};
 pub use memory::{DiskBytes, DiskCall, MemoryDisk, Pick};
-pub use settle::{cut_synced, write_synced};
+pub use synced::{cut_synced, write_synced};

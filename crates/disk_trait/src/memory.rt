@@ -44,7 +44,7 @@ impl MemoryDisk {
     /// An empty disk, whose calls with these numbers fail. Its memory comes from their allocator.
     pub fn new(failing: Vec<u64>) -> MemoryDisk
         ensures held { ⟦<MemoryDisk as Disk>⟧.held result ≡ (λ _. []) }
-        ensures settled { IsOnly (λ _. []) (⟦<MemoryDisk as Disk>⟧.images result 0) }
+        ensures synced { IsOnly (λ _. []) (⟦<MemoryDisk as Disk>⟧.images result 0) }
         ensures moment { ⟦<MemoryDisk as Disk>⟧.moment result ≡ 0 }
         ensures faults { ⟦<MemoryDisk as Disk>⟧.faults result ≡ 0 }
         ensures calls { recorded result ≡ [] }
@@ -69,13 +69,13 @@ impl MemoryDisk {
     }
 
     /// What a stop at a moment up to now leaves: one image of that moment, on a new disk with no faults,
-    /// no calls that fail, and nothing that isn't settled. An error is want of memory.
+    /// no calls that fail, and nothing pending. An error is want of memory.
     pub fn stopped(&self, at: u64, pick: Pick) -> Result<MemoryDisk, AllocError>
         requires { at ≤ ⟦<MemoryDisk as Disk>⟧.moment self.now }
         ensures image { IfOk result (λ stopped. ⟦<MemoryDisk as Disk>⟧.images self.now at (⟦<MemoryDisk as Disk>⟧.held stopped)) }
         ensures picked { IfOk result (λ stopped. IsPicked pick (state_at self.now at) (⟦<MemoryDisk as Disk>⟧.held stopped)) }
         ensures present { pick ≡ Pick.New → at ≡ ⟦<MemoryDisk as Disk>⟧.moment self.now → IfOk result (λ stopped. ⟦<MemoryDisk as Disk>⟧.held stopped ≡ ⟦<MemoryDisk as Disk>⟧.held self.now) }
-        ensures settled { IfOk result (λ stopped. IsOnly (⟦<MemoryDisk as Disk>⟧.held stopped) (⟦<MemoryDisk as Disk>⟧.images stopped 0)) }
+        ensures synced { IfOk result (λ stopped. IsOnly (⟦<MemoryDisk as Disk>⟧.held stopped) (⟦<MemoryDisk as Disk>⟧.images stopped 0)) }
         ensures moment { IfOk result (λ stopped. ⟦<MemoryDisk as Disk>⟧.moment stopped ≡ 0) }
         ensures faults { IfOk result (λ stopped. ⟦<MemoryDisk as Disk>⟧.faults stopped ≡ 0) }
         ensures calls { IfOk result (λ stopped. recorded stopped ≡ []) }

@@ -3,7 +3,7 @@ ghost use Rattle.disk_trait.specs.MemoryPast.{Past, IsPast};
 
 use super::Pick;
 use super::call_list::CallList;
-use super::replay::settled_count;
+use super::replay::synced_count;
 use super::steps::{cut_file, note_sync, write_file};
 use super::table::FileTable;
 use crate::FileName;
@@ -34,7 +34,7 @@ impl History {
         ensures table { result.table ≡ table }
         ensures calls { result.done.calls.items ≡ [] }
         ensures moment { result.moment ≡ 0 }
-        ensures settled { IsOnly (bytes_of table) (left_at (past_of result) 0) }
+        ensures synced { IsOnly (bytes_of table) (left_at (past_of result) 0) }
     {
         let alloc = table.alloc;
         History {
@@ -50,11 +50,11 @@ impl History {
         ensures first { IfOk result (λ image. (f : FileName) → bytes_of image f ≡ first_of image f) }
     {
         let calls = &self.done.calls[..self.done.count_until(at)];
-        let settled = settled_count(calls);
+        let synced = synced_count(calls);
         match pick {
-            Pick::Old => self.table.image(&calls[..settled], &[], 0),
+            Pick::Old => self.table.image(&calls[..synced], &[], 0),
             Pick::New => self.table.image(calls, &[], 0),
-            Pick::Torn(seed) => self.table.image(calls, &calls[settled..], seed),
+            Pick::Torn(seed) => self.table.image(calls, &calls[synced..], seed),
         }
     }
 
@@ -100,11 +100,11 @@ impl History {
         cut_file(&mut self.table, &mut self.done, self.moment, file, size)
     }
 
-    /// Settles all files at the next moment, or lets it pass where memory runs out.
+    /// Syncs all files at the next moment, or lets it pass where memory runs out.
     pub(crate) fn sync(&mut self) -> Result<(), AllocError>
         requires { self.old.moment < 2 ^ 64 - 1 }
         ensures moment { self.new.moment ≡ self.old.moment + 1 }
-        ensures settled { OnOk result (IsOnly (bytes_of self.new.table) (left_at (past_of self.new) self.new.moment)) }
+        ensures synced { OnOk result (IsOnly (bytes_of self.new.table) (left_at (past_of self.new) self.new.moment)) }
         ensures held { bytes_of self.new.table ≡ bytes_of self.old.table }
         ensures images { Since (λ past. past.now) left_at (past_of self.old) (past_of self.new) (left_at (past_of self.old) self.old.moment) }
     {

@@ -95,7 +95,7 @@ fn files_are_torn_by_kind_and_number(rt: HostRuntime) -> Result<(), Fail> {
 }
 
 #[test]
-fn a_sync_that_fails_settles_nothing(rt: HostRuntime) -> Result<(), Fail> {
+fn a_sync_that_fails_leaves_all_pending(rt: HostRuntime) -> Result<(), Fail> {
     let alloc = rt.alloc();
     let mut disk = MemoryDisk::new([3].to_vec(alloc)?);
     write(&rt, &mut disk, LOG, 0, &[1, 2])?;
