@@ -1,3 +1,4 @@
+pub mod Counts
 pub mod DiskCalls
 pub mod DiskImages
 pub mod DiskPasts

@@ -1,3 +1,5 @@
+pub mod Called
+pub mod Count
 pub mod Faults
 pub mod Files
 pub mod Images

@@ -4,12 +4,14 @@
 //! what each call does to what is held, and to the *images*: the files that a stop may leave.
 #![tactic(auto)]
 
+mod calls;
 mod damage;
 mod disk;
 mod file_name;
 mod memory;
 mod synced;
 
+pub use calls::Calls;
 pub use damage::Damage;
 pub use disk::Disk;
 pub use file_name::{DiskError, Failed, FileKind, FileName};

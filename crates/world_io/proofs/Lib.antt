@@ -1,4 +1,4 @@
-pub mod Counts
+pub mod Pieces
 pub mod Places
 pub mod Sorting
 pub mod Standing

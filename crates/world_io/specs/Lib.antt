@@ -1,6 +1,4 @@
 pub mod Ascending
-pub mod Called
-pub mod Count
 pub mod Inbox
 pub mod Memory
 pub mod MemoryInbox

@@ -18,8 +18,9 @@ pub(crate) struct History {
 }
 
 impl History {
-    ghost use Rattle.std.specs.Prelude.{◌≡◌, ℕ, ◌+◌, ◌-◌, ◌<◌, ◌≤◌, ◌^◌, [], IfOk, OnOk, OnErr, length, take};
+    ghost use Rattle.std.specs.Prelude.{◌≡◌, ℕ, ◌+◌, ◌-◌, ◌<◌, ◌≤◌, ◌^◌, [], ◌∷◌, ◌++◌, IfOk, OnOk, OnErr, length, take};
     ghost use Rattle.disk_trait.specs.declared.file_name.FileName.{FileName};
+    ghost use Rattle.disk_trait.specs.declared.memory.call.DiskCall.TheVariants.{Write, Cut, Sync};
     ghost use Rattle.disk_trait.specs.Files.{Files, At, Overwritten, Torn, Shortened};
     ghost use Rattle.disk_trait.specs.Images.{After, Since, IsOnly, Stays, next_moment};
     ghost use Rattle.disk_trait.specs.MemoryTable.{bytes_of, first_of};
@@ -62,6 +63,7 @@ impl History {
     pub(crate) fn pass(&mut self)
         ensures moment { self.new.moment ≡ next_moment self.old.moment }
         ensures held { bytes_of self.new.table ≡ bytes_of self.old.table }
+        ensures calls { self.new.done.calls.items ≡ self.old.done.calls.items }
         ensures images { Since (λ past. past.now) left_at (past_of self.old) (past_of self.new) (left_at (past_of self.old) self.old.moment) }
     {
         self.moment = self.moment.saturating_add(1);
@@ -72,6 +74,8 @@ impl History {
         requires left { self.old.moment < 2 ^ 64 - 1 }
         requires inside { at ≤ length (bytes_of self.old.table file) }
         ensures moment { self.new.moment ≡ self.old.moment + 1 }
+        ensures noted { OnOk result (self.new.done.calls.items ≡ self.old.done.calls.items ++ Write file at bytes.now ∷ []) }
+        ensures unnoted { OnErr result (self.new.done.calls.items ≡ self.old.done.calls.items) }
         ensures written { OnOk result (At file (Overwritten at bytes.now) (bytes_of self.old.table) (bytes_of self.new.table)) }
         ensures held { OnErr result ((f : FileName) → bytes_of self.new.table f ≡ bytes_of self.old.table f) }
         ensures images { Since (λ past. past.now) left_at (past_of self.old) (past_of self.new) (After (At file (Torn at (length bytes.now))) (left_at (past_of self.old) self.old.moment)) }
@@ -92,6 +96,8 @@ impl History {
         requires left { self.old.moment < 2 ^ 64 - 1 }
         requires inside { size ≤ length (bytes_of self.old.table file) }
         ensures moment { self.new.moment ≡ self.old.moment + 1 }
+        ensures noted { OnOk result (self.new.done.calls.items ≡ self.old.done.calls.items ++ Cut file size ∷ []) }
+        ensures unnoted { OnErr result (self.new.done.calls.items ≡ self.old.done.calls.items) }
         ensures cut { OnOk result (At file (λ old new. new ≡ take size old) (bytes_of self.old.table) (bytes_of self.new.table)) }
         ensures held { OnErr result ((f : FileName) → bytes_of self.new.table f ≡ bytes_of self.old.table f) }
         ensures images { Since (λ past. past.now) left_at (past_of self.old) (past_of self.new) (After (At file (Shortened size)) (left_at (past_of self.old) self.old.moment)) }
@@ -104,6 +110,8 @@ impl History {
     pub(crate) fn sync(&mut self) -> Result<(), AllocError>
         requires { self.old.moment < 2 ^ 64 - 1 }
         ensures moment { self.new.moment ≡ self.old.moment + 1 }
+        ensures noted { OnOk result (self.new.done.calls.items ≡ self.old.done.calls.items ++ Sync ∷ []) }
+        ensures unnoted { OnErr result (self.new.done.calls.items ≡ self.old.done.calls.items) }
         ensures synced { OnOk result (IsOnly (bytes_of self.new.table) (left_at (past_of self.new) self.new.moment)) }
         ensures held { bytes_of self.new.table ≡ bytes_of self.old.table }
         ensures images { Since (λ past. past.now) left_at (past_of self.old) (past_of self.new) (left_at (past_of self.old) self.old.moment) }
