@@ -3,14 +3,14 @@ use Rattle.std.proofs.Common.{◌≡◌, ℕ, zero, suc, Bool, true, false, cond
 use Rattle.std.specs.List.{slice_get}
 use Rattle.std.proofs.lemmas.Bool.{cases_Bool}
 use Rattle.std.proofs.lemmas.Slice.Eq.{bytes_eq-Decides}
-use Rattle.world_io.specs.Inbox.{InboxFile, bytes_of, without}
+use Rattle.flowfile_record.specs.NamedFile.{NamedFile, bytes_of, without}
 
 -- a file that is there has bytes, whatever stands before it
 there : (same : Bool) (bytes : List ℕ) (rest : Option (List ℕ)) → IsSome rest → IsSome (cond same (Some bytes) rest)
 there true bytes rest some = refl
 there false bytes rest some = some
 
-at-place : (files : List InboxFile) (i : ℕ) (name : List ℕ) → slice_get (map (λ file. file.name) files) i ≡ Some name → IsSome (bytes_of files name)
+at-place : (files : List NamedFile) (i : ℕ) (name : List ℕ) → slice_get (map (λ file. file.name) files) i ≡ Some name → IsSome (bytes_of files name)
 at-place [] i name is = absurd (cc)
 at-place (f ∷ fs) zero name is =
     let same : f.name ≡ name = cc in
@@ -20,7 +20,7 @@ at-place (f ∷ fs) zero name is =
 at-place (f ∷ fs) (suc i) name is = there (bytes_eq f.name name) f.bytes (bytes_of fs name) (at-place fs i name is)
 
 -- each listed name is that of a file that is left
-pub listed-left : (files : List InboxFile) (names : List (List ℕ)) (i : ℕ) (name : List ℕ) → names ≡ map (λ file. file.name) files → slice_get names i ≡ Some name → IsSome (bytes_of files name)
+pub listed-left : (files : List NamedFile) (names : List (List ℕ)) (i : ℕ) (name : List ℕ) → names ≡ map (λ file. file.name) files → slice_get names i ≡ Some name → IsSome (bytes_of files name)
 listed-left files names i name listed is =
     let at : List (List ℕ) → Option (List ℕ) = λ l. slice_get l i in
     at-place files i name (ap at (sym listed) ∙ is)
@@ -32,7 +32,7 @@ apart text name other differs same =
     subst P (sym ((bytes_eq-Decides text name).0 same)) differs
 
 -- the bytes of each other file stay where one is removed
-pub bytes_of-without : (name other : List ℕ) (files : List InboxFile) → bytes_eq name other ≡ false → bytes_of (without name files) other ≡ bytes_of files other
+pub bytes_of-without : (name other : List ℕ) (files : List NamedFile) → bytes_eq name other ≡ false → bytes_of (without name files) other ≡ bytes_of files other
 bytes_of-without name other [] differs = refl
 bytes_of-without name other (f ∷ fs) differs =
     let more = bytes_of-without name other fs differs in

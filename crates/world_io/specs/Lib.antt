@@ -4,4 +4,3 @@ pub mod Memory
 pub mod MemoryInbox
 pub mod MemoryOutbox
 pub mod MemoryStream
-pub mod Outbox

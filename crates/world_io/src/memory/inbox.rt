@@ -1,6 +1,7 @@
 //! An inbox in memory.
 ghost use Rattle.std.specs.Prelude.{◌≡◌, ◌↔◌, ◌≤◌, Some, true, [], length, map, IsSome, IfSome, IfOk, OnOk, OnErr, IsErr, IsErrOf, IsPermutation};
-ghost use Rattle.world_io.specs.Inbox.{IsAscending, bytes_of, without};
+ghost use Rattle.flowfile_record.specs.NamedFile.{bytes_of, without};
+ghost use Rattle.world_io.specs.Inbox.{IsAscending};
 ghost use Rattle.world_io.specs.Ascending.{IsAscending-prop};
 ghost use Rattle.world_io.specs.Memory.{EachOnce, file_of, names_of, IsPlaceOf};
 
