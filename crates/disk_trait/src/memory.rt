@@ -237,6 +237,3 @@ impl Disk for MemoryDisk {
         self.history.moment
     }
 }
-
-#[cfg(test)]
-mod tests;

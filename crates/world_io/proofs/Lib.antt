@@ -2,5 +2,5 @@ pub mod Pieces
 pub mod Places
 pub mod Sorting
 pub mod Standing
-pub mod Listed
+pub mod Without
 pub mod Once

@@ -12,6 +12,3 @@ pub use gate::{FreeGate, TurnGate};
 pub use inbox::MemoryInbox;
 pub use outbox::MemoryOutbox;
 pub use stream::{MemorySink, MemorySource};
-
-#[cfg(test)]
-mod tests;
