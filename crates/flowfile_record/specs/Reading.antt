@@ -124,5 +124,11 @@ listed_at item bytes = do
   count ← uint_at w32 bytes
   items_at item count.0 count.1
 
+-- the first item of a list
+abbrev pub first_at : {A : Type 0} → Reading A → Reading A
+first_at item bytes = do
+  count ← uint_at w32 bytes
+  if count.0 == 0 then Err (length count.1) else item count.1
+
 abbrev pub numbers_at : Reading (List ℕ)
 numbers_at = listed_at number_at

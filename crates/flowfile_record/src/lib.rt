@@ -12,6 +12,7 @@ mod event;
 pub mod fields;
 mod flow_file;
 mod identifier;
+mod law;
 mod limits;
 mod name;
 mod sequence;
@@ -25,6 +26,7 @@ pub use error::CodecError;
 pub use event::{Event, EventCounts, EventKind};
 pub use flow_file::FlowFile;
 pub use identifier::uuid_of;
+pub use law::{limits_of_a_file, limits_of_a_session};
 pub use limits::{
     DIGEST_SIZE, FILENAME_SIZE, FILES_MAX, NUMBER_LIMIT, SESSION_ATTRIBUTES_MAX, STORE_LIMIT,
     TAKEN_MAX, WRITTEN_MAX,

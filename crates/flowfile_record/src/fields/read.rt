@@ -1,7 +1,8 @@
 //! A field from the front of some bytes.
-ghost use Rattle.std.specs.Prelude.{◌≡◌, length, IfOk};
+ghost use Rattle.std.specs.Prelude.{◌≡◌, ◌<◌, length, IsTrue, is_ok, IfOk, IsErrOf};
 ghost use Rattle.std.specs.Int.{w16, w32, w64};
-ghost use Rattle.flowfile_record.specs.Reading.{Reads, Gives, byte_at, raw_at, uint_at, number_at, text_at, long_at, chars_at, items_at, numbers_at};
+ghost use Rattle.flowfile_record.specs.Reading.{Reads, Gives, byte_at, raw_at, uint_at, number_at, text_at, long_at, chars_at, items_at, numbers_at, first_at};
+ghost use Rattle.flowfile_record.specs.declared.fields.fault.FieldError.TheVariants.{Memory};
 
 use crate::fields::{FieldError, Unread};
 use crate::{DIGEST_SIZE, NUMBER_LIMIT, Numbers};
@@ -131,9 +132,11 @@ pub fn read_digest(bytes: &[u8]) -> Result<([u8; DIGEST_SIZE], &[u8]), Unread>
 }
 
 /// A list of numbers below `NUMBER_LIMIT`, behind its count in four bytes. An item that can't be read is a field of its own.
+/// Memory is taken only where a first item can be read.
 #[tactic(auto, unfolding(crate::specs::Reading::listed_at))]
 pub fn read_numbers(alloc: Global, bytes: &[u8]) -> Result<(Numbers, &[u8]), FieldError>
-    ensures { Gives (λ x. (x.0, x.1.now)) result (numbers_at bytes.now) }
+    ensures read { Gives (λ x. (x.0, x.1.now)) result (numbers_at bytes.now) }
+    ensures memory { IsErrOf result Memory → IsTrue (is_ok (first_at number_at bytes.now)) }
 {
     let (count, rest) = read_u32(bytes)?;
     let (items, rest) = read_items(alloc, count, rest)?;
@@ -141,7 +144,8 @@ pub fn read_numbers(alloc: Global, bytes: &[u8]) -> Result<(Numbers, &[u8]), Fie
 }
 
 fn read_items(alloc: Global, count: u32, bytes: &[u8]) -> Result<(Vec<u64>, &[u8]), FieldError>
-    ensures { Gives (λ x. (x.0.items, x.1.now)) result (items_at number_at count bytes.now) }
+    ensures read { Gives (λ x. (x.0.items, x.1.now)) result (items_at number_at count bytes.now) }
+    ensures memory { IsErrOf result Memory → (0 < count) × IsTrue (is_ok (number_at bytes.now)) }
 {
     let mut items = Vec::new(alloc);
     let mut rest = bytes;
