@@ -3,5 +3,7 @@ pub mod FieldLaws
 pub mod Held
 pub mod Identifiers
 pub mod Items
+pub mod Numbers
 pub mod Wholes
 pub mod Same
+pub mod Search
