@@ -1,3 +1,4 @@
+pub mod Crosses
 pub mod Entries
 pub mod FieldLaws
 pub mod Held
