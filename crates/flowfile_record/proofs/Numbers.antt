@@ -1,14 +1,14 @@
 -- Slots by their numbers: what they hold, and what a put, a taking and a sweep leave.
-use Rattle.std.proofs.Common.{◌≡◌, ◌≢◌, ℕ, zero, suc, ◌+◌, ◌<◌, ◌≤◌, ◌==◌, nat_lt, Bool, true, false, cond, not, ◌&&◌, List, [], ◌∷◌, length, map, get_or, IsTrue, Ordering, Less, Equal, Greater, Option, Some, None, is_some, refl, sym, ◌∙◌, ap, subst, arith}
+use Rattle.std.proofs.Common.{◌≡◌, ◌≢◌, ℕ, suc, ◌+◌, ◌<◌, ◌≤◌, ◌==◌, nat_lt, Bool, true, false, cond, not, ◌&&◌, List, [], ◌∷◌, length, map, get_or, Less, Equal, Greater, Option, Some, None, is_some, refl, sym, ◌∙◌, ap, subst, arith}
 use lib.Dec.{T}
 use Rattle.std.specs.Prelude.{IfSome}
 use Rattle.std.specs.Ordering.{nat_cmp, is_lt, MatchOrdering}
-use Rattle.std.specs.Cmp.{IsTotalOrder, ranks, nat_cmp_total, unsigned_tied}
+use Rattle.std.specs.Cmp.{ranks, nat_cmp_total, unsigned_tied}
 use Rattle.std.specs.List.{All, filter, filter_map, cons_option}
 use Rattle.std.specs.FinMap.{nat_cmp-IsAntisymmetric, is_sorted, put}
 use Rattle.std.specs.FinMap.Entries.{below_all, by_order, find, is_sorted-put}
 use Rattle.std.proofs.lemmas.Bool.{lt-ltb, le-ltb, eq-eqb, eqb-true}
-use Rattle.std.proofs.lemmas.List.Elements.{All-nil, All-cons, All-head, All-tail, All-filter}
+use Rattle.std.proofs.lemmas.List.Elements.{All-nil, All-cons, All-head, All-tail}
 use Rattle.flowfile_record.specs.NumberedItems.{item_of, with_item, without_item, AscendsByNumber}
 use Rattle.flowfile_record.specs.Slots.{number_and_item, items_of, AreSlots}
 use Rattle.flowfile_record.specs.declared.numbered_list.Slot.{Slot}

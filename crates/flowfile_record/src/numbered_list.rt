@@ -211,3 +211,65 @@ impl<'a, T> Iterator for NumberedIter<'a, T> {
         None
     }
 }
+
+#[cfg(test)]
+mod tests {
+    use super::*;
+    use crate::{BatchList, SwapBatch};
+    use std::test::Fail;
+
+    enum Step {
+        Put(u64),
+        Take(u64),
+    }
+
+    // A step, and how many places there are behind it.
+    const STEPS: [(Step, usize); 11] = [
+        (Step::Put(3), 1),
+        (Step::Put(1), 2),
+        (Step::Put(2), 3),
+        (Step::Put(5), 4),
+        (Step::Put(4), 5),
+        (Step::Take(2), 5),
+        (Step::Put(2), 5),
+        (Step::Take(3), 5),
+        (Step::Take(1), 5),
+        (Step::Take(5), 5),
+        (Step::Put(1), 3),
+    ];
+
+    fn put(list: &mut BatchList, batch: u64) -> Result<(), Fail> {
+        list.reserve(1)?;
+        if list.get(batch).is_some() {
+            return Err(Fail::from("the number is there already"));
+        }
+        list.put(SwapBatch {
+            connection: 0,
+            batch,
+            files: 1,
+            bytes: 2,
+            encoded: 3,
+        });
+        Ok(())
+    }
+
+    #[test]
+    fn places_are_emptied_filled_and_swept(rt: HostRuntime) -> Result<(), Fail> {
+        let mut list = BatchList::new(rt.alloc());
+        for (step, places) in STEPS.iter() {
+            match step {
+                Step::Put(batch) => put(&mut list, *batch)?,
+                Step::Take(batch) => assert!(rt; list.take(*batch).is_some()),
+            }
+            assert_eq!(rt; list.slots.len(), *places);
+        }
+        let mut batches = Vec::new(rt.alloc());
+        for batch in list.iter() {
+            batches.push(batch.number())?;
+        }
+        assert_eq!(rt; batches.as_slice(), [1, 2, 4].as_slice());
+        assert_eq!(rt; list.len(), 3);
+        assert!(rt; list.take(3).is_none());
+        Ok(())
+    }
+}

@@ -1,4 +1,4 @@
-use Rattle.std.proofs.Common.{◌≡◌, ◌-◌, None, Some, map, is_some, ◌∙◌, ap, sym, arith}
+use Rattle.std.proofs.Common.{◌-◌, None, is_some, ◌∙◌, ap, sym, arith}
 use Rattle.std.specs.Cmp.{nat_cmp_total}
 use Rattle.std.specs.FinMap.{nat_cmp-IsAntisymmetric}
 use Rattle.flowfile_record.specs.NumberedItems.{item_of, without_item}
