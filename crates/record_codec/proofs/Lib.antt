@@ -7,7 +7,10 @@ pub mod Exacts
 pub mod FileLaws
 pub mod Heads
 pub mod Keys
+pub mod Logs
 mod Parts
 pub mod Puts
+pub mod Sizes
 pub mod Snapshots
 pub mod StoreHeads
+pub mod Versions

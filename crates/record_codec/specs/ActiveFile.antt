@@ -3,9 +3,14 @@
 use Rattle.std.specs.Prelude.{ℕ, ◌<◌, ◌^◌, List, ◌++◌}
 use Rattle.std.specs.Int.{w16, to_be_bytes}
 use Rattle.flowfile_record.specs.Reading.{Reading, ◌then◌, made, uint_at}
+use Rattle.flowfile_record.specs.declared.flow_file.FlowFile.{FlowFile}
 use Rattle.flowfile_record.specs.declared.stored.ActiveFile.{ActiveFile}
 use Rattle.record_codec.specs.FileReading.{flow_file_at}
 use Rattle.record_codec.specs.FileEncoding.{flow_file, IsFlowFile}
+
+-- this file, active in this connection
+abbrev pub active : ℕ → FlowFile → ActiveFile
+active connection file = record { connection = connection; file = file }
 
 unfoldable pub active_file : ActiveFile → List ℕ
 active_file a = to_be_bytes w16 a.connection ++ flow_file a.file

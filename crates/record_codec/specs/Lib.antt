@@ -3,6 +3,7 @@ pub mod Block
 pub mod EntryReading
 pub mod EntryEncoding
 pub mod FileReading
+pub mod LogEntries
 pub mod FileEncoding
 pub mod Head
 pub mod Snapshot
@@ -10,3 +11,4 @@ pub mod SnapshotReading
 pub mod StoreHead
 pub mod StoreHeadReading
 pub mod Texts
+pub mod Version

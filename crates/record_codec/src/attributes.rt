@@ -1,16 +1,14 @@
 //! The attributes of a flow file.
-ghost use Rattle.std.specs.Prelude.{◌≡◌, ◌-◌, ◌<◌, ◌^◌, ◌++◌, length, true, IfOk, OnOk, OnErr, slice_get, if◌then◌else◌};
+ghost use Rattle.std.specs.Prelude.{◌≡◌, ◌+◌, ◌-◌, ◌<◌, ◌≤◌, ◌^◌, ◌++◌, length, true, vec_len, vec_capacity, IfOk, slice_get, if◌then◌else◌};
 ghost use Rattle.std.specs.Option.{option_map};
 ghost use Rattle.std.specs.FinMap.{empty, entries, insert, len};
 ghost use Rattle.flowfile_record.specs.Attributes.{IsWithinLimits};
 ghost use Rattle.flowfile_record.specs.Reading.{Gives};
-ghost use Rattle.flowfile_record.specs.Encoding.{Keeps};
 ghost use Rattle.record_codec.specs.FileReading.{may_follow, may_hold, pair_at, pairs_at, attributes_at};
 ghost use Rattle.record_codec.specs.FileEncoding as encoding;
 
-use flowfile_record::fields::{
-    FieldError, read_long, read_text, read_u16, write_long, write_text, write_u16,
-};
+use crate::put::{put_long, put_text, put_u16};
+use flowfile_record::fields::{FieldError, read_long, read_text, read_u16};
 use flowfile_record::{AttrError, Attributes, KEY_MAX, Put};
 use std::alloc::{AllocError, Global};
 
@@ -94,26 +92,29 @@ fn last_key(attributes: &Attributes) -> Option<&str>
 }
 
 #[tactic(auto, unfolding(crate::specs::FileEncoding::attributes))]
-pub(crate) fn write_attributes(out: &mut Vec<u8>, attributes: &Attributes) -> Result<(), AllocError>
-    requires { IsWithinLimits attributes.now }
-    ensures ok { OnOk result (out.new.items ≡ out.old.items ++ encoding.attributes attributes.now) }
-    ensures err { OnErr result (Keeps out.old.items out.new.items) }
+pub(crate) fn put_attributes(out: &mut Vec<u8>, attributes: &Attributes)
+    requires attributes { IsWithinLimits attributes.now }
+    requires room { vec_len out.old + length (encoding.attributes attributes.now) ≤ vec_capacity out.old }
+    ensures items { out.new.items ≡ out.old.items ++ encoding.attributes attributes.now }
+    ensures len { vec_len out.new ≡ vec_len out.old + length (encoding.attributes attributes.now) }
+    ensures capacity { vec_capacity out.old ≤ vec_capacity out.new }
 {
-    write_u16(out, attributes.len() as u16)?;
+    put_u16(out, attributes.len() as u16);
     let mut place = 0;
     while let Some((key, value)) = attributes.pair(place) {
-        write_pair(out, key, value)?;
+        put_pair(out, key, value);
         place += 1;
     }
-    Ok(())
 }
 
-fn write_pair(out: &mut Vec<u8>, key: &str, value: &str) -> Result<(), AllocError>
+fn put_pair(out: &mut Vec<u8>, key: &str, value: &str)
     requires key { length key.now < 2 ^ 16 }
     requires value { length value.now < 2 ^ 32 }
-    ensures ok { OnOk result (out.new.items ≡ out.old.items ++ encoding.pair (key.now, value.now)) }
-    ensures err { OnErr result (Keeps out.old.items out.new.items) }
+    requires room { vec_len out.old + length (encoding.pair (key.now, value.now)) ≤ vec_capacity out.old }
+    ensures items { out.new.items ≡ out.old.items ++ encoding.pair (key.now, value.now) }
+    ensures len { vec_len out.new ≡ vec_len out.old + length (encoding.pair (key.now, value.now)) }
+    ensures capacity { vec_capacity out.old ≤ vec_capacity out.new }
 {
-    write_text(out, key)?;
-    write_long(out, value)
+    put_text(out, key);
+    put_long(out, value);
 }

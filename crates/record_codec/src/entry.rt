@@ -1,5 +1,5 @@
 //! The entries of a log.
-ghost use Rattle.std.specs.Prelude.{◌≡◌, ◌++◌, ℕ, length, IfOk, OnOk, OnErr, Ok};
+ghost use Rattle.std.specs.Prelude.{◌≡◌, ◌+◌, ◌≤◌, ◌++◌, ℕ, length, vec_len, vec_capacity, IfOk, IsOk, OnOk, OnErr, Ok};
 ghost use Rattle.flowfile_record.specs.Field.{HasOneEncoding};
 ghost use Rattle.flowfile_record.specs.Reading.{Answers, answer, whole};
 ghost use Rattle.record_codec.specs.EntryReading.{entry_at};
@@ -7,27 +7,14 @@ ghost use Rattle.record_codec.specs.EntryEncoding.{entry as encoding, kind_of, I
 ghost use Rattle.record_codec.specs.declared.entry.LogEntry.{LogEntry as Entry};
 
 mod read;
+mod size;
 mod write;
 
-use flowfile_record::{CodecError, FlowFile, Numbers, Sequence};
+use flowfile_record::{ActiveFile, CodecError, Counted, Numbers, Sequence};
 use std::alloc::{AllocError, Global};
 
-/// A flow file, and the place of the connection that it is placed into.
-#[derive(Debug, Drop)]
-pub struct Placed {
-    pub connection: u16,
-    pub file: FlowFile,
-}
-
-/// Files and where they are placed.
-pub type PlacedList = Sequence<Placed>;
-
-/// The place of a processor that makes files from nothing, and how many it has made.
-#[derive(Clone, Copy, Debug, PartialEq, Eq)]
-pub struct Generator {
-    pub place: u16,
-    pub count: u64,
-}
+/// The place that a session's entry names where its processor is no generator. No processor has it.
+pub const NO_GENERATOR: u16 = 65_535;
 
 /// What a session of a processor did: the files that are gone from their queue, those that are placed, and the
 /// counters behind it. `generator` is the processor where it is one.
@@ -36,11 +23,11 @@ pub struct SessionEntry {
     pub processor: u16,
     pub moment: u64,
     pub gone: Numbers,
-    pub placed: PlacedList,
+    pub placed: Sequence<ActiveFile>,
     pub next_number: u64,
     pub next_arrival: u64,
     pub last_event: u64,
-    pub generator: Option<Generator>,
+    pub generator: Option<Counted>,
 }
 
 /// Files of a connection that expired.
@@ -87,18 +74,26 @@ impl LogEntry {
     }
 }
 
-/// Appends the one encoding of an entry, the payload of its block, or, where there is no memory for it, nothing.
+/// How many bytes the encoding of an entry has, the payload of its block.
+pub fn entry_size(entry: &LogEntry) -> u64
+    requires { IsEntry entry.now }
+    ensures { result ≡ length (encoding entry.now) }
+{
+    size::size_of(entry)
+}
+
+/// Appends the one encoding of an entry, the payload of its block. It fails only where there is less room than
+/// `entry_size` tells, and then the bytes stay.
 pub fn write_entry(out: &mut Vec<u8>, entry: &LogEntry) -> Result<(), AllocError>
     requires { IsEntry entry.now }
     ensures ok { OnOk result (out.new.items ≡ out.old.items ++ encoding entry.now) }
     ensures err { OnErr result (out.new.items ≡ out.old.items) }
+    ensures room { vec_len out.old + length (encoding entry.now) ≤ vec_capacity out.old → IsOk result }
+    ensures capacity { vec_capacity out.old ≤ vec_capacity out.new }
 {
-    let start = out.len();
-    let written = write::write_fields(out, entry);
-    if written.is_err() {
-        out.truncate(start);
-    }
-    written
+    out.reserve(entry_size(entry) as usize)?;
+    write::put_entry(out, entry);
+    Ok(())
 }
 
 /// The entry of a kind that the bytes encode, all of them. No entry has a kind outside 1 to 5, which is `Form` at 0.
