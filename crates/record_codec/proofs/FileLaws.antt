@@ -11,7 +11,7 @@ use Rattle.flowfile_record.specs.declared.content.ContentRef.{ContentRef}
 use Rattle.flowfile_record.specs.declared.flow_file.FlowFile.{FlowFile}
 use Rattle.flowfile_record.proofs.FieldLaws.{pair_is, made_is, such_is, said_is, u32_is, u64_is, number_is, digest_is}
 use Rattle.record_codec.specs.declared.content.TheConstants.{SLOT_LIMIT}
-use Rattle.record_codec.specs.declared.limits.TheConstants.{DIGEST_SIZE}
+use Rattle.flowfile_record.specs.declared.limits.TheConstants.{DIGEST_SIZE}
 use Rattle.record_codec.specs.FileReading.{attributes_at, slot_at, size_at, content_ref_at, file_number_at, flow_file_at}
 use Rattle.record_codec.specs.FileEncoding.{attributes, content_ref, IsContentRef, flow_file, IsFlowFile}
 use Rattle.record_codec.proofs.AttributeLaws.{attributes_is}

@@ -5,6 +5,7 @@ pub mod Chains
 pub mod EntryLaws
 pub mod Exacts
 pub mod FileLaws
+pub mod Fronts
 pub mod Heads
 pub mod Keys
 pub mod Logs

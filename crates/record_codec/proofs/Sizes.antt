@@ -1,6 +1,6 @@
 -- How many bytes encodings have.
-use Rattle.std.proofs.Common.{◌≡◌, ℕ, ◌+◌, ◌*◌, ◌<◌, ◌≤◌, ◌^◌, List, [], ◌∷◌, ◌++◌, length, sum_by, length-append, Option, Some, None, refl, sym, ap, ◌∙◌, arith}
-use Rattle.std.specs.Prelude.{All}
+use Rattle.std.proofs.Common.{◌≡◌, ℕ, ◌+◌, ◌*◌, ◌<◌, ◌≤◌, ◌^◌, suc, List, [], ◌∷◌, ◌++◌, length, sum_by, length-append, Option, Some, None, refl, sym, ap, ◌∙◌, arith}
+use Rattle.std.specs.Prelude.{All, map}
 use Rattle.std.specs.List.{flat_map}
 use Rattle.std.specs.Int.{w16, w32, w64, to_be_bytes}
 use Rattle.std.specs.FinMap.{entries}
@@ -17,7 +17,8 @@ use Rattle.flowfile_record.specs.declared.stored.Counted.{Counted}
 use Rattle.flowfile_record.specs.declared.stored.SwapBatch.{SwapBatch}
 use Rattle.record_codec.specs.ActiveFile.{active_file, IsActiveFile}
 use Rattle.record_codec.specs.FileEncoding.{pair, attributes, content_ref, flow_file, IsFlowFile}
-use Rattle.record_codec.specs.EntryEncoding.{generator, counters, session, expire, swap_out}
+use Rattle.record_codec.specs.EntryEncoding.{generator, counters, session, expire, swap_out, entry}
+use Rattle.record_codec.specs.Placeless.{placeless, placeless_active, placeless_entry}
 use Rattle.record_codec.specs.Snapshot.{swap_batch}
 use Rattle.record_codec.specs.StoreHead.{head}
 use Rattle.record_codec.specs.Texts.{texts}
@@ -26,6 +27,8 @@ use Rattle.record_codec.specs.declared.head.Head.{Head}
 use Rattle.record_codec.specs.declared.entry.SessionEntry.{SessionEntry}
 use Rattle.record_codec.specs.declared.entry.ExpireEntry.{ExpireEntry}
 use Rattle.record_codec.specs.declared.entry.SwapOutEntry.{SwapOutEntry}
+use Rattle.record_codec.specs.declared.entry.LogEntry.{LogEntry}
+use Rattle.record_codec.specs.declared.entry.LogEntry.TheVariants.{Begin, Session, Expire, SwapOut, SwapIn}
 
 len3 : (a b c : List ℕ) → length (a ++ b ++ c) ≡ length a + length b + length c
 len3 a b c = length-append (a ++ b) c ∙ ap (λ n. n + length c) (length-append a b)
@@ -126,3 +129,52 @@ head_size h digest =
       len4 (byte FORMAT_VERSION) (to_be_bytes w64 h.store) h.flow (texts h.connections),
       digest,
     )
+
+-- ---- sizes don't depend on where contents stand
+
+content_ref_parts : (c : ContentRef) → length (content_ref c) ≡ 20 + length c.digest
+unfolding content_ref
+content_ref_parts c = omega (arith, len4 (to_be_bytes w32 c.slot) (to_be_bytes w64 c.offset) (to_be_bytes w64 c.size) c.digest)
+
+pub placeless_size : (f : FlowFile) → length (flow_file (placeless f)) ≡ length (flow_file f)
+placeless_size f = omega (arith, parts_of_file f, parts_of_file (placeless f), content_ref_parts f.content, content_ref_parts (placeless f).content)
+
+placed_sizes : (xs : List ActiveFile) → length (flat_map active_file (map placeless_active xs)) ≡ length (flat_map active_file xs)
+placed_sizes [] = refl
+placed_sizes (x ∷ xs) =
+    omega (
+      arith,
+      ap length (flat_map-cons active_file x xs),
+      length-append (active_file x) (flat_map active_file xs),
+      ap length (flat_map-cons active_file (placeless_active x) (map placeless_active xs)),
+      length-append (active_file (placeless_active x)) (flat_map active_file (map placeless_active xs)),
+      active_size x,
+      active_size (placeless_active x),
+      placeless_size x.file,
+      placed_sizes xs,
+    )
+
+length_map : (xs : List ActiveFile) → length (map placeless_active xs) ≡ length xs
+length_map [] = refl
+length_map (x ∷ xs) = ap suc (length_map xs)
+
+listed_size : (xs : List ActiveFile) → length (listed active_file xs) ≡ 4 + length (flat_map active_file xs)
+listed_size xs = length-append (to_be_bytes w32 (length xs)) (flat_map active_file xs)
+
+pub placeless_entry_size : (e : LogEntry) → length (entry (placeless_entry e)) ≡ length (entry e)
+unfolding entry
+placeless_entry_size (Begin log) = refl
+placeless_entry_size (Session s) =
+    omega (arith, session_size s, session_size (record {
+      processor = s.processor;
+      moment = s.moment;
+      gone = s.gone;
+      placed = map placeless_active s.placed;
+      next_number = s.next_number;
+      next_arrival = s.next_arrival;
+      last_event = s.last_event;
+      generator = s.generator;
+    }), listed_size s.placed, listed_size (map placeless_active s.placed), placed_sizes s.placed)
+placeless_entry_size (Expire e) = refl
+placeless_entry_size (SwapOut s) = refl
+placeless_entry_size (SwapIn connection batch) = refl

@@ -6,7 +6,7 @@ use Rattle.flowfile_record.specs.Field.{IsField}
 use Rattle.flowfile_record.specs.Reading.{Reading, ◌then◌, raw_at, uint_at, number_at, text_at, numbers_at}
 use Rattle.flowfile_record.specs.Encoding.{byte, text, numbers, IsNumber, IsText, AreNumbers, IsDigest}
 use Rattle.flowfile_record.proofs.FieldLaws.{pair_is, made_from, such_is, said_is, digest_is, u64_is, number_is, text_is, listed_is, numbers_is}
-use Rattle.record_codec.specs.declared.limits.TheConstants.{DIGEST_SIZE, STORE_LIMIT}
+use Rattle.flowfile_record.specs.declared.limits.TheConstants.{DIGEST_SIZE, STORE_LIMIT}
 use Rattle.record_codec.specs.declared.head.Head.{Head}
 use Rattle.record_codec.specs.StoreHead.{head, IsHead}
 use Rattle.record_codec.specs.StoreHeadReading.{store_at, head_at}

@@ -3,7 +3,7 @@ use Rattle.std.specs.Prelude.{ℕ, ◌+◌, ◌≤◌, nat_lt, List, ◌∷◌, 
 use Rattle.std.specs.Int.{w32, from_be_bytes, to_be_bytes}
 use Rattle.sha2.specs.Sha256.{sha256}
 use Rattle.record_codec.specs.declared.block.TheConstants.{PAYLOAD_MAX, HEADER_SIZE, BLOCK_OVERHEAD}
-use Rattle.record_codec.specs.declared.limits.TheConstants.{DIGEST_SIZE}
+use Rattle.flowfile_record.specs.declared.limits.TheConstants.{DIGEST_SIZE}
 use Rattle.record_codec.specs.declared.block.Block.{Block}
 use Rattle.record_codec.specs.declared.block.BlockEnd.{BlockEnd}
 use Rattle.record_codec.specs.declared.block.BlockEnd.TheVariants.{Short, TooLong, Digest}

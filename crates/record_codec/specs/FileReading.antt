@@ -12,7 +12,7 @@ use Rattle.flowfile_record.specs.declared.attributes.TheConstants.{ATTRIBUTES_MA
 use Rattle.flowfile_record.specs.declared.content.ContentRef.{ContentRef}
 use Rattle.flowfile_record.specs.declared.flow_file.FlowFile.{FlowFile}
 use Rattle.record_codec.specs.declared.content.TheConstants.{SLOT_LIMIT}
-use Rattle.record_codec.specs.declared.limits.TheConstants.{DIGEST_SIZE}
+use Rattle.flowfile_record.specs.declared.limits.TheConstants.{DIGEST_SIZE}
 
 -- ---- attributes
 
@@ -60,6 +60,10 @@ content_ref_at = made (λ c. record { slot = c.0; offset = c.1.0; size = c.1.1.0
 -- flow files are counted from 1
 unfoldable pub file_number_at : Reading ℕ
 file_number_at = such (λ number. nat_le 1 number) number_at
+
+-- the fields of a flow file before its pairs of attributes
+abbrev pub file_front_at : Reading (ℕ × ℕ)
+file_front_at = file_number_at then uint_at w16
 
 unfoldable pub flow_file_at : Reading FlowFile
 flow_file_at = made (λ f. record { number = f.0; attributes = f.1.0; content = f.1.1.0; entered = f.1.1.1.0; penalty_end = f.1.1.1.1.0; arrival = f.1.1.1.1.1 })

@@ -4,6 +4,7 @@ pub mod EntryReading
 pub mod EntryEncoding
 pub mod FileReading
 pub mod LogEntries
+pub mod Placeless
 pub mod FileEncoding
 pub mod Head
 pub mod Snapshot

@@ -4,7 +4,7 @@ use Rattle.std.specs.Int.{w64, to_be_bytes}
 use Rattle.flowfile_record.specs.Encoding.{byte, numbers, IsNumber, AreNumbers, IsDigest}
 use Rattle.flowfile_record.specs.declared.stored.Stored.{Stored}
 use Rattle.record_codec.specs.declared.TheConstants.{FORMAT_VERSION}
-use Rattle.record_codec.specs.declared.limits.TheConstants.{STORE_LIMIT}
+use Rattle.flowfile_record.specs.declared.limits.TheConstants.{STORE_LIMIT}
 use Rattle.record_codec.specs.declared.head.Head.{Head}
 use Rattle.record_codec.specs.Texts.{texts, AreTexts}
 

@@ -1,10 +1,10 @@
 //! Flow files with the queue that they are active in.
-ghost use Rattle.std.specs.Prelude.{◌≡◌, ℕ, ◌+◌, ◌≤◌, ◌++◌, length, vec_len, vec_capacity, IfOk, IsOk, OnOk, OnErr, Ok};
+ghost use Rattle.std.specs.Prelude.{◌≡◌, ℕ, ◌+◌, ◌≤◌, ◌++◌, length, vec_len, vec_capacity, IsTrue, is_ok, IfOk, IsErrOf, IsOk, OnOk, OnErr, Ok};
 ghost use Rattle.flowfile_record.specs.Field.{HasOneEncoding};
 ghost use Rattle.flowfile_record.specs.Reading.{Gives, Answers, answer, whole};
 ghost use Rattle.record_codec.specs.FileEncoding.{IsFlowFile};
 ghost use Rattle.flowfile_record.specs.declared.stored.ActiveFile.{ActiveFile as Active};
-ghost use Rattle.record_codec.specs.ActiveFile.{active, active_file, active_file_at, IsActiveFile};
+ghost use Rattle.record_codec.specs.ActiveFile.{active, active_file, active_file_at, active_front_at, IsActiveFile};
 
 use crate::flow_file::{file_size, put_flow_file, read_flow_file};
 use crate::put::put_u16;
@@ -44,6 +44,8 @@ pub fn read_active_file(alloc: Global, bytes: &[u8]) -> Result<ActiveFile, Codec
     ensures only { (active : Active) → IsActiveFile active → bytes.now ≡ active_file active → Answers result (Ok active) }
     // Which place can't be read.
     ensures exact { Answers result (answer (length bytes.now) (whole active_file_at bytes.now)) }
+    // Memory is taken only behind the file's number and its count of attributes.
+    ensures memory { IsErrOf result CodecError.Memory → IsTrue (is_ok (active_front_at bytes.now)) }
 {
     read_answer(alloc, bytes)
 }
@@ -54,7 +56,8 @@ pub fn active_files_have_one_encoding()
 {}
 
 fn read_answer(alloc: Global, bytes: &[u8]) -> Result<ActiveFile, CodecError>
-    ensures { Answers result (answer (length bytes.now) (whole active_file_at bytes.now)) }
+    ensures exact { Answers result (answer (length bytes.now) (whole active_file_at bytes.now)) }
+    ensures memory { IsErrOf result CodecError.Memory → IsTrue (is_ok (active_front_at bytes.now)) }
 {
     match read_all(alloc, bytes) {
         Ok(active) => Ok(active),
@@ -63,7 +66,8 @@ fn read_answer(alloc: Global, bytes: &[u8]) -> Result<ActiveFile, CodecError>
 }
 
 fn read_all(alloc: Global, bytes: &[u8]) -> Result<ActiveFile, FieldError>
-    ensures { Gives (λ active. active) result (whole active_file_at bytes.now) }
+    ensures read { Gives (λ active. active) result (whole active_file_at bytes.now) }
+    ensures memory { IsErrOf result FieldError.Memory → IsTrue (is_ok (active_front_at bytes.now)) }
 {
     let (active, rest) = read_fields(alloc, bytes)?;
     if !rest.is_empty() {
@@ -76,7 +80,8 @@ fn read_all(alloc: Global, bytes: &[u8]) -> Result<ActiveFile, FieldError>
 
 #[tactic(auto, unfolding(crate::specs::ActiveFile::active_file_at))]
 pub(crate) fn read_fields(alloc: Global, bytes: &[u8]) -> Result<(ActiveFile, &[u8]), FieldError>
-    ensures { Gives (λ x. (x.0, x.1.now)) result (active_file_at bytes.now) }
+    ensures read { Gives (λ x. (x.0, x.1.now)) result (active_file_at bytes.now) }
+    ensures memory { IsErrOf result FieldError.Memory → IsTrue (is_ok (active_front_at bytes.now)) }
 {
     let (connection, rest) = read_u16(bytes)?;
     let (file, rest) = read_flow_file(alloc, rest)?;

@@ -10,7 +10,7 @@ ghost use Rattle.flowfile_record.specs.Field.{HasOneEncoding};
 ghost use Rattle.record_codec.specs.Block.{block, block_of, IsBlock, Whole, reading_of, answer_at, sized};
 
 use crate::put::{put, put_u8, put_u32};
-use crate::limits::DIGEST_SIZE;
+use flowfile_record::DIGEST_SIZE;
 use sha2::{Digest, Sha256};
 use std::alloc::AllocError;
 use thiserror::Error;

@@ -1,8 +1,11 @@
 //! The entries of a log.
-ghost use Rattle.std.specs.Prelude.{◌≡◌, ◌+◌, ◌≤◌, ◌++◌, ℕ, length, vec_len, vec_capacity, IfOk, IsOk, OnOk, OnErr, Ok};
+ghost use Rattle.std.specs.Prelude.{◌≡◌, ◌+◌, ◌≤◌, ◌++◌, ℕ, length, vec_len, vec_capacity, IsTrue, is_ok, IfOk, IsErrOf, IsOk, OnOk, OnErr, Ok};
 ghost use Rattle.flowfile_record.specs.Field.{HasOneEncoding};
 ghost use Rattle.flowfile_record.specs.Reading.{Answers, answer, whole};
-ghost use Rattle.record_codec.specs.EntryReading.{entry_at};
+ghost use Rattle.flowfile_record.specs.declared.flow_file.FlowFile.{FlowFile as File};
+ghost use Rattle.record_codec.specs.FileEncoding.{flow_file};
+ghost use Rattle.record_codec.specs.Placeless.{placeless, placeless_entry};
+ghost use Rattle.record_codec.specs.EntryReading.{entry_at, front_at};
 ghost use Rattle.record_codec.specs.EntryEncoding.{entry as encoding, kind_of, IsEntry, IsEntryOf};
 ghost use Rattle.record_codec.specs.declared.entry.LogEntry.{LogEntry as Entry};
 
@@ -104,9 +107,17 @@ pub fn read_entry(alloc: Global, kind: u8, bytes: &[u8]) -> Result<LogEntry, Cod
     ensures only { (entry : Entry) → IsEntryOf kind entry → bytes.now ≡ encoding entry → Answers result (Ok entry) }
     // Which place can't be read.
     ensures exact { Answers result (answer (length bytes.now) (whole (entry_at kind) bytes.now)) }
+    // Memory is taken only for the kinds 2 to 4, behind the count of the first list.
+    ensures memory { IsErrOf result CodecError.Memory → IsTrue (is_ok (front_at kind bytes.now)) }
 {
     read::read_answer(alloc, kind, bytes)
 }
+
+/// Where contents stand, their slots and their offsets, doesn't change the size of an encoding.
+pub fn sizes_ignore_slots_and_offsets()
+    ensures files { (file : File) → length (flow_file (placeless file)) ≡ length (flow_file file) }
+    ensures entries { (entry : Entry) → length (encoding (placeless_entry entry)) ≡ length (encoding entry) }
+{}
 
 /// Of one kind, one entry has one encoding, and no encoding is a proper front of another.
 pub fn entries_have_one_encoding()

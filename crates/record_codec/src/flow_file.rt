@@ -1,17 +1,16 @@
 //! Flow files.
-ghost use Rattle.std.specs.Prelude.{◌≡◌, ℕ, ◌+◌, ◌≤◌, ◌++◌, length, vec_len, vec_capacity, IfOk, IsOk, OnOk, OnErr, Ok};
+ghost use Rattle.std.specs.Prelude.{◌≡◌, ℕ, ◌+◌, ◌≤◌, ◌++◌, length, vec_len, vec_capacity, IsTrue, is_ok, IfOk, IsErrOf, IsOk, OnOk, OnErr, Ok};
 ghost use Rattle.flowfile_record.specs.Field.{HasOneEncoding};
 ghost use Rattle.flowfile_record.specs.Reading.{Reads, Gives, Answers, answer, whole};
 ghost use Rattle.flowfile_record.specs.declared.flow_file.FlowFile.{FlowFile as File};
-ghost use Rattle.record_codec.specs.FileReading.{file_number_at, flow_file_at};
+ghost use Rattle.record_codec.specs.FileReading.{file_number_at, flow_file_at, file_front_at};
 ghost use Rattle.record_codec.specs.FileEncoding.{flow_file, IsFlowFile};
 
 use crate::attributes::{put_attributes, read_attributes};
 use crate::content::{put_content_ref, read_content_ref};
-use crate::limits::DIGEST_SIZE;
 use crate::put::put_u64;
 use flowfile_record::fields::{FieldError, Unread, read_number, read_u64};
-use flowfile_record::{CodecError, FlowFile};
+use flowfile_record::{CodecError, DIGEST_SIZE, FlowFile};
 use std::alloc::{AllocError, Global};
 
 // What a flow file's encoding has beside the attributes, in bytes: six numbers, the slot and the digest.
@@ -48,6 +47,8 @@ pub fn read_file(alloc: Global, bytes: &[u8]) -> Result<FlowFile, CodecError>
     ensures only { (file : File) → IsFlowFile file → bytes.now ≡ flow_file file → Answers result (Ok file) }
     // Which place can't be read.
     ensures exact { Answers result (answer (length bytes.now) (whole flow_file_at bytes.now)) }
+    // Memory is taken only behind the number and the count of attributes.
+    ensures memory { IsErrOf result CodecError.Memory → IsTrue (is_ok (file_front_at bytes.now)) }
 {
     read_answer(alloc, bytes)
 }
@@ -58,7 +59,8 @@ pub fn flow_files_have_one_encoding()
 {}
 
 fn read_answer(alloc: Global, bytes: &[u8]) -> Result<FlowFile, CodecError>
-    ensures { Answers result (answer (length bytes.now) (whole flow_file_at bytes.now)) }
+    ensures exact { Answers result (answer (length bytes.now) (whole flow_file_at bytes.now)) }
+    ensures memory { IsErrOf result CodecError.Memory → IsTrue (is_ok (file_front_at bytes.now)) }
 {
     match read_all(alloc, bytes) {
         Ok(file) => Ok(file),
@@ -67,7 +69,8 @@ fn read_answer(alloc: Global, bytes: &[u8]) -> Result<FlowFile, CodecError>
 }
 
 fn read_all(alloc: Global, bytes: &[u8]) -> Result<FlowFile, FieldError>
-    ensures { Gives (λ file. file) result (whole flow_file_at bytes.now) }
+    ensures read { Gives (λ file. file) result (whole flow_file_at bytes.now) }
+    ensures memory { IsErrOf result FieldError.Memory → IsTrue (is_ok (file_front_at bytes.now)) }
 {
     let (file, rest) = read_flow_file(alloc, bytes)?;
     if !rest.is_empty() {
@@ -80,7 +83,8 @@ fn read_all(alloc: Global, bytes: &[u8]) -> Result<FlowFile, FieldError>
 
 #[tactic(auto, unfolding(crate::specs::FileReading::flow_file_at))]
 pub(crate) fn read_flow_file(alloc: Global, bytes: &[u8]) -> Result<(FlowFile, &[u8]), FieldError>
-    ensures { Gives (λ x. (x.0, x.1.now)) result (flow_file_at bytes.now) }
+    ensures read { Gives (λ x. (x.0, x.1.now)) result (flow_file_at bytes.now) }
+    ensures memory { IsErrOf result FieldError.Memory → IsTrue (is_ok (file_front_at bytes.now)) }
 {
     let (number, rest) = read_file_number(bytes)?;
     let (attributes, rest) = read_attributes(alloc, rest)?;

@@ -11,7 +11,6 @@ mod content;
 mod entry;
 mod flow_file;
 mod head;
-mod limits;
 mod log;
 mod put;
 mod snapshot;
@@ -28,7 +27,7 @@ pub use block::{
 pub use content::SLOT_LIMIT;
 pub use entry::{
     ExpireEntry, LogEntry, NO_GENERATOR, SessionEntry, SwapOutEntry, entries_have_one_encoding,
-    entry_size, read_entry, write_entry,
+    entry_size, read_entry, sizes_ignore_slots_and_offsets, write_entry,
 };
 pub use flow_file::{file_size, flow_files_have_one_encoding, read_file, write_file};
 pub use flowfile_record::CodecError;

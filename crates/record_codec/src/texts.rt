@@ -1,6 +1,7 @@
 //! Lists of texts.
-ghost use Rattle.std.specs.Prelude.{◌≡◌, ◌+◌, ◌<◌, ◌≤◌, ◌^◌, ◌++◌, length, vec_len, vec_capacity};
-ghost use Rattle.flowfile_record.specs.Reading.{Gives, text_at, items_at};
+ghost use Rattle.std.specs.Prelude.{◌≡◌, ◌+◌, ◌<◌, ◌≤◌, ◌^◌, ◌++◌, length, vec_len, vec_capacity, IsTrue, is_ok, IsErrOf};
+ghost use Rattle.std.specs.Int.{w32};
+ghost use Rattle.flowfile_record.specs.Reading.{Gives, uint_at, text_at, items_at};
 ghost use Rattle.record_codec.specs.Texts.{AreTexts, texts_at};
 ghost use Rattle.record_codec.specs.Texts as encoding;
 
@@ -12,7 +13,8 @@ use std::alloc::{AllocError, Global};
 /// A list of texts, behind its count in four bytes. A text that can't be read is a field of its own.
 #[tactic(auto, unfolding(flowfile_record::specs::Reading::listed_at))]
 pub(crate) fn read_texts(alloc: Global, bytes: &[u8]) -> Result<(TextList, &[u8]), FieldError>
-    ensures { Gives (λ x. (x.0, x.1.now)) result (texts_at bytes.now) }
+    ensures read { Gives (λ x. (x.0, x.1.now)) result (texts_at bytes.now) }
+    ensures memory { IsErrOf result FieldError.Memory → IsTrue (is_ok (uint_at w32 bytes.now)) }
 {
     let (count, rest) = read_u32(bytes)?;
     let (texts, rest) = read_items(alloc, count, rest)?;

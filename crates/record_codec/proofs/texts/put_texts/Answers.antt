@@ -17,6 +17,6 @@ put_text-requires-clause-room c =
       c.loop-text.invariant.capacity,
       c.requires.room,
       ap (λ t. length (text t)) c.text-item.is,
-      ap length c.as_str.ensures,
+      ap length c.as_str.ensures.text,
       length-append (to_be_bytes w16 (length one)) one,
     )

@@ -16,7 +16,7 @@ overflow_add-size-in-loop-text c =
       c.requires.0,
       c.loop-text.invariant,
       ap (λ t. length (text t)) c.text-item.is,
-      ap length c.as_str.ensures,
+      ap length c.as_str.ensures.text,
       length-append (to_be_bytes w16 (length one)) one,
     )
 
