@@ -1,5 +1,5 @@
 -- Attributes: reading them pair by pair, and what is encoded so is read, and what is read is encoded so.
-use Rattle.std.proofs.Common.{◌≡◌, ℕ, zero, suc, ◌+◌, ◌-◌, ◌*◌, ◌^◌, ◌<◌, ◌≤◌, not, true, List, [], ◌∷◌, ◌++◌, length, take, sum_by, IsTrue, Option, Some, None, Result, Ok, Err, refl, sym, ap, subst, ◌∙◌, append_assoc, add-one, arith}
+use Rattle.std.proofs.Common.{◌≡◌, ℕ, zero, suc, ◌+◌, ◌-◌, ◌*◌, ◌^◌, ◌<◌, ◌≤◌, not, true, List, [], ◌∷◌, ◌++◌, length, length-append, take, drop, sum_by, IsTrue, Option, Some, None, Result, Ok, Err, refl, sym, ap, subst, ◌∙◌, append_assoc, add-one, arith}
 use Rattle.std.specs.Prelude.{All, slice_get}
 use Rattle.std.specs.List.{flat_map}
 use Rattle.std.specs.Int.{w16, to_be_bytes}
@@ -8,7 +8,7 @@ use Rattle.std.specs.Ordering.{nat_cmp}
 use Rattle.std.specs.Cmp.Lexicographic.{slice_cmp}
 use Rattle.std.specs.FinMap.{empty, entries, insert, len, len-entries, len-empty, same_entries_map}
 use Rattle.std.proofs.lemmas.Bool.{and_parts, and_from, not_from_false, le-leb, leb-true}
-use Rattle.std.proofs.lemmas.List.{append-nil}
+use Rattle.std.proofs.lemmas.List.{append-nil, take-append-drop}
 use Rattle.std.proofs.lemmas.List.Elements.{All-nil, All-head, All-tail, All-push, All-same}
 use Rattle.std.proofs.lemmas.List.Concat.{flat_map-cons, flat_map-append}
 use Rattle.std.proofs.lemmas.List.Sums.{sum_by-cons, sum_by-append, sum_by_push}
@@ -112,6 +112,21 @@ one_more m i p e =
     let front = take i (entries m) in
     let pushed : flat_map pair (front ++ p ∷ []) ≡ flat_map pair front ++ pair p = flat_map-append pair front (p ∷ []) ∙ ap (λ (w : List ℕ). flat_map pair front ++ w) (append-nil (pair p)) in
     (within.0, ap (λ (n : ℕ). flat_map pair (take n (entries m))) (add-one i) ∙ ap (flat_map pair) within.1 ∙ pushed)
+
+-- those before a place and the one there are no longer than all
+pub fits_within : (m : AttributeMap) (i : ℕ) (p : Pair) → some_pair p ≡ slice_get (entries m) i → 2 + length (flat_map pair (take i (entries m))) + length (pair p) ≤ length (attributes m)
+unfolding attributes
+fits_within m i p e =
+    let more = one_more m i p e in
+    let split = ap (flat_map pair) (sym (take-append-drop (i + 1) (entries m))) ∙ flat_map-append pair (take (i + 1) (entries m)) (drop (i + 1) (entries m)) in
+    omega (
+      arith,
+      ap length split,
+      ap length more.1,
+      length-append (flat_map pair (take (i + 1) (entries m))) (flat_map pair (drop (i + 1) (entries m))),
+      length-append (flat_map pair (take i (entries m))) (pair p),
+      length-append (to_be_bytes w16 (len m)) (flat_map pair (entries m)),
+    )
 
 past : (ps : List Pair) (i : ℕ) → slice_get ps i ≡ None → take i ps ≡ ps
 past [] zero e = refl

@@ -1,5 +1,5 @@
 -- What blocks that were encoded are read as, and what is known of bytes that are read as one.
-use Rattle.std.proofs.Common.{◌≡◌, ◌≢◌, inl, inr, lit<, ℕ, ◌+◌, ◌<◌, ◌≤◌, ltb, cond, Bool, true, false, List, [], ◌∷◌, ◌++◌, length, get_or, take, drop, bytes_eq, refl, sym, ap, subst, ◌∙◌, append_assoc, arith}
+use Rattle.std.proofs.Common.{◌≡◌, ◌≢◌, inl, inr, lit<, ℕ, ◌+◌, ◌-◌, ◌<◌, ◌≤◌, ltb, cond, Bool, true, false, List, [], ◌∷◌, ◌++◌, length, get_or, take, drop, bytes_eq, refl, sym, ap, subst, ◌∙◌, append_assoc, arith}
 use Rattle.std.specs.Int.{w32, from_be_bytes, to_be_bytes}
 use Rattle.std.proofs.lemmas.List.{length-append, take-append-drop, length-take-le, length-take, length-drop, get_or-take, get_or_past, take_at, drop_at, take-append-le, drop-append-le}
 use Rattle.std.proofs.lemmas.Nat.{from_be_bytes-to_be_bytes_4, be_bytes_4}
@@ -9,9 +9,10 @@ use Rattle.std.proofs.lemmas.Bool.{cases_lt}
 use Rattle.std.proofs.lemmas.Bool.Decides.{nat_tests}
 use Rattle.sha2.specs.Sha256.{sha256}
 use Rattle.sha2.proofs.Facts256.{length-sha256}
-use Rattle.record_codec.specs.declared.block.TheConstants.{PAYLOAD_MAX}
+use Rattle.record_codec.specs.declared.block.TheConstants.{PAYLOAD_MAX, BLOCK_OVERHEAD}
 use Rattle.record_codec.specs.Block.{block, Reading, Whole, Cut, Long, Differs, tested, reading_of}
 
+-- the size of a block
 pub length-block : (kind : ℕ) (payload : List ℕ) → length (block kind payload) ≡ length payload + 37
 unfolding block
 length-block kind payload = omega (arith, length-append (to_be_bytes w32 (length payload) ++ (kind ∷ payload)) (sha256 (kind ∷ payload)), length-append (to_be_bytes w32 (length payload)) (kind ∷ payload), length-sha256 (kind ∷ payload))
@@ -127,6 +128,19 @@ reading_of-same bytes rest kind payload is =
     let split = subst (λ l. IsWhole l kind payload) (sym (take-append-drop n bytes)) whole in
     reading_of-whole (take n bytes ++ rest) kind payload (whole_of-front (take n bytes) rest kind payload (length-take-le n bytes whole.fits) (drop n bytes) split)
 
+-- nor at how much stands behind it
+pub whole_fits : (bytes : List ℕ) (kind : ℕ) (payload : List ℕ) → reading_of bytes ≡ Whole kind payload → length payload + BLOCK_OVERHEAD ≤ length bytes
+whole_fits bytes kind payload is = (whole_of-reading bytes kind payload is).fits
+
+pub reading_of-longer : (bytes rest : List ℕ) (n kind : ℕ) (payload : List ℕ) → reading_of bytes ≡ Whole kind payload → length payload + BLOCK_OVERHEAD ≤ n → n ≤ length bytes
+    → reading_of (take n bytes ++ rest) ≡ Whole kind payload
+reading_of-longer bytes rest n kind payload is le within =
+    let m = length payload + BLOCK_OVERHEAD in
+    let k = n - m in
+    let split : take n bytes ≡ take m bytes ++ take k (drop m bytes) = ap (λ (i : ℕ). take i bytes) (omega arith) ∙ take-add m k bytes in
+    ap (λ (l : List ℕ). reading_of (l ++ rest)) split ∙ ap reading_of (append_assoc (take m bytes) (take k (drop m bytes)) rest)
+    ∙ reading_of-same bytes (take k (drop m bytes) ++ rest) kind payload is
+
 -- bytes below 256 that hold a whole block are encoded as it is
 pub encoded-whole : (bytes : List ℕ) (kind : ℕ) (payload : List ℕ) → ((i : ℕ) → get_or bytes i 0 < 256) → IsWhole bytes kind payload → take (length payload + 37) bytes ≡ block kind payload
 unfolding block
@@ -196,3 +210,24 @@ written-block old now done start kind payload is place digest =
   where
     grouped : (a b c d : List ℕ) → (a ++ b) ++ c ++ d ≡ a ++ (b ++ c ++ d)
     grouped a b c d = simp append_assoc
+
+-- what stands behind a block at the head of some bytes
+behind-block : (kind : ℕ) (payload rest : List ℕ) → drop (length payload + BLOCK_OVERHEAD) (block kind payload ++ rest) ≡ rest
+behind-block kind payload rest = drop_at (block kind payload) rest (length payload + BLOCK_OVERHEAD) (length-block kind payload)
+
+pub one_encoding : (a b : ℕ × List ℕ) (x y : List ℕ) → length a.1 ≤ PAYLOAD_MAX → length b.1 ≤ PAYLOAD_MAX → block a.0 a.1 ++ x ≡ block b.0 b.1 ++ y → (a ≡ b) × (x ≡ y)
+one_encoding a b x y small small' same =
+    let alike = same_whole a.0 b.0 a.1 b.1 (sym (reading_of-block a.0 a.1 x small) ∙ ap reading_of same ∙ reading_of-block b.0 b.1 y small') in
+    let paired : a ≡ b = ap (λ (k : ℕ). (k, a.1)) alike.0 ∙ ap (λ (p : List ℕ). (b.0, p)) alike.1 in
+    let rests = sym (behind-block a.0 a.1 x) ∙ ap (drop (length a.1 + BLOCK_OVERHEAD)) same ∙ ap (λ (p : List ℕ). drop (length p + BLOCK_OVERHEAD) (block b.0 b.1 ++ y)) alike.1 ∙ behind-block b.0 b.1 y in
+    (paired, rests)
+  where
+    same_whole : (k l : ℕ) (p q : List ℕ) → Whole k p ≡ Whole l q → (k ≡ l) × (p ≡ q)
+    same_whole k l p q e = (cc, cc)
+
+-- a block is read wherever it stands
+pub reading_of-anywhere : (bytes front rest payload : List ℕ) (at kind : ℕ) → length front ≡ at → length payload ≤ PAYLOAD_MAX → bytes ≡ front ++ block kind payload ++ rest
+    → reading_of (drop at bytes) ≡ Whole kind payload
+reading_of-anywhere bytes front rest payload at kind long small is =
+    ap (λ (l : List ℕ). reading_of (drop at l)) (is ∙ append_assoc front (block kind payload) rest)
+    ∙ ap reading_of (drop_at front (block kind payload ++ rest) at long) ∙ reading_of-block kind payload rest small

@@ -6,60 +6,48 @@ use Rattle.flowfile_record.specs.Field.{IsBytes, Takes, IsField}
 use Rattle.flowfile_record.specs.Reading.{Reading, ◌>>=◌, ◌then◌, made, byte_at, uint_at, number_at, numbers_at, listed_at}
 use Rattle.flowfile_record.specs.Encoding.{byte, listed, numbers, IsNumber, AreListed, AreNumbers}
 use Rattle.flowfile_record.proofs.FieldLaws.{bind_ok, ok_is, Takes-then, pair_is, made_is, made_from, such_is, byte_is, u16_is, u64_is, number_is, numbers_is, listed_is}
-use Rattle.record_codec.specs.FileReading.{flow_file_at}
-use Rattle.record_codec.specs.FileEncoding.{flow_file, IsFlowFile}
-use Rattle.record_codec.specs.EntryReading.{version_at, begin_at, placed_at, count_at, generator_at, session_at, expire_at, swap_out_at, swap_in_at, entry_at}
-use Rattle.record_codec.specs.EntryEncoding.{placed, generator, counters, session, expire, swap_out, entry, IsPlace, IsMoment, IsPlaced, IsGenerator, IsSession, IsExpire, IsSwapOut, IsEntryOf}
-use Rattle.record_codec.specs.declared.entry.Placed.{Placed}
-use Rattle.flowfile_record.specs.declared.flow_file.FlowFile.{FlowFile}
-use Rattle.record_codec.specs.declared.entry.Generator.{Generator}
+use Rattle.record_codec.specs.ActiveFile.{active_file, active_file_at, IsActiveFile}
+use Rattle.record_codec.specs.EntryReading.{begin_at, count_at, generator_at, session_at, expire_at, swap_out_at, swap_in_at, entry_at}
+use Rattle.record_codec.specs.EntryEncoding.{generator, counters, session, expire, swap_out, entry, IsPlace, IsMoment, IsGenerator, IsSession, IsExpire, IsSwapOut, IsEntryOf}
+use Rattle.record_codec.specs.Version.{version_at}
+use Rattle.flowfile_record.specs.declared.stored.ActiveFile.{ActiveFile}
+use Rattle.flowfile_record.specs.declared.stored.Counted.{Counted}
+use Rattle.record_codec.specs.declared.entry.TheConstants.{NO_GENERATOR}
 use Rattle.record_codec.specs.declared.entry.SessionEntry.{SessionEntry}
 use Rattle.record_codec.specs.declared.entry.ExpireEntry.{ExpireEntry}
 use Rattle.record_codec.specs.declared.entry.SwapOutEntry.{SwapOutEntry}
 use Rattle.record_codec.specs.declared.entry.LogEntry.{LogEntry}
 use Rattle.record_codec.specs.declared.entry.LogEntry.TheVariants.{Begin, Session, Expire, SwapOut, SwapIn}
 use Rattle.record_codec.proofs.Chains.{regroup8}
-use Rattle.record_codec.proofs.FileLaws.{flow_file_is}
+use Rattle.record_codec.proofs.ActiveFiles.{active_file_is}
+use Rattle.record_codec.proofs.Versions.{IsVersion, version_is}
 
 -- ---- parts
 
-placed_parts : Placed → ℕ × FlowFile
-placed_parts p = (p.connection, p.file)
-
-pub placed_is : IsField placed_at placed IsPlaced
-unfolding placed_at placed placed_parts
-placed_is =
-    made_is (λ p. record { connection = p.0; file = p.1 }) placed_parts (uint_at w16 then flow_file_at) _ placed _ IsPlaced
-    (pair_is (uint_at w16) flow_file_at (to_be_bytes w16) flow_file IsPlace IsFlowFile u16_is flow_file_is)
-    (λ p. refl)
-    (λ p. refl)
-    (λ p h. record { connection = h.0; file = h.1 })
-    (λ p h. (h.connection, h.file))
-
-count_is : (place : ℕ) → IsField (count_at place) (to_be_bytes w64) (λ n. IsNumber n × IsTrue (not (place == 65_535) || n == 0))
+count_is : (place : ℕ) → IsField (count_at place) (to_be_bytes w64) (λ n. IsNumber n × IsTrue (not (place == NO_GENERATOR) || n == 0))
 unfolding count_at
-count_is place = such_is (λ n. not (place == 65_535) || n == 0) number_at (to_be_bytes w64) IsNumber number_is
+count_is place = such_is (λ n. not (place == NO_GENERATOR) || n == 0) number_at (to_be_bytes w64) IsNumber number_is
 
 -- what is made of a place and a count
-abbrev made_of : ℕ → ℕ → Option Generator
-made_of place count = cond (eqb place 65_535) None (Some (record { place = place; count = count }))
+abbrev made_of : ℕ → ℕ → Option Counted
+made_of place count = cond (eqb place NO_GENERATOR) None (Some (record { processor = place; count = count }))
 
-encoded_none : (count : ℕ) → (count == 0) ≡ true → generator None ≡ to_be_bytes w16 65_535 ++ to_be_bytes w64 count
+encoded_none : (count : ℕ) → (count == 0) ≡ true → generator None ≡ to_be_bytes w16 NO_GENERATOR ++ to_be_bytes w64 count
 unfolding generator
 encoded_none count e = rw (eqb-true count 0 e) refl
 
-below : (place : ℕ) → place < 2 ^ 16 → eqb place 65_535 ≡ false → place < 65_535
+below : (place : ℕ) → place < 2 ^ 16 → eqb place NO_GENERATOR ≡ false → place < NO_GENERATOR
 below place lt e =
-    let other : place ≢ 65_535 = eqb-false place 65_535 e in
+    let other : place ≢ NO_GENERATOR = eqb-false place NO_GENERATOR e in
     omega arith
 
-generator_encoded : (place count : ℕ) (none : Bool) → place < 2 ^ 16 → IsNumber count → eqb place 65_535 ≡ none → (not none || count == 0) ≡ true
-    → (generator (cond none None (Some (record { place = place; count = count }))) ≡ to_be_bytes w16 place ++ to_be_bytes w64 count) × IsGenerator (cond none None (Some (record { place = place; count = count })))
+generator_encoded : (place count : ℕ) (none : Bool) → place < 2 ^ 16 → IsNumber count → eqb place NO_GENERATOR ≡ none → (not none || count == 0) ≡ true
+    → (generator (cond none None (Some (record { processor = place; count = count }))) ≡ to_be_bytes w16 place ++ to_be_bytes w64 count) × IsGenerator (cond none None (Some (record { processor = place; count = count })))
 unfolding generator
-generator_encoded place count true lt is e h = (ap (λ (n : ℕ). to_be_bytes w16 n ++ to_be_bytes w64 0) (sym (eqb-true place 65_535 e)) ∙ ap (λ (n : ℕ). to_be_bytes w16 place ++ to_be_bytes w64 n) (sym (eqb-true count 0 h)), tt)
+generator_encoded place count true lt is e h = (ap (λ (n : ℕ). to_be_bytes w16 n ++ to_be_bytes w64 0) (sym (eqb-true place NO_GENERATOR e)) ∙ ap (λ (n : ℕ). to_be_bytes w16 place ++ to_be_bytes w64 n) (sym (eqb-true count 0 h)), tt)
 generator_encoded place count false lt is e h = (refl, (below place lt e, is))
 
-generator_takes : (bytes : List ℕ) (x : Option Generator × List ℕ) → IsBytes bytes → generator_at bytes ≡ Ok x → Takes bytes (generator x.0) x.1 × IsGenerator x.0
+generator_takes : (bytes : List ℕ) (x : Option Counted × List ℕ) → IsBytes bytes → generator_at bytes ≡ Ok x → Takes bytes (generator x.0) x.1 × IsGenerator x.0
 unfolding generator_at
 generator_takes bytes x fits e =
     let a = bind_ok (uint_at w16 bytes) (λ place. count_at place.0 place.1 >>= λ count. Ok (made_of place.0 count.0, count.1)) x e in
@@ -67,24 +55,24 @@ generator_takes bytes x fits e =
     let place = u16_is.takes bytes a.0 fits a.1 in
     let count = (count_is a.0.0).takes a.0.1 b.0 place.0.rest_fits b.1 in
     let both = Takes-then bytes (to_be_bytes w16 a.0.0) a.0.1 (to_be_bytes w64 b.0.0) b.0.1 place.0 count.0 in
-    let said = generator_encoded a.0.0 b.0.0 (eqb a.0.0 65_535) place.1 count.1.0 refl count.1.1 in
-    subst (λ (y : Option Generator × List ℕ). Takes bytes (generator y.0) y.1 × IsGenerator y.0) (ok_is (made_of a.0.0 b.0.0, b.0.1) x b.2)
+    let said = generator_encoded a.0.0 b.0.0 (eqb a.0.0 NO_GENERATOR) place.1 count.1.0 refl count.1.1 in
+    subst (λ (y : Option Counted × List ℕ). Takes bytes (generator y.0) y.1 × IsGenerator y.0) (ok_is (made_of a.0.0 b.0.0, b.0.1) x b.2)
     (subst (λ (w : List ℕ). Takes bytes w b.0.1) (sym said.0) both, said.1)
 
-read_again : (place count : ℕ) (rest : List ℕ) → place < 2 ^ 16 → IsNumber count → (not (eqb place 65_535) || count == 0) ≡ true
+read_again : (place count : ℕ) (rest : List ℕ) → place < 2 ^ 16 → IsNumber count → (not (eqb place NO_GENERATOR) || count == 0) ≡ true
     → generator_at ((to_be_bytes w16 place ++ to_be_bytes w64 count) ++ rest) ≡ Ok (made_of place count, rest)
 unfolding generator_at
 read_again place count rest lt is h =
     let regrouped : (to_be_bytes w16 place ++ to_be_bytes w64 count) ++ rest ≡ to_be_bytes w16 place ++ (to_be_bytes w64 count ++ rest) = append_assoc (to_be_bytes w16 place) (to_be_bytes w64 count) rest in
     ap generator_at regrouped ∙ rw (u16_is.again place (to_be_bytes w64 count ++ rest) lt, (count_is place).again count rest (is, h)) refl
 
-generator_again : (g : Option Generator) (rest : List ℕ) → IsGenerator g → generator_at (generator g ++ rest) ≡ Ok (g, rest)
+generator_again : (g : Option Counted) (rest : List ℕ) → IsGenerator g → generator_at (generator g ++ rest) ≡ Ok (g, rest)
 unfolding generator
-generator_again None rest h = read_again 65_535 0 rest (omega arith) (omega arith) refl
+generator_again None rest h = read_again NO_GENERATOR 0 rest (omega arith) (omega arith) refl
 generator_again (Some g) rest h =
-    let other : eqb g.place 65_535 ≡ false = ne_eqb g.place 65_535 (λ e. omega (arith, h.0, e)) in
-    let passes : (not (eqb g.place 65_535) || g.count == 0) ≡ true = rw other refl in
-    read_again g.place g.count rest (omega (arith, h.0)) h.1 passes ∙ rw other refl
+    let other : eqb g.processor NO_GENERATOR ≡ false = ne_eqb g.processor NO_GENERATOR (λ e. omega (arith, h.0, e)) in
+    let passes : (not (eqb g.processor NO_GENERATOR) || g.count == 0) ≡ true = rw other refl in
+    read_again g.processor g.count rest (omega (arith, h.0)) h.1 passes ∙ rw other refl
 
 generator_is : IsField generator_at generator IsGenerator
 generator_is = record { takes = generator_takes; again = generator_again }
@@ -92,7 +80,7 @@ generator_is = record { takes = generator_takes; again = generator_again }
 -- ---- the values of entries
 
 SessionParts : Type 0
-SessionParts = ℕ × (ℕ × (List ℕ × (List Placed × (ℕ × (ℕ × (ℕ × Option Generator))))))
+SessionParts = ℕ × (ℕ × (List ℕ × (List ActiveFile × (ℕ × (ℕ × (ℕ × Option Counted))))))
 
 session_parts : SessionEntry → SessionParts
 unfolding SessionParts
@@ -104,10 +92,10 @@ session_is =
     let seven = pair_is number_at generator_at (to_be_bytes w64) generator IsNumber IsGenerator number_is generator_is in
     let six = pair_is number_at (number_at then generator_at) (to_be_bytes w64) _ IsNumber _ number_is seven in
     let five = pair_is number_at (number_at then number_at then generator_at) (to_be_bytes w64) _ IsNumber _ number_is six in
-    let four = pair_is (listed_at placed_at) (number_at then number_at then number_at then generator_at) (listed placed) _ (AreListed IsPlaced) _ (listed_is placed_at placed IsPlaced placed_is) five in
-    let three = pair_is numbers_at (listed_at placed_at then number_at then number_at then number_at then generator_at) numbers _ AreNumbers _ numbers_is four in
-    let two = pair_is (uint_at w64) (numbers_at then listed_at placed_at then number_at then number_at then number_at then generator_at) (to_be_bytes w64) _ IsMoment _ u64_is three in
-    let one = pair_is (uint_at w16) (uint_at w64 then numbers_at then listed_at placed_at then number_at then number_at then number_at then generator_at) (to_be_bytes w16) _ IsPlace _ u16_is two in
+    let four = pair_is (listed_at active_file_at) (number_at then number_at then number_at then generator_at) (listed active_file) _ (AreListed IsActiveFile) _ (listed_is active_file_at active_file IsActiveFile active_file_is) five in
+    let three = pair_is numbers_at (listed_at active_file_at then number_at then number_at then number_at then generator_at) numbers _ AreNumbers _ numbers_is four in
+    let two = pair_is (uint_at w64) (numbers_at then listed_at active_file_at then number_at then number_at then number_at then generator_at) (to_be_bytes w64) _ IsMoment _ u64_is three in
+    let one = pair_is (uint_at w16) (uint_at w64 then numbers_at then listed_at active_file_at then number_at then number_at then number_at then generator_at) (to_be_bytes w16) _ IsPlace _ u16_is two in
     made_is (λ s. record {
       processor = s.0;
       moment = s.1.0;
@@ -119,9 +107,9 @@ session_is =
       generator = s.1.1.1.1.1.1.1;
     })
     session_parts
-    (uint_at w16 then uint_at w64 then numbers_at then listed_at placed_at then number_at then number_at then number_at then generator_at) _ session _ IsSession one
+    (uint_at w16 then uint_at w64 then numbers_at then listed_at active_file_at then number_at then number_at then number_at then generator_at) _ session _ IsSession one
     (λ s. refl)
-    (λ s. regroup8 (to_be_bytes w16 s.0) (to_be_bytes w64 s.1.0) (numbers s.1.1.0) (listed placed s.1.1.1.0) (to_be_bytes w64 s.1.1.1.1.0) (to_be_bytes w64 s.1.1.1.1.1.0) (to_be_bytes w64 s.1.1.1.1.1.1.0) (generator s.1.1.1.1.1.1.1))
+    (λ s. regroup8 (to_be_bytes w16 s.0) (to_be_bytes w64 s.1.0) (numbers s.1.1.0) (listed active_file s.1.1.1.0) (to_be_bytes w64 s.1.1.1.1.0) (to_be_bytes w64 s.1.1.1.1.1.0) (to_be_bytes w64 s.1.1.1.1.1.1.0) (generator s.1.1.1.1.1.1.1))
     (λ s h. record {
       processor = h.0;
       moment = h.1.0;
@@ -164,13 +152,6 @@ swap_out_is =
     (λ s h. (h.connection, (h.batch, h.numbers)))
 
 -- ---- entries by kind
-
-IsVersion : ℕ → Type 0
-IsVersion version = (version < 2 ^ 8) × IsTrue (version == 1)
-
-version_is : IsField version_at byte IsVersion
-unfolding version_at IsVersion
-version_is = such_is (λ version. version == 1) byte_at byte (λ n. n < 2 ^ 8) byte_is
 
 begin_has : (a : ℕ × ℕ) → IsVersion a.0 × IsNumber a.1 → (entry (Begin a.1) ≡ byte a.0 ++ to_be_bytes w64 a.1) × IsEntryOf 1 (Begin a.1)
 unfolding entry IsVersion

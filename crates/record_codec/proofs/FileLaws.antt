@@ -10,12 +10,14 @@ use Rattle.flowfile_record.specs.declared.TheConstants.{CONTENT_MAX}
 use Rattle.flowfile_record.specs.declared.content.ContentRef.{ContentRef}
 use Rattle.flowfile_record.specs.declared.flow_file.FlowFile.{FlowFile}
 use Rattle.flowfile_record.proofs.FieldLaws.{pair_is, made_is, such_is, said_is, u32_is, u64_is, number_is, digest_is}
+use Rattle.record_codec.specs.declared.content.TheConstants.{SLOT_LIMIT}
+use Rattle.flowfile_record.specs.declared.limits.TheConstants.{DIGEST_SIZE}
 use Rattle.record_codec.specs.FileReading.{attributes_at, slot_at, size_at, content_ref_at, file_number_at, flow_file_at}
 use Rattle.record_codec.specs.FileEncoding.{attributes, content_ref, IsContentRef, flow_file, IsFlowFile}
 use Rattle.record_codec.proofs.AttributeLaws.{attributes_is}
 
 abbrev IsSlot : ℕ → Type 0
-IsSlot slot = slot < 65_536
+IsSlot slot = slot < SLOT_LIMIT
 
 abbrev IsSize : ℕ → Type 0
 IsSize size = size ≤ CONTENT_MAX
@@ -31,8 +33,8 @@ raw digest = digest
 
 slot_is : IsField slot_at (to_be_bytes w32) IsSlot
 unfolding slot_at
-slot_is = said_is slot_at (to_be_bytes w32) (λ n. (n < 2 ^ 32) × IsTrue (nat_lt n 65_536)) IsSlot (such_is (λ n. nat_lt n 65_536) (uint_at w32) (to_be_bytes w32) (λ n. n < 2 ^ 32) u32_is)
-    (λ n h. ltb-true n 65_536 h.1) (λ n h. (omega arith, lt-ltb n 65_536 h))
+slot_is = said_is slot_at (to_be_bytes w32) (λ n. (n < 2 ^ 32) × IsTrue (nat_lt n SLOT_LIMIT)) IsSlot (such_is (λ n. nat_lt n SLOT_LIMIT) (uint_at w32) (to_be_bytes w32) (λ n. n < 2 ^ 32) u32_is)
+    (λ n h. ltb-true n SLOT_LIMIT h.1) (λ n h. (omega arith, lt-ltb n SLOT_LIMIT h))
 
 size_is : IsField size_at (to_be_bytes w64) IsSize
 unfolding size_at
@@ -55,10 +57,10 @@ content_parts c = (c.slot, (c.offset, (c.size, c.digest)))
 pub content_ref_is : IsField content_ref_at content_ref IsContentRef
 unfolding content_ref_at content_ref content_parts
 content_ref_is =
-    let three = pair_is size_at (raw_at 32) (to_be_bytes w64) raw IsSize IsDigest size_is digest_is in
-    let two = pair_is number_at (size_at then raw_at 32) (to_be_bytes w64) _ IsNumber _ number_is three in
-    let one = pair_is slot_at (number_at then size_at then raw_at 32) (to_be_bytes w32) _ IsSlot _ slot_is two in
-    made_is (λ c. record { slot = c.0; offset = c.1.0; size = c.1.1.0; digest = c.1.1.1 }) content_parts (slot_at then number_at then size_at then raw_at 32) _ content_ref _ IsContentRef one
+    let three = pair_is size_at (raw_at DIGEST_SIZE) (to_be_bytes w64) raw IsSize IsDigest size_is digest_is in
+    let two = pair_is number_at (size_at then raw_at DIGEST_SIZE) (to_be_bytes w64) _ IsNumber _ number_is three in
+    let one = pair_is slot_at (number_at then size_at then raw_at DIGEST_SIZE) (to_be_bytes w32) _ IsSlot _ slot_is two in
+    made_is (λ c. record { slot = c.0; offset = c.1.0; size = c.1.1.0; digest = c.1.1.1 }) content_parts (slot_at then number_at then size_at then raw_at DIGEST_SIZE) _ content_ref _ IsContentRef one
     (λ c. refl)
     (λ c. simp append_assoc)
     (λ c h. record { slot = h.0; offset = h.1.0; size = h.1.1.0; digest = h.1.1.1 })

@@ -6,7 +6,7 @@ use Rattle.flowfile_record.specs.Reading.{Reading, ◌then◌, uint_at, number_a
 use Rattle.flowfile_record.specs.Encoding.{IsNumber}
 use Rattle.flowfile_record.specs.declared.stored.SwapBatch.{SwapBatch}
 use Rattle.flowfile_record.proofs.FieldLaws.{pair_is, made_from, u16_is, u64_is, number_is}
-use Rattle.record_codec.specs.Snapshot.{batch, IsBatch, ending, IsEnding}
+use Rattle.record_codec.specs.Snapshot.{swap_batch, IsBatch, ending, IsEnding}
 use Rattle.record_codec.specs.SnapshotReading.{batch_at, ending_at}
 
 -- the fields, one behind the other
@@ -28,9 +28,9 @@ AreFields b = (b.0 < 2 ^ 16) × (IsNumber b.1.0 × (IsNumber b.1.1.0 × ((b.1.1.
 fields_are : IsField fields_at encoded AreFields
 fields_are = pair_is _ _ _ _ _ _ u16_is (pair_is _ _ _ _ _ _ number_is (pair_is _ _ _ _ _ _ number_is (pair_is _ _ _ _ _ _ u64_is u64_is)))
 
-pub batch_is : IsField batch_at batch IsBatch
-unfolding batch_at batch
-batch_is = made_from batch_of fields_at encoded batch AreFields IsBatch fields_are
+pub batch_is : IsField batch_at swap_batch IsBatch
+unfolding batch_at swap_batch
+batch_is = made_from batch_of fields_at encoded swap_batch AreFields IsBatch fields_are
     (λ a has. (refl, record { connection = has.0; batch = has.1.0; files = has.1.1.0; bytes = has.1.1.1.0; encoded = has.1.1.1.1 }))
     (λ b has. ((b.connection, (b.batch, (b.files, (b.bytes, b.encoded)))), (has.connection, (has.batch, (has.files, (has.bytes, has.encoded)))), refl))
 

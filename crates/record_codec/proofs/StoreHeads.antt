@@ -1,25 +1,24 @@
 -- What is read of a head is encoded so, and what is encoded so is read again.
-use Rattle.std.proofs.Common.{◌≡◌, ℕ, ◌^◌, ◌<◌, ◌==◌, nat_lt, List, ◌++◌, IsTrue, refl, sym, ap, ◌∙◌, append_assoc, eq-eqb, arith}
+use Rattle.std.proofs.Common.{◌≡◌, ℕ, ◌^◌, ◌<◌, nat_lt, List, ◌++◌, IsTrue, refl, sym, ap, ◌∙◌, append_assoc, arith}
 use Rattle.std.specs.Int.{w64, to_be_bytes}
 use Rattle.std.proofs.lemmas.Bool.{ltb-true, lt-ltb, eqb-true}
 use Rattle.flowfile_record.specs.Field.{IsField}
-use Rattle.flowfile_record.specs.Reading.{Reading, ◌then◌, byte_at, raw_at, uint_at, number_at, text_at, numbers_at}
+use Rattle.flowfile_record.specs.Reading.{Reading, ◌then◌, raw_at, uint_at, number_at, text_at, numbers_at}
 use Rattle.flowfile_record.specs.Encoding.{byte, text, numbers, IsNumber, IsText, AreNumbers, IsDigest}
-use Rattle.flowfile_record.proofs.FieldLaws.{pair_is, made_from, such_is, said_is, byte_is, digest_is, u64_is, number_is, text_is, listed_is, numbers_is}
+use Rattle.flowfile_record.proofs.FieldLaws.{pair_is, made_from, such_is, said_is, digest_is, u64_is, number_is, text_is, listed_is, numbers_is}
+use Rattle.flowfile_record.specs.declared.limits.TheConstants.{DIGEST_SIZE, STORE_LIMIT}
 use Rattle.record_codec.specs.declared.head.Head.{Head}
 use Rattle.record_codec.specs.StoreHead.{head, IsHead}
-use Rattle.record_codec.specs.StoreHeadReading.{version_at, store_at, head_at}
+use Rattle.record_codec.specs.StoreHeadReading.{store_at, head_at}
+use Rattle.record_codec.specs.Version.{version_at}
+use Rattle.record_codec.specs.declared.TheConstants.{FORMAT_VERSION}
+use Rattle.record_codec.proofs.Versions.{IsVersion, version_is}
 use Rattle.record_codec.specs.Texts.{texts, AreTexts, texts_at}
 
-version_is : IsField version_at byte (λ v. v ≡ 1)
-unfolding version_at
-version_is = said_is version_at byte (λ v. (v < 2 ^ 8) × IsTrue (v == 1)) (λ v. v ≡ 1) (such_is (λ v. v == 1) byte_at byte (λ v. v < 2 ^ 8) byte_is)
-    (λ v h. eqb-true v 1 h.1) (λ v e. (omega (arith, e), eq-eqb v 1 e))
-
-store_is : IsField store_at (to_be_bytes w64) (λ n. n < 2 ^ 60)
+store_is : IsField store_at (to_be_bytes w64) (λ n. n < STORE_LIMIT)
 unfolding store_at
-store_is = said_is store_at (to_be_bytes w64) (λ n. (n < 2 ^ 64) × IsTrue (nat_lt n (2 ^ 60))) (λ n. n < 2 ^ 60) (such_is (λ n. nat_lt n (2 ^ 60)) (uint_at w64) (to_be_bytes w64) (λ n. n < 2 ^ 64) u64_is)
-    (λ n h. ltb-true n (2 ^ 60) h.1) (λ n h. (omega arith, lt-ltb n (2 ^ 60) h))
+store_is = said_is store_at (to_be_bytes w64) (λ n. (n < 2 ^ 64) × IsTrue (nat_lt n STORE_LIMIT)) (λ n. n < STORE_LIMIT) (such_is (λ n. nat_lt n STORE_LIMIT) (uint_at w64) (to_be_bytes w64) (λ n. n < 2 ^ 64) u64_is)
+    (λ n h. ltb-true n STORE_LIMIT h.1) (λ n h. (omega arith, lt-ltb n STORE_LIMIT h))
 
 texts_is : IsField texts_at texts AreTexts
 texts_is = listed_is text_at text IsText text_is
@@ -41,7 +40,7 @@ head_of h = record {
 }
 
 abbrev fields_at : Reading Fields
-fields_at = version_at then store_at then raw_at 32 then texts_at then numbers_at then number_at then number_at then number_at then number_at
+fields_at = version_at then store_at then raw_at DIGEST_SIZE then texts_at then numbers_at then number_at then number_at then number_at then number_at
 
 -- the fields behind the version
 abbrev encoded_behind : Fields → List ℕ
@@ -55,15 +54,15 @@ encoded h = byte h.0 ++ encoded_behind h
 regroup : (a b c d e f g h i : List ℕ) → a ++ b ++ c ++ d ++ e ++ f ++ g ++ h ++ i ≡ a ++ (b ++ (c ++ (d ++ (e ++ (f ++ (g ++ (h ++ i)))))))
 regroup a b c d e f g h i = simp append_assoc
 
-encoded_so : (h : Fields) → h.0 ≡ 1 → head (head_of h) ≡ encoded h
+encoded_so : (h : Fields) → h.0 ≡ FORMAT_VERSION → head (head_of h) ≡ encoded h
 unfolding head
 encoded_so h version =
-    regroup (byte 1) (to_be_bytes w64 h.1.0) h.1.1.0 (texts h.1.1.1.0) (numbers h.1.1.1.1.0) (to_be_bytes w64 h.1.1.1.1.1.0) (to_be_bytes w64 h.1.1.1.1.1.1.0) (to_be_bytes w64 h.1.1.1.1.1.1.1.0) (to_be_bytes w64 h.1.1.1.1.1.1.1.1)
+    regroup (byte FORMAT_VERSION) (to_be_bytes w64 h.1.0) h.1.1.0 (texts h.1.1.1.0) (numbers h.1.1.1.1.0) (to_be_bytes w64 h.1.1.1.1.1.0) (to_be_bytes w64 h.1.1.1.1.1.1.0) (to_be_bytes w64 h.1.1.1.1.1.1.1.0) (to_be_bytes w64 h.1.1.1.1.1.1.1.1)
     ∙ ap (λ (v : ℕ). byte v ++ encoded_behind h) (sym version)
 
 abbrev AreFields : Fields → Type 0
 AreFields h =
-    (h.0 ≡ 1) × ((h.1.0 < 2 ^ 60) × (IsDigest h.1.1.0 × (AreTexts h.1.1.1.0 × (AreNumbers h.1.1.1.1.0
+    IsVersion h.0 × ((h.1.0 < STORE_LIMIT) × (IsDigest h.1.1.0 × (AreTexts h.1.1.1.0 × (AreNumbers h.1.1.1.1.0
     × (IsNumber h.1.1.1.1.1.0 × (IsNumber h.1.1.1.1.1.1.0 × (IsNumber h.1.1.1.1.1.1.1.0 × IsNumber h.1.1.1.1.1.1.1.1)))))))
 
 fields_are : IsField fields_at encoded AreFields
@@ -75,7 +74,7 @@ pub head_is : IsField head_at head IsHead
 unfolding head_at
 head_is = made_from head_of fields_at encoded head AreFields IsHead fields_are
     (λ a has. (
-      encoded_so a has.0,
+      encoded_so a (eqb-true a.0 FORMAT_VERSION has.0.1),
       record {
         store = has.1.0;
         flow = has.1.1.0;
@@ -88,7 +87,22 @@ head_is = made_from head_of fields_at encoded head AreFields IsHead fields_are
       },
     ))
     (λ b has. (
-      (1, (b.store, (b.flow, (b.connections, (b.counts, (b.next_number, (b.next_arrival, (b.last_event, b.next_batch)))))))),
-      (refl, (has.store, (has.flow, (has.connections, (has.counts, (has.next_number, (has.next_arrival, (has.last_event, has.next_batch)))))))),
+      (FORMAT_VERSION, (b.store, (b.flow, (b.connections, (b.counts, (b.next_number, (b.next_arrival, (b.last_event, b.next_batch)))))))),
+      ((omega arith, refl), (has.store, (has.flow, (has.connections, (has.counts, (has.next_number, (has.next_arrival, (has.last_event, has.next_batch)))))))),
       refl,
     ))
+
+-- a head that was written in two parts
+regroup_parts : (out a b c d e f g h i : List ℕ) → (out ++ (a ++ b ++ c ++ d ++ e)) ++ (f ++ g ++ h ++ i) ≡ out ++ (a ++ b ++ c ++ d ++ e ++ f ++ g ++ h ++ i)
+regroup_parts out a b c d e f g h i = simp append_assoc
+
+pub head_written : (h : Head) (old now lists all : List ℕ) (connections : List (List ℕ)) (counts : List ℕ) → now ≡ old → connections ≡ h.connections → counts ≡ h.counts
+    → lists ≡ now ++ (byte FORMAT_VERSION ++ to_be_bytes w64 h.store ++ h.flow ++ texts connections ++ numbers counts)
+    → all ≡ lists ++ (to_be_bytes w64 h.next_number ++ to_be_bytes w64 h.next_arrival ++ to_be_bytes w64 h.last_event ++ to_be_bytes w64 h.next_batch)
+    → all ≡ old ++ head h
+unfolding head
+head_written h old now lists all connections counts same cs ns first second =
+    let counters = to_be_bytes w64 h.next_number ++ to_be_bytes w64 h.next_arrival ++ to_be_bytes w64 h.last_event ++ to_be_bytes w64 h.next_batch in
+    let front : List (List ℕ) → List ℕ → List ℕ = λ c n. byte FORMAT_VERSION ++ to_be_bytes w64 h.store ++ h.flow ++ texts c ++ numbers n in
+    second ∙ ap (λ (l : List ℕ). l ++ counters) (first ∙ ap (λ (o : List ℕ). o ++ front connections counts) same ∙ ap (λ (c : List (List ℕ)). old ++ front c counts) cs ∙ ap (λ (n : List ℕ). old ++ front h.connections n) ns)
+    ∙ regroup_parts old (byte FORMAT_VERSION) (to_be_bytes w64 h.store) h.flow (texts h.connections) (numbers h.counts) (to_be_bytes w64 h.next_number) (to_be_bytes w64 h.next_arrival) (to_be_bytes w64 h.last_event) (to_be_bytes w64 h.next_batch)

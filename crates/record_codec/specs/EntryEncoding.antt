@@ -2,9 +2,10 @@
 use Rattle.std.specs.Prelude.{◌≡◌, ℕ, ◌<◌, ◌^◌, List, ◌++◌, Option, Some, None}
 use Rattle.std.specs.Int.{w16, w64, to_be_bytes}
 use Rattle.flowfile_record.specs.Encoding.{byte, listed, numbers, IsNumber, AreListed, AreNumbers}
-use Rattle.record_codec.specs.FileEncoding.{flow_file, IsFlowFile}
-use Rattle.record_codec.specs.declared.entry.Placed.{Placed}
-use Rattle.record_codec.specs.declared.entry.Generator.{Generator}
+use Rattle.flowfile_record.specs.declared.stored.Counted.{Counted}
+use Rattle.record_codec.specs.ActiveFile.{active_file, IsActiveFile}
+use Rattle.record_codec.specs.declared.TheConstants.{FORMAT_VERSION}
+use Rattle.record_codec.specs.declared.entry.TheConstants.{NO_GENERATOR}
 use Rattle.record_codec.specs.declared.entry.SessionEntry.{SessionEntry}
 use Rattle.record_codec.specs.declared.entry.ExpireEntry.{ExpireEntry}
 use Rattle.record_codec.specs.declared.entry.SwapOutEntry.{SwapOutEntry}
@@ -13,20 +14,17 @@ use Rattle.record_codec.specs.declared.entry.LogEntry.TheVariants.{Begin, Sessio
 
 -- ---- encodings
 
-unfoldable pub placed : Placed → List ℕ
-placed p = to_be_bytes w16 p.connection ++ flow_file p.file
-
--- the place and the count; for none the greatest place, and 0
-unfoldable pub generator : Option Generator → List ℕ
-generator None = to_be_bytes w16 65_535 ++ to_be_bytes w64 0
-generator (Some g) = to_be_bytes w16 g.place ++ to_be_bytes w64 g.count
+-- the place of the processor and its count; for none the place that no processor has, and 0
+unfoldable pub generator : Option Counted → List ℕ
+generator None = to_be_bytes w16 NO_GENERATOR ++ to_be_bytes w64 0
+generator (Some g) = to_be_bytes w16 g.processor ++ to_be_bytes w64 g.count
 
 -- the counters behind a session
 unfoldable pub counters : SessionEntry → List ℕ
 counters s = to_be_bytes w64 s.next_number ++ to_be_bytes w64 s.next_arrival ++ to_be_bytes w64 s.last_event ++ generator s.generator
 
 unfoldable pub session : SessionEntry → List ℕ
-session s = to_be_bytes w16 s.processor ++ to_be_bytes w64 s.moment ++ numbers s.gone ++ listed placed s.placed ++ counters s
+session s = to_be_bytes w16 s.processor ++ to_be_bytes w64 s.moment ++ numbers s.gone ++ listed active_file s.placed ++ counters s
 
 unfoldable pub expire : ExpireEntry → List ℕ
 expire e = to_be_bytes w16 e.connection ++ to_be_bytes w64 e.moment ++ numbers e.numbers ++ to_be_bytes w64 e.last_event
@@ -34,9 +32,9 @@ expire e = to_be_bytes w16 e.connection ++ to_be_bytes w64 e.moment ++ numbers e
 unfoldable pub swap_out : SwapOutEntry → List ℕ
 swap_out s = to_be_bytes w16 s.connection ++ to_be_bytes w64 s.batch ++ numbers s.numbers
 
--- the version of the log comes first
+-- the version of the format comes first in a log
 unfoldable pub entry : LogEntry → List ℕ
-entry (Begin log) = byte 1 ++ to_be_bytes w64 log
+entry (Begin log) = byte FORMAT_VERSION ++ to_be_bytes w64 log
 entry (Session s) = session s
 entry (Expire e) = expire e
 entry (SwapOut s) = swap_out s
@@ -57,19 +55,15 @@ IsPlace place = place < 2 ^ 16
 abbrev pub IsMoment : ℕ → Type 0
 IsMoment moment = moment < 2 ^ 64
 
-pub record IsPlaced (p : Placed) : Type 0 where
-  pub connection : IsPlace p.connection
-  pub file : IsFlowFile p.file
-
-abbrev pub IsGenerator : Option Generator → Type 0
+abbrev pub IsGenerator : Option Counted → Type 0
 IsGenerator None = Unit {0}
-IsGenerator (Some g) = (g.place < 65_535) × IsNumber g.count
+IsGenerator (Some g) = (g.processor < NO_GENERATOR) × IsNumber g.count
 
 pub record IsSession (s : SessionEntry) : Type 0 where
   pub processor : IsPlace s.processor
   pub moment : IsMoment s.moment
   pub gone : AreNumbers s.gone
-  pub placed : AreListed IsPlaced s.placed
+  pub placed : AreListed IsActiveFile s.placed
   pub next_number : IsNumber s.next_number
   pub next_arrival : IsNumber s.next_arrival
   pub last_event : IsNumber s.last_event

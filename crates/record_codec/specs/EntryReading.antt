@@ -1,34 +1,29 @@
 -- Reading the entries of a log from left to right, up to the first field that can't be read.
 use Rattle.std.specs.Prelude.{ℕ, ◌==◌, ◌||◌, not, length, Option, Some, None, Ok, Err, if◌then◌else◌}
-use Rattle.std.specs.Int.{w16, w64}
-use Rattle.flowfile_record.specs.Reading.{Reading, ◌>>=◌, ◌then◌, made, such, byte_at, uint_at, number_at, numbers_at, listed_at}
-use Rattle.record_codec.specs.FileReading.{flow_file_at}
-use Rattle.record_codec.specs.declared.entry.Placed.{Placed}
-use Rattle.record_codec.specs.declared.entry.Generator.{Generator}
+use Rattle.std.specs.Int.{w16, w32, w64}
+use Rattle.flowfile_record.specs.Reading.{Reading, ◌>>=◌, ◌then◌, made, such, uint_at, number_at, numbers_at, listed_at}
+use Rattle.flowfile_record.specs.declared.stored.Counted.{Counted}
+use Rattle.record_codec.specs.ActiveFile.{active_file_at}
+use Rattle.record_codec.specs.Version.{version_at}
+use Rattle.record_codec.specs.declared.entry.TheConstants.{NO_GENERATOR}
 use Rattle.record_codec.specs.declared.entry.SessionEntry.{SessionEntry}
 use Rattle.record_codec.specs.declared.entry.ExpireEntry.{ExpireEntry}
 use Rattle.record_codec.specs.declared.entry.SwapOutEntry.{SwapOutEntry}
 use Rattle.record_codec.specs.declared.entry.LogEntry.{LogEntry}
 use Rattle.record_codec.specs.declared.entry.LogEntry.TheVariants.{Begin, Session, Expire, SwapOut, SwapIn}
 
-unfoldable pub version_at : Reading ℕ
-version_at = such (λ version. version == 1) byte_at
-
 unfoldable pub begin_at : Reading LogEntry
 begin_at = made (λ b. Begin b.1) (version_at then number_at)
 
-unfoldable pub placed_at : Reading Placed
-placed_at = made (λ p. record { connection = p.0; file = p.1 }) (uint_at w16 then flow_file_at)
-
 -- the count behind the place of a generator, which is 0 for none
 unfoldable pub count_at : ℕ → Reading ℕ
-count_at place = such (λ count. not (place == 65_535) || count == 0) number_at
+count_at processor = such (λ count. not (processor == NO_GENERATOR) || count == 0) number_at
 
-unfoldable pub generator_at : Reading (Option Generator)
+unfoldable pub generator_at : Reading (Option Counted)
 generator_at bytes = do
-  place ← uint_at w16 bytes
-  count ← count_at place.0 place.1
-  Ok ((if place.0 == 65_535 then None else Some (record { place = place.0; count = count.0 })), count.1)
+  processor ← uint_at w16 bytes
+  count ← count_at processor.0 processor.1
+  Ok ((if processor.0 == NO_GENERATOR then None else Some (record { processor = processor.0; count = count.0 })), count.1)
 
 unfoldable pub session_at : Reading SessionEntry
 session_at = made (λ s. record {
@@ -41,7 +36,7 @@ session_at = made (λ s. record {
   last_event = s.1.1.1.1.1.1.0;
   generator = s.1.1.1.1.1.1.1;
 })
-    (uint_at w16 then uint_at w64 then numbers_at then listed_at placed_at then number_at then number_at then number_at then generator_at)
+    (uint_at w16 then uint_at w64 then numbers_at then listed_at active_file_at then number_at then number_at then number_at then generator_at)
 
 unfoldable pub expire_at : Reading ExpireEntry
 expire_at = made (λ e. record { connection = e.0; moment = e.1.0; numbers = e.1.1.0; last_event = e.1.1.1 })
@@ -61,4 +56,22 @@ entry_at kind bytes =
     else if kind == 3 then made Expire expire_at bytes
     else if kind == 4 then made SwapOut swap_out_at bytes
     else if kind == 5 then swap_in_at bytes
+    else Err (length bytes)
+
+-- the fields before the first list of an entry, and the list's count
+abbrev pub session_front_at : Reading (ℕ × (ℕ × ℕ))
+session_front_at = uint_at w16 then uint_at w64 then uint_at w32
+
+abbrev pub expire_front_at : Reading (ℕ × (ℕ × ℕ))
+expire_front_at = uint_at w16 then uint_at w64 then uint_at w32
+
+abbrev pub swap_out_front_at : Reading (ℕ × (ℕ × ℕ))
+swap_out_front_at = uint_at w16 then number_at then uint_at w32
+
+-- What is read before memory is taken. Entries of the other kinds take none.
+abbrev pub front_at : ℕ → Reading (ℕ × (ℕ × ℕ))
+front_at kind bytes =
+    if kind == 2 then session_front_at bytes
+    else if kind == 3 then expire_front_at bytes
+    else if kind == 4 then swap_out_front_at bytes
     else Err (length bytes)

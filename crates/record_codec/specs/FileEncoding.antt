@@ -8,6 +8,7 @@ use Rattle.flowfile_record.specs.Attributes.{AttributeMap, IsWithinLimits}
 use Rattle.flowfile_record.specs.declared.TheConstants.{CONTENT_MAX}
 use Rattle.flowfile_record.specs.declared.content.ContentRef.{ContentRef}
 use Rattle.flowfile_record.specs.declared.flow_file.FlowFile.{FlowFile}
+use Rattle.record_codec.specs.declared.content.TheConstants.{SLOT_LIMIT}
 
 -- a key and its value
 abbrev pub pair : List ℕ × List ℕ → List ℕ
@@ -21,7 +22,7 @@ unfoldable pub content_ref : ContentRef → List ℕ
 content_ref c = to_be_bytes w32 c.slot ++ to_be_bytes w64 c.offset ++ to_be_bytes w64 c.size ++ c.digest
 
 pub record IsContentRef (c : ContentRef) : Type 0 where
-  pub slot : c.slot < 65_536
+  pub slot : c.slot < SLOT_LIMIT
   pub offset : IsNumber c.offset
   pub size : c.size ≤ CONTENT_MAX
   pub digest : IsDigest c.digest

@@ -11,6 +11,8 @@ use Rattle.flowfile_record.specs.declared.TheConstants.{CONTENT_MAX}
 use Rattle.flowfile_record.specs.declared.attributes.TheConstants.{ATTRIBUTES_MAX}
 use Rattle.flowfile_record.specs.declared.content.ContentRef.{ContentRef}
 use Rattle.flowfile_record.specs.declared.flow_file.FlowFile.{FlowFile}
+use Rattle.record_codec.specs.declared.content.TheConstants.{SLOT_LIMIT}
+use Rattle.flowfile_record.specs.declared.limits.TheConstants.{DIGEST_SIZE}
 
 -- ---- attributes
 
@@ -44,20 +46,24 @@ attributes_at bytes = do
 -- ---- content reference
 
 unfoldable pub slot_at : Reading ℕ
-slot_at = such (λ slot. nat_lt slot 65_536) (uint_at w32)
+slot_at = such (λ slot. nat_lt slot SLOT_LIMIT) (uint_at w32)
 
 unfoldable pub size_at : Reading ℕ
 size_at = such (λ size. nat_le size CONTENT_MAX) (uint_at w64)
 
 unfoldable pub content_ref_at : Reading ContentRef
 content_ref_at = made (λ c. record { slot = c.0; offset = c.1.0; size = c.1.1.0; digest = c.1.1.1 })
-    (slot_at then number_at then size_at then raw_at 32)
+    (slot_at then number_at then size_at then raw_at DIGEST_SIZE)
 
 -- ---- flow file
 
 -- flow files are counted from 1
 unfoldable pub file_number_at : Reading ℕ
 file_number_at = such (λ number. nat_le 1 number) number_at
+
+-- the fields of a flow file before its pairs of attributes
+abbrev pub file_front_at : Reading (ℕ × ℕ)
+file_front_at = file_number_at then uint_at w16
 
 unfoldable pub flow_file_at : Reading FlowFile
 flow_file_at = made (λ f. record { number = f.0; attributes = f.1.0; content = f.1.1.0; entered = f.1.1.1.0; penalty_end = f.1.1.1.1.0; arrival = f.1.1.1.1.1 })

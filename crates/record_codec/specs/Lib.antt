@@ -3,6 +3,8 @@ pub mod Block
 pub mod EntryReading
 pub mod EntryEncoding
 pub mod FileReading
+pub mod LogEntries
+pub mod Placeless
 pub mod FileEncoding
 pub mod Head
 pub mod Snapshot
@@ -10,3 +12,4 @@ pub mod SnapshotReading
 pub mod StoreHead
 pub mod StoreHeadReading
 pub mod Texts
+pub mod Version

@@ -1,16 +1,14 @@
 -- Reading the head of a snapshot from left to right, up to the first field that can't be read.
-use Rattle.std.specs.Prelude.{ℕ, ◌==◌, ◌^◌, nat_lt}
-use Rattle.std.specs.Int.{w64}
-use Rattle.flowfile_record.specs.Reading.{Reading, ◌then◌, made, such, byte_at, raw_at, uint_at, number_at, numbers_at}
+use Rattle.std.specs.Prelude.{ℕ, List, nat_lt}
+use Rattle.std.specs.Int.{w32, w64}
+use Rattle.flowfile_record.specs.Reading.{Reading, ◌then◌, made, such, raw_at, uint_at, number_at, numbers_at}
+use Rattle.flowfile_record.specs.declared.limits.TheConstants.{DIGEST_SIZE, STORE_LIMIT}
 use Rattle.record_codec.specs.declared.head.Head.{Head}
+use Rattle.record_codec.specs.Version.{version_at}
 use Rattle.record_codec.specs.Texts.{texts_at}
 
--- of the encoding of snapshots
-unfoldable pub version_at : Reading ℕ
-version_at = such (λ version. version == 1) byte_at
-
 unfoldable pub store_at : Reading ℕ
-store_at = such (λ store. nat_lt store (2 ^ 60)) (uint_at w64)
+store_at = such (λ store. nat_lt store STORE_LIMIT) (uint_at w64)
 
 unfoldable pub head_at : Reading Head
 head_at = made (λ h. record {
@@ -22,4 +20,8 @@ head_at = made (λ h. record {
   next_arrival = h.1.1.1.1.1.1.0;
   last_event = h.1.1.1.1.1.1.1.0;
   next_batch = h.1.1.1.1.1.1.1.1;
-}) (version_at then store_at then raw_at 32 then texts_at then numbers_at then number_at then number_at then number_at then number_at)
+}) (version_at then store_at then raw_at DIGEST_SIZE then texts_at then numbers_at then number_at then number_at then number_at then number_at)
+
+-- the fields before the connections, and their count
+abbrev pub head_front_at : Reading (ℕ × (ℕ × (List ℕ × ℕ)))
+head_front_at = version_at then store_at then raw_at DIGEST_SIZE then uint_at w32

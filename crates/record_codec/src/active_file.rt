@@ -1,28 +1,38 @@
 //! Flow files with the queue that they are active in.
-ghost use Rattle.std.specs.Prelude.{◌≡◌, ◌++◌, length, IfOk, OnOk, OnErr, Ok};
+ghost use Rattle.std.specs.Prelude.{◌≡◌, ℕ, ◌+◌, ◌≤◌, ◌++◌, length, vec_len, vec_capacity, IsTrue, is_ok, IfOk, IsErrOf, IsOk, OnOk, OnErr, Ok};
 ghost use Rattle.flowfile_record.specs.Field.{HasOneEncoding};
 ghost use Rattle.flowfile_record.specs.Reading.{Gives, Answers, answer, whole};
-ghost use Rattle.flowfile_record.specs.Encoding.{Keeps};
+ghost use Rattle.record_codec.specs.FileEncoding.{IsFlowFile};
 ghost use Rattle.flowfile_record.specs.declared.stored.ActiveFile.{ActiveFile as Active};
-ghost use Rattle.record_codec.specs.ActiveFile.{active_file, active_file_at, IsActiveFile};
+ghost use Rattle.record_codec.specs.ActiveFile.{active, active_file, active_file_at, active_front_at, IsActiveFile};
 
-use crate::flow_file::{read_flow_file, write_flow_file};
-use flowfile_record::fields::{FieldError, read_u16, write_u16};
-use flowfile_record::{ActiveFile, CodecError};
+use crate::flow_file::{file_size, put_flow_file, read_flow_file};
+use crate::put::put_u16;
+use flowfile_record::fields::{FieldError, read_u16};
+use flowfile_record::{ActiveFile, CodecError, FlowFile};
 use std::alloc::{AllocError, Global};
 
-/// Appends the one encoding of an active flow file, or, where there is no memory for it, nothing.
-pub fn write_active_file(out: &mut Vec<u8>, active: &ActiveFile) -> Result<(), AllocError>
-    requires { IsActiveFile active.now }
-    ensures ok { OnOk result (out.new.items ≡ out.old.items ++ active_file active.now) }
-    ensures err { OnErr result (out.new.items ≡ out.old.items) }
+/// How many bytes the encoding of an active flow file has.
+#[tactic(auto, using(crate::proofs::Sizes::active_size, crate::proofs::Sizes::file_most))]
+pub fn active_file_size(file: &FlowFile) -> u64
+    requires { IsFlowFile file.now }
+    ensures { (connection : ℕ) → result ≡ length (active_file (active connection file.now)) }
 {
-    let start = out.len();
-    let written = write_fields(out, active);
-    if written.is_err() {
-        out.truncate(start);
-    }
-    written
+    2 + file_size(file)
+}
+
+/// Appends the one encoding of a flow file that is active in this connection. It fails only where there is less room
+/// than `active_file_size` tells, and then the bytes stay.
+pub fn write_active_file(out: &mut Vec<u8>, connection: u16, file: &FlowFile) -> Result<(), AllocError>
+    requires { IsFlowFile file.now }
+    ensures ok { OnOk result (out.new.items ≡ out.old.items ++ active_file (active connection file.now)) }
+    ensures err { OnErr result (out.new.items ≡ out.old.items) }
+    ensures room { vec_len out.old + length (active_file (active connection file.now)) ≤ vec_capacity out.old → IsOk result }
+    ensures capacity { vec_capacity out.old ≤ vec_capacity out.new }
+{
+    out.reserve(active_file_size(file) as usize)?;
+    put_active_file(out, connection, file);
+    Ok(())
 }
 
 /// The active flow file that the bytes encode, all of them; else `Form`, at the first field that can't be read, or at
@@ -34,6 +44,8 @@ pub fn read_active_file(alloc: Global, bytes: &[u8]) -> Result<ActiveFile, Codec
     ensures only { (active : Active) → IsActiveFile active → bytes.now ≡ active_file active → Answers result (Ok active) }
     // Which place can't be read.
     ensures exact { Answers result (answer (length bytes.now) (whole active_file_at bytes.now)) }
+    // Memory is taken only behind the file's number and its count of attributes.
+    ensures memory { IsErrOf result CodecError.Memory → IsTrue (is_ok (active_front_at bytes.now)) }
 {
     read_answer(alloc, bytes)
 }
@@ -44,7 +56,8 @@ pub fn active_files_have_one_encoding()
 {}
 
 fn read_answer(alloc: Global, bytes: &[u8]) -> Result<ActiveFile, CodecError>
-    ensures { Answers result (answer (length bytes.now) (whole active_file_at bytes.now)) }
+    ensures exact { Answers result (answer (length bytes.now) (whole active_file_at bytes.now)) }
+    ensures memory { IsErrOf result CodecError.Memory → IsTrue (is_ok (active_front_at bytes.now)) }
 {
     match read_all(alloc, bytes) {
         Ok(active) => Ok(active),
@@ -53,7 +66,8 @@ fn read_answer(alloc: Global, bytes: &[u8]) -> Result<ActiveFile, CodecError>
 }
 
 fn read_all(alloc: Global, bytes: &[u8]) -> Result<ActiveFile, FieldError>
-    ensures { Gives (λ active. active) result (whole active_file_at bytes.now) }
+    ensures read { Gives (λ active. active) result (whole active_file_at bytes.now) }
+    ensures memory { IsErrOf result FieldError.Memory → IsTrue (is_ok (active_front_at bytes.now)) }
 {
     let (active, rest) = read_fields(alloc, bytes)?;
     if !rest.is_empty() {
@@ -65,21 +79,23 @@ fn read_all(alloc: Global, bytes: &[u8]) -> Result<ActiveFile, FieldError>
 }
 
 #[tactic(auto, unfolding(crate::specs::ActiveFile::active_file_at))]
-fn read_fields(alloc: Global, bytes: &[u8]) -> Result<(ActiveFile, &[u8]), FieldError>
-    ensures { Gives (λ x. (x.0, x.1.now)) result (active_file_at bytes.now) }
+pub(crate) fn read_fields(alloc: Global, bytes: &[u8]) -> Result<(ActiveFile, &[u8]), FieldError>
+    ensures read { Gives (λ x. (x.0, x.1.now)) result (active_file_at bytes.now) }
+    ensures memory { IsErrOf result FieldError.Memory → IsTrue (is_ok (active_front_at bytes.now)) }
 {
     let (connection, rest) = read_u16(bytes)?;
     let (file, rest) = read_flow_file(alloc, rest)?;
     Ok((ActiveFile { connection, file }, rest))
 }
 
-#[tactic(auto, unfolding(crate::specs::ActiveFile::active_file))]
-fn write_fields(out: &mut Vec<u8>, active: &ActiveFile) -> Result<(), AllocError>
-    requires { IsActiveFile active.now }
-    ensures ok { OnOk result (out.new.items ≡ out.old.items ++ active_file active.now) }
-    ensures err { OnErr result (Keeps out.old.items out.new.items) }
+#[tactic(auto, unfolding(crate::specs::ActiveFile::active_file), using(crate::proofs::Sizes::active_size))]
+pub(crate) fn put_active_file(out: &mut Vec<u8>, connection: u16, file: &FlowFile)
+    requires file { IsFlowFile file.now }
+    requires room { vec_len out.old + length (active_file (active connection file.now)) ≤ vec_capacity out.old }
+    ensures items { out.new.items ≡ out.old.items ++ active_file (active connection file.now) }
+    ensures len { vec_len out.new ≡ vec_len out.old + length (active_file (active connection file.now)) }
+    ensures capacity { vec_capacity out.old ≤ vec_capacity out.new }
 {
-    write_u16(out, active.connection)?;
-    write_flow_file(out, &active.file)?;
-    Ok(())
+    put_u16(out, connection);
+    put_flow_file(out, file);
 }

@@ -1,25 +1,25 @@
 //! The attributes of a flow file.
-ghost use Rattle.std.specs.Prelude.{◌≡◌, ◌-◌, ◌<◌, ◌^◌, ◌++◌, length, true, IfOk, OnOk, OnErr, slice_get, if◌then◌else◌};
+ghost use Rattle.std.specs.Prelude.{◌≡◌, ◌+◌, ◌-◌, ◌<◌, ◌≤◌, ◌^◌, ◌++◌, length, vec_len, vec_capacity, IsTrue, is_ok, IsErrOf, slice_get};
+ghost use Rattle.std.specs.Int.{w16};
 ghost use Rattle.std.specs.Option.{option_map};
-ghost use Rattle.std.specs.FinMap.{empty, entries, insert, len};
+ghost use Rattle.std.specs.FinMap.{empty, entries, len};
 ghost use Rattle.flowfile_record.specs.Attributes.{IsWithinLimits};
-ghost use Rattle.flowfile_record.specs.Reading.{Gives};
-ghost use Rattle.flowfile_record.specs.Encoding.{Keeps};
-ghost use Rattle.record_codec.specs.FileReading.{may_follow, may_hold, pair_at, pairs_at, attributes_at};
+ghost use Rattle.flowfile_record.specs.Reading.{Gives, uint_at};
+ghost use Rattle.record_codec.specs.FileReading.{may_follow, pair_at, pairs_at, attributes_at};
 ghost use Rattle.record_codec.specs.FileEncoding as encoding;
 
-use flowfile_record::fields::{
-    FieldError, read_long, read_text, read_u16, write_long, write_text, write_u16,
-};
-use flowfile_record::{AttrError, Attributes, KEY_MAX, Put};
-use std::alloc::{AllocError, Global};
+use crate::put::{put_long, put_text, put_u16};
+use flowfile_record::fields::{FieldError, read_long, read_text, read_u16};
+use flowfile_record::{ATTRIBUTES_MAX, Attributes, KEY_MAX};
+use std::alloc::Global;
 
 #[tactic(auto, unfolding(crate::specs::FileReading::attributes_at))]
 pub(crate) fn read_attributes(
     alloc: Global,
     bytes: &[u8],
 ) -> Result<(Attributes, &[u8]), FieldError>
-    ensures { Gives (λ x. (x.0, x.1.now)) result (attributes_at bytes.now) }
+    ensures read { Gives (λ x. (x.0, x.1.now)) result (attributes_at bytes.now) }
+    ensures memory { IsErrOf result FieldError.Memory → IsTrue (is_ok (uint_at w16 bytes.now)) }
 {
     let (count, rest) = read_u16(bytes)?;
     read_pairs(alloc, count, rest)
@@ -37,7 +37,7 @@ fn read_pairs(alloc: Global, count: u16, bytes: &[u8]) -> Result<(Attributes, &[
 }
 
 // A pair whose key comes behind those that are there.
-#[tactic(auto, unfolding(crate::specs::FileReading::pair_at))]
+#[tactic(auto, unfolding(crate::specs::FileReading::pair_at, crate::specs::FileReading::may_hold), using(crate::proofs::Puts::may_be_stored))]
 fn read_pair<'a>(attributes: &mut Attributes, bytes: &'a [u8]) -> Result<&'a [u8], FieldError>
     ensures { Gives (λ rest. (attributes.new, rest.now)) result (pair_at attributes.old bytes.now) }
 {
@@ -48,27 +48,13 @@ fn read_pair<'a>(attributes: &mut Attributes, bytes: &'a [u8]) -> Result<&'a [u8
         });
     }
     let (value, rest) = read_long(value_bytes)?;
-    if !store(attributes, key, value)? {
+    if attributes.size_with(key, value) > ATTRIBUTES_MAX {
         return Err(FieldError::Form {
             left: value_bytes.len() as u64,
         });
     }
+    attributes.store(key, value)?;
     Ok(rest)
-}
-
-// Whether there is room for a pair whose key may follow; if so it is stored.
-fn store(attributes: &mut Attributes, key: &str, value: &str) -> Result<bool, AllocError>
-    requires { may_follow attributes.old key.now ≡ true }
-    ensures room { IfOk result (λ stored. stored ≡ may_hold attributes.old key.now value.now) }
-    ensures after { IfOk result (λ stored. attributes.new ≡ (if stored then insert attributes.old key.now value.now else attributes.old)) }
-{
-    match attributes.put(key, value) {
-        Ok(Put::Stored) => Ok(true),
-        Ok(Put::Ignored) => Ok(false),
-        Err(AttrError::BadKey) => Ok(false),
-        Err(AttrError::TooLarge { .. }) => Ok(false),
-        Err(AttrError::Memory) => Err(AllocError),
-    }
 }
 
 #[tactic(auto, unfolding(crate::specs::FileReading::may_follow))]
@@ -94,26 +80,29 @@ fn last_key(attributes: &Attributes) -> Option<&str>
 }
 
 #[tactic(auto, unfolding(crate::specs::FileEncoding::attributes))]
-pub(crate) fn write_attributes(out: &mut Vec<u8>, attributes: &Attributes) -> Result<(), AllocError>
-    requires { IsWithinLimits attributes.now }
-    ensures ok { OnOk result (out.new.items ≡ out.old.items ++ encoding.attributes attributes.now) }
-    ensures err { OnErr result (Keeps out.old.items out.new.items) }
+pub(crate) fn put_attributes(out: &mut Vec<u8>, attributes: &Attributes)
+    requires attributes { IsWithinLimits attributes.now }
+    requires room { vec_len out.old + length (encoding.attributes attributes.now) ≤ vec_capacity out.old }
+    ensures items { out.new.items ≡ out.old.items ++ encoding.attributes attributes.now }
+    ensures len { vec_len out.new ≡ vec_len out.old + length (encoding.attributes attributes.now) }
+    ensures capacity { vec_capacity out.old ≤ vec_capacity out.new }
 {
-    write_u16(out, attributes.len() as u16)?;
+    put_u16(out, attributes.len() as u16);
     let mut place = 0;
     while let Some((key, value)) = attributes.pair(place) {
-        write_pair(out, key, value)?;
+        put_pair(out, key, value);
         place += 1;
     }
-    Ok(())
 }
 
-fn write_pair(out: &mut Vec<u8>, key: &str, value: &str) -> Result<(), AllocError>
+fn put_pair(out: &mut Vec<u8>, key: &str, value: &str)
     requires key { length key.now < 2 ^ 16 }
     requires value { length value.now < 2 ^ 32 }
-    ensures ok { OnOk result (out.new.items ≡ out.old.items ++ encoding.pair (key.now, value.now)) }
-    ensures err { OnErr result (Keeps out.old.items out.new.items) }
+    requires room { vec_len out.old + length (encoding.pair (key.now, value.now)) ≤ vec_capacity out.old }
+    ensures items { out.new.items ≡ out.old.items ++ encoding.pair (key.now, value.now) }
+    ensures len { vec_len out.new ≡ vec_len out.old + length (encoding.pair (key.now, value.now)) }
+    ensures capacity { vec_capacity out.old ≤ vec_capacity out.new }
 {
-    write_text(out, key)?;
-    write_long(out, value)
+    put_text(out, key);
+    put_long(out, value);
 }

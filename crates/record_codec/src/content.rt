@@ -1,18 +1,16 @@
 //! References to contents.
-ghost use Rattle.std.specs.Prelude.{◌≡◌, ◌++◌, OnOk, OnErr};
+ghost use Rattle.std.specs.Prelude.{◌≡◌, ◌+◌, ◌≤◌, ◌++◌, length, vec_len, vec_capacity};
 ghost use Rattle.flowfile_record.specs.Reading.{Reads};
-ghost use Rattle.flowfile_record.specs.Encoding.{Keeps};
+ghost use Rattle.flowfile_record.specs.Encoding.{IsDigest};
 ghost use Rattle.record_codec.specs.FileReading.{slot_at, size_at, content_ref_at};
 ghost use Rattle.record_codec.specs.FileEncoding as encoding;
 
-use flowfile_record::fields::{
-    Unread, read_digest, read_number, read_u32, read_u64, write_digest, write_u32, write_u64,
-};
+use crate::put::{put, put_u32, put_u64};
+use flowfile_record::fields::{Unread, read_digest, read_number, read_u32, read_u64};
 use flowfile_record::{CONTENT_MAX, ContentRef};
-use std::alloc::AllocError;
 
-/// Resource claims are fewer.
-const SLOTS_END: u32 = 65_536;
+/// The slots of resource claims are below it.
+pub const SLOT_LIMIT: u32 = 65_536;
 
 #[tactic(auto, unfolding(crate::specs::FileReading::content_ref_at))]
 pub(crate) fn read_content_ref(bytes: &[u8]) -> Result<(ContentRef, &[u8]), Unread>
@@ -36,7 +34,7 @@ fn read_slot(bytes: &[u8]) -> Result<(u32, &[u8]), Unread>
     ensures { Reads (λ x. (x.0, x.1.now)) result (slot_at bytes.now) }
 {
     let (slot, rest) = read_u32(bytes)?;
-    if slot >= SLOTS_END {
+    if slot >= SLOT_LIMIT {
         return Err(Unread {
             left: bytes.len() as u64,
         });
@@ -57,13 +55,16 @@ fn read_size(bytes: &[u8]) -> Result<(u64, &[u8]), Unread>
     Ok((size, rest))
 }
 
-#[tactic(auto, unfolding(crate::specs::FileEncoding::content_ref))]
-pub(crate) fn write_content_ref(out: &mut Vec<u8>, content: &ContentRef) -> Result<(), AllocError>
-    ensures ok { OnOk result (out.new.items ≡ out.old.items ++ encoding.content_ref content.now) }
-    ensures err { OnErr result (Keeps out.old.items out.new.items) }
+#[tactic(auto, unfolding(crate::specs::FileEncoding::content_ref), using(crate::proofs::Sizes::content_ref_size))]
+pub(crate) fn put_content_ref(out: &mut Vec<u8>, content: &ContentRef)
+    requires digest { IsDigest content.now.digest }
+    requires room { vec_len out.old + length (encoding.content_ref content.now) ≤ vec_capacity out.old }
+    ensures items { out.new.items ≡ out.old.items ++ encoding.content_ref content.now }
+    ensures len { vec_len out.new ≡ vec_len out.old + length (encoding.content_ref content.now) }
+    ensures capacity { vec_capacity out.old ≤ vec_capacity out.new }
 {
-    write_u32(out, content.slot)?;
-    write_u64(out, content.offset)?;
-    write_u64(out, content.size)?;
-    write_digest(out, &content.digest)
+    put_u32(out, content.slot);
+    put_u64(out, content.offset);
+    put_u64(out, content.size);
+    put(out, &content.digest);
 }

@@ -1,33 +1,23 @@
 //! The entries of a log.
-ghost use Rattle.std.specs.Prelude.{◌≡◌, ◌++◌, ℕ, length, IfOk, OnOk, OnErr, Ok};
+ghost use Rattle.std.specs.Prelude.{◌≡◌, ◌+◌, ◌≤◌, ◌++◌, ℕ, length, vec_len, vec_capacity, IsTrue, is_ok, IfOk, IsErrOf, IsOk, OnOk, OnErr, Ok};
 ghost use Rattle.flowfile_record.specs.Field.{HasOneEncoding};
 ghost use Rattle.flowfile_record.specs.Reading.{Answers, answer, whole};
-ghost use Rattle.record_codec.specs.EntryReading.{entry_at};
+ghost use Rattle.flowfile_record.specs.declared.flow_file.FlowFile.{FlowFile as File};
+ghost use Rattle.record_codec.specs.FileEncoding.{flow_file};
+ghost use Rattle.record_codec.specs.Placeless.{placeless, placeless_entry};
+ghost use Rattle.record_codec.specs.EntryReading.{entry_at, front_at};
 ghost use Rattle.record_codec.specs.EntryEncoding.{entry as encoding, kind_of, IsEntry, IsEntryOf};
 ghost use Rattle.record_codec.specs.declared.entry.LogEntry.{LogEntry as Entry};
 
 mod read;
+mod size;
 mod write;
 
-use flowfile_record::{CodecError, FlowFile, Numbers, Sequence};
+use flowfile_record::{ActiveFile, CodecError, Counted, Numbers, Sequence};
 use std::alloc::{AllocError, Global};
 
-/// A flow file, and the place of the connection that it is placed into.
-#[derive(Debug, Drop)]
-pub struct Placed {
-    pub connection: u16,
-    pub file: FlowFile,
-}
-
-/// Files and where they are placed.
-pub type PlacedList = Sequence<Placed>;
-
-/// The place of a processor that makes files from nothing, and how many it has made.
-#[derive(Clone, Copy, Debug, PartialEq, Eq)]
-pub struct Generator {
-    pub place: u16,
-    pub count: u64,
-}
+/// The place that a session's entry names where its processor is no generator. No processor has it.
+pub const NO_GENERATOR: u16 = 65_535;
 
 /// What a session of a processor did: the files that are gone from their queue, those that are placed, and the
 /// counters behind it. `generator` is the processor where it is one.
@@ -36,11 +26,11 @@ pub struct SessionEntry {
     pub processor: u16,
     pub moment: u64,
     pub gone: Numbers,
-    pub placed: PlacedList,
+    pub placed: Sequence<ActiveFile>,
     pub next_number: u64,
     pub next_arrival: u64,
     pub last_event: u64,
-    pub generator: Option<Generator>,
+    pub generator: Option<Counted>,
 }
 
 /// Files of a connection that expired.
@@ -87,18 +77,26 @@ impl LogEntry {
     }
 }
 
-/// Appends the one encoding of an entry, the payload of its block, or, where there is no memory for it, nothing.
+/// How many bytes the encoding of an entry has, the payload of its block.
+pub fn entry_size(entry: &LogEntry) -> u64
+    requires { IsEntry entry.now }
+    ensures { result ≡ length (encoding entry.now) }
+{
+    size::size_of(entry)
+}
+
+/// Appends the one encoding of an entry, the payload of its block. It fails only where there is less room than
+/// `entry_size` tells, and then the bytes stay.
 pub fn write_entry(out: &mut Vec<u8>, entry: &LogEntry) -> Result<(), AllocError>
     requires { IsEntry entry.now }
     ensures ok { OnOk result (out.new.items ≡ out.old.items ++ encoding entry.now) }
     ensures err { OnErr result (out.new.items ≡ out.old.items) }
+    ensures room { vec_len out.old + length (encoding entry.now) ≤ vec_capacity out.old → IsOk result }
+    ensures capacity { vec_capacity out.old ≤ vec_capacity out.new }
 {
-    let start = out.len();
-    let written = write::write_fields(out, entry);
-    if written.is_err() {
-        out.truncate(start);
-    }
-    written
+    out.reserve(entry_size(entry) as usize)?;
+    write::put_entry(out, entry);
+    Ok(())
 }
 
 /// The entry of a kind that the bytes encode, all of them. No entry has a kind outside 1 to 5, which is `Form` at 0.
@@ -109,9 +107,17 @@ pub fn read_entry(alloc: Global, kind: u8, bytes: &[u8]) -> Result<LogEntry, Cod
     ensures only { (entry : Entry) → IsEntryOf kind entry → bytes.now ≡ encoding entry → Answers result (Ok entry) }
     // Which place can't be read.
     ensures exact { Answers result (answer (length bytes.now) (whole (entry_at kind) bytes.now)) }
+    // Memory is taken only for the kinds 2 to 4, behind the count of the first list.
+    ensures memory { IsErrOf result CodecError.Memory → IsTrue (is_ok (front_at kind bytes.now)) }
 {
     read::read_answer(alloc, kind, bytes)
 }
+
+/// Where contents stand, their slots and their offsets, doesn't change the size of an encoding.
+pub fn sizes_ignore_slots_and_offsets()
+    ensures files { (file : File) → length (flow_file (placeless file)) ≡ length (flow_file file) }
+    ensures entries { (entry : Entry) → length (encoding (placeless_entry entry)) ≡ length (encoding entry) }
+{}
 
 /// Of one kind, one entry has one encoding, and no encoding is a proper front of another.
 pub fn entries_have_one_encoding()

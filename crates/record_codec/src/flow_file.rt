@@ -1,30 +1,42 @@
 //! Flow files.
-ghost use Rattle.std.specs.Prelude.{◌≡◌, ◌++◌, length, IfOk, OnOk, OnErr, Ok};
+ghost use Rattle.std.specs.Prelude.{◌≡◌, ℕ, ◌+◌, ◌≤◌, ◌++◌, length, vec_len, vec_capacity, IsTrue, is_ok, IfOk, IsErrOf, IsOk, OnOk, OnErr, Ok};
 ghost use Rattle.flowfile_record.specs.Field.{HasOneEncoding};
 ghost use Rattle.flowfile_record.specs.Reading.{Reads, Gives, Answers, answer, whole};
-ghost use Rattle.flowfile_record.specs.Encoding.{Keeps};
 ghost use Rattle.flowfile_record.specs.declared.flow_file.FlowFile.{FlowFile as File};
-ghost use Rattle.record_codec.specs.FileReading.{file_number_at, flow_file_at};
+ghost use Rattle.record_codec.specs.FileReading.{file_number_at, flow_file_at, file_front_at};
 ghost use Rattle.record_codec.specs.FileEncoding.{flow_file, IsFlowFile};
 
-use crate::attributes::{read_attributes, write_attributes};
-use crate::content::{read_content_ref, write_content_ref};
-use flowfile_record::fields::{FieldError, Unread, read_number, read_u64, write_u64};
-use flowfile_record::{CodecError, FlowFile};
+use crate::attributes::{put_attributes, read_attributes};
+use crate::content::{put_content_ref, read_content_ref};
+use crate::put::put_u64;
+use flowfile_record::fields::{FieldError, Unread, read_number, read_u64};
+use flowfile_record::{CodecError, DIGEST_SIZE, FlowFile};
 use std::alloc::{AllocError, Global};
 
-/// Appends the one encoding of a flow file, or, where there is no memory for it, nothing.
+// What a flow file's encoding has beside the attributes, in bytes: six numbers, the slot and the digest.
+const BESIDE_ATTRIBUTES: u64 = 52 + DIGEST_SIZE as u64;
+
+/// How many bytes the encoding of a flow file has.
+#[tactic(auto, using(crate::proofs::Sizes::flow_file_size))]
+pub fn file_size(file: &FlowFile) -> u64
+    requires { IsFlowFile file.now }
+    ensures { result ≡ length (flow_file file.now) }
+{
+    file.attributes.size() + BESIDE_ATTRIBUTES
+}
+
+/// Appends the one encoding of a flow file. It fails only where there is less room than `file_size` tells, and then the
+/// bytes stay.
 pub fn write_file(out: &mut Vec<u8>, file: &FlowFile) -> Result<(), AllocError>
     requires { IsFlowFile file.now }
     ensures ok { OnOk result (out.new.items ≡ out.old.items ++ flow_file file.now) }
     ensures err { OnErr result (out.new.items ≡ out.old.items) }
+    ensures room { vec_len out.old + length (flow_file file.now) ≤ vec_capacity out.old → IsOk result }
+    ensures capacity { vec_capacity out.old ≤ vec_capacity out.new }
 {
-    let start = out.len();
-    let written = write_flow_file(out, file);
-    if written.is_err() {
-        out.truncate(start);
-    }
-    written
+    out.reserve(file_size(file) as usize)?;
+    put_flow_file(out, file);
+    Ok(())
 }
 
 /// The flow file that the bytes encode, all of them.
@@ -35,6 +47,8 @@ pub fn read_file(alloc: Global, bytes: &[u8]) -> Result<FlowFile, CodecError>
     ensures only { (file : File) → IsFlowFile file → bytes.now ≡ flow_file file → Answers result (Ok file) }
     // Which place can't be read.
     ensures exact { Answers result (answer (length bytes.now) (whole flow_file_at bytes.now)) }
+    // Memory is taken only behind the number and the count of attributes.
+    ensures memory { IsErrOf result CodecError.Memory → IsTrue (is_ok (file_front_at bytes.now)) }
 {
     read_answer(alloc, bytes)
 }
@@ -45,7 +59,8 @@ pub fn flow_files_have_one_encoding()
 {}
 
 fn read_answer(alloc: Global, bytes: &[u8]) -> Result<FlowFile, CodecError>
-    ensures { Answers result (answer (length bytes.now) (whole flow_file_at bytes.now)) }
+    ensures exact { Answers result (answer (length bytes.now) (whole flow_file_at bytes.now)) }
+    ensures memory { IsErrOf result CodecError.Memory → IsTrue (is_ok (file_front_at bytes.now)) }
 {
     match read_all(alloc, bytes) {
         Ok(file) => Ok(file),
@@ -54,7 +69,8 @@ fn read_answer(alloc: Global, bytes: &[u8]) -> Result<FlowFile, CodecError>
 }
 
 fn read_all(alloc: Global, bytes: &[u8]) -> Result<FlowFile, FieldError>
-    ensures { Gives (λ file. file) result (whole flow_file_at bytes.now) }
+    ensures read { Gives (λ file. file) result (whole flow_file_at bytes.now) }
+    ensures memory { IsErrOf result FieldError.Memory → IsTrue (is_ok (file_front_at bytes.now)) }
 {
     let (file, rest) = read_flow_file(alloc, bytes)?;
     if !rest.is_empty() {
@@ -67,7 +83,8 @@ fn read_all(alloc: Global, bytes: &[u8]) -> Result<FlowFile, FieldError>
 
 #[tactic(auto, unfolding(crate::specs::FileReading::flow_file_at))]
 pub(crate) fn read_flow_file(alloc: Global, bytes: &[u8]) -> Result<(FlowFile, &[u8]), FieldError>
-    ensures { Gives (λ x. (x.0, x.1.now)) result (flow_file_at bytes.now) }
+    ensures read { Gives (λ x. (x.0, x.1.now)) result (flow_file_at bytes.now) }
+    ensures memory { IsErrOf result FieldError.Memory → IsTrue (is_ok (file_front_at bytes.now)) }
 {
     let (number, rest) = read_file_number(bytes)?;
     let (attributes, rest) = read_attributes(alloc, rest)?;
@@ -99,16 +116,18 @@ fn read_file_number(bytes: &[u8]) -> Result<(u64, &[u8]), Unread>
     Ok((number, rest))
 }
 
-#[tactic(auto, unfolding(crate::specs::FileEncoding::flow_file))]
-pub(crate) fn write_flow_file(out: &mut Vec<u8>, file: &FlowFile) -> Result<(), AllocError>
-    requires { IsFlowFile file.now }
-    ensures ok { OnOk result (out.new.items ≡ out.old.items ++ flow_file file.now) }
-    ensures err { OnErr result (Keeps out.old.items out.new.items) }
+#[tactic(auto, unfolding(crate::specs::FileEncoding::flow_file), using(crate::proofs::Sizes::parts_of_file))]
+pub(crate) fn put_flow_file(out: &mut Vec<u8>, file: &FlowFile)
+    requires file { IsFlowFile file.now }
+    requires room { vec_len out.old + length (flow_file file.now) ≤ vec_capacity out.old }
+    ensures items { out.new.items ≡ out.old.items ++ flow_file file.now }
+    ensures len { vec_len out.new ≡ vec_len out.old + length (flow_file file.now) }
+    ensures capacity { vec_capacity out.old ≤ vec_capacity out.new }
 {
-    write_u64(out, file.number)?;
-    write_attributes(out, &file.attributes)?;
-    write_content_ref(out, &file.content)?;
-    write_u64(out, file.entered)?;
-    write_u64(out, file.penalty_end)?;
-    write_u64(out, file.arrival)
+    put_u64(out, file.number);
+    put_attributes(out, &file.attributes);
+    put_content_ref(out, &file.content);
+    put_u64(out, file.entered);
+    put_u64(out, file.penalty_end);
+    put_u64(out, file.arrival);
 }

@@ -11,27 +11,38 @@ mod content;
 mod entry;
 mod flow_file;
 mod head;
+mod log;
+mod put;
 mod snapshot;
 mod texts;
+mod version;
 
-pub use active_file::{active_files_have_one_encoding, read_active_file, write_active_file};
-pub use block::{Block, BlockEnd, PAYLOAD_MAX, append_block, append_parts, read_block};
+pub use active_file::{
+    active_file_size, active_files_have_one_encoding, read_active_file, write_active_file,
+};
+pub use block::{
+    BLOCK_OVERHEAD, Block, BlockEnd, HEADER_SIZE, PAYLOAD_MAX, append_block, append_parts,
+    block_size, blocks_have_one_encoding, read_block, size_by_header,
+};
+pub use content::SLOT_LIMIT;
 pub use entry::{
-    ExpireEntry, Generator, LogEntry, Placed, PlacedList, SessionEntry, SwapOutEntry,
-    entries_have_one_encoding, read_entry, write_entry,
+    ExpireEntry, LogEntry, NO_GENERATOR, SessionEntry, SwapOutEntry, entries_have_one_encoding,
+    entry_size, read_entry, sizes_ignore_slots_and_offsets, write_entry,
 };
-pub use flow_file::{flow_files_have_one_encoding, read_file, write_file};
-pub use head::{Head, heads_have_one_encoding, read_head, write_head};
+pub use flow_file::{file_size, flow_files_have_one_encoding, read_file, write_file};
+pub use flowfile_record::CodecError;
+pub use head::{
+    Head, head_size, head_size_of, heads_have_one_encoding, read_head, write_head, write_head_of,
+};
+pub use log::{
+    CLOSED_GATE, OPEN_GATE, an_open_gate_adds_an_entry, last_gates_end_a_log,
+    the_first_damage_is_told,
+};
 pub use snapshot::{
-    SnapshotKind, batches_have_one_encoding, ends_have_one_encoding, read_batch, read_end,
-    write_batch, write_end,
+    SNAPSHOT_END_SIZE, SWAP_BATCH_SIZE, SnapshotKind, batches_have_one_encoding,
+    ends_have_one_encoding, read_snapshot_end, read_swap_batch, sizes_of_batches_and_ends,
+    write_snapshot_end, write_swap_batch,
 };
 
-#[cfg(test)]
-mod active_file_tests;
-#[cfg(test)]
-mod head_tests;
-#[cfg(test)]
-mod snapshot_tests;
-#[cfg(test)]
-mod tests;
+/// The version of the format, which a log and a snapshot begin with.
+pub const FORMAT_VERSION: u8 = 1;

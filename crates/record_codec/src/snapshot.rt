@@ -1,17 +1,15 @@
 //! The other blocks of a snapshot.
-ghost use Rattle.std.specs.Prelude.{◌≡◌, ◌++◌, ℕ, length, IfOk, IfSome, IfNone, OnOk, OnErr, Ok};
+ghost use Rattle.std.specs.Prelude.{◌≡◌, ◌+◌, ◌≤◌, ◌++◌, ℕ, length, vec_len, vec_capacity, IfOk, IsOk, IfSome, IfNone, OnOk, OnErr, Ok};
 ghost use Rattle.flowfile_record.specs.Field.{HasOneEncoding};
 ghost use Rattle.flowfile_record.specs.Reading.{Reads, answer, whole};
-ghost use Rattle.flowfile_record.specs.Encoding.{Keeps};
 ghost use Rattle.flowfile_record.specs.declared.stored.SwapBatch.{SwapBatch as Batch};
 ghost use Rattle.record_codec.specs.declared.snapshot.SnapshotKind.{SnapshotKind as Kind};
 ghost use Rattle.record_codec.specs.Snapshot.{kind_code, IsBatch, IsEnding};
 ghost use Rattle.record_codec.specs.Snapshot as encoding;
 ghost use Rattle.record_codec.specs.SnapshotReading.{batch_at, ending_at};
 
-use flowfile_record::fields::{
-    FieldError, Unread, read_number, read_u16, read_u64, write_u16, write_u64,
-};
+use crate::put::{put_u16, put_u64};
+use flowfile_record::fields::{FieldError, Unread, read_number, read_u16, read_u64};
 use flowfile_record::{CodecError, SwapBatch};
 use std::alloc::AllocError;
 
@@ -48,28 +46,45 @@ impl SnapshotKind {
     }
 }
 
-/// Appends the one encoding of a batch, or, where there is no memory for it, nothing. A batch's number and its count of
-/// files have to be below 2^62.
-pub fn write_batch(out: &mut Vec<u8>, batch: &SwapBatch) -> Result<(), AllocError>
+/// How many bytes the encoding of a batch has.
+pub const SWAP_BATCH_SIZE: u64 = 34;
+
+/// How many bytes the encoding of an end has.
+pub const SNAPSHOT_END_SIZE: u64 = 8;
+
+/// Each batch and each end has an encoding of this size.
+#[tactic(auto, using(crate::proofs::Sizes::swap_batch_size))]
+pub fn sizes_of_batches_and_ends()
+    ensures batches { (value : Batch) → length (encoding.swap_batch value) ≡ SWAP_BATCH_SIZE }
+    ensures ends { (blocks : ℕ) → length (encoding.ending blocks) ≡ SNAPSHOT_END_SIZE }
+{}
+
+/// Appends the one encoding of a batch, whose number and count of files are below `NUMBER_LIMIT`. It fails only where
+/// there is less room than `SWAP_BATCH_SIZE`, and then the bytes stay.
+#[tactic(auto, unfolding(crate::specs::Snapshot::swap_batch))]
+pub fn write_swap_batch(out: &mut Vec<u8>, batch: &SwapBatch) -> Result<(), AllocError>
     requires { IsBatch batch.now }
-    ensures ok { OnOk result (out.new.items ≡ out.old.items ++ encoding.batch batch.now) }
+    ensures ok { OnOk result (out.new.items ≡ out.old.items ++ encoding.swap_batch batch.now) }
     ensures err { OnErr result (out.new.items ≡ out.old.items) }
+    ensures room { vec_len out.old + SWAP_BATCH_SIZE ≤ vec_capacity out.old → IsOk result }
+    ensures capacity { vec_capacity out.old ≤ vec_capacity out.new }
 {
-    let start = out.len();
-    let written = write_batch_fields(out, batch);
-    if written.is_err() {
-        out.truncate(start);
-    }
-    written
+    out.reserve(SWAP_BATCH_SIZE as usize)?;
+    put_u16(out, batch.connection);
+    put_u64(out, batch.batch);
+    put_u64(out, batch.files);
+    put_u64(out, batch.bytes);
+    put_u64(out, batch.encoded);
+    Ok(())
 }
 
 /// The batch that the bytes encode, all of them; else `Form`, at the first field that can't be read, or at what is left
 /// over.
-pub fn read_batch(bytes: &[u8]) -> Result<SwapBatch, CodecError>
+pub fn read_swap_batch(bytes: &[u8]) -> Result<SwapBatch, CodecError>
     // What is read is encoded so.
-    ensures found { IfOk result (λ value. IsBatch value × (bytes.now ≡ encoding.batch value)) }
+    ensures found { IfOk result (λ value. IsBatch value × (bytes.now ≡ encoding.swap_batch value)) }
     // What is encoded so is read.
-    ensures only { (value : Batch) → IsBatch value → bytes.now ≡ encoding.batch value → result ≡ Ok value }
+    ensures only { (value : Batch) → IsBatch value → bytes.now ≡ encoding.swap_batch value → result ≡ Ok value }
     // Which place can't be read.
     ensures exact { result ≡ answer (length bytes.now) (whole batch_at bytes.now) }
 {
@@ -78,20 +93,23 @@ pub fn read_batch(bytes: &[u8]) -> Result<SwapBatch, CodecError>
 
 /// One batch has one encoding, and no encoding is a proper front of another.
 pub fn batches_have_one_encoding()
-    ensures { HasOneEncoding encoding.batch IsBatch }
+    ensures { HasOneEncoding encoding.swap_batch IsBatch }
 {}
 
-/// Appends the one encoding of an end behind so many blocks, or, where there is no memory for it, nothing.
-pub fn write_end(out: &mut Vec<u8>, blocks: u64) -> Result<(), AllocError>
+/// Appends the one encoding of an end behind so many blocks. It fails only where there is less room than
+/// `SNAPSHOT_END_SIZE`, and then the bytes stay.
+pub fn write_snapshot_end(out: &mut Vec<u8>, blocks: u64) -> Result<(), AllocError>
     ensures ok { OnOk result (out.new.items ≡ out.old.items ++ encoding.ending blocks) }
     ensures err { OnErr result (out.new.items ≡ out.old.items) }
+    ensures room { vec_len out.old + SNAPSHOT_END_SIZE ≤ vec_capacity out.old → IsOk result }
+    ensures capacity { vec_capacity out.old ≤ vec_capacity out.new }
 {
     out.extend_from_slice(&blocks.to_be_bytes())
 }
 
 /// The number of the blocks before an end, which the bytes encode, all of them; else `Form`, at 0 where they are fewer
 /// than 8, and at what is left over where they are more.
-pub fn read_end(bytes: &[u8]) -> Result<u64, CodecError>
+pub fn read_snapshot_end(bytes: &[u8]) -> Result<u64, CodecError>
     // What is read is encoded so.
     ensures found { IfOk result (λ blocks. IsEnding blocks × (bytes.now ≡ encoding.ending blocks)) }
     // What is encoded so is read.
@@ -145,19 +163,6 @@ fn read_batch_fields(bytes: &[u8]) -> Result<(SwapBatch, &[u8]), Unread>
         encoded,
     };
     Ok((batch, rest))
-}
-
-#[tactic(auto, unfolding(crate::specs::Snapshot::batch))]
-fn write_batch_fields(out: &mut Vec<u8>, batch: &SwapBatch) -> Result<(), AllocError>
-    ensures ok { OnOk result (out.new.items ≡ out.old.items ++ encoding.batch batch.now) }
-    ensures err { OnErr result (Keeps out.old.items out.new.items) }
-{
-    write_u16(out, batch.connection)?;
-    write_u64(out, batch.batch)?;
-    write_u64(out, batch.files)?;
-    write_u64(out, batch.bytes)?;
-    write_u64(out, batch.encoded)?;
-    Ok(())
 }
 
 fn read_end_answer(bytes: &[u8]) -> Result<u64, CodecError>

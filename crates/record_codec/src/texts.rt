@@ -1,18 +1,20 @@
 //! Lists of texts.
-ghost use Rattle.std.specs.Prelude.{◌≡◌, ◌++◌, OnOk, OnErr};
-ghost use Rattle.flowfile_record.specs.Reading.{Gives, text_at, items_at};
-ghost use Rattle.flowfile_record.specs.Encoding.{Keeps};
+ghost use Rattle.std.specs.Prelude.{◌≡◌, ◌+◌, ◌<◌, ◌≤◌, ◌^◌, ◌++◌, length, vec_len, vec_capacity, IsTrue, is_ok, IsErrOf};
+ghost use Rattle.std.specs.Int.{w32};
+ghost use Rattle.flowfile_record.specs.Reading.{Gives, uint_at, text_at, items_at};
 ghost use Rattle.record_codec.specs.Texts.{AreTexts, texts_at};
 ghost use Rattle.record_codec.specs.Texts as encoding;
 
-use flowfile_record::fields::{FieldError, read_text, read_u32, write_text, write_u32};
+use crate::put::{put_text, put_u32};
+use flowfile_record::fields::{FieldError, read_text, read_u32};
 use flowfile_record::{Text, TextList};
 use std::alloc::{AllocError, Global};
 
 /// A list of texts, behind its count in four bytes. A text that can't be read is a field of its own.
 #[tactic(auto, unfolding(flowfile_record::specs::Reading::listed_at))]
 pub(crate) fn read_texts(alloc: Global, bytes: &[u8]) -> Result<(TextList, &[u8]), FieldError>
-    ensures { Gives (λ x. (x.0, x.1.now)) result (texts_at bytes.now) }
+    ensures read { Gives (λ x. (x.0, x.1.now)) result (texts_at bytes.now) }
+    ensures memory { IsErrOf result FieldError.Memory → IsTrue (is_ok (uint_at w32 bytes.now)) }
 {
     let (count, rest) = read_u32(bytes)?;
     let (texts, rest) = read_items(alloc, count, rest)?;
@@ -40,15 +42,29 @@ fn read_own_text(alloc: Global, bytes: &[u8]) -> Result<(Text, &[u8]), FieldErro
     Ok((text, rest))
 }
 
-/// A list of texts, behind its count in four bytes.
-pub(crate) fn write_texts(out: &mut Vec<u8>, texts: &[Text]) -> Result<(), AllocError>
+/// How many bytes the encoding of a list of texts has.
+pub(crate) fn texts_size(texts: &[Text]) -> u64
     requires { AreTexts texts.now }
-    ensures ok { OnOk result (out.new.items ≡ out.old.items ++ encoding.texts texts.now) }
-    ensures err { OnErr result (Keeps out.old.items out.new.items) }
+    ensures size { result ≡ length (encoding.texts texts.now) }
+    ensures bound { result < 2 ^ 60 }
 {
-    write_u32(out, texts.len() as u32)?;
+    let mut size = 4;
     for text in texts {
-        write_text(out, text.as_str())?;
+        size += 2 + text.as_str().len() as u64;
     }
-    Ok(())
+    size
+}
+
+/// A list of texts, behind its count in four bytes.
+pub(crate) fn put_texts(out: &mut Vec<u8>, texts: &[Text])
+    requires texts { AreTexts texts.now }
+    requires room { vec_len out.old + length (encoding.texts texts.now) ≤ vec_capacity out.old }
+    ensures items { out.new.items ≡ out.old.items ++ encoding.texts texts.now }
+    ensures len { vec_len out.new ≡ vec_len out.old + length (encoding.texts texts.now) }
+    ensures capacity { vec_capacity out.old ≤ vec_capacity out.new }
+{
+    put_u32(out, texts.len() as u32);
+    for text in texts {
+        put_text(out, text.as_str());
+    }
 }

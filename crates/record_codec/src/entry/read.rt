@@ -1,26 +1,21 @@
 //! Reading the entries of a log.
-ghost use Rattle.std.specs.Prelude.{◌≡◌, length};
+ghost use Rattle.std.specs.Prelude.{◌≡◌, length, IsTrue, is_ok, IsErrOf};
 ghost use Rattle.flowfile_record.specs.Reading.{Reads, Gives, Answers, answer, whole, items_at, listed_at};
-ghost use Rattle.record_codec.specs.EntryReading.{version_at, begin_at, placed_at, count_at, generator_at, session_at, expire_at, swap_out_at, swap_in_at, entry_at};
+ghost use Rattle.record_codec.specs.ActiveFile.{active_file_at};
+ghost use Rattle.record_codec.specs.EntryReading.{begin_at, count_at, generator_at, session_at, expire_at, swap_out_at, swap_in_at, entry_at, session_front_at, expire_front_at, swap_out_front_at, front_at};
 
-use crate::entry::{
-    ExpireEntry, Generator, LogEntry, Placed, PlacedList, SessionEntry, SwapOutEntry,
-};
-use crate::flow_file::read_flow_file;
-use flowfile_record::CodecError;
+use crate::active_file::read_fields as read_active_fields;
+use crate::entry::{ExpireEntry, LogEntry, NO_GENERATOR, SessionEntry, SwapOutEntry};
+use crate::version::read_version;
+use flowfile_record::{ActiveFile, CodecError, Counted, Sequence};
 use flowfile_record::fields::{
-    FieldError, Unread, read_number, read_numbers, read_u8, read_u16, read_u32, read_u64,
+    FieldError, Unread, read_number, read_numbers, read_u16, read_u32, read_u64,
 };
 use std::alloc::Global;
 
-/// The place of no generator.
-pub(crate) const NO_GENERATOR: u16 = 65_535;
-
-/// The version of the log's format.
-pub(crate) const VERSION: u8 = 1;
-
 pub(crate) fn read_answer(alloc: Global, kind: u8, bytes: &[u8]) -> Result<LogEntry, CodecError>
-    ensures { Answers result (answer (length bytes.now) (whole (entry_at kind) bytes.now)) }
+    ensures exact { Answers result (answer (length bytes.now) (whole (entry_at kind) bytes.now)) }
+    ensures memory { IsErrOf result CodecError.Memory → IsTrue (is_ok (front_at kind bytes.now)) }
 {
     match read_all(alloc, kind, bytes) {
         Ok(entry) => Ok(entry),
@@ -29,7 +24,8 @@ pub(crate) fn read_answer(alloc: Global, kind: u8, bytes: &[u8]) -> Result<LogEn
 }
 
 fn read_all(alloc: Global, kind: u8, bytes: &[u8]) -> Result<LogEntry, FieldError>
-    ensures { Gives (λ entry. entry) result (whole (entry_at kind) bytes.now) }
+    ensures read { Gives (λ entry. entry) result (whole (entry_at kind) bytes.now) }
+    ensures memory { IsErrOf result FieldError.Memory → IsTrue (is_ok (front_at kind bytes.now)) }
 {
     let (entry, rest) = read_of_kind(alloc, kind, bytes)?;
     if !rest.is_empty() {
@@ -42,7 +38,8 @@ fn read_all(alloc: Global, kind: u8, bytes: &[u8]) -> Result<LogEntry, FieldErro
 
 #[tactic(auto, unfolding(crate::specs::EntryReading::entry_at))]
 fn read_of_kind(alloc: Global, kind: u8, bytes: &[u8]) -> Result<(LogEntry, &[u8]), FieldError>
-    ensures { Gives (λ x. (x.0, x.1.now)) result (entry_at kind bytes.now) }
+    ensures read { Gives (λ x. (x.0, x.1.now)) result (entry_at kind bytes.now) }
+    ensures memory { IsErrOf result FieldError.Memory → IsTrue (is_ok (front_at kind bytes.now)) }
 {
     match kind {
         1 => Ok(read_begin(bytes)?),
@@ -74,22 +71,10 @@ fn read_begin(bytes: &[u8]) -> Result<(LogEntry, &[u8]), Unread>
     Ok((LogEntry::Begin { log }, rest))
 }
 
-#[tactic(auto, unfolding(crate::specs::EntryReading::version_at))]
-fn read_version(bytes: &[u8]) -> Result<(u8, &[u8]), Unread>
-    ensures { Reads (λ x. (x.0, x.1.now)) result (version_at bytes.now) }
-{
-    let (version, rest) = read_u8(bytes)?;
-    if version != VERSION {
-        return Err(Unread {
-            left: bytes.len() as u64,
-        });
-    }
-    Ok((version, rest))
-}
-
 #[tactic(auto, unfolding(crate::specs::EntryReading::session_at))]
 fn read_session(alloc: Global, bytes: &[u8]) -> Result<(SessionEntry, &[u8]), FieldError>
-    ensures { Gives (λ x. (x.0, x.1.now)) result (session_at bytes.now) }
+    ensures read { Gives (λ x. (x.0, x.1.now)) result (session_at bytes.now) }
+    ensures memory { IsErrOf result FieldError.Memory → IsTrue (is_ok (session_front_at bytes.now)) }
 {
     let (processor, rest) = read_u16(bytes)?;
     let (moment, rest) = read_u64(rest)?;
@@ -113,59 +98,50 @@ fn read_session(alloc: Global, bytes: &[u8]) -> Result<(SessionEntry, &[u8]), Fi
 }
 
 #[tactic(auto, unfolding(flowfile_record::specs::Reading::listed_at))]
-fn read_placed_list(alloc: Global, bytes: &[u8]) -> Result<(PlacedList, &[u8]), FieldError>
-    ensures { Gives (λ x. (x.0, x.1.now)) result (listed_at placed_at bytes.now) }
+fn read_placed_list(alloc: Global, bytes: &[u8]) -> Result<(Sequence<ActiveFile>, &[u8]), FieldError>
+    ensures { Gives (λ x. (x.0, x.1.now)) result (listed_at active_file_at bytes.now) }
 {
     let (count, rest) = read_u32(bytes)?;
     let (items, rest) = read_placed_items(alloc, count, rest)?;
-    Ok((PlacedList::from(items), rest))
+    Ok((Sequence::from(items), rest))
 }
 
 fn read_placed_items(
     alloc: Global,
     count: u32,
     bytes: &[u8],
-) -> Result<(Vec<Placed>, &[u8]), FieldError>
-    ensures { Gives (λ x. (x.0.items, x.1.now)) result (items_at placed_at count bytes.now) }
+) -> Result<(Vec<ActiveFile>, &[u8]), FieldError>
+    ensures { Gives (λ x. (x.0.items, x.1.now)) result (items_at active_file_at count bytes.now) }
 {
     let mut items = Vec::new(alloc);
     let mut rest = bytes;
     for _ in 0..count {
-        let (item, after) = read_placed(alloc, rest)?;
+        let (item, after) = read_active_fields(alloc, rest)?;
         items.push(item)?;
         rest = after;
     }
     Ok((items, rest))
 }
 
-#[tactic(auto, unfolding(crate::specs::EntryReading::placed_at))]
-fn read_placed(alloc: Global, bytes: &[u8]) -> Result<(Placed, &[u8]), FieldError>
-    ensures { Gives (λ x. (x.0, x.1.now)) result (placed_at bytes.now) }
-{
-    let (connection, rest) = read_u16(bytes)?;
-    let (file, rest) = read_flow_file(alloc, rest)?;
-    Ok((Placed { connection, file }, rest))
-}
-
 #[tactic(auto, unfolding(crate::specs::EntryReading::generator_at))]
-fn read_generator(bytes: &[u8]) -> Result<(Option<Generator>, &[u8]), Unread>
+fn read_generator(bytes: &[u8]) -> Result<(Option<Counted>, &[u8]), Unread>
     ensures { Reads (λ x. (x.0, x.1.now)) result (generator_at bytes.now) }
 {
-    let (place, rest) = read_u16(bytes)?;
-    let (count, rest) = read_count(place, rest)?;
-    if place == NO_GENERATOR {
+    let (processor, rest) = read_u16(bytes)?;
+    let (count, rest) = read_count(processor, rest)?;
+    if processor == NO_GENERATOR {
         return Ok((None, rest));
     }
-    Ok((Some(Generator { place, count }), rest))
+    Ok((Some(Counted { processor, count }), rest))
 }
 
 // The count behind the place of a generator, or 0.
 #[tactic(auto, unfolding(crate::specs::EntryReading::count_at))]
-fn read_count(place: u16, bytes: &[u8]) -> Result<(u64, &[u8]), Unread>
-    ensures { Reads (λ x. (x.0, x.1.now)) result (count_at place bytes.now) }
+fn read_count(processor: u16, bytes: &[u8]) -> Result<(u64, &[u8]), Unread>
+    ensures { Reads (λ x. (x.0, x.1.now)) result (count_at processor bytes.now) }
 {
     let (count, rest) = read_number(bytes)?;
-    if place == NO_GENERATOR && count != 0 {
+    if processor == NO_GENERATOR && count != 0 {
         return Err(Unread {
             left: bytes.len() as u64,
         });
@@ -175,7 +151,8 @@ fn read_count(place: u16, bytes: &[u8]) -> Result<(u64, &[u8]), Unread>
 
 #[tactic(auto, unfolding(crate::specs::EntryReading::expire_at))]
 fn read_expire(alloc: Global, bytes: &[u8]) -> Result<(ExpireEntry, &[u8]), FieldError>
-    ensures { Gives (λ x. (x.0, x.1.now)) result (expire_at bytes.now) }
+    ensures read { Gives (λ x. (x.0, x.1.now)) result (expire_at bytes.now) }
+    ensures memory { IsErrOf result FieldError.Memory → IsTrue (is_ok (expire_front_at bytes.now)) }
 {
     let (connection, rest) = read_u16(bytes)?;
     let (moment, rest) = read_u64(rest)?;
@@ -192,7 +169,8 @@ fn read_expire(alloc: Global, bytes: &[u8]) -> Result<(ExpireEntry, &[u8]), Fiel
 
 #[tactic(auto, unfolding(crate::specs::EntryReading::swap_out_at))]
 fn read_swap_out(alloc: Global, bytes: &[u8]) -> Result<(SwapOutEntry, &[u8]), FieldError>
-    ensures { Gives (λ x. (x.0, x.1.now)) result (swap_out_at bytes.now) }
+    ensures read { Gives (λ x. (x.0, x.1.now)) result (swap_out_at bytes.now) }
+    ensures memory { IsErrOf result FieldError.Memory → IsTrue (is_ok (swap_out_front_at bytes.now)) }
 {
     let (connection, rest) = read_u16(bytes)?;
     let (batch, rest) = read_number(rest)?;

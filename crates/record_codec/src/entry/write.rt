@@ -1,128 +1,117 @@
 //! Writing the entries of a log.
-ghost use Rattle.std.specs.Prelude.{◌≡◌, ◌++◌, OnOk, OnErr};
-ghost use Rattle.flowfile_record.specs.Encoding.{Keeps, AreListed, AreNumbers, listed, numbers as numbers_encoding};
-ghost use Rattle.record_codec.specs.EntryEncoding.{placed as placed_encoding, generator as generator_encoding, session as session_encoding, counters, expire as expire_encoding, swap_out as swap_out_encoding, entry as encoding, IsEntry, IsPlaced, IsSession, IsExpire, IsSwapOut};
+ghost use Rattle.std.specs.Prelude.{◌≡◌, ◌+◌, ◌≤◌, ◌++◌, length, vec_len, vec_capacity};
+ghost use Rattle.flowfile_record.specs.Encoding.{AreListed, listed};
+ghost use Rattle.record_codec.specs.ActiveFile.{active_file, IsActiveFile};
+ghost use Rattle.record_codec.specs.EntryEncoding as encoding;
+ghost use Rattle.record_codec.specs.EntryEncoding.{IsEntry, IsSession, IsExpire, IsSwapOut};
 
-use crate::entry::read::{NO_GENERATOR, VERSION};
-use crate::entry::{
-    ExpireEntry, Generator, LogEntry, Placed, PlacedList, SessionEntry, SwapOutEntry,
-};
-use crate::flow_file::write_flow_file;
-use flowfile_record::Numbers;
-use flowfile_record::fields::{write_numbers, write_u8, write_u16, write_u32, write_u64};
-use std::alloc::AllocError;
+use crate::FORMAT_VERSION;
+use crate::active_file::put_active_file;
+use crate::entry::size::{COUNTERS_SIZE, GENERATOR_SIZE};
+use crate::entry::{ExpireEntry, LogEntry, NO_GENERATOR, SessionEntry, SwapOutEntry};
+use crate::put::{put_numbers, put_u8, put_u16, put_u32, put_u64};
+use flowfile_record::{ActiveFile, Counted};
 
 #[tactic(auto, unfolding(crate::specs::EntryEncoding::entry))]
-pub(crate) fn write_fields(out: &mut Vec<u8>, entry: &LogEntry) -> Result<(), AllocError>
-    requires { IsEntry entry.now }
-    ensures ok { OnOk result (out.new.items ≡ out.old.items ++ encoding entry.now) }
-    ensures err { OnErr result (Keeps out.old.items out.new.items) }
+pub(crate) fn put_entry(out: &mut Vec<u8>, entry: &LogEntry)
+    requires entry { IsEntry entry.now }
+    requires room { vec_len out.old + length (encoding.entry entry.now) ≤ vec_capacity out.old }
+    ensures items { out.new.items ≡ out.old.items ++ encoding.entry entry.now }
+    ensures capacity { vec_capacity out.old ≤ vec_capacity out.new }
 {
     match entry {
         LogEntry::Begin { log } => {
-            write_u8(out, VERSION)?;
-            write_u64(out, *log)
+            put_u8(out, FORMAT_VERSION);
+            put_u64(out, *log);
         }
-        LogEntry::Session(session) => write_session(out, session),
-        LogEntry::Expire(expire) => write_expire(out, expire),
-        LogEntry::SwapOut(swap_out) => write_swap_out(out, swap_out),
+        LogEntry::Session(session) => put_session(out, session),
+        LogEntry::Expire(expire) => put_expire(out, expire),
+        LogEntry::SwapOut(swap_out) => put_swap_out(out, swap_out),
         LogEntry::SwapIn { connection, batch } => {
-            write_u16(out, *connection)?;
-            write_u64(out, *batch)
+            put_u16(out, *connection);
+            put_u64(out, *batch);
         }
     }
 }
 
-#[tactic(auto, unfolding(crate::specs::EntryEncoding::session))]
-fn write_session(out: &mut Vec<u8>, session: &SessionEntry) -> Result<(), AllocError>
-    requires { IsSession session.now }
-    ensures ok { OnOk result (out.new.items ≡ out.old.items ++ session_encoding session.now) }
-    ensures err { OnErr result (Keeps out.old.items out.new.items) }
+#[tactic(auto, unfolding(crate::specs::EntryEncoding::session), using(crate::proofs::Sizes::session_size))]
+fn put_session(out: &mut Vec<u8>, session: &SessionEntry)
+    requires session { IsSession session.now }
+    requires room { vec_len out.old + length (encoding.session session.now) ≤ vec_capacity out.old }
+    ensures items { out.new.items ≡ out.old.items ++ encoding.session session.now }
+    ensures capacity { vec_capacity out.old ≤ vec_capacity out.new }
 {
-    write_u16(out, session.processor)?;
-    write_u64(out, session.moment)?;
-    write_number_list(out, &session.gone)?;
-    write_placed_list(out, &session.placed)?;
-    write_counters(out, session)
+    put_u16(out, session.processor);
+    put_u64(out, session.moment);
+    put_numbers(out, session.gone.as_slice());
+    put_placed(out, session.placed.as_slice());
+    put_counters(out, session);
 }
 
 #[tactic(auto, unfolding(crate::specs::EntryEncoding::counters))]
-fn write_counters(out: &mut Vec<u8>, session: &SessionEntry) -> Result<(), AllocError>
-    ensures ok { OnOk result (out.new.items ≡ out.old.items ++ counters session.now) }
-    ensures err { OnErr result (Keeps out.old.items out.new.items) }
+fn put_counters(out: &mut Vec<u8>, session: &SessionEntry)
+    requires { vec_len out.old + COUNTERS_SIZE ≤ vec_capacity out.old }
+    ensures items { out.new.items ≡ out.old.items ++ encoding.counters session.now }
+    ensures capacity { vec_capacity out.old ≤ vec_capacity out.new }
 {
-    write_u64(out, session.next_number)?;
-    write_u64(out, session.next_arrival)?;
-    write_u64(out, session.last_event)?;
-    write_generator(out, session.generator)
+    put_u64(out, session.next_number);
+    put_u64(out, session.next_arrival);
+    put_u64(out, session.last_event);
+    put_generator(out, session.generator);
 }
 
-fn write_number_list(out: &mut Vec<u8>, numbers: &Numbers) -> Result<(), AllocError>
-    requires { AreNumbers numbers.now }
-    ensures ok { OnOk result (out.new.items ≡ out.old.items ++ numbers_encoding numbers.now) }
-    ensures err { OnErr result (Keeps out.old.items out.new.items) }
+fn put_placed(out: &mut Vec<u8>, placed: &[ActiveFile])
+    requires placed { AreListed IsActiveFile placed.now }
+    requires room { vec_len out.old + length (listed active_file placed.now) ≤ vec_capacity out.old }
+    ensures items { out.new.items ≡ out.old.items ++ listed active_file placed.now }
+    ensures len { vec_len out.new ≡ vec_len out.old + length (listed active_file placed.now) }
+    ensures capacity { vec_capacity out.old ≤ vec_capacity out.new }
 {
-    write_numbers(out, numbers.as_slice())
-}
-
-fn write_placed_list(out: &mut Vec<u8>, placed: &PlacedList) -> Result<(), AllocError>
-    requires { AreListed IsPlaced placed.now }
-    ensures ok { OnOk result (out.new.items ≡ out.old.items ++ listed placed_encoding placed.now) }
-    ensures err { OnErr result (Keeps out.old.items out.new.items) }
-{
-    write_u32(out, placed.len() as u32)?;
-    for one in placed.as_slice() {
-        write_placed(out, one)?;
+    put_u32(out, placed.len() as u32);
+    for one in placed {
+        put_active_file(out, one.connection, &one.file);
     }
-    Ok(())
-}
-
-#[tactic(auto, unfolding(crate::specs::EntryEncoding::placed))]
-fn write_placed(out: &mut Vec<u8>, placed: &Placed) -> Result<(), AllocError>
-    requires { IsPlaced placed.now }
-    ensures ok { OnOk result (out.new.items ≡ out.old.items ++ placed_encoding placed.now) }
-    ensures err { OnErr result (Keeps out.old.items out.new.items) }
-{
-    write_u16(out, placed.connection)?;
-    write_flow_file(out, &placed.file)
 }
 
 #[tactic(auto, unfolding(crate::specs::EntryEncoding::generator))]
-fn write_generator(out: &mut Vec<u8>, generator: Option<Generator>) -> Result<(), AllocError>
-    ensures ok { OnOk result (out.new.items ≡ out.old.items ++ generator_encoding generator) }
-    ensures err { OnErr result (Keeps out.old.items out.new.items) }
+fn put_generator(out: &mut Vec<u8>, generator: Option<Counted>)
+    requires { vec_len out.old + GENERATOR_SIZE ≤ vec_capacity out.old }
+    ensures items { out.new.items ≡ out.old.items ++ encoding.generator generator }
+    ensures capacity { vec_capacity out.old ≤ vec_capacity out.new }
 {
     match generator {
         None => {
-            write_u16(out, NO_GENERATOR)?;
-            write_u64(out, 0)
+            put_u16(out, NO_GENERATOR);
+            put_u64(out, 0);
         }
         Some(generator) => {
-            write_u16(out, generator.place)?;
-            write_u64(out, generator.count)
+            put_u16(out, generator.processor);
+            put_u64(out, generator.count);
         }
     }
 }
 
-#[tactic(auto, unfolding(crate::specs::EntryEncoding::expire))]
-fn write_expire(out: &mut Vec<u8>, expire: &ExpireEntry) -> Result<(), AllocError>
-    requires { IsExpire expire.now }
-    ensures ok { OnOk result (out.new.items ≡ out.old.items ++ expire_encoding expire.now) }
-    ensures err { OnErr result (Keeps out.old.items out.new.items) }
+#[tactic(auto, unfolding(crate::specs::EntryEncoding::expire), using(crate::proofs::Sizes::expire_size))]
+fn put_expire(out: &mut Vec<u8>, expire: &ExpireEntry)
+    requires expire { IsExpire expire.now }
+    requires room { vec_len out.old + length (encoding.expire expire.now) ≤ vec_capacity out.old }
+    ensures items { out.new.items ≡ out.old.items ++ encoding.expire expire.now }
+    ensures capacity { vec_capacity out.old ≤ vec_capacity out.new }
 {
-    write_u16(out, expire.connection)?;
-    write_u64(out, expire.moment)?;
-    write_number_list(out, &expire.numbers)?;
-    write_u64(out, expire.last_event)
+    put_u16(out, expire.connection);
+    put_u64(out, expire.moment);
+    put_numbers(out, expire.numbers.as_slice());
+    put_u64(out, expire.last_event);
 }
 
-#[tactic(auto, unfolding(crate::specs::EntryEncoding::swap_out))]
-fn write_swap_out(out: &mut Vec<u8>, swap_out: &SwapOutEntry) -> Result<(), AllocError>
-    requires { IsSwapOut swap_out.now }
-    ensures ok { OnOk result (out.new.items ≡ out.old.items ++ swap_out_encoding swap_out.now) }
-    ensures err { OnErr result (Keeps out.old.items out.new.items) }
+#[tactic(auto, unfolding(crate::specs::EntryEncoding::swap_out), using(crate::proofs::Sizes::swap_out_size))]
+fn put_swap_out(out: &mut Vec<u8>, swap_out: &SwapOutEntry)
+    requires swap_out { IsSwapOut swap_out.now }
+    requires room { vec_len out.old + length (encoding.swap_out swap_out.now) ≤ vec_capacity out.old }
+    ensures items { out.new.items ≡ out.old.items ++ encoding.swap_out swap_out.now }
+    ensures capacity { vec_capacity out.old ≤ vec_capacity out.new }
 {
-    write_u16(out, swap_out.connection)?;
-    write_u64(out, swap_out.batch)?;
-    write_number_list(out, &swap_out.numbers)
+    put_u16(out, swap_out.connection);
+    put_u64(out, swap_out.batch);
+    put_numbers(out, swap_out.numbers.as_slice());
 }

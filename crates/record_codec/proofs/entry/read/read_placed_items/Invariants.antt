@@ -1,8 +1,8 @@
 use Rattle.std.proofs.Common.{◌≡◌, ◌-◌}
 use Rattle.flowfile_record.specs.Reading.{items_at}
 use Rattle.flowfile_record.proofs.Items.{with_front}
-use Rattle.record_codec.specs.EntryReading.{placed_at}
+use Rattle.record_codec.specs.ActiveFile.{active_file_at}
 use Rattle.record_codec.proofs.entry.read.read_placed_items.Given as goal
 
 abbrev pub invariant-loop : goal.invariant-loop
-invariant-loop l = with_front l.items.items (items_at placed_at (l.count - l.counter) l.rest) ≡ items_at placed_at l.count l.bytes
+invariant-loop l = with_front l.items.items (items_at active_file_at (l.count - l.counter) l.rest) ≡ items_at active_file_at l.count l.bytes

@@ -1,0 +1,13 @@
+use Rattle.std.proofs.Common.{length, ap, arith}
+use Rattle.flowfile_record.specs.Encoding.{numbers}
+use Rattle.record_codec.specs.StoreHead.{head_of}
+use Rattle.record_codec.specs.Texts.{texts}
+use Rattle.record_codec.proofs.Sizes.{head_size}
+use Rattle.record_codec.proofs.head.head_size.Goals as goal
+
+pub size_of-requires-clause-connections : goal.size_of-requires-clause-connections
+size_of-requires-clause-connections c = rw c.as_slice.ensures c.requires.connections
+
+pub returns : goal.returns
+returns c =
+    omega (arith, c.size_of.ensures, ap (λ cs. length (texts cs)) c.as_slice.ensures, ap (λ ns. length (numbers ns)) c.as_slice-2.ensures, head_size c.args.head.now c.requires.flow)
