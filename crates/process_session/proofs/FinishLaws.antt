@@ -6,8 +6,9 @@ use Rattle.flowfile_record.specs.declared.worked.Origin.{Origin}
 use Rattle.flowfile_record.specs.declared.worked.Origin.TheVariants.{Taken, Created, Received, Forked, Part, Cloned, Joined}
 use Rattle.flowfile_record.specs.declared.worked.Worked.{Worked}
 use Rattle.process_session.specs.declared.file.File.{File}
-use Rattle.process_session.specs.Bench.{Bench, is_made}
-use Rattle.process_session.specs.Finish.{AreBefore, AreTaken, NameEarlier, child_of, each_once, is_left_out, is_removed, joined_of, kept_files, origin_in, outcome_of, parents_of, standing, standing_for, standing_from, worked_of}
+use Rattle.process_session.specs.Bench.{Bench}
+use Rattle.flowfile_record.specs.Outcome.{is_made, parents_of}
+use Rattle.process_session.specs.Finish.{AreBefore, AreTaken, NameEarlier, child_of, each_once, is_left_out, is_removed, joined_of, kept_files, origin_in, outcome_of, standing, standing_for, standing_from, worked_of}
 use Rattle.process_session.specs.Finishing.{stand_at}
 
 before_later : (place later : ℕ) (places : List ℕ) → place ≤ later → AreBefore place places → AreBefore later places

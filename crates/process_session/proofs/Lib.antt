@@ -1,7 +1,7 @@
 pub mod Beginning
 pub mod Changing
 pub mod Encoded
-pub mod Faulting
+pub mod Refused
 pub mod FinishFiles
 pub mod FinishLaws
 pub mod FinishPlaces

@@ -2,40 +2,40 @@
 use Rattle.std.proofs.Common.{◌≡◌, List, [], ◌∷◌, Option, None, Some, refl, sym}
 use Rattle.process_session.specs.declared.error.SessionError.{SessionError}
 use Rattle.process_session.specs.declared.error.SessionError.TheVariants.{UnknownFile, AlreadyEnded, NoRelationship, MadeHere, NoBytes, RangeOutside, ContentTooLarge, BadKey, AttributesTooLarge, AlreadySent, SessionFull, NotAccounted, Memory}
-use Rattle.process_session.specs.Refusals.{Fault, first_fault, IsCause}
+use Rattle.process_session.specs.Reasons.{Refusal, first_refusal, IsCause}
 
-pub pass : (fault : Fault) (faults : List Fault) → None ≡ fault → first_fault (fault ∷ faults) ≡ first_fault faults
-unfolding first_fault
-pass None faults e = refl
-pass (Some other) faults e = cc
+pub pass : (refusal : Refusal) (refusals : List Refusal) → None ≡ refusal → first_refusal (refusal ∷ refusals) ≡ first_refusal refusals
+unfolding first_refusal
+pass None refusals e = refl
+pass (Some other) refusals e = cc
 
-pub stop : (fault : Fault) (faults : List Fault) (error : SessionError) → Some error ≡ fault → first_fault (fault ∷ faults) ≡ Some error
-unfolding first_fault
-stop None faults error e = cc
-stop (Some other) faults error e = sym e
+pub stop : (refusal : Refusal) (refusals : List Refusal) (error : SessionError) → Some error ≡ refusal → first_refusal (refusal ∷ refusals) ≡ Some error
+unfolding first_refusal
+stop None refusals error e = cc
+stop (Some other) refusals error e = sym e
 
-pub no_fault : first_fault [] ≡ None
-unfolding first_fault
-no_fault = refl
+pub no_refusal : first_refusal [] ≡ None
+unfolding first_refusal
+no_refusal = refl
 
-pub cause : (error : SessionError) (fault : Fault) → fault ≡ Some error → IsCause error fault
-cause UnknownFile fault e = e
-cause AlreadyEnded fault e = e
-cause NoRelationship fault e = e
-cause MadeHere fault e = e
-cause NoBytes fault e = e
-cause (RangeOutside end_of_range size) fault e = e
-cause (ContentTooLarge size) fault e = e
-cause BadKey fault e = e
-cause (AttributesTooLarge size) fault e = e
-cause AlreadySent fault e = e
-cause (SessionFull which number) fault e = e
-cause (NotAccounted place) fault e = e
-cause Memory fault e = tt
+pub cause : (error : SessionError) (refusal : Refusal) → refusal ≡ Some error → IsCause error refusal
+cause UnknownFile refusal e = e
+cause AlreadyEnded refusal e = e
+cause NoRelationship refusal e = e
+cause MadeHere refusal e = e
+cause NoBytes refusal e = e
+cause (RangeOutside end_of_range size) refusal e = e
+cause (ContentTooLarge size) refusal e = e
+cause BadKey refusal e = e
+cause (AttributesTooLarge size) refusal e = e
+cause AlreadySent refusal e = e
+cause (SessionFull which number) refusal e = e
+cause (NotAccounted place) refusal e = e
+cause Memory refusal e = tt
 
-pub one : (fault : Fault) → first_fault (fault ∷ []) ≡ fault
-unfolding first_fault
+pub one : (refusal : Refusal) → first_refusal (refusal ∷ []) ≡ refusal
+unfolding first_refusal
 one None = refl
 one (Some error) = refl
 
-pub ruleset refusals = (pass, stop, no_fault, cause)
+pub ruleset refusals = (pass, stop, no_refusal, cause)

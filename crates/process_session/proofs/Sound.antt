@@ -12,10 +12,11 @@ use Rattle.flowfile_record.specs.declared.worked.Body.{Body}
 use Rattle.flowfile_record.specs.declared.worked.Body.TheVariants.{New}
 use Rattle.flowfile_record.specs.declared.worked.Origin.{Origin}
 use Rattle.process_session.specs.declared.file.File.{File}
-use Rattle.process_session.specs.declared.limits.TheConstants.{FILES_MAX, SESSION_ATTRIBUTES_MAX, WRITTEN_MAX}
-use Rattle.process_session.specs.Bench.{Bench, IsSound, IsBodyOf, attributes_at, is_made, is_made_at, counted_size, file_size, attribute_size}
+use Rattle.flowfile_record.specs.declared.limits.TheConstants.{FILES_MAX, SESSION_ATTRIBUTES_MAX, WRITTEN_MAX}
+use Rattle.process_session.specs.Bench.{Bench, IsSound, IsBodyOf, attributes_at, is_made_at, counted_size, file_size, attribute_size}
+use Rattle.flowfile_record.specs.Outcome.{is_made}
 use Rattle.process_session.specs.Changes.{change_at, made_file, with_attributes, with_changed, with_content, with_handed, with_made}
-use Rattle.process_session.specs.Refusals.{past_limits, session_full}
+use Rattle.process_session.specs.Reasons.{past_limits, session_full}
 use Rattle.process_session.proofs.Changing.{change_at-there, length-change_at, sum_by-change_at, sum_by-set_there, All-change_at}
 
 -- a change that touches neither what counts nor the body

@@ -3,15 +3,16 @@ use Rattle.std.specs.Prelude.{◌≡◌, ℕ, ◌+◌, ◌<◌, ◌≤◌, ◌&&
 use Rattle.std.specs.Option.{option_map, option_map_or}
 use Rattle.std.specs.FinMap.{get, empty}
 use Rattle.flowfile_record.specs.Attributes.{AttributeMap, encoded_size}
+use Rattle.flowfile_record.specs.declared.limits.TheConstants.{FILENAME_SIZE, FILES_MAX, SESSION_ATTRIBUTES_MAX, WRITTEN_MAX}
 use Rattle.flowfile_record.specs.declared.worked.Body.{Body}
 use Rattle.flowfile_record.specs.declared.worked.Body.TheVariants.{Whole, Part, New}
 use Rattle.flowfile_record.specs.declared.worked.Origin.{Origin}
 use Rattle.flowfile_record.specs.declared.worked.Origin.TheVariants.{Taken as FromQueue}
 use Rattle.flowfile_record.specs.declared.worked.Sent.{Sent}
+use Rattle.flowfile_record.specs.Outcome.{is_made}
 use Rattle.process_session.specs.declared.file.File.{File}
 use Rattle.process_session.specs.declared.file.Source.{Source}
 use Rattle.process_session.specs.declared.file.Taken.{Taken}
-use Rattle.process_session.specs.declared.limits.TheConstants.{FILENAME_SIZE, FILES_MAX, SESSION_ATTRIBUTES_MAX, WRITTEN_MAX}
 
 -- the relationships that its processor has, the taken files as they were taken, all files as they are now, the taken
 -- ones first, what is put into the outbox, and how many bytes were handed over as contents
@@ -36,11 +37,6 @@ taken_files place (taken ∷ more) = taken_file place taken ∷ taken_files (pla
 -- the bench as the session begins
 abbrev pub bench_of : ℕ → List Taken → Bench
 bench_of relationships taken = record { relationships = relationships; sources = map source_of taken; files = taken_files 0 taken; sent = None; handed = 0 }
-
--- whether the session made the file, and didn't take it
-abbrev pub is_made : Origin → Bool
-is_made (FromQueue place) = false
-is_made origin = true
 
 -- what a taken file's content was, where the session was given it
 abbrev pub taken_bytes : List Source → ℕ → Option (List ℕ)

@@ -10,7 +10,8 @@ use Rattle.flowfile_record.specs.declared.worked.Outcome.{Outcome}
 use Rattle.flowfile_record.specs.declared.worked.Sent.{Sent}
 use Rattle.flowfile_record.specs.declared.worked.Worked.{Worked}
 use Rattle.process_session.specs.declared.file.File.{File}
-use Rattle.process_session.specs.Bench.{Bench, is_made}
+use Rattle.process_session.specs.Bench.{Bench}
+use Rattle.flowfile_record.specs.Outcome.{is_made, parents_of}
 
 abbrev pub is_removed : Option End → Bool
 is_removed (Some Removed) = true
@@ -19,14 +20,6 @@ is_removed _ = false
 -- a made file that is removed isn't in the outcome
 abbrev pub is_left_out : File → Bool
 is_left_out file = is_made file.origin && is_removed file.«end»
-
--- the places that an origin names
-abbrev pub parents_of : Origin → List ℕ
-parents_of (Forked parent) = parent ∷ []
-parents_of (Part of) = of ∷ []
-parents_of (Cloned of) = of ∷ []
-parents_of (Joined parents) = parents
-parents_of origin = []
 
 -- each once, at its first place
 abbrev pub each_once : List ℕ → List ℕ

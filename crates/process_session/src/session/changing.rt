@@ -5,8 +5,8 @@ ghost use Rattle.std.specs.FinMap.{contains_key, insert, remove};
 ghost use Rattle.flowfile_record.specs.Attributes.{is_uuid};
 ghost use Rattle.process_session.specs.Bench.{HasItsSize, IsBodyOf, attribute_size, attributes_at, attributes_in, body_bytes, bytes_in};
 ghost use Rattle.process_session.specs.Changes.{with_written, with_appended, with_put, with_removed, change_at};
-ghost use Rattle.process_session.specs.Faults.{fault_of_write, fault_of_append, fault_of_put, fault_of_remove_attribute};
-ghost use Rattle.process_session.specs.Refusals.{IsRefusal, already_ended, content_too_large, first_fault, past_limits, unknown_file};
+ghost use Rattle.process_session.specs.Refusals.{refusal_of_write, refusal_of_append, refusal_of_put, refusal_of_remove_attribute};
+ghost use Rattle.process_session.specs.Reasons.{IsRefusal, already_ended, content_too_large, first_refusal, past_limits, unknown_file};
 
 use super::Session;
 use super::bodies::{body_bytes, joined_bytes};
@@ -19,7 +19,7 @@ use std::alloc::{AllocError, Global};
 impl Session {
     /// The content of a file is replaced.
     pub fn write(&mut self, place: u32, bytes: Vec<u8>) -> Result<(), SessionError>
-        ensures refusal { result_err result ≡ fault_of_write self.old place bytes.items }
+        ensures refusal { result_err result ≡ refusal_of_write self.old place bytes.items }
         ensures after { self.new ≡ (if is_ok result then with_written self.old place bytes.items else self.old) }
     {
         let size = bytes.len() as u64;
@@ -30,9 +30,9 @@ impl Session {
     }
 
     /// Whether a content of so many bytes may be written.
-    #[tactic(auto, using(crate::proofs::Refusing::pass, crate::proofs::Refusing::stop, crate::proofs::Refusing::no_fault))]
+    #[tactic(auto, using(crate::proofs::Refusing::pass, crate::proofs::Refusing::stop, crate::proofs::Refusing::no_refusal))]
     fn check_write(&self, place: u32, size: u64) -> Result<(), SessionError>
-        ensures refusal { result_err result ≡ first_fault (unknown_file self.now place ∷ already_ended self.now place ∷ content_too_large size ∷ past_limits (length self.now.files) (attribute_size self.now) (self.now.handed + size) ∷ []) }
+        ensures refusal { result_err result ≡ first_refusal (unknown_file self.now place ∷ already_ended self.now place ∷ content_too_large size ∷ past_limits (length self.now.files) (attribute_size self.now) (self.now.handed + size) ∷ []) }
         ensures there { OnOk result (place < length self.now.files) }
         ensures handed { OnOk result (self.now.handed + size ≤ WRITTEN_MAX) }
     {
@@ -44,7 +44,7 @@ impl Session {
 
     /// The content of a file is extended.
     pub fn append(&mut self, place: u32, bytes: &[u8]) -> Result<(), SessionError>
-        ensures refusal { IsRefusal result (fault_of_append self.old place bytes.now) }
+        ensures refusal { IsRefusal result (refusal_of_append self.old place bytes.now) }
         ensures after { self.new ≡ (if is_ok result then with_appended self.old place bytes.now else self.old) }
     {
         self.check_known(place)?;
@@ -63,7 +63,7 @@ impl Session {
     /// `Ignored`, and changes nothing.
     #[tactic(auto, using(crate::proofs::Refusing::refusals))]
     pub fn put_attribute(&mut self, place: u32, key: &str, value: &str) -> Result<Put, SessionError>
-        ensures refusal { IsRefusal result (fault_of_put self.old place key.now value.now) }
+        ensures refusal { IsRefusal result (refusal_of_put self.old place key.now value.now) }
         ensures put { IfOk result (λ put. put ≡ (if is_uuid key.now then Put.Ignored else Put.Stored)) }
         ensures after { self.new ≡ (if is_ok result then with_put self.old place key.now value.now else self.old) }
     {
@@ -85,7 +85,7 @@ impl Session {
     /// Removes a key and its value from a file's attributes, and tells whether it was there.
     #[tactic(auto, using(crate::proofs::Refusing::refusals))]
     pub fn remove_attribute(&mut self, place: u32, key: &str) -> Result<bool, SessionError>
-        ensures refusal { result_err result ≡ fault_of_remove_attribute self.old place key.now }
+        ensures refusal { result_err result ≡ refusal_of_remove_attribute self.old place key.now }
         ensures was_there { IfOk result (λ was_there. was_there ≡ contains_key (attributes_at self.old place) key.now) }
         ensures after { self.new ≡ (if is_ok result then with_removed self.old place key.now else self.old) }
     {

@@ -2,7 +2,7 @@
 ghost use Rattle.std.specs.Prelude.{◌≡◌, ◌+◌, ◌-◌, ◌<◌, ◌≤◌, ◌^◌, length, IfOk, OnOk};
 ghost use Rattle.std.specs.Result.{result_err};
 ghost use Rattle.process_session.specs.Bench.{attribute_size, content_size};
-ghost use Rattle.process_session.specs.Refusals.{unknown_file, already_ended, no_relationship, made_here, no_bytes, content_too_large, bad_key, attributes_too_large, already_sent, past_limits};
+ghost use Rattle.process_session.specs.Reasons.{unknown_file, already_ended, no_relationship, made_here, no_bytes, content_too_large, bad_key, attributes_too_large, already_sent, past_limits};
 
 use super::Session;
 use super::bodies::body_bytes;
@@ -10,7 +10,7 @@ use crate::{FILENAME_SIZE, FILES_MAX, Full, SESSION_ATTRIBUTES_MAX, SessionError
 use flowfile_record::{ATTRIBUTES_MAX, CONTENT_MAX, KEY_MAX, Origin};
 
 impl Session {
-    #[tactic(auto, unfolding(crate::specs::Refusals::unknown_file))]
+    #[tactic(auto, unfolding(crate::specs::Reasons::unknown_file))]
     pub(super) fn check_known(&self, place: u32) -> Result<(), SessionError>
         ensures refusal { result_err result ≡ unknown_file self.now place }
         ensures there { OnOk result (place < length self.now.files) }
@@ -21,7 +21,7 @@ impl Session {
         Ok(())
     }
 
-    #[tactic(auto, unfolding(crate::specs::Refusals::already_ended))]
+    #[tactic(auto, unfolding(crate::specs::Reasons::already_ended))]
     pub(super) fn check_open(&self, place: u32) -> Result<(), SessionError>
         requires { place < length self.now.files }
         ensures refusal { result_err result ≡ already_ended self.now place }
@@ -32,7 +32,7 @@ impl Session {
         Ok(())
     }
 
-    #[tactic(auto, unfolding(crate::specs::Refusals::no_relationship))]
+    #[tactic(auto, unfolding(crate::specs::Reasons::no_relationship))]
     pub(super) fn check_relationship(&self, relationship: u16) -> Result<(), SessionError>
         ensures refusal { result_err result ≡ no_relationship self.now relationship }
     {
@@ -42,7 +42,7 @@ impl Session {
         Ok(())
     }
 
-    #[tactic(auto, unfolding(crate::specs::Refusals::made_here))]
+    #[tactic(auto, unfolding(crate::specs::Reasons::made_here))]
     pub(super) fn check_taken(&self, place: u32) -> Result<(), SessionError>
         requires { place < length self.now.files }
         ensures refusal { result_err result ≡ made_here self.now place }
@@ -53,7 +53,7 @@ impl Session {
         }
     }
 
-    #[tactic(auto, unfolding(crate::specs::Refusals::already_sent))]
+    #[tactic(auto, unfolding(crate::specs::Reasons::already_sent))]
     pub(super) fn check_unsent(&self) -> Result<(), SessionError>
         ensures refusal { result_err result ≡ already_sent self.now }
     {
@@ -103,7 +103,7 @@ impl Session {
     }
 
     /// The size of the content, which has to be there.
-    #[tactic(auto, unfolding(crate::specs::Refusals::no_bytes))]
+    #[tactic(auto, unfolding(crate::specs::Reasons::no_bytes))]
     pub(super) fn check_bytes(&self, place: u32) -> Result<u64, SessionError>
         requires { place < length self.now.files }
         ensures refusal { result_err result ≡ no_bytes self.now place }
@@ -117,7 +117,7 @@ impl Session {
     }
 }
 
-#[tactic(auto, unfolding(crate::specs::Refusals::content_too_large))]
+#[tactic(auto, unfolding(crate::specs::Reasons::content_too_large))]
 pub(super) fn check_content(size: u64) -> Result<(), SessionError>
     ensures refusal { result_err result ≡ content_too_large size }
     ensures fits { OnOk result (size ≤ CONTENT_MAX) }
@@ -128,7 +128,7 @@ pub(super) fn check_content(size: u64) -> Result<(), SessionError>
     Ok(())
 }
 
-#[tactic(auto, unfolding(crate::specs::Refusals::bad_key))]
+#[tactic(auto, unfolding(crate::specs::Reasons::bad_key))]
 pub(super) fn check_key(key: &str) -> Result<(), SessionError>
     ensures refusal { result_err result ≡ bad_key key.now }
     ensures fits { OnOk result (length key.now ≤ KEY_MAX) }
@@ -139,7 +139,7 @@ pub(super) fn check_key(key: &str) -> Result<(), SessionError>
     Ok(())
 }
 
-#[tactic(auto, unfolding(crate::specs::Refusals::attributes_too_large))]
+#[tactic(auto, unfolding(crate::specs::Reasons::attributes_too_large))]
 pub(super) fn check_attributes(size: u64) -> Result<(), SessionError>
     ensures refusal { result_err result ≡ attributes_too_large size }
     ensures fits { OnOk result (size ≤ ATTRIBUTES_MAX) }
@@ -151,7 +151,7 @@ pub(super) fn check_attributes(size: u64) -> Result<(), SessionError>
 }
 
 /// Whether a session may come to so many files, bytes of attributes and handed bytes.
-#[tactic(auto, unfolding(crate::specs::Refusals::past_limits))]
+#[tactic(auto, unfolding(crate::specs::Reasons::past_limits))]
 fn check_room(files: u64, attributes: u64, handed: u64) -> Result<(), SessionError>
     ensures refusal { result_err result ≡ past_limits files attributes handed }
     ensures files { OnOk result (files ≤ FILES_MAX) }

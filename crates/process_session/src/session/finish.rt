@@ -1,10 +1,10 @@
 //! What a session made: its outcome.
 ghost use Rattle.std.specs.Prelude.{◌≡◌, ◌≤◌, [], length, None, IfOk, IfErr, MatchResult};
 ghost use Rattle.std.specs.Result.{result_err};
-ghost use Rattle.process_session.specs.Faults.{fault_of_finish};
+ghost use Rattle.process_session.specs.Refusals.{refusal_of_finish};
 ghost use Rattle.process_session.specs.Finish.{outcome_of, is_left_out, kept_files, standing_from};
 ghost use Rattle.process_session.specs.Finishing.{IsPlanOf, sent_at};
-ghost use Rattle.process_session.specs.Refusals.{IsCause, IsRefusal, not_accounted, not_accounted_from};
+ghost use Rattle.process_session.specs.Reasons.{IsCause, IsRefusal, not_accounted, not_accounted_from};
 
 mod kept;
 mod origins;
@@ -37,7 +37,7 @@ impl Session {
     /// where an origin names such a file, that file's own parents stand in its place. On a refusal the session is
     /// given back as it was.
     pub fn finish(self) -> Result<Outcome, (Session, SessionError)>
-        ensures refusal { MatchResult result (λ _. fault_of_finish self ≡ None) (λ refused. IsCause refused.1 (fault_of_finish self)) }
+        ensures refusal { MatchResult result (λ _. refusal_of_finish self ≡ None) (λ refused. IsCause refused.1 (refusal_of_finish self)) }
         ensures outcome { IfOk result (λ outcome. outcome ≡ outcome_of self) }
         ensures given_back { IfErr result (λ refused. refused.0 ≡ self) }
     {
@@ -48,7 +48,7 @@ impl Session {
     }
 
     fn plan(&self) -> Result<Plan, SessionError>
-        ensures refusal { IsRefusal result (fault_of_finish self.now) }
+        ensures refusal { IsRefusal result (refusal_of_finish self.now) }
         ensures plan { IfOk result (λ plan. IsPlanOf self.now.files self.now.sent plan) }
     {
         self.check_accounted()?;

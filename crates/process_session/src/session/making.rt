@@ -2,10 +2,11 @@
 ghost use Rattle.std.specs.Prelude.{◌≡◌, [], ◌+◌, ◌<◌, ◌≤◌, ◌==◌, length, is_ok, true, IfOk, OnOk, All, if◌then◌else◌};
 ghost use Rattle.std.specs.Result.{result_err};
 ghost use Rattle.std.specs.List.{IsDistinct};
-ghost use Rattle.process_session.specs.Bench.{IsBodyOf, attributes_at, body_at, content_size, counted_size, is_made};
+ghost use Rattle.process_session.specs.Bench.{IsBodyOf, attributes_at, body_at, content_size, counted_size};
+ghost use Rattle.flowfile_record.specs.Outcome.{is_made};
 ghost use Rattle.process_session.specs.Changes.{common_attributes, is_whole, part_of, with_handed, with_made, with_part, with_created, with_received, with_child, with_joined, with_clone, with_range};
-ghost use Rattle.process_session.specs.Faults.{unknown_files, ended_files, fault_of_create, fault_of_receive, fault_of_create_from, fault_of_create_joined, fault_of_clone, fault_of_clone_range};
-ghost use Rattle.process_session.specs.Refusals.{IsRefusal, attributes_too_large, range_outside, session_full};
+ghost use Rattle.process_session.specs.Refusals.{unknown_files, ended_files, refusal_of_create, refusal_of_receive, refusal_of_create_from, refusal_of_create_joined, refusal_of_clone, refusal_of_clone_range};
+ghost use Rattle.process_session.specs.Reasons.{IsRefusal, attributes_too_large, range_outside, session_full};
 
 use super::Session;
 use super::bodies::{body_size, copy_body, part_of_body};
@@ -19,7 +20,7 @@ use std::alloc::{AllocError, Global};
 impl Session {
     /// Makes a file from nothing, with no attributes and an empty content.
     pub fn create(&mut self) -> Result<u32, SessionError>
-        ensures refusal { IsRefusal result (fault_of_create self.old) }
+        ensures refusal { IsRefusal result (refusal_of_create self.old) }
         ensures place { IfOk result (λ place. place ≡ length self.old.files) }
         ensures after { self.new ≡ (if is_ok result then with_created self.old else self.old) }
     {
@@ -29,7 +30,7 @@ impl Session {
 
     /// Makes a file with a content that was received from outside.
     pub fn receive(&mut self, bytes: Vec<u8>) -> Result<u32, SessionError>
-        ensures refusal { IsRefusal result (fault_of_receive self.old bytes.items) }
+        ensures refusal { IsRefusal result (refusal_of_receive self.old bytes.items) }
         ensures place { IfOk result (λ place. place ≡ length self.old.files) }
         ensures after { self.new ≡ (if is_ok result then with_received self.old bytes.items else self.old) }
     {
@@ -46,7 +47,7 @@ impl Session {
 
     /// Makes a child with its parent's attributes and an empty content.
     pub fn create_from(&mut self, parent: u32) -> Result<u32, SessionError>
-        ensures refusal { IsRefusal result (fault_of_create_from self.old parent) }
+        ensures refusal { IsRefusal result (refusal_of_create_from self.old parent) }
         ensures place { IfOk result (λ place. place ≡ length self.old.files) }
         ensures after { self.new ≡ (if is_ok result then with_child self.old parent else self.old) }
     {
@@ -61,7 +62,7 @@ impl Session {
     pub fn create_joined(&mut self, parents: &[u32]) -> Result<u32, SessionError>
         requires some { 0 < length parents.now }
         requires distinct { IsDistinct (λ a b. a == b) parents.now }
-        ensures refusal { IsRefusal result (fault_of_create_joined self.old parents.now) }
+        ensures refusal { IsRefusal result (refusal_of_create_joined self.old parents.now) }
         ensures place { IfOk result (λ place. place ≡ length self.old.files) }
         ensures after { self.new ≡ (if is_ok result then with_joined self.old parents.now else self.old) }
     {
@@ -75,7 +76,7 @@ impl Session {
 
     /// Makes a copy of a file as it is now.
     pub fn clone_file(&mut self, of: u32) -> Result<u32, SessionError>
-        ensures refusal { IsRefusal result (fault_of_clone self.old of) }
+        ensures refusal { IsRefusal result (refusal_of_clone self.old of) }
         ensures place { IfOk result (λ place. place ≡ length self.old.files) }
         ensures after { self.new ≡ (if is_ok result then with_clone self.old of else self.old) }
     {
@@ -88,7 +89,7 @@ impl Session {
     /// Makes a child whose content is a part of a file's, or a copy of the file where the part is the whole. The part
     /// of a taken content is a reference to it.
     pub fn clone_range(&mut self, of: u32, offset: u64, size: u64) -> Result<u32, SessionError>
-        ensures refusal { IsRefusal result (fault_of_clone_range self.old of offset size) }
+        ensures refusal { IsRefusal result (refusal_of_clone_range self.old of offset size) }
         ensures place { IfOk result (λ place. place ≡ length self.old.files) }
         ensures after { self.new ≡ (if is_ok result then with_range self.old of offset size else self.old) }
     {
@@ -125,7 +126,7 @@ impl Session {
         self.attributes_of(parent).copy()
     }
 
-    #[tactic(auto, unfolding(crate::specs::Refusals::range_outside))]
+    #[tactic(auto, unfolding(crate::specs::Reasons::range_outside))]
     fn check_range(&self, of: u32, offset: u64, size: u64) -> Result<(), SessionError>
         requires { of < length self.now.files }
         ensures refusal { result_err result ≡ range_outside self.now of offset size }

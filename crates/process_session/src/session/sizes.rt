@@ -3,7 +3,8 @@ ghost use Rattle.std.specs.Prelude.{◌≡◌, ℕ, ◌+◌, ◌<◌, ◌≤◌,
 ghost use Rattle.std.specs.FinMap.{get, insert, remove};
 ghost use Rattle.flowfile_record.specs.Attributes.{encoded_size};
 ghost use Rattle.process_session.specs.Pairs.{held_size};
-ghost use Rattle.process_session.specs.Bench.{attribute_size, attributes_at, counted_size, is_made, is_made_at};
+ghost use Rattle.process_session.specs.Bench.{attribute_size, attributes_at, counted_size, is_made_at};
+ghost use Rattle.flowfile_record.specs.Outcome.{is_made};
 
 use super::Session;
 use crate::FILENAME_SIZE;

@@ -1,7 +1,8 @@
 //! Which files of the outcome stand for a file of the session.
 ghost use Rattle.std.specs.Prelude.{◌≡◌, ℕ, ◌<◌, ◌≤◌, ◌==◌, [], All, List, length, map, slice_get, slice_index, unwrap_or, IfOk, OnOk};
 ghost use Rattle.std.specs.List.{flat_map};
-ghost use Rattle.process_session.specs.Finish.{parents_of, place_in, standing_for, standing_from};
+ghost use Rattle.process_session.specs.Finish.{place_in, standing_for, standing_from};
+ghost use Rattle.flowfile_record.specs.Outcome.{parents_of};
 ghost use Rattle.process_session.specs.Finishing.{IsInside, IsMarked, AreMarkedBelow, AreMarkedUpto, next_place, places_of, stand_at, stand_for, with_each, with_once};
 
 use super::is_left_out;

@@ -1,11 +1,11 @@
 use Rattle.std.proofs.Common.{◌≡◌, ◌+◌, ◌≤◌, [], ◌++◌, length, sym, ◌∙◌, ap, arith}
 use Rattle.std.specs.Prelude.{unwrap_or}
 use Rattle.std.proofs.lemmas.Result.{err_from_is_err_and}
-use Rattle.process_session.specs.declared.limits.TheConstants.{WRITTEN_MAX}
+use Rattle.flowfile_record.specs.declared.limits.TheConstants.{WRITTEN_MAX}
 use Rattle.process_session.specs.Bench.{Bench, bytes_in, bytes_of}
 use Rattle.process_session.specs.Inside.{bench_in}
-use Rattle.process_session.specs.Refusals.{content_too_large}
-use Rattle.process_session.proofs.Refusing.{pass, stop, no_fault, cause}
+use Rattle.process_session.specs.Reasons.{content_too_large}
+use Rattle.process_session.proofs.Refusing.{pass, stop, no_refusal, cause}
 use Rattle.process_session.proofs.Sound.{full-content, sound-content}
 use Rattle.process_session.proofs.session.Session.append.Goals as goal
 
@@ -42,4 +42,4 @@ returns-in_err-check_written-clause-refusal c =
     rw (p.1, p.2) (cause _ _ (pass _ _ c.in_ok-check_known.ensures.refusal ∙ pass _ _ c.in_ok-check_open.ensures.refusal ∙ pass _ _ c.in_ok-size.ensures.refusal ∙ pass _ _ (c.in_ok-check_content.ensures.refusal ∙ ap (λ n. content_too_large (n + length c.args.bytes.now)) c.in_ok-size.ensures.size) ∙ stop _ _ _ (c.in_err-check_written.ensures.refusal ∙ sym (full-content c.args.self.now c.args.place (unwrap_or (bytes_of c.args.self.now c.args.place) [] ++ c.args.bytes.now) (length c.args.bytes.now)))))
 
 pub returns-clause-refusal : goal.returns-clause-refusal
-returns-clause-refusal c = pass _ _ c.in_ok-check_known.ensures.refusal ∙ pass _ _ c.in_ok-check_open.ensures.refusal ∙ pass _ _ c.in_ok-size.ensures.refusal ∙ pass _ _ (c.in_ok-check_content.ensures.refusal ∙ ap (λ n. content_too_large (n + length c.args.bytes.now)) c.in_ok-size.ensures.size) ∙ pass _ _ (c.in_ok-check_written.ensures.refusal ∙ sym (full-content c.args.self.now c.args.place (unwrap_or (bytes_of c.args.self.now c.args.place) [] ++ c.args.bytes.now) (length c.args.bytes.now))) ∙ no_fault
+returns-clause-refusal c = pass _ _ c.in_ok-check_known.ensures.refusal ∙ pass _ _ c.in_ok-check_open.ensures.refusal ∙ pass _ _ c.in_ok-size.ensures.refusal ∙ pass _ _ (c.in_ok-check_content.ensures.refusal ∙ ap (λ n. content_too_large (n + length c.args.bytes.now)) c.in_ok-size.ensures.size) ∙ pass _ _ (c.in_ok-check_written.ensures.refusal ∙ sym (full-content c.args.self.now c.args.place (unwrap_or (bytes_of c.args.self.now c.args.place) [] ++ c.args.bytes.now) (length c.args.bytes.now))) ∙ no_refusal

@@ -1,6 +1,6 @@
 use Rattle.std.proofs.Common.{sym, ◌∙◌, subst}
 use Rattle.std.proofs.lemmas.Result.{err_from_is_err_and}
-use Rattle.process_session.specs.Refusals.{IsRefusal}
+use Rattle.process_session.specs.Reasons.{IsRefusal}
 use Rattle.process_session.proofs.Refusing.{pass, stop, one, cause}
 use Rattle.process_session.proofs.session.Session.clone_file.Goals as goal
 

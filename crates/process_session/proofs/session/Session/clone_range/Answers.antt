@@ -3,7 +3,7 @@ use Rattle.std.specs.Prelude.{is_ok}
 use Rattle.std.proofs.lemmas.Result.{err_from_is_err_and}
 use Rattle.process_session.specs.Bench.{Bench}
 use Rattle.process_session.specs.Changes.{with_clone, with_part}
-use Rattle.process_session.specs.Refusals.{IsRefusal, session_full}
+use Rattle.process_session.specs.Reasons.{IsRefusal, session_full}
 use Rattle.process_session.proofs.Refusing.{pass, stop, one, cause}
 use Rattle.process_session.proofs.session.Session.clone_range.Goals as goal
 

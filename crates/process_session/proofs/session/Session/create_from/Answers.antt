@@ -4,7 +4,7 @@ use Rattle.flowfile_record.specs.Attributes.{AttributeMap}
 use Rattle.flowfile_record.specs.declared.worked.Body.TheVariants.{New}
 use Rattle.flowfile_record.specs.declared.worked.Origin.TheVariants.{Forked}
 use Rattle.process_session.specs.Changes.{with_made}
-use Rattle.process_session.specs.Refusals.{IsRefusal, session_full}
+use Rattle.process_session.specs.Reasons.{IsRefusal, session_full}
 use Rattle.process_session.proofs.Refusing.{pass, stop, one, cause}
 use Rattle.process_session.proofs.session.Session.create_from.Goals as goal
 

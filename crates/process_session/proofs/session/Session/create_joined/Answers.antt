@@ -5,7 +5,7 @@ use Rattle.flowfile_record.specs.declared.worked.Body.TheVariants.{New}
 use Rattle.flowfile_record.specs.declared.worked.Origin.TheVariants.{Joined}
 use Rattle.process_session.specs.Bench.{counted_size}
 use Rattle.process_session.specs.Changes.{with_made}
-use Rattle.process_session.specs.Refusals.{IsRefusal, attributes_too_large, session_full}
+use Rattle.process_session.specs.Reasons.{IsRefusal, attributes_too_large, session_full}
 use Rattle.process_session.proofs.Refusing.{pass, stop, one, cause}
 use Rattle.process_session.proofs.session.Session.create_joined.Goals as goal
 

@@ -4,7 +4,7 @@ use Rattle.flowfile_record.specs.declared.attributes.TheConstants.{ATTRIBUTES_MA
 use Rattle.process_session.specs.declared.file.File.{File}
 use Rattle.process_session.specs.declared.file.Source.{Source}
 use Rattle.process_session.specs.declared.file.Taken.{Taken}
-use Rattle.process_session.specs.declared.limits.TheConstants.{TAKEN_MAX}
+use Rattle.flowfile_record.specs.declared.limits.TheConstants.{TAKEN_MAX}
 use Rattle.process_session.specs.Bench.{HasItsSize, IsBodyOf, IsWhole, file_size, source_of, taken_files}
 use Rattle.process_session.proofs.Beginning.{bodies_taken, length-sources, length-taken_files, sources_whole}
 use Rattle.process_session.proofs.session.Session.new.Goals as goal

@@ -1,6 +1,6 @@
 use Rattle.std.proofs.Common.{◌∙◌}
 use Rattle.std.proofs.lemmas.Result.{err_from_is_err_and}
-use Rattle.process_session.proofs.Refusing.{pass, stop, cause, no_fault}
+use Rattle.process_session.proofs.Refusing.{pass, stop, cause, no_refusal}
 use Rattle.process_session.proofs.session.Session.plan.Goals as goal
 
 pub returns-in_err-check_accounted-clause-refusal : goal.returns-in_err-check_accounted-clause-refusal
@@ -9,4 +9,4 @@ returns-in_err-check_accounted-clause-refusal c =
     rw (p.1, p.2) (cause _ _ (stop _ _ _ c.in_err-check_accounted.ensures))
 
 pub returns-clause-refusal : goal.returns-clause-refusal
-returns-clause-refusal c = pass _ _ c.in_ok-check_accounted.ensures ∙ no_fault
+returns-clause-refusal c = pass _ _ c.in_ok-check_accounted.ensures ∙ no_refusal

@@ -1,12 +1,12 @@
 use Rattle.std.proofs.Common.{◌≡◌, ℕ, ◌+◌, ◌-◌, ◌≤◌, sym, ◌∙◌, ap, subst, arith}
 use Rattle.std.specs.FinMap.{insert}
 use Rattle.std.proofs.lemmas.Result.{err_from_is_err_and}
-use Rattle.process_session.specs.declared.limits.TheConstants.{SESSION_ATTRIBUTES_MAX}
+use Rattle.flowfile_record.specs.declared.limits.TheConstants.{SESSION_ATTRIBUTES_MAX}
 use Rattle.process_session.specs.Bench.{Bench, IsSound, attribute_size, attributes_at, counted_size, is_made_at}
 use Rattle.process_session.specs.Changes.{with_attributes}
-use Rattle.process_session.specs.Refusals.{attributes_too_large}
-use Rattle.process_session.proofs.Faulting.{put_fault, room_fault}
-use Rattle.process_session.proofs.Refusing.{pass, stop, no_fault, cause}
+use Rattle.process_session.specs.Reasons.{attributes_too_large}
+use Rattle.process_session.proofs.Refused.{put_refusal, room_refusal}
+use Rattle.process_session.proofs.Refusing.{pass, stop, no_refusal, cause}
 use Rattle.process_session.proofs.Sound.{sound-attributes}
 use Rattle.process_session.proofs.session.Session.put_attribute.Goals as goal
 
@@ -34,17 +34,17 @@ returns-in_err-check_open-clause-refusal c =
 pub returns-in_err-check_key-clause-refusal : goal.returns-in_err-check_key-clause-refusal
 returns-in_err-check_key-clause-refusal c =
     let p = err_from_is_err_and c.from_residual-in_err-check_key.result c.from_residual-in_err-check_key.ensures.1 in
-    rw (p.1, p.2) (cause _ _ (put_fault c.args.self.now c.args.place c.args.key.now c.args.value.now (sym c.eq.ensures ∙ c.if-eq.false) ∙ pass _ _ c.in_ok-check_known.ensures.refusal ∙ pass _ _ c.in_ok-check_open.ensures.refusal ∙ stop _ _ _ c.in_err-check_key.ensures.refusal))
+    rw (p.1, p.2) (cause _ _ (put_refusal c.args.self.now c.args.place c.args.key.now c.args.value.now (sym c.eq.ensures ∙ c.if-eq.false) ∙ pass _ _ c.in_ok-check_known.ensures.refusal ∙ pass _ _ c.in_ok-check_open.ensures.refusal ∙ stop _ _ _ c.in_err-check_key.ensures.refusal))
 
 pub returns-in_err-check_attributes-clause-refusal : goal.returns-in_err-check_attributes-clause-refusal
 returns-in_err-check_attributes-clause-refusal c =
     let p = err_from_is_err_and c.from_residual-in_err-check_attributes.result c.from_residual-in_err-check_attributes.ensures.1 in
-    rw (p.1, p.2) (cause _ _ (put_fault c.args.self.now c.args.place c.args.key.now c.args.value.now (sym c.eq.ensures ∙ c.if-eq.false) ∙ pass _ _ c.in_ok-check_known.ensures.refusal ∙ pass _ _ c.in_ok-check_open.ensures.refusal ∙ pass _ _ c.in_ok-check_key.ensures.refusal ∙ stop _ _ _ (c.in_err-check_attributes.ensures.refusal ∙ ap attributes_too_large c.size_with-new.ensures)))
+    rw (p.1, p.2) (cause _ _ (put_refusal c.args.self.now c.args.place c.args.key.now c.args.value.now (sym c.eq.ensures ∙ c.if-eq.false) ∙ pass _ _ c.in_ok-check_known.ensures.refusal ∙ pass _ _ c.in_ok-check_open.ensures.refusal ∙ pass _ _ c.in_ok-check_key.ensures.refusal ∙ stop _ _ _ (c.in_err-check_attributes.ensures.refusal ∙ ap attributes_too_large c.size_with-new.ensures)))
 
 pub returns-in_err-check_attribute_room-clause-refusal : goal.returns-in_err-check_attribute_room-clause-refusal
 returns-in_err-check_attribute_room-clause-refusal c =
     let p = err_from_is_err_and c.from_residual-in_err-check_attribute_room.result c.from_residual-in_err-check_attribute_room.ensures.1 in
-    rw (p.1, p.2) (cause _ _ (put_fault c.args.self.now c.args.place c.args.key.now c.args.value.now (sym c.eq.ensures ∙ c.if-eq.false) ∙ pass _ _ c.in_ok-check_known.ensures.refusal ∙ pass _ _ c.in_ok-check_open.ensures.refusal ∙ pass _ _ c.in_ok-check_key.ensures.refusal ∙ pass _ _ (c.in_ok-check_attributes.ensures.refusal ∙ ap attributes_too_large c.size_with-new.ensures) ∙ stop _ _ _ (c.in_err-check_attribute_room.ensures.refusal ∙ room_fault c.args.self.now c.args.place (insert (attributes_at c.args.self.now c.args.place) c.args.key.now c.args.value.now) c.size_at-old.result c.size_with-new.result c.in_ok-check_known.ensures.there c.size_at-old.ensures.size c.size_with-new.ensures c.size_at-old.ensures.part)))
+    rw (p.1, p.2) (cause _ _ (put_refusal c.args.self.now c.args.place c.args.key.now c.args.value.now (sym c.eq.ensures ∙ c.if-eq.false) ∙ pass _ _ c.in_ok-check_known.ensures.refusal ∙ pass _ _ c.in_ok-check_open.ensures.refusal ∙ pass _ _ c.in_ok-check_key.ensures.refusal ∙ pass _ _ (c.in_ok-check_attributes.ensures.refusal ∙ ap attributes_too_large c.size_with-new.ensures) ∙ stop _ _ _ (c.in_err-check_attribute_room.ensures.refusal ∙ room_refusal c.args.self.now c.args.place (insert (attributes_at c.args.self.now c.args.place) c.args.key.now c.args.value.now) c.size_at-old.result c.size_with-new.result c.in_ok-check_known.ensures.there c.size_at-old.ensures.size c.size_with-new.ensures c.size_at-old.ensures.part)))
 
 pub returns-clause-refusal : goal.returns-clause-refusal
-returns-clause-refusal c = put_fault c.args.self.now c.args.place c.args.key.now c.args.value.now (sym c.eq.ensures ∙ c.if-eq.false) ∙ pass _ _ c.in_ok-check_known.ensures.refusal ∙ pass _ _ c.in_ok-check_open.ensures.refusal ∙ pass _ _ c.in_ok-check_key.ensures.refusal ∙ pass _ _ (c.in_ok-check_attributes.ensures.refusal ∙ ap attributes_too_large c.size_with-new.ensures) ∙ pass _ _ (c.in_ok-check_attribute_room.ensures.refusal ∙ room_fault c.args.self.now c.args.place (insert (attributes_at c.args.self.now c.args.place) c.args.key.now c.args.value.now) c.size_at-old.result c.size_with-new.result c.in_ok-check_known.ensures.there c.size_at-old.ensures.size c.size_with-new.ensures c.size_at-old.ensures.part) ∙ no_fault
+returns-clause-refusal c = put_refusal c.args.self.now c.args.place c.args.key.now c.args.value.now (sym c.eq.ensures ∙ c.if-eq.false) ∙ pass _ _ c.in_ok-check_known.ensures.refusal ∙ pass _ _ c.in_ok-check_open.ensures.refusal ∙ pass _ _ c.in_ok-check_key.ensures.refusal ∙ pass _ _ (c.in_ok-check_attributes.ensures.refusal ∙ ap attributes_too_large c.size_with-new.ensures) ∙ pass _ _ (c.in_ok-check_attribute_room.ensures.refusal ∙ room_refusal c.args.self.now c.args.place (insert (attributes_at c.args.self.now c.args.place) c.args.key.now c.args.value.now) c.size_at-old.result c.size_with-new.result c.in_ok-check_known.ensures.there c.size_at-old.ensures.size c.size_with-new.ensures c.size_at-old.ensures.part) ∙ no_refusal

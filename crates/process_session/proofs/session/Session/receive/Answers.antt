@@ -5,7 +5,7 @@ use Rattle.flowfile_record.specs.Attributes.{AttributeMap}
 use Rattle.flowfile_record.specs.declared.worked.Body.TheVariants.{New}
 use Rattle.flowfile_record.specs.declared.worked.Origin.TheVariants.{Received}
 use Rattle.process_session.specs.Changes.{with_handed, with_made}
-use Rattle.process_session.specs.Refusals.{IsRefusal, content_too_large, session_full}
+use Rattle.process_session.specs.Reasons.{IsRefusal, content_too_large, session_full}
 use Rattle.process_session.proofs.Refusing.{pass, stop, one, cause}
 use Rattle.process_session.proofs.session.Session.receive.Goals as goal
 

@@ -1,12 +1,12 @@
 use Rattle.std.proofs.Common.{◌≡◌, ℕ, ◌+◌, ◌-◌, ◌≤◌, sym, ◌∙◌, ap, subst, arith}
 use Rattle.std.specs.FinMap.{remove}
 use Rattle.std.proofs.lemmas.Result.{err_from_is_err_and}
-use Rattle.process_session.specs.declared.limits.TheConstants.{SESSION_ATTRIBUTES_MAX}
+use Rattle.flowfile_record.specs.declared.limits.TheConstants.{SESSION_ATTRIBUTES_MAX}
 use Rattle.process_session.specs.Bench.{Bench, IsSound, attribute_size, attributes_at, counted_size, is_made_at}
 use Rattle.process_session.specs.Changes.{with_attributes}
-use Rattle.process_session.specs.Refusals.{attributes_too_large}
-use Rattle.process_session.proofs.Faulting.{room_fault}
-use Rattle.process_session.proofs.Refusing.{pass, stop, no_fault}
+use Rattle.process_session.specs.Reasons.{attributes_too_large}
+use Rattle.process_session.proofs.Refused.{room_refusal}
+use Rattle.process_session.proofs.Refusing.{pass, stop, no_refusal}
 use Rattle.process_session.proofs.Sound.{sound-attributes}
 use Rattle.process_session.proofs.session.Session.remove_attribute.Goals as goal
 
@@ -39,7 +39,7 @@ returns-in_err-check_attributes-clause-refusal c =
 pub returns-in_err-check_attribute_room-clause-refusal : goal.returns-in_err-check_attribute_room-clause-refusal
 returns-in_err-check_attribute_room-clause-refusal c =
     let p = err_from_is_err_and c.from_residual-in_err-check_attribute_room.result c.from_residual-in_err-check_attribute_room.ensures.1 in
-    rw (p.1, p.2) (sym (pass _ _ c.in_ok-check_known.ensures.refusal ∙ pass _ _ c.in_ok-check_open.ensures.refusal ∙ pass _ _ (c.in_ok-check_attributes.ensures.refusal ∙ ap attributes_too_large c.size_without-new.ensures) ∙ stop _ _ _ (c.in_err-check_attribute_room.ensures.refusal ∙ room_fault c.args.self.now c.args.place (remove (attributes_at c.args.self.now c.args.place) c.args.key.now) c.size_at-old.result c.size_without-new.result c.in_ok-check_known.ensures.there c.size_at-old.ensures.size c.size_without-new.ensures c.size_at-old.ensures.part)))
+    rw (p.1, p.2) (sym (pass _ _ c.in_ok-check_known.ensures.refusal ∙ pass _ _ c.in_ok-check_open.ensures.refusal ∙ pass _ _ (c.in_ok-check_attributes.ensures.refusal ∙ ap attributes_too_large c.size_without-new.ensures) ∙ stop _ _ _ (c.in_err-check_attribute_room.ensures.refusal ∙ room_refusal c.args.self.now c.args.place (remove (attributes_at c.args.self.now c.args.place) c.args.key.now) c.size_at-old.result c.size_without-new.result c.in_ok-check_known.ensures.there c.size_at-old.ensures.size c.size_without-new.ensures c.size_at-old.ensures.part)))
 
 pub returns-clause-refusal : goal.returns-clause-refusal
-returns-clause-refusal c = sym (pass _ _ c.in_ok-check_known.ensures.refusal ∙ pass _ _ c.in_ok-check_open.ensures.refusal ∙ pass _ _ (c.in_ok-check_attributes.ensures.refusal ∙ ap attributes_too_large c.size_without-new.ensures) ∙ pass _ _ (c.in_ok-check_attribute_room.ensures.refusal ∙ room_fault c.args.self.now c.args.place (remove (attributes_at c.args.self.now c.args.place) c.args.key.now) c.size_at-old.result c.size_without-new.result c.in_ok-check_known.ensures.there c.size_at-old.ensures.size c.size_without-new.ensures c.size_at-old.ensures.part) ∙ no_fault)
+returns-clause-refusal c = sym (pass _ _ c.in_ok-check_known.ensures.refusal ∙ pass _ _ c.in_ok-check_open.ensures.refusal ∙ pass _ _ (c.in_ok-check_attributes.ensures.refusal ∙ ap attributes_too_large c.size_without-new.ensures) ∙ pass _ _ (c.in_ok-check_attribute_room.ensures.refusal ∙ room_refusal c.args.self.now c.args.place (remove (attributes_at c.args.self.now c.args.place) c.args.key.now) c.size_at-old.result c.size_without-new.result c.in_ok-check_known.ensures.there c.size_at-old.ensures.size c.size_without-new.ensures c.size_at-old.ensures.part) ∙ no_refusal)

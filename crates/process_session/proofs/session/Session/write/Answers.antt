@@ -1,9 +1,9 @@
 use Rattle.std.proofs.Common.{◌≡◌, ◌+◌, ◌≤◌, length, sym, ◌∙◌, ap, arith}
 use Rattle.std.proofs.lemmas.Result.{err_from_is_err_and}
-use Rattle.process_session.specs.declared.limits.TheConstants.{WRITTEN_MAX}
+use Rattle.flowfile_record.specs.declared.limits.TheConstants.{WRITTEN_MAX}
 use Rattle.process_session.specs.Bench.{Bench}
 use Rattle.process_session.specs.Inside.{bench_in}
-use Rattle.process_session.proofs.Faulting.{write_fault}
+use Rattle.process_session.proofs.Refused.{write_refusal}
 use Rattle.process_session.proofs.Sound.{sound-content}
 use Rattle.process_session.proofs.session.Session.write.Goals as goal
 
@@ -17,9 +17,9 @@ pub returns-in_err-check_write-clause-refusal : goal.returns-in_err-check_write-
 returns-in_err-check_write-clause-refusal c =
     let p = err_from_is_err_and c.from_residual.result c.from_residual.ensures.1 in
     let size : c.len-size.result ≡ length c.args.bytes.items = omega arith in
-    rw (p.1, p.2) (c.in_err-check_write.ensures.refusal ∙ sym (write_fault c.args.self.now c.args.place c.args.bytes.items c.len-size.result size))
+    rw (p.1, p.2) (c.in_err-check_write.ensures.refusal ∙ sym (write_refusal c.args.self.now c.args.place c.args.bytes.items c.len-size.result size))
 
 pub returns-clause-refusal : goal.returns-clause-refusal
 returns-clause-refusal c =
     let size : c.len-size.result ≡ length c.args.bytes.items = omega arith in
-    c.in_ok-check_write.ensures.refusal ∙ sym (write_fault c.args.self.now c.args.place c.args.bytes.items c.len-size.result size)
+    c.in_ok-check_write.ensures.refusal ∙ sym (write_refusal c.args.self.now c.args.place c.args.bytes.items c.len-size.result size)
