@@ -4,3 +4,4 @@ pub mod Held
 pub mod Identifiers
 pub mod Items
 pub mod Wholes
+pub mod Same

@@ -6,7 +6,7 @@ use Rattle.std.specs.declared.cmp.Ordering.TheVariants.{Less, Equal, Greater}
 use Rattle.std.specs.Cmp.Lexicographic.{slice_cmp}
 use Rattle.std.specs.FinMap.{from_sorted, is_sorted}
 use Rattle.flowfile_record.specs.Attributes.{AttributeMap, IsPair, pair_size}
-use Rattle.flowfile_record.specs.declared.attributes.TheConstants.{ATTRIBUTES_MAX}
+use Rattle.flowfile_record.specs.declared.attributes.TheConstants.{ATTRIBUTES_MAX, COUNT_SIZE}
 use Rattle.flowfile_record.specs.declared.attributes.Pair.{Pair}
 
 abbrev pub key_and_value : Pair → List ℕ × List ℕ
@@ -19,7 +19,7 @@ map_of pairs = from_sorted (map key_and_value pairs)
 pub record IsHeld (pairs : List Pair) (size : ℕ) : Type 0 where
   pub ascending : IsTrue (is_sorted (slice_cmp nat_cmp) (map key_and_value pairs))
   pub each : All IsPair (map key_and_value pairs)
-  pub size_is : size ≡ sum_by pair_size (map key_and_value pairs) + 2
+  pub size_is : size ≡ sum_by pair_size (map key_and_value pairs) + COUNT_SIZE
   pub within : size ≤ ATTRIBUTES_MAX
 
 -- the pair at a place has the key: lesser keys stand before it, and greater ones after it

@@ -1,13 +1,14 @@
 //! The attributes of a flow file, held in the order of their keys' bytes.
-ghost use Rattle.std.specs.Prelude.{◌≡◌, ◌==◌, ◌+◌, ◌≤◌, length, sum_by, IsTrue, IfOk, IfErr, is_ok, Some, slice_get, if◌then◌else◌};
+ghost use Rattle.std.specs.Prelude.{◌≡◌, ◌==◌, ◌+◌, ◌≤◌, length, sum_by, IsTrue, IfOk, IfErr, OnOk, OnErr, is_ok, Some, slice_get, not, ◌&&◌, ◌↔◌, if◌then◌else◌};
 ghost use Rattle.std.specs.Prelude.{map as each};
 ghost use Rattle.std.specs.List.{filter};
 ghost use Rattle.std.specs.Option.{option_map};
 ghost use Rattle.std.specs.Ordering.{nat_cmp};
 ghost use Rattle.std.specs.Cmp.Lexicographic.{slice_cmp};
 ghost use Rattle.std.specs.FinMap as map;
-ghost use Rattle.std.specs.FinMap.{put, is_sorted};
-ghost use Rattle.flowfile_record.specs.Attributes.{encoded_size, pair_size, IsWithinLimits, IsPutAnswer, put_answer, after_put, shared};
+ghost use Rattle.std.specs.FinMap.{put, insert, is_sorted};
+ghost use Rattle.flowfile_record.specs.Attributes.{encoded_size, pair_size, has_key_length, is_uuid, IsWithinLimits, IsPutAnswer, put_answer, after_put, shared};
+ghost use Rattle.flowfile_record.specs.Outcome.{same_attributes};
 ghost use Rattle.flowfile_record.specs.HeldPairs.{key_and_value, IsPlaceOf, IsGapFor};
 ghost use Rattle.flowfile_record.specs.OptionalText.{same_text};
 
@@ -32,7 +33,7 @@ pub struct Attributes {
     size: u64,
 }
 
-#[derive(Clone, Debug, Drop)]
+#[derive(Clone, Debug, PartialEq, Drop)]
 struct Pair {
     key: Text,
     value: Text,
@@ -131,7 +132,7 @@ impl Attributes {
 
     /// Puts a value under a key, in place of the one that stands there. The answer is `Ignored` exactly where the key
     /// is `uuid`; `BadKey` where the key is empty or longer than 255 bytes; `TooLarge` where the encoded size would
-    /// pass 65,536 bytes; `Memory` where there is no memory for a copy. Nothing changes unless it is `Stored`.
+    /// pass 65,536 bytes; `Memory` only where it is none of these. Nothing changes unless it is `Stored`.
     pub fn put(&mut self, key: &str, value: &str) -> Result<Put, AttrError>
         ensures answer { IsPutAnswer result (put_answer self.old key.now value.now) }
         ensures after { self.new ≡ after_put result self.old key.now value.now }
@@ -142,14 +143,45 @@ impl Attributes {
         if key.is_empty() || key.len() as u64 > KEY_MAX {
             return Err(AttrError::BadKey);
         }
-        let place = place_of(&self.pairs, key);
-        let size = size_with(&self.pairs, self.size, place, key, value);
+        let size = self.size_with(key, value);
         if size > ATTRIBUTES_MAX {
             return Err(AttrError::TooLarge { size });
         }
+        self.store(key, value)?;
+        Ok(Put::Stored)
+    }
+
+    /// Puts a value under a key that can be put. Memory alone refuses, and then nothing changes.
+    pub fn store(&mut self, key: &str, value: &str) -> Result<(), AllocError>
+        requires key { IsTrue (has_key_length key.now && not (is_uuid key.now)) }
+        requires size { encoded_size (insert self.old key.now value.now) ≤ ATTRIBUTES_MAX }
+        ensures ok { OnOk result (self.new ≡ insert self.old key.now value.now) }
+        ensures err { OnErr result (self.new ≡ self.old) }
+    {
+        let place = place_of(&self.pairs, key);
+        let size = size_with(&self.pairs, self.size, place, key, value);
         store(&mut self.pairs, place, key, value)?;
         self.size = size;
-        Ok(Put::Stored)
+        Ok(())
+    }
+
+    /// The encoded size that a put of the value under the key would leave, in bytes.
+    pub fn size_with(&self, key: &str, value: &str) -> u64
+        requires { length key.now ≤ KEY_MAX }
+        ensures { result ≡ encoded_size (insert self.now key.now value.now) }
+    {
+        let place = place_of(&self.pairs, key);
+        size_with(&self.pairs, self.size, place, key, value)
+    }
+
+    /// The encoded size that a removal of the key would leave, in bytes.
+    pub fn size_without(&self, key: &str) -> u64
+        ensures { result ≡ encoded_size (map.remove self.now key.now) }
+    {
+        match place_of(&self.pairs, key) {
+            Ok(place) => self.size - self.pairs[place].size(),
+            Err(_) => self.size,
+        }
     }
 
     /// Takes the pair of a key away, and says whether it was there.
@@ -175,6 +207,14 @@ impl Attributes {
         self.size = size_of_all(&self.pairs);
     }
 
+    /// Whether both are the same pairs.
+    pub fn equals(&self, other: &Attributes) -> bool
+        ensures same { result ≡ same_attributes self.now other.now }
+        ensures equal { IsTrue result ↔ (self.now ≡ other.now) }
+    {
+        self.pairs == other.pairs
+    }
+
     /// A copy of these attributes.
     pub fn copy(&self) -> Result<Attributes, AllocError>
         ensures { IfOk result (λ copy. copy ≡ self.now) }
@@ -188,9 +228,9 @@ impl Attributes {
 }
 
 // The bytes of the count, and those of a pair beside its key and its value.
-const COUNT_SIZE: u64 = 2;
+pub const COUNT_SIZE: u64 = 2;
 
-const PAIR_SIZE: u64 = 6;
+pub const PAIR_SIZE: u64 = 6;
 
 impl Pair {
     fn size(&self) -> u64
@@ -202,8 +242,8 @@ impl Pair {
 }
 
 fn size_of_all(pairs: &[Pair]) -> u64
-    requires { sum_by pair_size (each key_and_value pairs.now) + 2 ≤ ATTRIBUTES_MAX }
-    ensures { result ≡ sum_by pair_size (each key_and_value pairs.now) + 2 }
+    requires { sum_by pair_size (each key_and_value pairs.now) + COUNT_SIZE ≤ ATTRIBUTES_MAX }
+    ensures { result ≡ sum_by pair_size (each key_and_value pairs.now) + COUNT_SIZE }
 {
     let mut size = COUNT_SIZE;
     for pair in pairs {
@@ -227,12 +267,12 @@ fn place_of(pairs: &[Pair], key: &str) -> Result<usize, usize>
 
 // The encoded size with a value under a key, whose place `place_of` gave.
 fn size_with(pairs: &[Pair], size: u64, place: Result<usize, usize>, key: &str, value: &str) -> u64
-    requires size_is { size ≡ sum_by pair_size (each key_and_value pairs.now) + 2 }
+    requires size_is { size ≡ sum_by pair_size (each key_and_value pairs.now) + COUNT_SIZE }
     requires size_within { size ≤ ATTRIBUTES_MAX }
     requires key_within { length key.now ≤ KEY_MAX }
     requires found { IfOk place (IsPlaceOf (each key_and_value pairs.now) key.now) }
     requires absent { IfErr place (IsGapFor (each key_and_value pairs.now) key.now) }
-    ensures { result ≡ sum_by pair_size (put (slice_cmp nat_cmp) key.now value.now (each key_and_value pairs.now)) + 2 }
+    ensures { result ≡ sum_by pair_size (put (slice_cmp nat_cmp) key.now value.now (each key_and_value pairs.now)) + COUNT_SIZE }
 {
     match place {
         Ok(place) => size - pairs[place].value.as_str().len() as u64 + value.len() as u64,

@@ -5,6 +5,7 @@ ghost use Rattle.uuid.specs.Parts.{variant_of};
 ghost use Rattle.uuid.specs.declared.Variant.TheVariants as variant;
 ghost use Rattle.flowfile_record.specs.Identifier.{identifier, IsOneOfAKind};
 
+use crate::{NUMBER_LIMIT, STORE_LIMIT};
 use uuid::Uuid;
 
 /// The identifier of a store's flow file by its number: version 8 of RFC 9562. It holds the low 60 bits of the
@@ -26,11 +27,6 @@ pub fn uuid_of(store: u64, number: u64) -> Uuid
 const VERSION: u64 = 8;
 
 const VARIANT: u64 = 2;
-
-// Past what an identifier holds of a store's id, and of a number.
-const STORE_LIMIT: u64 = 1 << 60;
-
-const NUMBER_LIMIT: u64 = 1 << 62;
 
 #[cfg(test)]
 mod tests {

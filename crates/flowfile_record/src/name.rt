@@ -10,6 +10,9 @@ use std::cmp::Ordering;
 use std::marker::Model;
 use thiserror::Error;
 
+/// The greatest length of a file's name, in bytes.
+pub const NAME_MAX: usize = 255;
+
 /// A file's name: 1 to 255 bytes of UTF-8, not `.` or `..`, with no `/` and no NUL.
 #[derive(Debug, Drop)]
 pub struct Name {
@@ -66,7 +69,7 @@ fn keeps_the_rule(text: &str) -> bool
     ensures { result ≡ is_name text.now }
 {
     let bytes = text.as_bytes();
-    if bytes.is_empty() || bytes.len() > 255 {
+    if bytes.is_empty() || bytes.len() > NAME_MAX {
         return false;
     }
     if text == "." || text == ".." {

@@ -1,5 +1,5 @@
 //! The state of a flow that a store keeps.
-use crate::{Bytes, Event, FlowFile, Numbers, Sequence, TextList};
+use crate::{Bytes, DIGEST_SIZE, Event, FlowFile, Numbers, Sequence, TextList};
 
 /// What a store keeps: its id, the digest of its flow's text, the flow's connections, how many files each processor
 /// has generated, the numbers that come next (0 for the last event means none yet), the active flow files and the
@@ -7,7 +7,7 @@ use crate::{Bytes, Event, FlowFile, Numbers, Sequence, TextList};
 #[derive(Debug, Drop)]
 pub struct Stored {
     pub store: u64,
-    pub flow: [u8; 32],
+    pub flow: [u8; DIGEST_SIZE],
     pub connections: TextList,
     pub counts: Numbers,
     pub next_number: u64,
