@@ -1,5 +1,6 @@
 pub mod Beginning
 pub mod Changing
+pub mod Crosses
 pub mod Encoded
 pub mod Refused
 pub mod FinishFiles
@@ -9,3 +10,4 @@ pub mod Joining
 pub mod Pairs
 pub mod Refusing
 pub mod Sound
+pub mod Turns

@@ -7,3 +7,4 @@ pub mod Inside
 pub mod Pairs
 pub mod Reasons
 pub mod Refusals
+pub mod Sound

@@ -1,7 +1,7 @@
 -- When a session refuses, each reason by itself.
-use Rattle.std.specs.Prelude.{◌≡◌, ℕ, ◌+◌, ◌&&◌, nat_lt, nat_le, Bool, true, false, not, List, [], ◌∷◌, length, Option, None, Some, is_some, is_none, slice_get, Result, Ok, Err, if◌then◌else◌}
-use Rattle.std.specs.List.{list_any}
+use Rattle.std.specs.Prelude.{◌≡◌, ℕ, ◌+◌, ◌&&◌, nat_lt, nat_le, Bool, true, false, not, List, [], ◌∷◌, length, Option, None, Some, is_some, is_none, slice_get, Result, IfSome, ◌⊎◌, if◌then◌else◌}
 use Rattle.std.specs.Option.{option_map_or}
+use Rattle.std.specs.Result.{result_err}
 use Rattle.flowfile_record.specs.Attributes.{has_key_length}
 use Rattle.flowfile_record.specs.declared.TheConstants.{CONTENT_MAX}
 use Rattle.flowfile_record.specs.declared.attributes.TheConstants.{ATTRIBUTES_MAX}
@@ -23,15 +23,18 @@ first_refusal [] = None
 first_refusal (None ∷ refusals) = first_refusal refusals
 first_refusal (Some refusal ∷ refusals) = Some refusal
 
--- the error gives that reason, or that memory ran out
-abbrev pub IsCause : SessionError → Refusal → Type 0
-IsCause Memory refusal = Unit {0}
-IsCause error refusal = refusal ≡ Some error
+-- An answer's error is the reason to refuse, where there is one; where there is none, memory alone may have run out.
+abbrev pub IsErrorFor : Option SessionError → Refusal → Type 0
+IsErrorFor error (Some reason) = error ≡ Some reason
+IsErrorFor error None = IfSome error (λ e. e ≡ Memory)
 
--- an answer is Ok exactly where there is no reason to refuse, and else gives that reason, or that memory ran out
 abbrev pub IsRefusal : {A : Type 0} → Result A SessionError → Refusal → Type 0
-IsRefusal (Ok value) refusal = refusal ≡ None
-IsRefusal (Err error) refusal = IsCause error refusal
+IsRefusal result refusal = IsErrorFor (result_err result) refusal
+
+-- the same of a call that takes memory before it knows all reasons: those that it knows before come first
+abbrev pub IsRefusalBehind : {A : Type 0} → Refusal → Result A SessionError → Refusal → Type 0
+IsRefusalBehind (Some reason) result refusal = result_err result ≡ Some reason
+IsRefusalBehind None result refusal = IsRefusal result refusal ⊎ (result_err result ≡ Some Memory)
 
 abbrev pub where_it_holds : Bool → SessionError → Refusal
 where_it_holds holds error = if holds then Some error else None
@@ -84,10 +87,16 @@ past_limits files attributes handed =
 abbrev pub session_full : Bench → Refusal
 session_full bench = past_limits (length bench.files) (attribute_size bench) bench.handed
 
+-- nor to one more file, with attributes of such a size and so many more handed bytes
+abbrev pub no_room_for : Bench → ℕ → ℕ → Refusal
+no_room_for bench size handed =
+    past_limits (length bench.files + 1) (attribute_size bench + size) (bench.handed + handed)
+
 -- the lowest place of a file that hasn't ended, among these that begin at a place
 unfoldable pub not_accounted_from : ℕ → List File → Refusal
 not_accounted_from place [] = None
-not_accounted_from place (file ∷ files) = if is_none file.«end» then Some (NotAccounted place) else not_accounted_from (place + 1) files
+not_accounted_from place (file ∷ files) =
+    if is_none file.«end» then Some (NotAccounted place) else not_accounted_from (place + 1) files
 
 abbrev pub not_accounted : Bench → Refusal
 not_accounted bench = not_accounted_from 0 bench.files

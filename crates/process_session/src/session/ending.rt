@@ -11,7 +11,7 @@ use flowfile_record::{End, Name, Sent};
 
 impl Session {
     /// Notes that a file is routed to a relationship.
-    #[tactic(auto, using(crate::proofs::Refusing::pass, crate::proofs::Refusing::stop, crate::proofs::Refusing::no_refusal))]
+    #[tactic(auto, using(crate::proofs::Refusing::steps))]
     pub fn route(&mut self, place: u32, relationship: u16) -> Result<(), SessionError>
         ensures refusal { result_err result ≡ refusal_of_route self.old place relationship }
         ensures after { self.new ≡ (if is_ok result then with_route self.old place relationship else self.old) }
@@ -24,7 +24,7 @@ impl Session {
     }
 
     /// Notes that the content of a file is put into the outbox under a name.
-    #[tactic(auto, using(crate::proofs::Refusing::pass, crate::proofs::Refusing::stop, crate::proofs::Refusing::no_refusal))]
+    #[tactic(auto, using(crate::proofs::Refusing::steps))]
     pub fn send(&mut self, place: u32, name: Name) -> Result<(), SessionError>
         ensures refusal { result_err result ≡ refusal_of_send self.old place }
         ensures after { self.new ≡ (if is_ok result then with_sent self.old place name else self.old) }
@@ -37,7 +37,7 @@ impl Session {
     }
 
     /// Notes that a file is penalised.
-    #[tactic(auto, using(crate::proofs::Refusing::pass, crate::proofs::Refusing::stop, crate::proofs::Refusing::no_refusal))]
+    #[tactic(auto, using(crate::proofs::Refusing::steps))]
     pub fn penalize(&mut self, place: u32) -> Result<(), SessionError>
         ensures refusal { result_err result ≡ refusal_of_penalize self.old place }
         ensures after { self.new ≡ (if is_ok result then with_penalty self.old place else self.old) }
@@ -49,10 +49,12 @@ impl Session {
     }
 
     /// A file ends by going to a relationship.
-    #[tactic(auto, using(crate::proofs::Refusing::pass, crate::proofs::Refusing::stop, crate::proofs::Refusing::no_refusal))]
+    #[tactic(auto, using(crate::proofs::Refusing::steps))]
     pub fn transfer(&mut self, place: u32, relationship: u16) -> Result<(), SessionError>
         ensures refusal { result_err result ≡ refusal_of_transfer self.old place relationship }
-        ensures after { self.new ≡ (if is_ok result then with_end self.old place (End.To relationship) else self.old) }
+        ensures after {
+            self.new ≡ (if is_ok result then with_end self.old place (End.To relationship) else self.old)
+        }
     {
         self.check_known(place)?;
         self.check_open(place)?;
@@ -62,7 +64,7 @@ impl Session {
     }
 
     /// A taken file ends by going back to the queue that it was taken from.
-    #[tactic(auto, using(crate::proofs::Refusing::pass, crate::proofs::Refusing::stop, crate::proofs::Refusing::no_refusal))]
+    #[tactic(auto, using(crate::proofs::Refusing::steps))]
     pub fn transfer_back(&mut self, place: u32) -> Result<(), SessionError>
         ensures refusal { result_err result ≡ refusal_of_transfer_back self.old place }
         ensures after { self.new ≡ (if is_ok result then with_end self.old place End.Back else self.old) }
@@ -75,7 +77,7 @@ impl Session {
     }
 
     /// A file ends by leaving the flow.
-    #[tactic(auto, using(crate::proofs::Refusing::pass, crate::proofs::Refusing::stop, crate::proofs::Refusing::no_refusal))]
+    #[tactic(auto, using(crate::proofs::Refusing::steps))]
     pub fn remove(&mut self, place: u32) -> Result<(), SessionError>
         ensures refusal { result_err result ≡ refusal_of_remove self.old place }
         ensures after { self.new ≡ (if is_ok result then with_end self.old place End.Removed else self.old) }
@@ -105,7 +107,9 @@ fn penalize_file(files: &mut Vec<File>, place: u32)
 
 fn route_file(files: &mut Vec<File>, place: u32, relationship: u16)
     requires { place < length files.old.items }
-    ensures { files.new.items ≡ change_at (λ file. record file { routed = Some relationship }) place files.old.items }
+    ensures {
+        files.new.items ≡ change_at (λ file. record file { routed = Some relationship }) place files.old.items
+    }
 {
     let file = &mut files[place as usize];
     file.routed = Some(relationship);

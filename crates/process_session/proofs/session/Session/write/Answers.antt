@@ -1,5 +1,6 @@
 use Rattle.std.proofs.Common.{◌≡◌, ◌+◌, ◌≤◌, length, sym, ◌∙◌, ap, arith}
 use Rattle.std.proofs.lemmas.Result.{err_from_is_err_and}
+use Rattle.flowfile_record.specs.declared.TheConstants.{CONTENT_MAX}
 use Rattle.flowfile_record.specs.declared.limits.TheConstants.{WRITTEN_MAX}
 use Rattle.process_session.specs.Bench.{Bench}
 use Rattle.process_session.specs.Inside.{bench_in}
@@ -11,7 +12,8 @@ pub invariant_of-self : goal.invariant_of-self
 invariant_of-self c =
     let same : c.self.inside.handed ≡ c.args.self.now.handed = ap (λ (b : Bench). b.handed) c.self.view_is in
     let room : c.self.inside.handed + c.len-size.result ≤ WRITTEN_MAX = omega (arith, c.in_ok-check_write.ensures.handed) in
-    rw c.write_file.ensures (sound-content (bench_in c.self.inside) c.self.inside.counted c.args.place c.from.result c.len-size.result room c.self.invariant)
+    let fits : length c.from.result ≤ CONTENT_MAX = omega (arith, ap length c.from.ensures, c.in_ok-check_write.ensures.fits) in
+    rw c.write_file.ensures (sound-content (bench_in c.self.inside) c.self.inside.counted c.args.place c.from.result c.len-size.result fits room c.self.invariant)
 
 pub returns-in_err-check_write-clause-refusal : goal.returns-in_err-check_write-clause-refusal
 returns-in_err-check_write-clause-refusal c =
