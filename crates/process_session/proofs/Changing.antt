@@ -1,5 +1,5 @@
 -- What a change of one file of a list leaves.
-use Rattle.std.proofs.Common.{◌≡◌, ℕ, ◌+◌, ◌<◌, List, length, get_or, set, sum_by, Option, None, Some, refl, sym, ◌∙◌, ap, subst, arith}
+use Rattle.std.proofs.Common.{◌≡◌, ℕ, zero, suc, ◌+◌, ◌<◌, List, [], ◌∷◌, map, length, get_or, set, sum_by, Option, None, Some, refl, sym, ◌∙◌, ap, subst, arith}
 use Rattle.std.specs.List.{All, slice_get}
 use Rattle.std.specs.Option.{option_map_or, option_and_then}
 use Rattle.std.proofs.lemmas.List.Elements.{All-get_or, All-set}
@@ -7,6 +7,7 @@ use Rattle.std.proofs.lemmas.List.Sums.{sum_by-set}
 use Rattle.std.proofs.lemmas.Option.{slice_get-get_or, slice_get_within, get_or_from_slice_get}
 use Rattle.std.proofs.Math.ListN.{length-set}
 use Rattle.std.specs.FinMap.{empty}
+use Rattle.flowfile_record.specs.declared.worked.Origin.{Origin}
 use Rattle.process_session.specs.declared.file.File.{File}
 use Rattle.process_session.specs.declared.file.Source.{Source}
 use Rattle.process_session.specs.Bench.{attributes_in, body_bytes, bytes_in}
@@ -40,16 +41,35 @@ sum_by-change_at measure change keeps place files = of_option (slice_get files p
         let same : measure (get_or files place file) ≡ measure (change file) = ap measure there ∙ sym (keeps file) in
         omega arith
 
--- a change that keeps a fact of each file keeps it of all
-pub All-change_at : (P : File → Type 0) (change : File → File) → ((file : File) → P file → P (change file)) → (place : ℕ) (files : List File) → All P files → All P (change_at change place files)
+-- a change that keeps a fact of the file that stands there keeps it of all
+pub All-change_at : (P : File → Type 0) (change : File → File) (place : ℕ) (files : List File) → ((file : File) → slice_get files place ≡ Some file → P file → P (change file)) → All P files → All P (change_at change place files)
 unfolding change_at
-All-change_at P change keeps place files all = of_option (slice_get files place) refl
+All-change_at P change place files keeps all = of_option (slice_get files place) refl
   where
     of_option : (o : Option File) → slice_get files place ≡ o → All P (option_map_or (λ f. set files place (change f)) o files)
     of_option None is = all
     of_option (Some file) is =
         let there : get_or files place file ≡ file = get_or_from_slice_get files place file file is in
-        All-set P files place (change file) (keeps file (subst P there (All-get_or P files place file (slice_get_within files place file is) all))) all
+        All-set P files place (change file) (keeps file is (subst P there (All-get_or P files place file (slice_get_within files place file is) all))) all
+
+abbrev pub origin_of : File → Origin
+origin_of file = file.origin
+
+origins-set : (files : List File) (place : ℕ) (file new : File) → slice_get files place ≡ Some file → new.origin ≡ file.origin → map origin_of (set files place new) ≡ map origin_of files
+origins-set [] place file new is same = refl
+origins-set (first ∷ files) zero file new is same =
+    let here : first ≡ file = cc in
+    ap (λ origin. origin ∷ map origin_of files) (same ∙ ap origin_of (sym here))
+origins-set (first ∷ files) (suc place) file new is same = ap (λ origins. first.origin ∷ origins) (origins-set files place file new is same)
+
+-- a change that keeps where each file comes from
+pub origins-change_at : (change : File → File) → ((file : File) → (change file).origin ≡ file.origin) → (place : ℕ) (files : List File) → map origin_of (change_at change place files) ≡ map origin_of files
+unfolding change_at
+origins-change_at change keeps place files = of_option (slice_get files place) refl
+  where
+    of_option : (o : Option File) → slice_get files place ≡ o → map origin_of (option_map_or (λ f. set files place (change f)) o files) ≡ map origin_of files
+    of_option None is = refl
+    of_option (Some file) is = origins-set files place file (change file) is (keeps file)
 
 -- a write of this file is such a change
 pub set-from_change : (change : File → File) (place : ℕ) (files : List File) (file new : File) → place < length files → file ≡ get_or files place file → change file ≡ new → set files place new ≡ change_at change place files

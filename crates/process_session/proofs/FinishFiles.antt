@@ -11,9 +11,10 @@ use Rattle.process_session.specs.declared.error.SessionError.TheVariants.{NotAcc
 use Rattle.process_session.specs.declared.file.File.{File}
 use Rattle.process_session.specs.declared.session.finish.standing.Stand.{Stand}
 use Rattle.process_session.specs.Bench.{Bench}
-use Rattle.process_session.specs.Finish.{is_left_out, parents_of, standing, standing_for, standing_from, origin_in, kept_files, outcome_of, place_in, sent_in}
-use Rattle.process_session.specs.Finishing.{origin_with, kept_origins, next_place, place_of_sent, places_of, sent_at, stand_for, worked_with, Keeps}
-use Rattle.process_session.specs.Refusals.{not_accounted_from}
+use Rattle.process_session.specs.Finish.{is_left_out, standing, standing_for, standing_from, origin_in, kept_files, outcome_of, place_in, sent_in, worked_with}
+use Rattle.flowfile_record.specs.Outcome.{parents_of}
+use Rattle.process_session.specs.Finishing.{origin_with, kept_origins, next_place, place_of_sent, places_of, sent_at, stand_for, Keeps}
+use Rattle.process_session.specs.Reasons.{not_accounted_from}
 
 pub rest_is : (files : List File) (i : ℕ) (file : File) → i < length files → file ≡ get_or files i file → drop i files ≡ file ∷ drop (i + 1) files
 rest_is files i file within is = drop_more files i file within ∙ ap (λ f. f ∷ drop (i + 1) files) (sym is)

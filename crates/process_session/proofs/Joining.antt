@@ -6,8 +6,8 @@ use Rattle.flowfile_record.specs.Attributes.{shared}
 use Rattle.process_session.specs.Changes.{common_attributes}
 use Rattle.process_session.specs.declared.error.SessionError.{SessionError}
 use Rattle.process_session.specs.Bench.{Bench, attributes_at}
-use Rattle.process_session.specs.Faults.{unknown_files, ended_files}
-use Rattle.process_session.specs.Refusals.{unknown_file, already_ended}
+use Rattle.process_session.specs.Refusals.{unknown_files, ended_files}
+use Rattle.process_session.specs.Reasons.{unknown_file, already_ended}
 use Rattle.process_session.proofs.Refusing.{pass, stop, one}
 
 pub known_next : (bench : Bench) (places : List ℕ) (i : ℕ) → i < length places → None ≡ unknown_file bench (get_or places i 0) → unknown_files bench places ≡ unknown_files bench (drop i places) → unknown_files bench places ≡ unknown_files bench (drop (i + 1) places)

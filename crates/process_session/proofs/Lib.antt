@@ -1,7 +1,8 @@
 pub mod Beginning
 pub mod Changing
+pub mod Crosses
 pub mod Encoded
-pub mod Faulting
+pub mod Refused
 pub mod FinishFiles
 pub mod FinishLaws
 pub mod FinishPlaces
@@ -9,3 +10,4 @@ pub mod Joining
 pub mod Pairs
 pub mod Refusing
 pub mod Sound
+pub mod Turns

@@ -1,6 +1,6 @@
 -- What a session begins with.
-use Rattle.std.specs.Prelude.{◌≡◌, ◌≤◌, ◌+◌, ◌*◌, ◌++◌, ℕ, List, [], ◌∷◌, map, sum_by, length}
-use Rattle.flowfile_record.specs.Attributes.{encoded_size}
+use Rattle.std.specs.Prelude.{◌≡◌, ◌≤◌, All, ◌+◌, ◌*◌, ◌++◌, ℕ, List, [], ◌∷◌, map, sum_by, length}
+use Rattle.flowfile_record.specs.Attributes.{IsWithinLimits, encoded_size}
 use Rattle.flowfile_record.specs.declared.attributes.TheConstants.{ATTRIBUTES_MAX}
 use Rattle.process_session.specs.declared.file.Taken.{Taken}
 use Rattle.process_session.specs.declared.session.taking.Begun.{Begun}
@@ -11,11 +11,12 @@ pub record Takes (old : Begun) (place : ℕ) (taken : Taken) (new : Begun) : Typ
   pub sources : new.sources.items ≡ old.sources.items ++ source_of taken ∷ []
   pub files : new.files.items ≡ old.files.items ++ taken_file place taken ∷ []
   pub summed : new.counted ≡ old.counted + encoded_size taken.attributes
-  pub small : encoded_size taken.attributes ≤ ATTRIBUTES_MAX
+  pub limits : IsWithinLimits taken.attributes
 
--- the taken files, each at its place, with the sum of what their attributes count
+-- the taken files, each at its place, with the sum of what their attributes take
 pub record Begins (begun : Begun) (taken : List Taken) : Type 0 where
   pub sources : begun.sources.items ≡ map source_of taken
   pub files : begun.files.items ≡ taken_files 0 taken
   pub summed : begun.counted ≡ sum_by file_size (taken_files 0 taken)
   pub small : begun.counted ≤ length taken * ATTRIBUTES_MAX
+  pub limits : All (λ file. IsWithinLimits file.attributes) taken

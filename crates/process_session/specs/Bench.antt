@@ -1,17 +1,18 @@
 -- What a session holds: the files that it works on, as they are now.
-use Rattle.std.specs.Prelude.{◌≡◌, ℕ, ◌+◌, ◌<◌, ◌≤◌, ◌&&◌, All, Bool, true, false, not, List, [], ◌∷◌, length, map, sum_by, codes, Option, None, Some, unwrap_or, option_and_then, is_some, is_none, slice_get, slice_range, if◌then◌else◌}
+use Rattle.std.specs.Prelude.{◌≡◌, ℕ, ◌+◌, ◌<◌, ◌≤◌, Bool, true, false, List, [], ◌∷◌, length, map, sum_by, Option, None, Some, option_and_then, slice_get, slice_range}
 use Rattle.std.specs.Option.{option_map, option_map_or}
-use Rattle.std.specs.FinMap.{get, empty}
+use Rattle.std.specs.FinMap.{empty}
 use Rattle.flowfile_record.specs.Attributes.{AttributeMap, encoded_size}
+use Rattle.flowfile_record.specs.Outcome.{is_made, filename_to_come}
+use Rattle.flowfile_record.specs.declared.TheConstants.{CONTENT_MAX}
 use Rattle.flowfile_record.specs.declared.worked.Body.{Body}
 use Rattle.flowfile_record.specs.declared.worked.Body.TheVariants.{Whole, Part, New}
 use Rattle.flowfile_record.specs.declared.worked.Origin.{Origin}
-use Rattle.flowfile_record.specs.declared.worked.Origin.TheVariants.{Taken as FromQueue}
+use Rattle.flowfile_record.specs.declared.worked.Origin.TheVariants.{Taken as FromQueue, Created}
 use Rattle.flowfile_record.specs.declared.worked.Sent.{Sent}
 use Rattle.process_session.specs.declared.file.File.{File}
 use Rattle.process_session.specs.declared.file.Source.{Source}
 use Rattle.process_session.specs.declared.file.Taken.{Taken}
-use Rattle.process_session.specs.declared.limits.TheConstants.{FILENAME_SIZE, FILES_MAX, SESSION_ATTRIBUTES_MAX, WRITTEN_MAX}
 
 -- the relationships that its processor has, the taken files as they were taken, all files as they are now, the taken
 -- ones first, what is put into the outbox, and how many bytes were handed over as contents
@@ -27,7 +28,9 @@ source_of taken = record { uuid = taken.uuid; size = taken.size; bytes = taken.b
 
 -- a taken file as the session begins
 abbrev pub taken_file : ℕ → Taken → File
-taken_file place taken = record { origin = FromQueue place; attributes = taken.attributes; body = Whole place; «end» = None; written = false; penalised = false; routed = None }
+taken_file place taken =
+    record { origin = FromQueue place; attributes = taken.attributes; body = Whole place; «end» = None;
+        written = false; penalised = false; routed = None }
 
 abbrev pub taken_files : ℕ → List Taken → List File
 taken_files place [] = []
@@ -35,12 +38,9 @@ taken_files place (taken ∷ more) = taken_file place taken ∷ taken_files (pla
 
 -- the bench as the session begins
 abbrev pub bench_of : ℕ → List Taken → Bench
-bench_of relationships taken = record { relationships = relationships; sources = map source_of taken; files = taken_files 0 taken; sent = None; handed = 0 }
-
--- whether the session made the file, and didn't take it
-abbrev pub is_made : Origin → Bool
-is_made (FromQueue place) = false
-is_made origin = true
+bench_of relationships taken =
+    record { relationships = relationships; sources = map source_of taken; files = taken_files 0 taken; sent = None;
+        handed = 0 }
 
 -- what a taken file's content was, where the session was given it
 abbrev pub taken_bytes : List Source → ℕ → Option (List ℕ)
@@ -52,7 +52,8 @@ taken_size sources of = option_map_or (λ source. source.size) (slice_get source
 -- the content that a body stands for, where the session has it
 abbrev pub body_bytes : List Source → Body → Option (List ℕ)
 body_bytes sources (Whole of) = taken_bytes sources of
-body_bytes sources (Part of offset size) = option_map (λ bytes. slice_range bytes offset (offset + size)) (taken_bytes sources of)
+body_bytes sources (Part of offset size) =
+    option_map (λ bytes. slice_range bytes offset (offset + size)) (taken_bytes sources of)
 body_bytes sources (New bytes) = Some bytes
 
 abbrev pub body_size : List Source → Body → ℕ
@@ -80,19 +81,31 @@ attributes_in files place = option_map_or (λ file. file.attributes) (slice_get 
 abbrev pub attributes_at : Bench → ℕ → AttributeMap
 attributes_at bench place = attributes_in bench.files place
 
--- what attributes count: a made file is given a `filename` later where it has none
-unfoldable pub counted_size : Bool → AttributeMap → ℕ
-counted_size made attributes = encoded_size attributes + (if made && is_none (get attributes (codes "filename")) then FILENAME_SIZE else 0)
-
-abbrev pub file_size : File → ℕ
-file_size file = counted_size (is_made file.origin) file.attributes
+-- where the file at a place comes from; a place without a file counts as taken
+abbrev pub origin_at : Bench → ℕ → Origin
+origin_at bench place = option_map_or (λ file. file.origin) (slice_get bench.files place) (FromQueue place)
 
 abbrev pub is_made_at : Bench → ℕ → Bool
-is_made_at bench place = option_map_or (λ file. is_made file.origin) (slice_get bench.files place) false
+is_made_at bench place = is_made (origin_at bench place)
 
--- what the present attributes of all files count
+-- what attributes take with the `filename` that a made file is given later where it has none
+abbrev pub named_size : Origin → AttributeMap → ℕ
+named_size origin attributes = encoded_size attributes + filename_to_come origin attributes
+
+-- what they take as a made file's
+abbrev pub made_size : AttributeMap → ℕ
+made_size attributes = named_size Created attributes
+
+abbrev pub file_size : File → ℕ
+file_size file = encoded_size file.attributes
+
+-- what the present attributes of all files take
 abbrev pub attribute_size : Bench → ℕ
 attribute_size bench = sum_by file_size bench.files
+
+-- how large the taken contents are
+abbrev pub sizes_of : List Source → List ℕ
+sizes_of sources = map (λ source. source.size) sources
 
 -- the bytes that it was given are its whole content
 abbrev pub HasItsSize : Option (List ℕ) → ℕ → Type 0
@@ -102,18 +115,9 @@ HasItsSize (Some bytes) size = length bytes ≡ size
 abbrev pub IsWhole : Taken → Type 0
 IsWhole taken = HasItsSize taken.bytes taken.size
 
--- a body that names a place names a taken file, and no byte outside its content
+-- a body that names a place names a taken file, and no byte outside its content; bytes of its own are no more than a
+-- content may have
 abbrev pub IsBodyOf : List Source → Body → Type 0
 IsBodyOf sources (Whole of) = of < length sources
 IsBodyOf sources (Part of offset size) = (of < length sources) × (offset + size ≤ taken_size sources of)
-IsBodyOf sources (New bytes) = Unit {0}
-
--- what holds of every session; `counted` is the running sum of what its attributes count
-pub record IsSound (bench : Bench) (counted : ℕ) : Type 0 where
-  pub summed : counted ≡ attribute_size bench
-  pub attributes : counted ≤ SESSION_ATTRIBUTES_MAX
-  pub handed : bench.handed ≤ WRITTEN_MAX
-  pub few : length bench.files ≤ FILES_MAX
-  pub taken : length bench.sources ≤ length bench.files
-  pub whole : All (λ source. HasItsSize source.bytes source.size) bench.sources
-  pub bodies : All (λ file. IsBodyOf bench.sources file.body) bench.files
+IsBodyOf sources (New bytes) = length bytes ≤ CONTENT_MAX

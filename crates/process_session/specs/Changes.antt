@@ -13,7 +13,8 @@ use Rattle.process_session.specs.Bench.{Bench, attributes_at, body_at, content_s
 
 -- one file is another
 unfoldable pub change_at : (File → File) → ℕ → List File → List File
-change_at change place files = option_map_or (λ file. slice_set files place (change file)) (slice_get files place) files
+change_at change place files =
+    option_map_or (λ file. slice_set files place (change file)) (slice_get files place) files
 
 abbrev pub with_changed : Bench → ℕ → (File → File) → Bench
 with_changed bench place change = record bench { files = change_at change place bench.files }
@@ -42,14 +43,16 @@ abbrev pub put_in : AttributeMap → List ℕ → List ℕ → AttributeMap
 put_in attributes key value = if is_uuid key then attributes else insert attributes key value
 
 abbrev pub with_put : Bench → ℕ → List ℕ → List ℕ → Bench
-with_put bench place key value = if is_uuid key then bench else with_attributes bench place (insert (attributes_at bench place) key value)
+with_put bench place key value =
+    if is_uuid key then bench else with_attributes bench place (insert (attributes_at bench place) key value)
 
 abbrev pub with_removed : Bench → ℕ → List ℕ → Bench
 with_removed bench place key = with_attributes bench place (remove (attributes_at bench place) key)
 
 -- a content of its own, by a write of so many bytes
 abbrev pub with_content : Bench → ℕ → List ℕ → ℕ → Bench
-with_content bench place bytes size = with_handed (with_changed bench place (λ file. record file { body = New bytes; written = true })) size
+with_content bench place bytes size =
+    with_handed (with_changed bench place (λ file. record file { body = New bytes; written = true })) size
 
 abbrev pub with_written : Bench → ℕ → List ℕ → Bench
 with_written bench place bytes = with_content bench place bytes (length bytes)
@@ -59,7 +62,9 @@ with_appended bench place bytes = with_content bench place (unwrap_or (bytes_of 
 
 -- a file that the session makes
 abbrev pub made_file : Origin → AttributeMap → Body → File
-made_file origin attributes body = record { origin = origin; attributes = attributes; body = body; «end» = None; written = false; penalised = false; routed = None }
+made_file origin attributes body =
+    record { origin = origin; attributes = attributes; body = body; «end» = None; written = false; penalised = false;
+        routed = None }
 
 -- one more file, at the end
 abbrev pub with_made : Bench → Origin → AttributeMap → Body → Bench
@@ -77,7 +82,8 @@ with_child bench parent = with_made bench (Forked parent) (attributes_at bench p
 -- the attributes that all these files have
 abbrev pub common_attributes : Bench → List ℕ → AttributeMap
 common_attributes bench [] = empty
-common_attributes bench (parent ∷ more) = fold (λ attributes other. shared attributes (attributes_at bench other)) (attributes_at bench parent) more
+common_attributes bench (parent ∷ more) =
+    fold (λ attributes other. shared attributes (attributes_at bench other)) (attributes_at bench parent) more
 
 abbrev pub with_joined : Bench → List ℕ → Bench
 with_joined bench parents = with_made bench (Joined parents) (common_attributes bench parents) (New [])
@@ -95,7 +101,9 @@ abbrev pub is_whole : Bench → ℕ → ℕ → ℕ → Bool
 is_whole bench of offset size = (offset == 0) && (size == content_size bench of)
 
 abbrev pub with_part : Bench → ℕ → ℕ → ℕ → Bench
-with_part bench of offset size = with_made bench (PartOf of) (attributes_at bench of) (part_of (body_at bench of) offset size)
+with_part bench of offset size =
+    with_made bench (PartOf of) (attributes_at bench of) (part_of (body_at bench of) offset size)
 
 abbrev pub with_range : Bench → ℕ → ℕ → ℕ → Bench
-with_range bench of offset size = if is_whole bench of offset size then with_clone bench of else with_part bench of offset size
+with_range bench of offset size =
+    if is_whole bench of offset size then with_clone bench of else with_part bench of offset size

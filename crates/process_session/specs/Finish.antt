@@ -1,5 +1,5 @@
 -- The outcome of a session: what it leaves out, and whom an origin names then.
-use Rattle.std.specs.Prelude.{◌≡◌, ℕ, zero, suc, ◌+◌, ◌<◌, ◌==◌, ◌&&◌, Bool, true, false, not, List, [], ◌∷◌, ◌++◌, filter, Option, None, Some, unwrap_or, slice_get, if◌then◌else◌}
+use Rattle.std.specs.Prelude.{ℕ, ◌+◌, ◌==◌, ◌&&◌, Bool, true, false, not, List, [], ◌∷◌, ◌++◌, filter, Option, None, Some, unwrap_or, slice_get, if◌then◌else◌}
 use Rattle.std.specs.List.{flat_map}
 use Rattle.std.specs.Option.{option_map}
 use Rattle.flowfile_record.specs.declared.worked.End.{End}
@@ -10,7 +10,8 @@ use Rattle.flowfile_record.specs.declared.worked.Outcome.{Outcome}
 use Rattle.flowfile_record.specs.declared.worked.Sent.{Sent}
 use Rattle.flowfile_record.specs.declared.worked.Worked.{Worked}
 use Rattle.process_session.specs.declared.file.File.{File}
-use Rattle.process_session.specs.Bench.{Bench, is_made}
+use Rattle.process_session.specs.Bench.{Bench}
+use Rattle.flowfile_record.specs.Outcome.{is_made, parents_of}
 
 abbrev pub is_removed : Option End → Bool
 is_removed (Some Removed) = true
@@ -19,14 +20,6 @@ is_removed _ = false
 -- a made file that is removed isn't in the outcome
 abbrev pub is_left_out : File → Bool
 is_left_out file = is_made file.origin && is_removed file.«end»
-
--- the places that an origin names
-abbrev pub parents_of : Origin → List ℕ
-parents_of (Forked parent) = parent ∷ []
-parents_of (Part of) = of ∷ []
-parents_of (Cloned of) = of ∷ []
-parents_of (Joined parents) = parents
-parents_of origin = []
 
 -- each once, at its first place
 abbrev pub each_once : List ℕ → List ℕ
@@ -65,12 +58,19 @@ origin_in stand (Cloned of) = child_of Cloned (standing_for stand (of ∷ []))
 origin_in stand (Joined parents) = joined_of (standing_for stand parents)
 origin_in stand origin = origin
 
+-- a file with another origin
+abbrev pub worked_with : Origin → File → Worked
+worked_with origin file =
+    record { origin = origin; attributes = file.attributes; body = file.body; «end» = unwrap_or file.«end» Removed;
+        written = file.written; penalised = file.penalised; routed = file.routed }
+
 abbrev pub worked_of : List (List ℕ) → File → Worked
-worked_of stand file = record { origin = origin_in stand file.origin; attributes = file.attributes; body = file.body; «end» = unwrap_or file.«end» Removed; written = file.written; penalised = file.penalised; routed = file.routed }
+worked_of stand file = worked_with (origin_in stand file.origin) file
 
 unfoldable pub kept_files : List (List ℕ) → List File → List Worked
 kept_files stand [] = []
-kept_files stand (file ∷ files) = if is_left_out file then kept_files stand files else worked_of stand file ∷ kept_files stand files
+kept_files stand (file ∷ files) =
+    if is_left_out file then kept_files stand files else worked_of stand file ∷ kept_files stand files
 
 -- the first of the places that stand for the file at a place
 abbrev pub first_place : List ℕ → Option ℕ
@@ -83,28 +83,15 @@ place_if_kept (Some false) places = first_place places
 place_if_kept _ places = None
 
 abbrev pub place_in : List (List ℕ) → List File → ℕ → Option ℕ
-place_in stand files place = place_if_kept (option_map is_left_out (slice_get files place)) (unwrap_or (slice_get stand place) [])
+place_in stand files place =
+    place_if_kept (option_map is_left_out (slice_get files place)) (unwrap_or (slice_get stand place) [])
 
 -- a put isn't made where its file is left out
 unfoldable pub sent_in : Bench → Option Sent → Option Sent
 sent_in bench None = None
-sent_in bench (Some sent) = option_map (λ place. record { place = place; name = sent.name }) (place_in (standing bench) bench.files sent.place)
+sent_in bench (Some sent) =
+    let place = place_in (standing bench) bench.files sent.place in
+    option_map (λ at. record { place = at; name = sent.name }) place
 
 unfoldable pub outcome_of : Bench → Outcome
 outcome_of bench = record { files = kept_files (standing bench) bench.files; sent = sent_in bench bench.sent }
-
--- all of these places are before a place
-abbrev pub AreBefore : ℕ → List ℕ → Type 0
-AreBefore place [] = Unit {0}
-AreBefore place (other ∷ more) = (other < place) × AreBefore place more
-
--- each of these origins, of files that begin at a place, names only files before its own
-abbrev pub NameEarlier : ℕ → List Origin → Type 0
-NameEarlier place [] = Unit {0}
-NameEarlier place (origin ∷ origins) = AreBefore place (parents_of origin) × NameEarlier (place + 1) origins
-
--- so many of these files, from the first on, were taken
-abbrev pub AreTaken : ℕ → List File → Type 0
-AreTaken zero files = Unit {0}
-AreTaken (suc n) [] = ⊥
-AreTaken (suc n) (file ∷ files) = (is_made file.origin ≡ false) × AreTaken n files

@@ -1,6 +1,5 @@
 -- What the calls below `finish` keep of the places that stand for files.
 use Rattle.std.specs.Prelude.{◌≡◌, ℕ, ◌+◌, ◌<◌, ◌≤◌, ◌==◌, ◌||◌, Bool, false, All, List, [], ◌∷◌, ◌++◌, length, Option, None, Some, unwrap_or, slice_get, slice_index, vec_capacity, if◌then◌else◌}
-use Rattle.flowfile_record.specs.declared.worked.End.TheVariants.{Removed}
 use Rattle.flowfile_record.specs.declared.worked.Origin.{Origin}
 use Rattle.flowfile_record.specs.declared.worked.Origin.TheVariants.{Forked, Part, Cloned, Joined}
 use Rattle.flowfile_record.specs.declared.worked.Sent.{Sent}
@@ -9,7 +8,8 @@ use Rattle.process_session.specs.declared.file.File.{File}
 use Rattle.process_session.specs.declared.session.finish.Plan.{Plan}
 use Rattle.process_session.specs.declared.session.finish.standing.Stand.{Stand}
 use Rattle.process_session.specs.declared.session.finish.standing.Stand.TheVariants.{Kept, Gone}
-use Rattle.process_session.specs.Finish.{is_left_out, parents_of, standing_for, standing_from, child_of, joined_of, origin_in, place_in, kept_files}
+use Rattle.process_session.specs.Finish.{is_left_out, standing_for, standing_from, child_of, joined_of, origin_in, place_in, kept_files, worked_with}
+use Rattle.flowfile_record.specs.Outcome.{parents_of}
 
 -- the places that stand for a file
 abbrev pub places_of : Stand → List ℕ
@@ -79,14 +79,13 @@ origin_with origin left = origin
 
 unfoldable pub kept_origins : List (List ℕ) → List File → List Origin
 kept_origins stand [] = []
-kept_origins stand (file ∷ files) = if is_left_out file then kept_origins stand files else origin_in stand file.origin ∷ kept_origins stand files
-
-abbrev pub worked_with : Origin → File → Worked
-worked_with origin file = record { origin = origin; attributes = file.attributes; body = file.body; «end» = unwrap_or file.«end» Removed; written = file.written; penalised = file.penalised; routed = file.routed }
+kept_origins stand (file ∷ files) =
+    if is_left_out file then kept_origins stand files else origin_in stand file.origin ∷ kept_origins stand files
 
 -- a file is kept with the first of these origins, or left out: what is kept and the origins that are left are those
 -- of the files behind it
-pub record Keeps (file : File) (kept kept' : List Worked) (origins origins' : List Origin) (stand : List (List ℕ)) (more : List File) : Type 0 where
+pub record Keeps (file : File) (kept kept' : List Worked) (origins origins' : List Origin) (stand : List (List ℕ))
+    (more : List File) : Type 0 where
   pub rest : origins' ≡ kept_origins stand more
   pub files : kept' ++ kept_files stand more ≡ kept ++ kept_files stand (file ∷ more)
 

@@ -1,9 +1,12 @@
 -- A session's fields, and the bench that they stand for.
 use Rattle.process_session.specs.declared.session.Session.TheInside.{Inside}
-use Rattle.process_session.specs.Bench.{Bench, IsSound}
+use Rattle.process_session.specs.Bench.{Bench}
+use Rattle.process_session.specs.Sound.{IsSound}
 
 abbrev pub bench_in : Inside → Bench
-bench_in session = record { relationships = session.relationships; sources = session.sources.items; files = session.files.items; sent = session.sent; handed = session.handed }
+bench_in session =
+    record { relationships = session.relationships; sources = session.sources.items; files = session.files.items;
+        sent = session.sent; handed = session.handed }
 
 abbrev pub IsSoundInside : Inside → Type 0
 IsSoundInside session = IsSound (bench_in session) session.counted

@@ -1,9 +1,10 @@
 pub mod Begun
 pub mod Bench
 pub mod Changes
-pub mod Faults
 pub mod Finish
 pub mod Finishing
 pub mod Inside
 pub mod Pairs
+pub mod Reasons
 pub mod Refusals
+pub mod Sound

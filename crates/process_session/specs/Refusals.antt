@@ -1,93 +1,102 @@
--- When a session refuses, each reason by itself.
-use Rattle.std.specs.Prelude.{◌≡◌, ℕ, ◌+◌, ◌&&◌, nat_lt, nat_le, Bool, true, false, not, List, [], ◌∷◌, length, Option, None, Some, is_some, is_none, slice_get, Result, Ok, Err, if◌then◌else◌}
-use Rattle.std.specs.List.{list_any}
-use Rattle.std.specs.Option.{option_map_or}
-use Rattle.flowfile_record.specs.Attributes.{has_key_length}
-use Rattle.flowfile_record.specs.declared.TheConstants.{CONTENT_MAX}
-use Rattle.flowfile_record.specs.declared.attributes.TheConstants.{ATTRIBUTES_MAX}
-use Rattle.process_session.specs.declared.error.Full.{Full}
-use Rattle.process_session.specs.declared.error.Full.TheVariants.{Files, Attributes, Written}
-use Rattle.process_session.specs.declared.error.SessionError.{SessionError}
-use Rattle.process_session.specs.declared.error.SessionError.TheVariants.{UnknownFile, AlreadyEnded, NoRelationship, MadeHere, NoBytes, RangeOutside, ContentTooLarge, BadKey, AttributesTooLarge, AlreadySent, SessionFull, NotAccounted, Memory}
-use Rattle.process_session.specs.declared.file.File.{File}
-use Rattle.process_session.specs.declared.limits.TheConstants.{FILES_MAX, SESSION_ATTRIBUTES_MAX, WRITTEN_MAX}
-use Rattle.process_session.specs.Bench.{Bench, is_made_at, bytes_of, content_size, attribute_size}
+-- Which reasons each call of a session has to refuse, in the order in which they are tested.
+use Rattle.std.specs.Prelude.{ℕ, ◌+◌, Bool, true, false, List, [], ◌∷◌, length, None, if◌then◌else◌}
+use Rattle.std.specs.FinMap.{insert, remove}
+use Rattle.flowfile_record.specs.Attributes.{is_uuid}
+use Rattle.process_session.specs.Bench.{Bench, attributes_at, content_size, made_size, named_size, origin_at}
+use Rattle.process_session.specs.Changes.{with_put, with_written, with_appended, with_created, with_received, with_child, with_joined, with_clone, with_range, common_attributes}
+use Rattle.process_session.specs.Reasons.{Refusal, first_refusal, unknown_file, already_ended, no_relationship, made_here, no_bytes, range_outside, content_too_large, bad_key, attributes_too_large, already_sent, session_full, not_accounted}
 
--- a reason to refuse, where it holds
-abbrev pub Fault : Type 0
-Fault = Option SessionError
+abbrev pub refusal_of_content : Bench → ℕ → Refusal
+refusal_of_content bench place = first_refusal (unknown_file bench place ∷ no_bytes bench place ∷ [])
 
--- the first of these reasons that holds
-unfoldable pub first_fault : List Fault → Fault
-first_fault [] = None
-first_fault (None ∷ faults) = first_fault faults
-first_fault (Some fault ∷ faults) = Some fault
+abbrev pub refusal_of_penalize : Bench → ℕ → Refusal
+refusal_of_penalize bench place = first_refusal (unknown_file bench place ∷ already_ended bench place ∷ [])
 
--- the error gives that reason, or that memory ran out
-abbrev pub IsCause : SessionError → Fault → Type 0
-IsCause Memory fault = Unit {0}
-IsCause error fault = fault ≡ Some error
+abbrev pub refusal_of_remove : Bench → ℕ → Refusal
+refusal_of_remove bench place = first_refusal (unknown_file bench place ∷ already_ended bench place ∷ [])
 
--- an answer is Ok exactly where there is no reason to refuse, and else gives that reason, or that memory ran out
-abbrev pub IsRefusal : {A : Type 0} → Result A SessionError → Fault → Type 0
-IsRefusal (Ok value) fault = fault ≡ None
-IsRefusal (Err error) fault = IsCause error fault
+abbrev pub refusal_of_transfer : Bench → ℕ → ℕ → Refusal
+refusal_of_transfer bench place relationship =
+    first_refusal (unknown_file bench place ∷ already_ended bench place ∷ no_relationship bench relationship ∷ [])
 
-abbrev pub where_it_holds : Bool → SessionError → Fault
-where_it_holds holds error = if holds then Some error else None
+abbrev pub refusal_of_route : Bench → ℕ → ℕ → Refusal
+refusal_of_route bench place relationship =
+    first_refusal (unknown_file bench place ∷ already_ended bench place ∷ no_relationship bench relationship ∷ [])
 
--- there is no such place
-unfoldable pub unknown_file : Bench → ℕ → Fault
-unknown_file bench place = where_it_holds (nat_le (length bench.files) place) UnknownFile
+abbrev pub refusal_of_transfer_back : Bench → ℕ → Refusal
+refusal_of_transfer_back bench place =
+    first_refusal (unknown_file bench place ∷ already_ended bench place ∷ made_here bench place ∷ [])
 
-abbrev pub has_ended : Bench → ℕ → Bool
-has_ended bench place = option_map_or (λ file. is_some file.«end») (slice_get bench.files place) false
+abbrev pub refusal_of_send : Bench → ℕ → Refusal
+refusal_of_send bench place =
+    first_refusal (unknown_file bench place ∷ already_ended bench place ∷ already_sent bench ∷ [])
 
-unfoldable pub already_ended : Bench → ℕ → Fault
-already_ended bench place = where_it_holds (has_ended bench place) AlreadyEnded
+abbrev pub refusal_of_put : Bench → ℕ → List ℕ → List ℕ → Refusal
+refusal_of_put bench place key value =
+    let attributes = insert (attributes_at bench place) key value in
+    let of_key = if is_uuid key then [] else bad_key key ∷
+        attributes_too_large (named_size (origin_at bench place) attributes) ∷
+        session_full (with_put bench place key value) ∷ [] in
+    first_refusal (unknown_file bench place ∷ already_ended bench place ∷ of_key)
 
-unfoldable pub no_relationship : Bench → ℕ → Fault
-no_relationship bench relationship = where_it_holds (nat_le bench.relationships relationship) NoRelationship
+abbrev pub refusal_of_remove_attribute : Bench → ℕ → List ℕ → Refusal
+refusal_of_remove_attribute bench place key =
+    let attributes = remove (attributes_at bench place) key in
+    first_refusal (unknown_file bench place ∷ already_ended bench place ∷
+        attributes_too_large (named_size (origin_at bench place) attributes) ∷ [])
 
-unfoldable pub made_here : Bench → ℕ → Fault
-made_here bench place = where_it_holds (is_made_at bench place) MadeHere
+abbrev pub refusal_of_write : Bench → ℕ → List ℕ → Refusal
+refusal_of_write bench place bytes =
+    first_refusal (unknown_file bench place ∷ already_ended bench place ∷ content_too_large (length bytes) ∷
+        session_full (with_written bench place bytes) ∷ [])
 
-unfoldable pub no_bytes : Bench → ℕ → Fault
-no_bytes bench place = where_it_holds (is_none (bytes_of bench place)) NoBytes
+abbrev pub refusal_of_append : Bench → ℕ → List ℕ → Refusal
+refusal_of_append bench place bytes =
+    first_refusal (unknown_file bench place ∷ already_ended bench place ∷ no_bytes bench place ∷
+        content_too_large (content_size bench place + length bytes) ∷
+        session_full (with_appended bench place bytes) ∷ [])
 
-unfoldable pub range_outside : Bench → ℕ → ℕ → ℕ → Fault
-range_outside bench of offset size =
-    let whole = content_size bench of in
-    where_it_holds (nat_lt whole (offset + size)) (RangeOutside (offset + size) whole)
+abbrev pub refusal_of_create : Bench → Refusal
+refusal_of_create bench = first_refusal (session_full (with_created bench) ∷ [])
 
-unfoldable pub content_too_large : ℕ → Fault
-content_too_large size = where_it_holds (nat_lt CONTENT_MAX size) (ContentTooLarge size)
+abbrev pub refusal_of_receive : Bench → List ℕ → Refusal
+refusal_of_receive bench bytes =
+    first_refusal (content_too_large (length bytes) ∷ session_full (with_received bench bytes) ∷ [])
 
-unfoldable pub bad_key : List ℕ → Fault
-bad_key key = where_it_holds (not (has_key_length key)) BadKey
+abbrev pub refusal_of_create_from : Bench → ℕ → Refusal
+refusal_of_create_from bench parent =
+    first_refusal (unknown_file bench parent ∷ already_ended bench parent ∷
+        attributes_too_large (made_size (attributes_at bench parent)) ∷ session_full (with_child bench parent) ∷ [])
 
-unfoldable pub attributes_too_large : ℕ → Fault
-attributes_too_large size = where_it_holds (nat_lt ATTRIBUTES_MAX size) (AttributesTooLarge size)
+-- the first of several files that is unknown, and the first that has ended
+abbrev pub unknown_files : Bench → List ℕ → Refusal
+unknown_files bench [] = None
+unknown_files bench (place ∷ places) = first_refusal (unknown_file bench place ∷ unknown_files bench places ∷ [])
 
-unfoldable pub already_sent : Bench → Fault
-already_sent bench = where_it_holds (is_some bench.sent) AlreadySent
+abbrev pub ended_files : Bench → List ℕ → Refusal
+ended_files bench [] = None
+ended_files bench (place ∷ places) = first_refusal (already_ended bench place ∷ ended_files bench places ∷ [])
 
--- the first limit that so many files, bytes of attributes and handed bytes are past
-unfoldable pub past_limits : ℕ → ℕ → ℕ → Fault
-past_limits files attributes handed =
-    if nat_lt FILES_MAX files then Some (SessionFull Files FILES_MAX)
-    else if nat_lt SESSION_ATTRIBUTES_MAX attributes then Some (SessionFull Attributes SESSION_ATTRIBUTES_MAX)
-    else if nat_lt WRITTEN_MAX handed then Some (SessionFull Written WRITTEN_MAX)
-    else None
+-- what is known of its parents before their common attributes are copied
+abbrev pub refusal_of_parents : Bench → List ℕ → Refusal
+refusal_of_parents bench parents = first_refusal (unknown_files bench parents ∷ ended_files bench parents ∷ [])
 
--- a session may not come to this
-abbrev pub session_full : Bench → Fault
-session_full bench = past_limits (length bench.files) (attribute_size bench) bench.handed
+abbrev pub refusal_of_create_joined : Bench → List ℕ → Refusal
+refusal_of_create_joined bench parents =
+    first_refusal (unknown_files bench parents ∷ ended_files bench parents ∷
+        attributes_too_large (made_size (common_attributes bench parents)) ∷
+        session_full (with_joined bench parents) ∷ [])
 
--- the lowest place of a file that hasn't ended, among these that begin at a place
-unfoldable pub not_accounted_from : ℕ → List File → Fault
-not_accounted_from place [] = None
-not_accounted_from place (file ∷ files) = if is_none file.«end» then Some (NotAccounted place) else not_accounted_from (place + 1) files
+abbrev pub refusal_of_clone : Bench → ℕ → Refusal
+refusal_of_clone bench of =
+    first_refusal (unknown_file bench of ∷ already_ended bench of ∷
+        attributes_too_large (made_size (attributes_at bench of)) ∷ session_full (with_clone bench of) ∷ [])
 
-abbrev pub not_accounted : Bench → Fault
-not_accounted bench = not_accounted_from 0 bench.files
+abbrev pub refusal_of_clone_range : Bench → ℕ → ℕ → ℕ → Refusal
+refusal_of_clone_range bench of offset size =
+    first_refusal (unknown_file bench of ∷ already_ended bench of ∷ range_outside bench of offset size ∷
+        attributes_too_large (made_size (attributes_at bench of)) ∷
+        session_full (with_range bench of offset size) ∷ [])
+
+abbrev pub refusal_of_finish : Bench → Refusal
+refusal_of_finish bench = first_refusal (not_accounted bench ∷ [])

@@ -14,13 +14,16 @@ pub struct Taken {
 /// The files that a session takes, by their places.
 pub type TakenList = Sequence<Taken>;
 
-/// What stays of a taken file, whatever the session does with it.
+/// What stays of a taken file, whatever the session does with it: its uuid, and its content as it was taken.
 #[derive(Debug, Drop)]
 pub struct Source {
     pub uuid: Text,
     pub size: u64,
     pub bytes: Option<Bytes>,
 }
+
+/// What stays of the files that a session took, by their places.
+pub type SourceList = Sequence<Source>;
 
 /// A file of a session, as it is now. Its origin and its body name places of the session.
 #[derive(Debug, Drop)]

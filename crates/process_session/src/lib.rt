@@ -7,15 +7,9 @@
 
 mod error;
 mod file;
-mod laws;
-mod limits;
 mod session;
 
 pub use error::{Full, SessionError};
-pub use file::{Taken, TakenList};
-pub use laws::{origins_name_earlier_files, taken_files_keep_their_places};
-pub use limits::{FILENAME_SIZE, FILES_MAX, SESSION_ATTRIBUTES_MAX, TAKEN_MAX, WRITTEN_MAX};
+pub use file::{Source, SourceList, Taken, TakenList};
+pub use flowfile_record::{FILENAME_SIZE, FILES_MAX, SESSION_ATTRIBUTES_MAX, TAKEN_MAX, WRITTEN_MAX};
 pub use session::Session;
-
-#[cfg(test)]
-mod tests;

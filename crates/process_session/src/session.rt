@@ -3,8 +3,8 @@ ghost use Rattle.std.specs.Prelude.{◌≡◌, ◌+◌, ◌<◌, ◌≤◌, List
 ghost use Rattle.std.specs.Option.{option_map};
 ghost use Rattle.std.specs.Result.{result_err};
 ghost use Rattle.process_session.specs.Bench.{Bench, bench_of, bytes_of, IsWhole};
-ghost use Rattle.process_session.specs.Faults.{fault_of_content};
-ghost use Rattle.process_session.specs.Refusals.{no_bytes};
+ghost use Rattle.process_session.specs.Refusals.{refusal_of_content};
+ghost use Rattle.process_session.specs.Reasons.{no_bytes};
 
 mod bodies;
 mod changing;
@@ -78,7 +78,10 @@ impl Session {
 
     /// The attributes of the file at a place, as they are now.
     pub fn attributes(&self, place: u32) -> Option<&Attributes>
-        ensures { option_map (λ attributes. attributes.now) result ≡ option_map (λ file. file.attributes) (slice_get self.now.files place) }
+        ensures {
+            option_map (λ attributes. attributes.now) result
+                ≡ option_map (λ file. file.attributes) (slice_get self.now.files place)
+        }
     {
         let file = self.files.get(place as usize)?;
         Some(&file.attributes)
@@ -86,16 +89,19 @@ impl Session {
 
     /// The uuid of a taken file.
     pub fn uuid(&self, place: u32) -> Option<&str>
-        ensures { option_map (λ uuid. uuid.now) result ≡ option_map (λ source. source.uuid) (slice_get self.now.sources place) }
+        ensures {
+            option_map (λ uuid. uuid.now) result
+                ≡ option_map (λ source. source.uuid) (slice_get self.now.sources place)
+        }
     {
         let source = self.sources.get(place as usize)?;
         Some(source.uuid.as_str())
     }
 
     /// The content of the file at a place, as it is now.
-    #[tactic(auto, using(crate::proofs::Refusing::pass, crate::proofs::Refusing::stop, crate::proofs::Refusing::no_fault))]
+    #[tactic(auto, using(crate::proofs::Refusing::steps))]
     pub fn content(&self, place: u32) -> Result<&[u8], SessionError>
-        ensures refusal { result_err result ≡ fault_of_content self.now place }
+        ensures refusal { result_err result ≡ refusal_of_content self.now place }
         ensures content { IfOk result (λ bytes. bytes_of self.now place ≡ Some bytes.now) }
     {
         self.check_known(place)?;
@@ -103,7 +109,7 @@ impl Session {
     }
 
     /// The content of a file, which has to be there.
-    #[tactic(auto, unfolding(crate::specs::Refusals::no_bytes))]
+    #[tactic(auto, unfolding(crate::specs::Reasons::no_bytes))]
     fn bytes_at(&self, place: u32) -> Result<&[u8], SessionError>
         requires { place < length self.now.files }
         ensures refusal { result_err result ≡ no_bytes self.now place }

@@ -2,7 +2,7 @@
 ghost use Rattle.std.specs.Prelude.{◌≡◌, ◌<◌, length, is_ok, true, None, Some, OnOk, if◌then◌else◌};
 ghost use Rattle.std.specs.Result.{result_err};
 ghost use Rattle.process_session.specs.Changes.{change_at, with_end, with_penalty, with_route, with_sent};
-ghost use Rattle.process_session.specs.Faults.{fault_of_penalize, fault_of_remove, fault_of_route, fault_of_send, fault_of_transfer, fault_of_transfer_back};
+ghost use Rattle.process_session.specs.Refusals.{refusal_of_penalize, refusal_of_remove, refusal_of_route, refusal_of_send, refusal_of_transfer, refusal_of_transfer_back};
 
 use super::Session;
 use crate::SessionError;
@@ -11,9 +11,9 @@ use flowfile_record::{End, Name, Sent};
 
 impl Session {
     /// Notes that a file is routed to a relationship.
-    #[tactic(auto, using(crate::proofs::Refusing::pass, crate::proofs::Refusing::stop, crate::proofs::Refusing::no_fault))]
+    #[tactic(auto, using(crate::proofs::Refusing::steps))]
     pub fn route(&mut self, place: u32, relationship: u16) -> Result<(), SessionError>
-        ensures refusal { result_err result ≡ fault_of_route self.old place relationship }
+        ensures refusal { result_err result ≡ refusal_of_route self.old place relationship }
         ensures after { self.new ≡ (if is_ok result then with_route self.old place relationship else self.old) }
     {
         self.check_known(place)?;
@@ -24,9 +24,9 @@ impl Session {
     }
 
     /// Notes that the content of a file is put into the outbox under a name.
-    #[tactic(auto, using(crate::proofs::Refusing::pass, crate::proofs::Refusing::stop, crate::proofs::Refusing::no_fault))]
+    #[tactic(auto, using(crate::proofs::Refusing::steps))]
     pub fn send(&mut self, place: u32, name: Name) -> Result<(), SessionError>
-        ensures refusal { result_err result ≡ fault_of_send self.old place }
+        ensures refusal { result_err result ≡ refusal_of_send self.old place }
         ensures after { self.new ≡ (if is_ok result then with_sent self.old place name else self.old) }
     {
         self.check_known(place)?;
@@ -37,9 +37,9 @@ impl Session {
     }
 
     /// Notes that a file is penalised.
-    #[tactic(auto, using(crate::proofs::Refusing::pass, crate::proofs::Refusing::stop, crate::proofs::Refusing::no_fault))]
+    #[tactic(auto, using(crate::proofs::Refusing::steps))]
     pub fn penalize(&mut self, place: u32) -> Result<(), SessionError>
-        ensures refusal { result_err result ≡ fault_of_penalize self.old place }
+        ensures refusal { result_err result ≡ refusal_of_penalize self.old place }
         ensures after { self.new ≡ (if is_ok result then with_penalty self.old place else self.old) }
     {
         self.check_known(place)?;
@@ -49,10 +49,12 @@ impl Session {
     }
 
     /// A file ends by going to a relationship.
-    #[tactic(auto, using(crate::proofs::Refusing::pass, crate::proofs::Refusing::stop, crate::proofs::Refusing::no_fault))]
+    #[tactic(auto, using(crate::proofs::Refusing::steps))]
     pub fn transfer(&mut self, place: u32, relationship: u16) -> Result<(), SessionError>
-        ensures refusal { result_err result ≡ fault_of_transfer self.old place relationship }
-        ensures after { self.new ≡ (if is_ok result then with_end self.old place (End.To relationship) else self.old) }
+        ensures refusal { result_err result ≡ refusal_of_transfer self.old place relationship }
+        ensures after {
+            self.new ≡ (if is_ok result then with_end self.old place (End.To relationship) else self.old)
+        }
     {
         self.check_known(place)?;
         self.check_open(place)?;
@@ -62,9 +64,9 @@ impl Session {
     }
 
     /// A taken file ends by going back to the queue that it was taken from.
-    #[tactic(auto, using(crate::proofs::Refusing::pass, crate::proofs::Refusing::stop, crate::proofs::Refusing::no_fault))]
+    #[tactic(auto, using(crate::proofs::Refusing::steps))]
     pub fn transfer_back(&mut self, place: u32) -> Result<(), SessionError>
-        ensures refusal { result_err result ≡ fault_of_transfer_back self.old place }
+        ensures refusal { result_err result ≡ refusal_of_transfer_back self.old place }
         ensures after { self.new ≡ (if is_ok result then with_end self.old place End.Back else self.old) }
     {
         self.check_known(place)?;
@@ -75,9 +77,9 @@ impl Session {
     }
 
     /// A file ends by leaving the flow.
-    #[tactic(auto, using(crate::proofs::Refusing::pass, crate::proofs::Refusing::stop, crate::proofs::Refusing::no_fault))]
+    #[tactic(auto, using(crate::proofs::Refusing::steps))]
     pub fn remove(&mut self, place: u32) -> Result<(), SessionError>
-        ensures refusal { result_err result ≡ fault_of_remove self.old place }
+        ensures refusal { result_err result ≡ refusal_of_remove self.old place }
         ensures after { self.new ≡ (if is_ok result then with_end self.old place End.Removed else self.old) }
     {
         self.check_known(place)?;
@@ -105,7 +107,9 @@ fn penalize_file(files: &mut Vec<File>, place: u32)
 
 fn route_file(files: &mut Vec<File>, place: u32, relationship: u16)
     requires { place < length files.old.items }
-    ensures { files.new.items ≡ change_at (λ file. record file { routed = Some relationship }) place files.old.items }
+    ensures {
+        files.new.items ≡ change_at (λ file. record file { routed = Some relationship }) place files.old.items
+    }
 {
     let file = &mut files[place as usize];
     file.routed = Some(relationship);

@@ -1,10 +1,13 @@
 //! What a session made: its outcome.
-ghost use Rattle.std.specs.Prelude.{◌≡◌, ◌≤◌, [], length, None, IfOk, IfErr, MatchResult};
+ghost use Rattle.std.specs.Prelude.{◌≡◌, ◌≤◌, [], length, None, IfOk, IfErr, OnOk};
+ghost use Rattle.std.specs.Option.{option_map};
 ghost use Rattle.std.specs.Result.{result_err};
-ghost use Rattle.process_session.specs.Faults.{fault_of_finish};
+ghost use Rattle.flowfile_record.specs.Outcome.{IsOutcome};
+ghost use Rattle.process_session.specs.Bench.{sizes_of};
+ghost use Rattle.process_session.specs.Refusals.{refusal_of_finish};
 ghost use Rattle.process_session.specs.Finish.{outcome_of, is_left_out, kept_files, standing_from};
 ghost use Rattle.process_session.specs.Finishing.{IsPlanOf, sent_at};
-ghost use Rattle.process_session.specs.Refusals.{IsCause, IsRefusal, not_accounted, not_accounted_from};
+ghost use Rattle.process_session.specs.Reasons.{IsErrorFor, IsRefusal, not_accounted, not_accounted_from};
 
 mod kept;
 mod origins;
@@ -15,7 +18,7 @@ use self::origins::origins_in;
 use self::standing::{place_in, stands_of};
 use super::Session;
 use super::sizes::is_made;
-use crate::file::File;
+use crate::file::{File, SourceList};
 use crate::{FILES_MAX, SessionError};
 use flowfile_record::{End, Origin, Outcome, Sent, Worked, WorkedList};
 use std::alloc::{AllocError, Global};
@@ -37,8 +40,23 @@ impl Session {
     /// where an origin names such a file, that file's own parents stand in its place. On a refusal the session is
     /// given back as it was.
     pub fn finish(self) -> Result<Outcome, (Session, SessionError)>
-        ensures refusal { MatchResult result (λ _. fault_of_finish self ≡ None) (λ refused. IsCause refused.1 (fault_of_finish self)) }
+        ensures refusal { IsErrorFor (option_map (λ refused. refused.1) (result_err result)) (refusal_of_finish self) }
         ensures outcome { IfOk result (λ outcome. outcome ≡ outcome_of self) }
+        ensures sound { IfOk result (IsOutcome self.relationships (sizes_of self.sources)) }
+        ensures given_back { IfErr result (λ refused. refused.0 ≡ self) }
+    {
+        match self.finish_with_sources() {
+            Ok((outcome, _)) => Ok(outcome),
+            Err(refused) => Err(refused),
+        }
+    }
+
+    /// The outcome, as `finish` gives it, and beside it what stays of the files that were taken, by their places.
+    pub fn finish_with_sources(self) -> Result<(Outcome, SourceList), (Session, SessionError)>
+        ensures refusal { IsErrorFor (option_map (λ refused. refused.1) (result_err result)) (refusal_of_finish self) }
+        ensures outcome { IfOk result (λ finished. finished.0 ≡ outcome_of self) }
+        ensures sound { IfOk result (λ finished. IsOutcome self.relationships (sizes_of self.sources) finished.0) }
+        ensures sources { IfOk result (λ finished. finished.1 ≡ self.sources) }
         ensures given_back { IfErr result (λ refused. refused.0 ≡ self) }
     {
         match self.plan() {
@@ -48,7 +66,8 @@ impl Session {
     }
 
     fn plan(&self) -> Result<Plan, SessionError>
-        ensures refusal { IsRefusal result (fault_of_finish self.now) }
+        ensures refusal { IsRefusal result (refusal_of_finish self.now) }
+        ensures ended { OnOk result (not_accounted self.now ≡ None) }
         ensures plan { IfOk result (λ plan. IsPlanOf self.now.files self.now.sent plan) }
     {
         self.check_accounted()?;
@@ -62,20 +81,24 @@ impl Session {
         check_ended(&self.files)
     }
 
-    fn outcome(self, plan: Plan) -> Outcome
-        requires { IsPlanOf self.files self.sent plan }
-        ensures { result ≡ outcome_of self }
+    fn outcome(self, plan: Plan) -> (Outcome, SourceList)
+        requires ended { not_accounted self ≡ None }
+        requires plan { IsPlanOf self.files self.sent plan }
+        ensures outcome { result.0 ≡ outcome_of self }
+        ensures sound { IsOutcome self.relationships (sizes_of self.sources) result.0 }
+        ensures sources { result.1 ≡ self.sources }
     {
         let Session {
             alloc: _,
             relationships: _,
-            sources: _,
+            sources,
             files,
             sent,
             handed: _,
             counted: _,
         } = self;
-        outcome_by(plan, files, sent)
+        let outcome = outcome_by(plan, files, sent);
+        (outcome, SourceList::from(sources))
     }
 }
 

@@ -1,9 +1,9 @@
-//! What attributes count towards the limits.
-ghost use Rattle.std.specs.Prelude.{◌≡◌, ℕ, ◌+◌, ◌<◌, ◌≤◌, ◌^◌, List, codes, is_none, length};
-ghost use Rattle.std.specs.FinMap.{get, insert, remove};
+//! What attributes take, and what they would take.
+ghost use Rattle.std.specs.Prelude.{◌≡◌, ℕ, ◌+◌, ◌<◌, ◌≤◌, ◌^◌, List, codes, not, length};
+ghost use Rattle.std.specs.FinMap.{contains_key, insert, remove};
 ghost use Rattle.flowfile_record.specs.Attributes.{encoded_size};
-ghost use Rattle.process_session.specs.Pairs.{held_size};
-ghost use Rattle.process_session.specs.Bench.{attribute_size, attributes_at, counted_size, is_made, is_made_at};
+ghost use Rattle.flowfile_record.specs.Outcome.{filename_to_come, is_made};
+ghost use Rattle.process_session.specs.Bench.{attribute_size, attributes_at, made_size, origin_at};
 
 use super::Session;
 use crate::FILENAME_SIZE;
@@ -12,37 +12,68 @@ use flowfile_record::{ATTRIBUTES_MAX, Attributes, KEY_MAX, Origin};
 /// The attribute that a made file is given later where it has none.
 const FILENAME: &str = "filename";
 
-/// What a pair takes beside its key and its value: the length of the key in two bytes, of the value in four.
-const PAIR_SIZE: u64 = 6;
-
 impl Session {
-    /// What the attributes of a file count.
+    /// The encoded size of a file's attributes.
     pub(super) fn size_at(&self, place: u32) -> u64
         requires { place < length self.now.files }
-        ensures size { result ≡ counted_size (is_made_at self.now place) (attributes_at self.now place) }
+        ensures size { result ≡ encoded_size (attributes_at self.now place) }
         ensures part { result ≤ attribute_size self.now }
+        ensures small { result ≤ ATTRIBUTES_MAX }
     {
-        let file = &self.files[place as usize];
-        counted_size(is_made(&file.origin), &file.attributes)
+        self.files[place as usize].attributes.size()
     }
 
-    /// What they would count with a value under a key.
+    /// Their encoded size with a value under a key.
     pub(super) fn size_with(&self, place: u32, key: &str, value: &str) -> u64
         requires there { place < length self.now.files }
         requires key { length key.now ≤ KEY_MAX }
-        ensures { result ≡ counted_size (is_made_at self.now place) (insert (attributes_at self.now place) key.now value.now) }
+        ensures size { result ≡ encoded_size (insert (attributes_at self.now place) key.now value.now) }
+        ensures small { result < 2 ^ 63 + 2 ^ 17 }
     {
-        let file = &self.files[place as usize];
-        size_with(is_made(&file.origin), &file.attributes, key, value)
+        encoded_with(&self.files[place as usize].attributes, key, value)
     }
 
-    /// What they would count without a key.
+    /// Their encoded size without a key.
     pub(super) fn size_without(&self, place: u32, key: &str) -> u64
         requires { place < length self.now.files }
-        ensures { result ≡ counted_size (is_made_at self.now place) (remove (attributes_at self.now place) key.now) }
+        ensures size { result ≡ encoded_size (remove (attributes_at self.now place) key.now) }
+        ensures part { result ≤ encoded_size (attributes_at self.now place) }
+        ensures small { result ≤ ATTRIBUTES_MAX }
+    {
+        encoded_without(&self.files[place as usize].attributes, key)
+    }
+
+    /// What a `filename` takes that the file is given later, with a value under a key.
+    pub(super) fn filename_with(&self, place: u32, key: &str) -> u64
+        requires { place < length self.now.files }
+        ensures size {
+            (value : List ℕ) → result
+                ≡ filename_to_come (origin_at self.now place) (insert (attributes_at self.now place) key.now value)
+        }
+        ensures small { result ≤ FILENAME_SIZE }
     {
         let file = &self.files[place as usize];
-        size_without(is_made(&file.origin), &file.attributes, key)
+        if is_made(&file.origin) && lacks_filename_with(&file.attributes, key) {
+            FILENAME_SIZE
+        } else {
+            0
+        }
+    }
+
+    /// What a `filename` takes that the file is given later, without a key.
+    pub(super) fn filename_without(&self, place: u32, key: &str) -> u64
+        requires { place < length self.now.files }
+        ensures size {
+            result ≡ filename_to_come (origin_at self.now place) (remove (attributes_at self.now place) key.now)
+        }
+        ensures small { result ≤ FILENAME_SIZE }
+    {
+        let file = &self.files[place as usize];
+        if is_made(&file.origin) && lacks_filename_without(&file.attributes, key) {
+            FILENAME_SIZE
+        } else {
+            0
+        }
     }
 }
 
@@ -52,40 +83,12 @@ pub(super) fn is_made(origin: &Origin) -> bool
     !matches!(origin, Origin::Taken(_))
 }
 
-#[tactic(auto, unfolding(crate::specs::Bench::counted_size))]
-pub(super) fn counted_size(made: bool, attributes: &Attributes) -> u64
-    ensures size { result ≡ counted_size made attributes.now }
-    ensures limit { result ≤ ATTRIBUTES_MAX + FILENAME_SIZE }
+/// What attributes take as a made file's.
+pub(super) fn made_size(attributes: &Attributes) -> u64
+    ensures { result ≡ made_size attributes.now }
 {
     let size = attributes.size();
-    if made && attributes.get(FILENAME).is_none() {
-        size + FILENAME_SIZE
-    } else {
-        size
-    }
-}
-
-/// What attributes would count with a value under a key.
-#[tactic(auto, unfolding(crate::specs::Bench::counted_size))]
-fn size_with(made: bool, attributes: &Attributes, key: &str, value: &str) -> u64
-    requires { length key.now ≤ KEY_MAX }
-    ensures { result ≡ counted_size made (insert attributes.now key.now value.now) }
-{
-    let size = encoded_with(attributes, key, value);
-    if made && lacks_filename_with(attributes, key) {
-        size + FILENAME_SIZE
-    } else {
-        size
-    }
-}
-
-/// What attributes would count without a key.
-#[tactic(auto, unfolding(crate::specs::Bench::counted_size))]
-fn size_without(made: bool, attributes: &Attributes, key: &str) -> u64
-    ensures { result ≡ counted_size made (remove attributes.now key.now) }
-{
-    let size = encoded_without(attributes, key);
-    if made && lacks_filename_without(attributes, key) {
+    if attributes.get(FILENAME).is_none() {
         size + FILENAME_SIZE
     } else {
         size
@@ -97,36 +100,33 @@ fn encoded_with(attributes: &Attributes, key: &str, value: &str) -> u64
     ensures size { result ≡ encoded_size (insert attributes.now key.now value.now) }
     ensures small { result < 2 ^ 63 + 2 ^ 17 }
 {
-    let pair = key.len() as u64 + value.len() as u64 + PAIR_SIZE;
-    attributes.size() - held_size(attributes, key) + pair
+    let both = attributes.size() + key.len() as u64 + value.len() as u64;
+    let size = attributes.size_with(key, value);
+    prove!(size <= both + FILENAME_SIZE);
+    size
 }
 
 fn encoded_without(attributes: &Attributes, key: &str) -> u64
     ensures size { result ≡ encoded_size (remove attributes.now key.now) }
+    ensures part { result ≤ encoded_size attributes.now }
     ensures small { result ≤ ATTRIBUTES_MAX }
 {
-    attributes.size() - held_size(attributes, key)
-}
-
-/// What the pair takes that has the key, where there is one.
-fn held_size(attributes: &Attributes, key: &str) -> u64
-    ensures size { result ≡ held_size attributes.now key.now }
-    ensures part { result + 2 ≤ encoded_size attributes.now }
-{
-    match attributes.get(key) {
-        Some(value) => key.len() as u64 + value.len() as u64 + PAIR_SIZE,
-        None => 0,
-    }
+    let whole = attributes.size();
+    let size = attributes.size_without(key);
+    prove!(size <= whole);
+    size
 }
 
 fn lacks_filename_with(attributes: &Attributes, key: &str) -> bool
-    ensures { (value : List ℕ) → result ≡ is_none (get (insert attributes.now key.now value) (codes "filename")) }
+    ensures {
+        (value : List ℕ) → result ≡ not (contains_key (insert attributes.now key.now value) (codes "filename"))
+    }
 {
     key != FILENAME && attributes.get(FILENAME).is_none()
 }
 
 fn lacks_filename_without(attributes: &Attributes, key: &str) -> bool
-    ensures { result ≡ is_none (get (remove attributes.now key.now) (codes "filename")) }
+    ensures { result ≡ not (contains_key (remove attributes.now key.now) (codes "filename")) }
 {
     key == FILENAME || attributes.get(FILENAME).is_none()
 }

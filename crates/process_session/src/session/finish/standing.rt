@@ -1,7 +1,8 @@
 //! Which files of the outcome stand for a file of the session.
 ghost use Rattle.std.specs.Prelude.{◌≡◌, ℕ, ◌<◌, ◌≤◌, ◌==◌, [], All, List, length, map, slice_get, slice_index, unwrap_or, IfOk, OnOk};
 ghost use Rattle.std.specs.List.{flat_map};
-ghost use Rattle.process_session.specs.Finish.{parents_of, place_in, standing_for, standing_from};
+ghost use Rattle.process_session.specs.Finish.{place_in, standing_for, standing_from};
+ghost use Rattle.flowfile_record.specs.Outcome.{parents_of};
 ghost use Rattle.process_session.specs.Finishing.{IsInside, IsMarked, AreMarkedBelow, AreMarkedUpto, next_place, places_of, stand_at, stand_for, with_each, with_once};
 
 use super::is_left_out;
@@ -109,7 +110,9 @@ pub(super) fn standing_for_parents(
 ) -> Result<Vec<u32>, AllocError>
     requires below { AreMarkedBelow met.old round }
     requires inside { All (IsInside (length met.old)) stands.now }
-    ensures left { IfOk result (λ left. left.items ≡ standing_for (map places_of stands.now) (parents_of origin.now)) }
+    ensures left {
+        IfOk result (λ left. left.items ≡ standing_for (map places_of stands.now) (parents_of origin.now))
+    }
     ensures inside { IfOk result (λ left. All (λ place. place < length met.new) left.items) }
     ensures upto { OnOk result (AreMarkedUpto met.new round) }
 {
@@ -128,7 +131,10 @@ fn add_parents_of(
     requires marked { IsMarked met.old round left.old.items }
     requires inside { All (IsInside (length met.old)) stands.now }
     ensures marked { OnOk result (IsMarked met.new round left.new.items) }
-    ensures left { OnOk result (left.new.items ≡ with_each left.old.items (flat_map (stand_at (map places_of stands.now)) (parents_of origin.now))) }
+    ensures left {
+        OnOk result (left.new.items
+            ≡ with_each left.old.items (flat_map (stand_at (map places_of stands.now)) (parents_of origin.now)))
+    }
 {
     match origin {
         Origin::Forked(parent) | Origin::Part(parent) | Origin::Cloned(parent) => {
@@ -149,7 +155,10 @@ fn add_parents(
     requires marked { IsMarked met.old round left.old.items }
     requires inside { All (IsInside (length met.old)) stands.now }
     ensures marked { OnOk result (IsMarked met.new round left.new.items) }
-    ensures left { OnOk result (left.new.items ≡ with_each left.old.items (flat_map (stand_at (map places_of stands.now)) parents.now)) }
+    ensures left {
+        OnOk result (left.new.items
+            ≡ with_each left.old.items (flat_map (stand_at (map places_of stands.now)) parents.now))
+    }
 {
     for parent in parents {
         add_standing(left, met, round, stands, *parent as usize)?;
@@ -167,7 +176,9 @@ fn add_standing(
     requires marked { IsMarked met.old round left.old.items }
     requires inside { All (IsInside (length met.old)) stands.now }
     ensures marked { OnOk result (IsMarked met.new round left.new.items) }
-    ensures left { OnOk result (left.new.items ≡ with_each left.old.items (stand_at (map places_of stands.now) parent)) }
+    ensures left {
+        OnOk result (left.new.items ≡ with_each left.old.items (stand_at (map places_of stands.now) parent))
+    }
 {
     match stands.get(parent) {
         Some(stand) => add_each(left, met, round, stand.places()),

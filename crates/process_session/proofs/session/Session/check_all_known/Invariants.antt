@@ -1,6 +1,6 @@
 use Rattle.std.proofs.Common.{◌≡◌, ◌<◌, length, take, drop}
 use Rattle.std.specs.List.{All}
-use Rattle.process_session.specs.Faults.{unknown_files}
+use Rattle.process_session.specs.Refusals.{unknown_files}
 use Rattle.process_session.proofs.session.Session.check_all_known.Given as goal
 
 abbrev pub invariant-loop-place : goal.invariant-loop-place

@@ -1,5 +1,5 @@
 use Rattle.std.proofs.Common.{◌≡◌, drop}
-use Rattle.process_session.specs.Faults.{ended_files}
+use Rattle.process_session.specs.Refusals.{ended_files}
 use Rattle.process_session.proofs.session.Session.check_all_open.Given as goal
 
 abbrev pub invariant-loop-place : goal.invariant-loop-place

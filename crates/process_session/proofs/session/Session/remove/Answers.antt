@@ -1,8 +1,7 @@
-use Rattle.std.proofs.Common.{Some, refl}
 use Rattle.flowfile_record.specs.declared.worked.End.TheVariants.{Removed}
 use Rattle.process_session.specs.Inside.{bench_in}
-use Rattle.process_session.proofs.Sound.{sound-noted}
+use Rattle.process_session.proofs.Sound.{sound-ended}
 use Rattle.process_session.proofs.session.Session.remove.Goals as goal
 
 pub invariant_of-self : goal.invariant_of-self
-invariant_of-self c = rw c.end_file.ensures (sound-noted (bench_in c.self.inside) c.self.inside.counted c.args.place (λ file. record file { «end» = Some Removed }) (λ file. refl) (λ file. refl) c.self.invariant)
+invariant_of-self c = rw c.end_file.ensures (sound-ended (bench_in c.self.inside) c.self.inside.counted c.args.place Removed (λ file is. tt) c.self.invariant)

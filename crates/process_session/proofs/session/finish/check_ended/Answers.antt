@@ -1,6 +1,6 @@
 use Rattle.std.proofs.Common.{◌≡◌, ◌≤◌, true, false, not, is_none, length, sym, ◌∙◌, ap, arith}
 use Rattle.std.proofs.lemmas.List.{at_drop_all}
-use Rattle.process_session.specs.Refusals.{not_accounted_from}
+use Rattle.process_session.specs.Reasons.{not_accounted_from}
 use Rattle.process_session.proofs.FinishFiles.{open_here, ended_here, all_ended}
 use Rattle.process_session.proofs.session.finish.check_ended.Goals as goal
 

@@ -1,5 +1,5 @@
 use Rattle.std.proofs.Common.{◌≡◌, drop}
-use Rattle.process_session.specs.Refusals.{not_accounted_from}
+use Rattle.process_session.specs.Reasons.{not_accounted_from}
 use Rattle.process_session.proofs.session.finish.check_ended.Given as goal
 
 abbrev pub invariant-loop-file : goal.invariant-loop-file

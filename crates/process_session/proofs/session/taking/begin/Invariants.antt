@@ -1,4 +1,5 @@
-use Rattle.std.proofs.Common.{◌≡◌, ◌*◌, ◌≤◌, length, map, sum_by}
+use Rattle.std.proofs.Common.{◌≡◌, ◌*◌, ◌≤◌, All, length, map, sum_by}
+use Rattle.flowfile_record.specs.Attributes.{IsWithinLimits}
 use Rattle.flowfile_record.specs.declared.attributes.TheConstants.{ATTRIBUTES_MAX}
 use Rattle.process_session.specs.Bench.{file_size, source_of, taken_files}
 use Rattle.process_session.proofs.session.taking.begin.Given as goal
@@ -9,5 +10,6 @@ invariant-loop-file l = record {
   files : l.begun.files.items ≡ taken_files 0 l.yielded;
   summed : l.begun.counted ≡ sum_by file_size (taken_files 0 l.yielded);
   small : l.begun.counted ≤ length l.yielded * ATTRIBUTES_MAX;
+  limits : All (λ file. IsWithinLimits file.attributes) l.yielded;
   place : l.place ≡ length l.yielded;
 }

@@ -1,6 +1,6 @@
 use Rattle.std.proofs.Common.{map, ap, ◌∙◌}
 use Rattle.std.specs.List.{flat_map}
-use Rattle.process_session.specs.Finish.{parents_of}
+use Rattle.flowfile_record.specs.Outcome.{parents_of}
 use Rattle.process_session.specs.Finishing.{places_of, stand_at, with_each}
 use Rattle.process_session.proofs.FinishPlaces.{none_marked, standing_for-is, upto_marked}
 use Rattle.process_session.proofs.session.finish.standing.standing_for_parents.Goals as goal

@@ -1,8 +1,0 @@
-use Rattle.std.proofs.Common.{refl}
-use Rattle.std.specs.List.{IsDistinct}
-use Rattle.process_session.proofs.tests.files_are_made.Goals as goal
-
--- the places 0 and 1 differ
-pub create_joined-requires-clause-distinct : goal.create_joined-requires-clause-distinct
-unfolding IsDistinct
-create_joined-requires-clause-distinct g c = ((refl, tt), (tt, tt))
