@@ -22,12 +22,3 @@ pub mod SettlingKeeps
 pub mod Stepped
 pub mod Tally
 pub mod Took
-pub mod TriedFamilies
-pub mod TriedFlows
-pub mod TriedNames
-pub mod TriedOutboxes
-pub mod TriedParts
-pub mod TriedPicks
-pub mod TriedPuts
-pub mod TriedRun
-pub mod TriedSizes

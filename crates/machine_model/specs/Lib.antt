@@ -13,4 +13,3 @@ pub mod Settling
 pub mod Sound
 pub mod Stepping
 pub mod Taking
-pub mod Tries

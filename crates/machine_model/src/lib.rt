@@ -12,9 +12,6 @@ mod kind;
 mod laws;
 mod pattern;
 mod state;
-#[cfg(test)]
-mod tests;
-pub mod tries;
 mod world;
 
 pub use filter::Filter;
