@@ -7,6 +7,7 @@ pub mod Drafted
 pub mod EventRows
 pub mod EventsTell
 pub mod Keyed
+pub mod KinSets
 pub mod Kinships
 pub mod Numbers
 pub mod OnlyOrder
@@ -22,12 +23,3 @@ pub mod SettlingKeeps
 pub mod Stepped
 pub mod Tally
 pub mod Took
-pub mod TriedFamilies
-pub mod TriedFlows
-pub mod TriedNames
-pub mod TriedOutboxes
-pub mod TriedParts
-pub mod TriedPicks
-pub mod TriedPuts
-pub mod TriedRun
-pub mod TriedSizes
