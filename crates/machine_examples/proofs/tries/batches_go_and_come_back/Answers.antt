@@ -1,0 +1,14 @@
+use Rattle.std.proofs.Common.{refl}
+use Rattle.machine_examples.proofs.tries.batches_go_and_come_back.Goals as goal
+
+pub returns : goal.returns
+returns c = record {
+  goes = refl;
+  waits = refl;
+  comes = refl;
+  all = refl;
+  due = (refl, refl);
+  swapped = (refl, refl);
+  expired = (refl, refl);
+  none = (refl, refl);
+}

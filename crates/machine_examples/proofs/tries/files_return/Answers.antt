@@ -1,0 +1,12 @@
+use Rattle.std.proofs.Common.{refl}
+use Rattle.machine_model.specs.Acting.{received_attributes}
+use Rattle.machine_examples.specs.Small.{a_txt}
+use Rattle.machine_examples.proofs.TriedParts.{same_attributes-self}
+use Rattle.machine_examples.proofs.tries.files_return.Goals as goal
+
+pub returns : goal.returns
+returns c = record {
+  free = rw (same_attributes-self (received_attributes a_txt)) refl;
+  penalised = rw (same_attributes-self (received_attributes a_txt)) refl;
+  saturated = rw (same_attributes-self (received_attributes a_txt)) refl;
+}
