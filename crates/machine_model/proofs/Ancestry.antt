@@ -85,16 +85,16 @@ plain_tells ds draft child parent P plain k h =
 
 -- ---- what the events tell is kin
 
-abbrev Kin : EndedSession → Outcome → (child parent : ℕ) → Type 0
-Kin session outcome child parent = HasChild (settled_files session outcome.files) child parent ⊎ HasClone (settlement_clones session outcome.files) child parent
+abbrev HasKin : EndedSession → Outcome → (child parent : ℕ) → Type 0
+HasKin session outcome child parent = HasChild (settled_files session outcome.files) child parent ⊎ HasClone (settlement_clones session outcome.files) child parent
 
-pub drafts-tell : (session : EndedSession) (outcome : Outcome) (child parent : ℕ) → Tell (drafts session outcome) child parent → Kin session outcome child parent
+pub drafts-tell : (session : EndedSession) (outcome : Outcome) (child parent : ℕ) → Tell (drafts session outcome) child parent → HasKin session outcome child parent
 drafts-tell session outcome child parent h =
     let files = settled_files session outcome.files in
     let clones = settlement_clones session outcome.files in
     let from = comes_from (λ draft. kin_of (draft 0)) (drafts session outcome) (child, parent) h in
     let draft = from.source in
-    let Q : Type 0 = Kin session outcome child parent in
+    let Q : Type 0 = HasKin session outcome child parent in
     from_part Q draft (first_part session files) (forks session files) (joined_part session files) (cloned_part session files) (modified_part session files)
     (attributes_part session files) (routed_part session files) (sent session files outcome.sent) (clones_part session clones) (dropped_part session files)
     (plain_tells (first_part session files) draft child parent Q (plain_first_part session files) from.made)
@@ -174,7 +174,7 @@ told_of session files file origin.Received place there is named l = absurd named
 abbrev pub NameFiles : List SettledFile → Type 0
 NameFiles files = (file : SettledFile) → Among file files → (place : ℕ) → Among place (parents_in file.worked.origin) → place < length files
 
-pub kin-told : (session : EndedSession) (outcome : Outcome) → NameFiles (settled_files session outcome.files) → (child parent : ℕ) → Kin session outcome child parent → Tell (drafts session outcome) child parent
+pub kin-told : (session : EndedSession) (outcome : Outcome) → NameFiles (settled_files session outcome.files) → (child parent : ℕ) → HasKin session outcome child parent → Tell (drafts session outcome) child parent
 kin-told session outcome sound child parent (inl has) =
     let files = settled_files session outcome.files in
     let kin = has.kin in

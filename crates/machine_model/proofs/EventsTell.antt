@@ -17,10 +17,9 @@ use Rattle.machine_model.specs.Stepping.{expired, expiry_of, files_of}
 use Rattle.machine_model.proofs.Among.{Among, all_among, is_made}
 use Rattle.machine_model.proofs.Ancestry.{NameFiles, kin-has, kin-had, drafts-tell, kin-told, kin_of_joined, kin_goes_on}
 use Rattle.machine_model.proofs.Drafted.{IsDraft, session-drafts}
-use Rattle.machine_model.proofs.Kinships.{kinship}
 use Rattle.machine_model.proofs.Options.{if_when}
 use Rattle.machine_model.proofs.Preserved.{IsKept, step-kept, replay-kept}
-use Rattle.machine_model.proofs.Tally.{each-map}
+use Rattle.machine_model.proofs.Tally.{Each, each-map}
 
 -- ---- origins name files of the outcome
 

@@ -11,7 +11,7 @@ use Rattle.std.specs.Cmp.{IsTotalOrder, tied_itself, Equal-is}
 use Rattle.std.proofs.lemmas.Bool.{true≢false}
 use Rattle.std.proofs.lemmas.Cmp.{then_total, on_total, nat_cmp_total}
 use Rattle.machine_model.specs.State.{Kin, kin_cmp}
-use Rattle.machine_model.proofs.Among.{Among, among_left, among_right, among_either}
+use Rattle.machine_model.proofs.Among.{Among}
 
 pub kin_cmp-total : IsTotalOrder kin_cmp
 kin_cmp-total = then_total (on_total (λ p. p.0) nat_cmp_total) (on_total (λ p. p.1) nat_cmp_total)
