@@ -2,7 +2,7 @@
 use Rattle.std.proofs.Common.{◌≡◌, List, [], ◌++◌, refl, sym, ap, ◌∙◌, append_assoc}
 use Rattle.std.proofs.lemmas.List.{append-nil}
 use Rattle.flowfile_record.specs.declared.event.Event.{Event}
-use Rattle.machine_model.specs.declared.state.State.{State}
+use Rattle.machine_model.specs.State.{State}
 use Rattle.std.specs.Prelude.{map}
 use Rattle.machine_model.specs.Events.{ascending, drafts}
 use Rattle.machine_model.specs.Files.{queue_at}
@@ -48,4 +48,4 @@ adds-kept before = record {
 }
 
 pub replay-adds : ReplaysAddEvents
-replay-adds flow machine journal = replay-kept (AddsEvents machine.0) (adds-kept machine.0) flow machine journal ([], sym (append-nil machine.0.events))
+replay-adds flow machine journal = replay-kept (AddsEvents machine.state) (adds-kept machine.state) flow machine journal ([], sym (append-nil machine.state.events))

@@ -6,7 +6,7 @@ use Rattle.std.proofs.lemmas.Bool.{cases_eq, cases_lt, ne_eqb, eq-eqb, cases_ord
 use Rattle.std.proofs.lemmas.List.{get_or_default}
 use Rattle.std.proofs.lemmas.List.Elements.{All-nil, All-cons, All-head, All-tail}
 use Rattle.std.proofs.lemmas.List.Kept.{AllPairs-cons}
-use Rattle.machine_model.specs.declared.state.QueuedFile.{QueuedFile}
+use Rattle.machine_model.specs.State.{QueuedFile}
 use Rattle.machine_model.specs.Laws.{AreNumbered}
 use Rattle.machine_model.proofs.Tally.{many, at_most}
 use Rattle.machine_model.proofs.Ordered.{pairs_head, pairs_tail, pairs_nil}

@@ -7,6 +7,7 @@ pub mod Drafted
 pub mod EventRows
 pub mod EventsTell
 pub mod Keyed
+pub mod KinSets
 pub mod Kinships
 pub mod Numbers
 pub mod OnlyOrder

@@ -8,9 +8,9 @@ use Rattle.std.proofs.lemmas.Bool.{cases_lt}
 use Rattle.flowfile_record.specs.declared.worked.Origin.{Origin}
 use Rattle.flowfile_record.specs.declared.worked.Origin.TheVariants.{Taken, Created, Received, Forked, Part, Cloned, Joined}
 use Rattle.flowfile_record.specs.declared.worked.Worked.{Worked}
-use Rattle.machine_model.specs.declared.state.QueuedFile.{QueuedFile}
+use Rattle.machine_model.specs.State.{QueuedFile}
 use Rattle.machine_model.specs.Laws.{StandsInTurn, AreFrom}
-use Rattle.machine_model.specs.Placing.{Session, Finished, SettlementClone, finished_file, finished_files, entered_in, numbers_from, number_by, next_behind, count_made, is_taken, clones_from}
+use Rattle.machine_model.specs.Placing.{EndedSession, SettledFile, SettlementClone, settled_file, settled_files, entered_in, numbers_from, number_by, next_behind, count_made, is_taken, clones_from}
 use Rattle.machine_model.proofs.Tally.{bit, many, tally-append, tally-map, tally-zip, run_below, run_past, run_once}
 use Rattle.machine_model.proofs.Keyed.{Counted}
 
@@ -66,24 +66,24 @@ numbers_are taken next place (file ∷ files) (turn, parents, rest) =
 -- ---- files and clones by number
 
 -- each number is that of one of the files at most, and none is higher than those of the made files
-pub record AreFilesBelow (next : ℕ) (files : List Finished) : Type 0 where
-  pub once : (n : ℕ) → many (λ (file : Finished). file.number) n files ≤ 1
-  pub none : (n : ℕ) → next ≤ n → many (λ (file : Finished). file.number) n files ≡ 0
+pub record AreFilesBelow (next : ℕ) (files : List SettledFile) : Type 0 where
+  pub once : (n : ℕ) → many (λ (file : SettledFile). file.number) n files ≤ 1
+  pub none : (n : ℕ) → next ≤ n → many (λ (file : SettledFile). file.number) n files ≡ 0
 
-finished-le : (session : Session) (files : List Worked) (n : ℕ) → many (λ (file : Finished). file.number) n (finished_files session files)
+finished-le : (session : EndedSession) (files : List Worked) (n : ℕ) → many (λ (file : SettledFile). file.number) n (settled_files session files)
     ≤ many (λ (m : ℕ). m) n (numbers_from session.state.next_number (map (λ file. file.number) session.taken) files)
 finished-le session files n =
     let numbers = numbers_from session.state.next_number (map (λ file. file.number) session.taken) files in
     let entered = entered_in session.given.moment (map (λ file. file.entered) session.taken) files in
     omega (
       arith,
-      tally-map (λ (file : Finished). bit (file.number == n)) (λ f. finished_file session (f.0, f.1.0, f.1.1)) (zip numbers (zip entered files)),
+      tally-map (λ (file : SettledFile). bit (file.number == n)) (λ f. settled_file session (f.0, f.1.0, f.1.1)) (zip numbers (zip entered files)),
       tally-zip (λ (m : ℕ). bit (m == n)) numbers (zip entered files),
     )
 
-pub finished-below : (session : Session) (files : List Worked) → AreFrom 0 (length session.taken) files
+pub finished-below : (session : EndedSession) (files : List Worked) → AreFrom 0 (length session.taken) files
     → Counted (λ (file : QueuedFile). file.number) session.state.next_number session.taken
-    → AreFilesBelow (session.state.next_number + count_made files) (finished_files session files)
+    → AreFilesBelow (session.state.next_number + count_made files) (settled_files session files)
 finished-below session files outcome taken = record {
   once = λ n. elim (cases_lt n next) [
     | inl lt ↦ omega (arith, each n, taken.once n, run_below next (count_made files) n lt)
@@ -101,7 +101,7 @@ finished-below session files outcome taken = record {
     parts : numbers_from next own files ≡ own ++ range_with_len next (count_made files)
     parts = numbers_are own next 0 files (rw (length-map session.taken (λ (file : QueuedFile). file.number)) outcome)
 
-    each : (n : ℕ) → many (λ (file : Finished). file.number) n (finished_files session files)
+    each : (n : ℕ) → many (λ (file : SettledFile). file.number) n (settled_files session files)
         ≤ many (λ (file : QueuedFile). file.number) n session.taken + many (λ (m : ℕ). m) n (range_with_len next (count_made files))
     each n = omega (
       arith,
@@ -111,11 +111,11 @@ finished-below session files outcome taken = record {
       tally-map (λ (m : ℕ). bit (m == n)) (λ (file : QueuedFile). file.number) session.taken,
     )
 
-clone_numbers : (k : ℕ) (wanted : List (Finished × ℕ)) → map (λ clone. clone.number) (clones_from k wanted) ≡ range_with_len k (length wanted)
+clone_numbers : (k : ℕ) (wanted : List (SettledFile × ℕ)) → map (λ clone. clone.number) (clones_from k wanted) ≡ range_with_len k (length wanted)
 clone_numbers k [] = refl
 clone_numbers k (clone ∷ wanted) = ap (λ numbers. k ∷ numbers) (clone_numbers (k + 1) wanted)
 
-length-clones : (k : ℕ) (wanted : List (Finished × ℕ)) → length (clones_from k wanted) ≡ length wanted
+length-clones : (k : ℕ) (wanted : List (SettledFile × ℕ)) → length (clones_from k wanted) ≡ length wanted
 length-clones k [] = refl
 length-clones k (clone ∷ wanted) = ap suc (length-clones (k + 1) wanted)
 
@@ -124,7 +124,7 @@ CloneCount first last clones n = (many (λ (clone : SettlementClone). clone.numb
     × (n < first → many (λ (clone : SettlementClone). clone.number) n clones ≡ 0)
     × (last ≤ n → many (λ (clone : SettlementClone). clone.number) n clones ≡ 0)
 
-pub clones-counted : (k : ℕ) (wanted : List (Finished × ℕ)) (n : ℕ) → CloneCount k (k + length (clones_from k wanted)) (clones_from k wanted) n
+pub clones-counted : (k : ℕ) (wanted : List (SettledFile × ℕ)) (n : ℕ) → CloneCount k (k + length (clones_from k wanted)) (clones_from k wanted) n
 clones-counted k wanted n =
     let same : many (λ (clone : SettlementClone). clone.number) n (clones_from k wanted) ≡ many (λ (m : ℕ). m) n (range_with_len k (length wanted))
     = sym (tally-map (λ (m : ℕ). bit (m == n)) (λ (clone : SettlementClone). clone.number) (clones_from k wanted)) ∙ ap (many (λ (m : ℕ). m) n) (clone_numbers k wanted) in

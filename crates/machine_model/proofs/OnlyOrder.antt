@@ -9,7 +9,7 @@ use Rattle.std.proofs.lemmas.List.Sorted.{IsPermutation-sym, IsPermutation-trans
 use Rattle.std.proofs.lemmas.List.Sums.{sum_by-cons}
 use Rattle.prioritizer.specs.declared.prioritizer.Prioritizer.{Prioritizer}
 use Rattle.machine_model.specs.declared.flow.QueueLimits.{QueueLimits}
-use Rattle.machine_model.specs.declared.state.QueuedFile.{QueuedFile}
+use Rattle.machine_model.specs.State.{QueuedFile}
 use Rattle.machine_model.specs.Laws.{ArrivalsDiffer, OrderIsOnly, BestIsOnly, IsBest}
 use Rattle.machine_model.specs.Order.{goes_before, in_order, is_eligible, best}
 use Rattle.machine_model.proofs.Among.{Among, contains_among, among_contained, all_among}

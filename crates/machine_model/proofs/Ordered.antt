@@ -15,7 +15,7 @@ use Rattle.prioritizer.specs.Order.{order_cmp}
 use Rattle.prioritizer.specs.LawsHold.{order_cmp-total, order_cmp-ties}
 use Rattle.prioritizer.specs.declared.prioritizer.Prioritizer.{Prioritizer}
 use Rattle.machine_model.specs.declared.flow.QueueLimits.{QueueLimits}
-use Rattle.machine_model.specs.declared.state.QueuedFile.{QueuedFile}
+use Rattle.machine_model.specs.State.{QueuedFile}
 use Rattle.machine_model.specs.Laws.{NoneGoesBeforeItself, GoingBeforeChains, ArrivalsTell, OrderKeepsFiles, OrderHolds, BestIsBest, IsBest}
 use Rattle.machine_model.specs.Order.{standing_of_file, goes_before, put_in_order, in_order, is_eligible}
 

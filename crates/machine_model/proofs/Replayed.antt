@@ -4,7 +4,8 @@ use Rattle.std.specs.Prelude.{Option, Some, None, option_and_then}
 use Rattle.machine_model.specs.declared.flow.Flow.{Flow}
 use Rattle.machine_model.specs.declared.journal.Entry.{Entry}
 use Rattle.machine_model.specs.Laws.{ReplayOfOneMore, ReplayOfJoined}
-use Rattle.machine_model.specs.Stepping.{Machine, step, replay}
+use Rattle.machine_model.specs.State.{Machine}
+use Rattle.machine_model.specs.Stepping.{step, replay}
 
 chained : {A : Type 0} (f g h : A → Option A) (o : Option A) → ((x : A) → f x ≡ option_and_then g (h x)) → option_and_then f o ≡ option_and_then g (option_and_then h o)
 chained f g h None each = refl

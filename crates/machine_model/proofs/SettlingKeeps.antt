@@ -2,9 +2,9 @@
 use Rattle.std.proofs.Common.{ℕ, ◌+◌, ◌<◌, List, length, arith}
 use Rattle.std.specs.Prelude.{All, Contains}
 use Rattle.std.proofs.lemmas.List.Elements.{All-weaker, All-contains}
-use Rattle.machine_model.specs.declared.state.QueuedFile.{QueuedFile}
+use Rattle.machine_model.specs.State.{QueuedFile}
 use Rattle.machine_model.specs.Laws.{AreNumbered, SettlingKeepsNumbers, files_of_all}
-use Rattle.machine_model.specs.Placing.{finished_files, settlement_clones, wanted_clones, count_made}
+use Rattle.machine_model.specs.Placing.{settled_files, settlement_clones, wanted_clones, count_made}
 use Rattle.machine_model.specs.Settling.{settle, newcomers}
 use Rattle.machine_model.proofs.Batches.{batches-after}
 use Rattle.machine_model.proofs.Keyed.{counted, numbered}
@@ -20,7 +20,7 @@ taken_below next queued taken below there =
 pub settle-keeps : SettlingKeepsNumbers
 settle-keeps session outcome before taken is_outcome =
     let state = session.state in
-    let files = finished_files session outcome.files in
+    let files = settled_files session outcome.files in
     let clones = settlement_clones session outcome.files in
     let first = state.next_number + count_made outcome.files in
     let own : AreNumbered (λ (file : QueuedFile). file.number) state.next_number session.taken =

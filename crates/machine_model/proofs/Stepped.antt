@@ -4,8 +4,7 @@ use Rattle.std.specs.Prelude.{◌==◌, Some, None, IfSome, unwrap_or, slice_get
 use Rattle.std.specs.List.{flat_map}
 use Rattle.std.proofs.lemmas.Bool.{and_parts, eqb-true}
 use Rattle.machine_model.specs.declared.flow.Connection.{Connection}
-use Rattle.machine_model.specs.declared.state.QueuedFile.{QueuedFile}
-use Rattle.machine_model.specs.declared.state.State.{State}
+use Rattle.machine_model.specs.State.{QueuedFile, State}
 use Rattle.machine_model.specs.Files.{queue_at, is_number_among}
 use Rattle.machine_model.specs.Laws.{AreNumbered, IsWellNumbered, StepsKeepNumbers, ReplaysKeepNumbers}
 use Rattle.machine_model.specs.Stepping.{expire_step, expired, without_files, swap_out_step, swapped_out, swap_in_step, swapped_in, is_in_batch}

@@ -8,8 +8,7 @@ use Rattle.machine_model.specs.declared.flow.Connection.{Connection}
 use Rattle.machine_model.specs.declared.flow.Flow.{Flow}
 use Rattle.machine_model.specs.declared.kind.TakeRule.{TakeRule}
 use Rattle.machine_model.specs.declared.kind.TakeRule.TheVariants.{Source, One, Bin, Defragment}
-use Rattle.machine_model.specs.declared.state.QueuedFile.{QueuedFile}
-use Rattle.machine_model.specs.declared.state.State.{State}
+use Rattle.machine_model.specs.State.{QueuedFile, State}
 use Rattle.machine_model.specs.Files.{is_active, active_files, file_numbered, queue_at, are_active, are_distinct, is_number_among}
 use Rattle.machine_model.specs.Laws.{MayTake, files_of_all}
 use Rattle.machine_model.specs.Order.{eligible_files}

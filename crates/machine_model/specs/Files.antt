@@ -1,8 +1,7 @@
 -- Flow files in their queues.
 use Rattle.std.specs.Prelude.{ℕ, ◌-◌, ◌==◌, ◌&&◌, not, nat_lt, nat_le, Bool, true, List, [], ◌∷◌, length, filter, find, sum_by, is_none, is_some, Option, unwrap_or, slice_get}
 use Rattle.std.specs.List.{list_all}
-use Rattle.machine_model.specs.declared.state.QueuedFile.{QueuedFile}
-use Rattle.machine_model.specs.declared.state.State.{State}
+use Rattle.machine_model.specs.State.{QueuedFile, State}
 
 abbrev pub is_active : QueuedFile → Bool
 is_active file = is_none file.batch

@@ -1,7 +1,9 @@
 -- What holds of the machine: of the order of queues, of outcomes, of numbers, of events and of replays.
-use Rattle.std.specs.Prelude.{◌↔◌, map, ◌≡◌, ◌≢◌, ◌⊎◌, ℕ, ◌+◌, ◌<◌, ◌≤◌, true, false, List, [], ◌∷◌, ◌++◌, All, Contains, MatchOption, IfSome, option_and_then, length, Some}
+use Rattle.std.specs.Prelude.{map, ◌≡◌, ◌≢◌, ◌⊎◌, ℕ, ◌+◌, ◌<◌, ◌≤◌, true, false, List, [], ◌∷◌, ◌++◌, All, Contains, MatchOption, IfSome, option_and_then, length, Some}
+use Rattle.std.specs.FinSet.{from_list}
 use Rattle.std.specs.List.{range_with_len, AllPairs, flat_map}
 use Rattle.std.specs.List.Sorted.{IsPermutation}
+use Rattle.flowfile_record.specs.Kin.{kin_of_all}
 use Rattle.flowfile_record.specs.declared.event.Event.{Event}
 use Rattle.flowfile_record.specs.declared.worked.Origin.{Origin}
 use Rattle.flowfile_record.specs.declared.worked.Origin.TheVariants.{Taken}
@@ -16,15 +18,13 @@ use Rattle.machine_model.specs.declared.journal.Step.{Step}
 use Rattle.machine_model.specs.declared.kind.Kind.{Kind}
 use Rattle.machine_model.specs.declared.kind.TakeRule.{TakeRule}
 use Rattle.machine_model.specs.declared.kind.TakeRule.TheVariants.{Source, One, Bin, Defragment}
-use Rattle.machine_model.specs.declared.state.QueuedFile.{QueuedFile}
-use Rattle.machine_model.specs.declared.state.State.{State}
+use Rattle.machine_model.specs.State.{QueuedFile, State, Machine}
 use Rattle.machine_model.specs.Acting.{TakenFile, act}
 use Rattle.machine_model.specs.Kinds.{take_rule_of}
-use Rattle.machine_model.specs.Lineage.{NamesParent}
 use Rattle.machine_model.specs.Order.{goes_before, in_order, is_eligible, best}
-use Rattle.machine_model.specs.Placing.{Session, parents_in}
+use Rattle.machine_model.specs.Placing.{EndedSession, parents_in}
 use Rattle.machine_model.specs.Settling.{settle}
-use Rattle.machine_model.specs.Stepping.{Machine, step, replay}
+use Rattle.machine_model.specs.Stepping.{step, replay}
 
 -- ---- the order of a queue
 
@@ -131,20 +131,20 @@ pub record IsWellNumbered (state : State) : Type 0 where
   pub batches : All (HasBatchBelow state.next_batch) (files_of_all state)
 
 -- the files that a session took are files of the queues, each another one
-pub record HasTaken (session : Session) : Type 0 where
+pub record HasTaken (session : EndedSession) : Type 0 where
   pub differ : AllPairs (λ (one other : QueuedFile). one.number ≢ other.number) session.taken
   pub there : All (Contains (files_of_all session.state)) session.taken
 
 abbrev pub SettlingKeepsNumbers : Type 0
-SettlingKeepsNumbers = (session : Session) (outcome : Outcome) → IsWellNumbered session.state → HasTaken session → IsOutcomeOf (length session.taken) outcome →
+SettlingKeepsNumbers = (session : EndedSession) (outcome : Outcome) → IsWellNumbered session.state → HasTaken session → IsOutcomeOf (length session.taken) outcome →
     IsWellNumbered (settle session outcome)
 
 abbrev pub StepsKeepNumbers : Type 0
-StepsKeepNumbers = (flow : Flow) (machine : Machine) (entry : Step) → IsWellNumbered machine.0 → IfSome (step flow machine entry) (λ after. IsWellNumbered after.0)
+StepsKeepNumbers = (flow : Flow) (machine : Machine) (entry : Step) → IsWellNumbered machine.state → IfSome (step flow machine entry) (λ after. IsWellNumbered after.state)
 
 abbrev pub ReplaysKeepNumbers : Type 0
-ReplaysKeepNumbers = (flow : Flow) (machine : Machine) (journal : List Entry) → IsWellNumbered machine.0 →
-    IfSome (replay flow machine journal) (λ after. IsWellNumbered after.0)
+ReplaysKeepNumbers = (flow : Flow) (machine : Machine) (journal : List Entry) → IsWellNumbered machine.state →
+    IfSome (replay flow machine journal) (λ after. IsWellNumbered after.state)
 
 -- ---- events
 
@@ -153,34 +153,34 @@ abbrev pub AreEventsInRow : State → Type 0
 AreEventsInRow state = map (λ event. event.number) state.events ≡ range_with_len 1 (length state.events)
 
 abbrev pub SettlingNumbersEvents : Type 0
-SettlingNumbersEvents = (session : Session) (outcome : Outcome) → AreEventsInRow session.state → AreEventsInRow (settle session outcome)
+SettlingNumbersEvents = (session : EndedSession) (outcome : Outcome) → AreEventsInRow session.state → AreEventsInRow (settle session outcome)
 
 abbrev pub StepsNumberEvents : Type 0
-StepsNumberEvents = (flow : Flow) (machine : Machine) (entry : Step) → AreEventsInRow machine.0 → IfSome (step flow machine entry) (λ after. AreEventsInRow after.0)
+StepsNumberEvents = (flow : Flow) (machine : Machine) (entry : Step) → AreEventsInRow machine.state → IfSome (step flow machine entry) (λ after. AreEventsInRow after.state)
 
 abbrev pub ReplaysNumberEvents : Type 0
-ReplaysNumberEvents = (flow : Flow) (machine : Machine) (journal : List Entry) → AreEventsInRow machine.0 →
-    IfSome (replay flow machine journal) (λ after. AreEventsInRow after.0)
+ReplaysNumberEvents = (flow : Flow) (machine : Machine) (journal : List Entry) → AreEventsInRow machine.state →
+    IfSome (replay flow machine journal) (λ after. AreEventsInRow after.state)
 
 -- events are added behind those that there are, and none is changed
 abbrev pub AddsEvents : (before after : State) → Type 0
 AddsEvents before after = (more : List Event) × (after.events ≡ before.events ++ more)
 
 abbrev pub ReplaysAddEvents : Type 0
-ReplaysAddEvents = (flow : Flow) (machine : Machine) (journal : List Entry) → IfSome (replay flow machine journal) (λ after. AddsEvents machine.0 after.0)
+ReplaysAddEvents = (flow : Flow) (machine : Machine) (journal : List Entry) → IfSome (replay flow machine journal) (λ after. AddsEvents machine.state after.state)
 
 -- ---- kin
 
--- the events name as parents of each file those that the kin list has
+-- the kin is the set of what the events name
 abbrev pub EventsTellKin : State → Type 0
-EventsTellKin state = (child parent : ℕ) → NamesParent state.events child parent ↔ Contains state.kin (record { child = child; parent = parent })
+EventsTellKin state = state.kin ≡ from_list (kin_of_all state.events)
 
 abbrev pub SettlingTellsKin : Type 0
-SettlingTellsKin = (session : Session) (outcome : Outcome) → IsOutcomeOf (length session.taken) outcome → EventsTellKin session.state → EventsTellKin (settle session outcome)
+SettlingTellsKin = (session : EndedSession) (outcome : Outcome) → IsOutcomeOf (length session.taken) outcome → EventsTellKin session.state → EventsTellKin (settle session outcome)
 
 abbrev pub StepsTellKin : Type 0
-StepsTellKin = (flow : Flow) (machine : Machine) (entry : Step) → EventsTellKin machine.0 → IfSome (step flow machine entry) (λ after. EventsTellKin after.0)
+StepsTellKin = (flow : Flow) (machine : Machine) (entry : Step) → EventsTellKin machine.state → IfSome (step flow machine entry) (λ after. EventsTellKin after.state)
 
 abbrev pub ReplaysTellKin : Type 0
-ReplaysTellKin = (flow : Flow) (machine : Machine) (journal : List Entry) → EventsTellKin machine.0 →
-    IfSome (replay flow machine journal) (λ after. EventsTellKin after.0)
+ReplaysTellKin = (flow : Flow) (machine : Machine) (journal : List Entry) → EventsTellKin machine.state →
+    IfSome (replay flow machine journal) (λ after. EventsTellKin after.state)

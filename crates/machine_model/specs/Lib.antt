@@ -11,5 +11,6 @@ pub mod Placing
 pub mod Quiet
 pub mod Settling
 pub mod Sound
+pub mod State
 pub mod Stepping
 pub mod Taking

@@ -6,7 +6,7 @@ use Rattle.prioritizer.specs.Standing.{Standing}
 use Rattle.prioritizer.specs.Order.{order_cmp}
 use Rattle.prioritizer.specs.declared.prioritizer.Prioritizer.{Prioritizer}
 use Rattle.machine_model.specs.declared.flow.QueueLimits.{QueueLimits}
-use Rattle.machine_model.specs.declared.state.QueuedFile.{QueuedFile}
+use Rattle.machine_model.specs.State.{QueuedFile}
 use Rattle.machine_model.specs.Files.{is_active, is_penalised, is_expired}
 
 -- what an order looks at in a file

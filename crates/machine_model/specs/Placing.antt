@@ -16,8 +16,7 @@ use Rattle.machine_model.specs.declared.flow.Connection.{Connection}
 use Rattle.machine_model.specs.declared.flow.Flow.{Flow}
 use Rattle.machine_model.specs.declared.flow.Processor.{Processor}
 use Rattle.machine_model.specs.declared.given.Given.{Given}
-use Rattle.machine_model.specs.declared.state.QueuedFile.{QueuedFile}
-use Rattle.machine_model.specs.declared.state.State.{State}
+use Rattle.machine_model.specs.State.{QueuedFile, State}
 use Rattle.machine_model.specs.Kinds.{relationships_of, is_among}
 
 -- a flow file's uuid as text
@@ -25,15 +24,15 @@ abbrev pub uuid_text : (store number : ℕ) → List ℕ
 uuid_text store number = hyphenated_text lower (identifier store number)
 
 -- where a file goes
-pub data Goes : Type 0 where
+pub data Destination : Type 0 where
   -- to this connection's queue, and a clone of it to each of the others
-  Queues : (first : ℕ) (others : List ℕ) → Goes
+  Queues : (first : ℕ) (others : List ℕ) → Destination
   -- back to where it was
-  Returns : Goes
+  Returns : Destination
   -- out of the flow, by a relationship that is terminated
-  Drops : (relationship : List ℕ) → Goes
+  Drops : (relationship : List ℕ) → Destination
   -- out of the flow
-  Leaves : Goes
+  Leaves : Destination
 
 -- the places of the connections that a relationship of a processor leads to, in the flow's order
 abbrev pub leads : ℕ → List ℕ → ℕ × Connection → Bool
@@ -42,11 +41,11 @@ leads processor relationship (place, connection) = (connection.source == process
 abbrev pub connections_of : Flow → ℕ → List ℕ → List ℕ
 connections_of flow processor relationship = map (λ c. c.0) (filter (leads processor relationship) (enumerate_from 0 flow.connections))
 
-abbrev pub to_connections : List ℕ → List ℕ → Goes
+abbrev pub to_connections : List ℕ → List ℕ → Destination
 to_connections relationship [] = Drops relationship
 to_connections relationship (first ∷ others) = Queues first others
 
-abbrev pub to_relationship : Flow → ℕ → Processor → List ℕ → Goes
+abbrev pub to_relationship : Flow → ℕ → Processor → List ℕ → Destination
 to_relationship flow place processor relationship =
     if is_among relationship processor.terminated then Drops relationship
     else to_connections relationship (connections_of flow place relationship)
@@ -55,7 +54,7 @@ to_relationship flow place processor relationship =
 abbrev pub relationship_at : Processor → ℕ → List ℕ
 relationship_at processor place = unwrap_or (slice_get (relationships_of processor.kind) place) []
 
-abbrev pub goes : Flow → ℕ → Processor → End → Goes
+abbrev pub goes : Flow → ℕ → Processor → End → Destination
 goes flow place processor (To relationship) = to_relationship flow place processor (relationship_at processor relationship)
 goes flow place processor Back = Returns
 goes flow place processor Removed = Leaves
@@ -125,7 +124,7 @@ penalty_end_of true moment penalty = min (moment + penalty) (2 ^ 64 - 1)
 
 -- a session that ends: its processor and that one's place in the flow, the state in which it ends, the files that it
 -- took, by place, and what it was given
-pub record Session : Type 0 where
+pub record EndedSession : Type 0 where
   pub flow : Flow
   pub place : ℕ
   pub processor : Processor
@@ -134,17 +133,17 @@ pub record Session : Type 0 where
   pub given : Given
 
 -- a file of a session that has ended
-pub record Finished : Type 0 where
+pub record SettledFile : Type 0 where
   pub number : ℕ
   pub worked : Worked
   pub attributes : AttributeMap
   pub bytes : List ℕ
   pub entered : ℕ
   pub penalty_end : ℕ
-  pub goes : Goes
+  pub goes : Destination
 
-abbrev pub finished_file : Session → ℕ × ℕ × Worked → Finished
-finished_file session (number, entered, worked) = record {
+abbrev pub settled_file : EndedSession → ℕ × ℕ × Worked → SettledFile
+settled_file session (number, entered, worked) = record {
   number = number;
   worked = worked;
   attributes = with_filename worked.origin session.state.store number worked.attributes;
@@ -155,27 +154,27 @@ finished_file session (number, entered, worked) = record {
 }
 
 -- the files of a session that has ended, by place
-abbrev pub finished_files : Session → List Worked → List Finished
-finished_files session files =
+abbrev pub settled_files : EndedSession → List Worked → List SettledFile
+settled_files session files =
     let numbers = numbers_from session.state.next_number (map (λ file. file.number) session.taken) files in
     let entered = entered_in session.given.moment (map (λ file. file.entered) session.taken) files in
-    map (λ f. finished_file session (f.0, f.1.0, f.1.1)) (zip numbers (zip entered files))
+    map (λ f. settled_file session (f.0, f.1.0, f.1.1)) (zip numbers (zip entered files))
 
 -- a clone that a file's further connection gets
 pub record SettlementClone : Type 0 where
   pub number : ℕ
-  pub original : Finished
+  pub original : SettledFile
   pub connection : ℕ
 
-abbrev pub further_connections : Goes → List ℕ
+abbrev pub further_connections : Destination → List ℕ
 further_connections (Queues first others) = others
 further_connections _ = []
 
 -- by place, then by connection
-abbrev pub wanted_clones : List Finished → List (Finished × ℕ)
+abbrev pub wanted_clones : List SettledFile → List (SettledFile × ℕ)
 wanted_clones files = flat_map (λ file. map (λ connection. (file, connection)) (further_connections file.goes)) files
 
-abbrev pub clones_from : ℕ → List (Finished × ℕ) → List SettlementClone
+abbrev pub clones_from : ℕ → List (SettledFile × ℕ) → List SettlementClone
 clones_from next [] = []
 clones_from next (clone ∷ clones) = record { number = next; original = clone.0; connection = clone.1 } ∷ clones_from (next + 1) clones
 
@@ -183,6 +182,6 @@ abbrev pub count_made : List Worked → ℕ
 count_made files = count_by (λ file. not (is_taken file.origin)) files
 
 -- their numbers follow those of all made files
-abbrev pub settlement_clones : Session → List Worked → List SettlementClone
+abbrev pub settlement_clones : EndedSession → List Worked → List SettlementClone
 settlement_clones session files =
-    clones_from (session.state.next_number + count_made files) (wanted_clones (finished_files session files))
+    clones_from (session.state.next_number + count_made files) (wanted_clones (settled_files session files))

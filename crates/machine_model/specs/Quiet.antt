@@ -7,9 +7,7 @@ use Rattle.machine_model.specs.declared.flow.Processor.{Processor}
 use Rattle.machine_model.specs.declared.flow.QueueLimits.{QueueLimits}
 use Rattle.machine_model.specs.declared.kind.Kind.{Kind}
 use Rattle.machine_model.specs.declared.kind.Kind.TheVariants.{GetFile, GenerateFlowFile}
-use Rattle.machine_model.specs.declared.state.QueuedFile.{QueuedFile}
-use Rattle.machine_model.specs.declared.state.State.{State}
-use Rattle.machine_model.specs.declared.world.World.{World}
+use Rattle.machine_model.specs.State.{QueuedFile, State, World}
 use Rattle.machine_model.specs.Due.{is_expiry_due}
 use Rattle.machine_model.specs.Files.{active_files, is_penalised, queue_at, content_bytes}
 use Rattle.machine_model.specs.Kinds.{take_rule_of}
@@ -26,7 +24,7 @@ gives_a_pick state moment place processor (c, connection) =
 -- a source has something to make or to take
 abbrev pub has_source : Kind → (place : ℕ) → State → World → Bool
 has_source (GetFile filter) place state world = list_any (may_get filter world) world.left
-has_source (GenerateFlowFile count text) place state world = nat_lt (slice_index state.generated place) count
+has_source (GenerateFlowFile count text) place state world = nat_lt (slice_index state.counts place) count
 has_source _ place state world = false
 
 abbrev pub wants : Flow → State → World → ℕ → ℕ × Processor → Bool
@@ -42,19 +40,19 @@ is_full limits files =
 
 -- Nothing of a queue waits for time or for the engine. Once files are swapped this also asks, right behind the expiry:
 -- not (is_swap_out_due connection.limits files) && not (is_swap_in_due connection.limits files).
-abbrev pub is_settled_queue : State → ℕ → ℕ × Connection → Bool
-is_settled_queue state moment (place, connection) =
+abbrev pub is_nothing_due_in : State → ℕ → ℕ × Connection → Bool
+is_nothing_due_in state moment (place, connection) =
     let files = queue_at state place in
     not (is_expiry_due connection.limits moment files)
     && list_all (λ file. not (is_penalised moment file)) (active_files files)
 
-abbrev pub is_settled : Flow → State → ℕ → Bool
-is_settled flow state moment = list_all (is_settled_queue state moment) (enumerate_from 0 flow.connections)
+abbrev pub nothing_due : Flow → State → ℕ → Bool
+nothing_due flow state moment = list_all (is_nothing_due_in state moment) (enumerate_from 0 flow.connections)
 
 -- nothing waits, and no processor wants to work
 abbrev pub quiet : Flow → State → World → ℕ → Bool
 quiet flow state world moment =
-    is_settled flow state moment && not (list_any (wants flow state world moment) (enumerate_from 0 flow.processors))
+    nothing_due flow state moment && not (list_any (wants flow state world moment) (enumerate_from 0 flow.processors))
 
 -- a full connection that leaves a processor
 abbrev pub holds_back : State → ℕ → ℕ × Connection → Bool
@@ -74,5 +72,5 @@ holds_back_any state processors connection = list_any (λ processor. holds_back 
 abbrev pub blocked : Flow → State → World → ℕ → Option ℕ
 blocked flow state world moment =
     let processors = wanting flow state world moment in
-    if is_settled flow state moment && nat_lt 0 (length processors) && list_all (is_held_back flow state) processors
+    if nothing_due flow state moment && nat_lt 0 (length processors) && list_all (is_held_back flow state) processors
     then option_map (λ c. c.0) (find (holds_back_any state processors) (enumerate_from 0 flow.connections)) else None

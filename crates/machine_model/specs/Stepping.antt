@@ -20,34 +20,18 @@ use Rattle.machine_model.specs.declared.kind.Kind.{Kind}
 use Rattle.machine_model.specs.declared.kind.Kind.TheVariants.{GetFile, GenerateFlowFile, PutFile}
 use Rattle.machine_model.specs.declared.kind.TakeRule.{TakeRule}
 use Rattle.machine_model.specs.declared.kind.TakeRule.TheVariants.{Source, One, Bin, Defragment}
-use Rattle.machine_model.specs.declared.state.QueuedFile.{QueuedFile}
-use Rattle.machine_model.specs.declared.state.State.{State}
-use Rattle.machine_model.specs.declared.world.Delivery.{Delivery}
-use Rattle.machine_model.specs.declared.world.World.{World}
+use Rattle.machine_model.specs.State.{QueuedFile, State, World, Machine}
+use Rattle.flowfile_record.specs.NamedFile.{bytes_of, with_file}
 use Rattle.machine_model.specs.Acting.{TakenFile, act, passes, name_in}
 use Rattle.machine_model.specs.Due.{batch_size, batches}
 use Rattle.machine_model.specs.Events.{Draft, ascending, numbered_from}
 use Rattle.machine_model.specs.Files.{is_penalised, is_expired, active_files, file_numbered, queue_at, are_active, are_distinct, is_number_among}
 use Rattle.machine_model.specs.Kinds.{take_rule_of}
 use Rattle.machine_model.specs.Order.{eligible_files}
-use Rattle.machine_model.specs.Placing.{Session, finished_files, uuid_text}
+use Rattle.machine_model.specs.Placing.{EndedSession, settled_files, uuid_text}
 use Rattle.machine_model.specs.Settling.{settle}
 
-abbrev pub Machine : Type 0
-Machine = State × World
-
 -- ---- the world
-
-abbrev pub delivery_of : List Delivery → List ℕ → Option (List ℕ)
-delivery_of deliveries name = option_map (λ delivery. delivery.bytes) (find (λ delivery. bytes_eq delivery.name name) deliveries)
-
-abbrev pub holds : List Delivery → List ℕ → Bool
-holds deliveries name = is_some (delivery_of deliveries name)
-
--- the file of this name, in place of one that stands there
-abbrev pub with_delivery : List Delivery → List ℕ → List ℕ → List Delivery
-with_delivery deliveries name bytes =
-    filter (λ delivery. not (bytes_eq delivery.name name)) deliveries ++ record { name = name; bytes = bytes } ∷ []
 
 abbrev pub without_name : List (List ℕ) → List ℕ → List (List ℕ)
 without_name names name = filter (λ other. not (bytes_eq other name)) names
@@ -105,12 +89,12 @@ may_generate count made index = (index == made + 1) && nat_le index count
 abbrev pub may_get : Option Pattern → World → List ℕ → Bool
 may_get filter world name =
     is_some (find (bytes_eq name) world.left) && passes filter name
-    && option_map_or (λ bytes. nat_le (length bytes) CONTENT_MAX) (delivery_of world.inbox name) false
+    && option_map_or (λ bytes. nat_le (length bytes) CONTENT_MAX) (bytes_of world.inbox name) false
 
 -- the outbox has the file's name
 abbrev pub is_there : World → List QueuedFile → Bool
 is_there world files =
-    option_map_or (λ file. option_map_or (holds world.outbox) (name_in file.attributes) false) (slice_get files 0) false
+    option_map_or (λ file. option_map_or (λ name. is_some (world.outbox name)) (name_in file.attributes) false) (slice_get files 0) false
 
 abbrev pub same_bool : Bool → Bool → Bool
 same_bool true b = b
@@ -119,15 +103,15 @@ same_bool false b = not b
 -- what a session is given stands in the state and the world; a GetFile is given the file's bytes beside its name
 abbrev pub given_in : Kind → (place : ℕ) → State → World → List QueuedFile → Given → Option Given
 given_in (GetFile filter) place state world taken given =
-    option_and_then (λ name. if may_get filter world name then Some (record given { bytes = delivery_of world.inbox name }) else None) given.file
+    option_and_then (λ name. if may_get filter world name then Some (record given { bytes = bytes_of world.inbox name }) else None) given.file
 given_in (GenerateFlowFile count text) place state world taken given =
-    if may_generate count (slice_index state.generated place) given.index then Some given else None
+    if may_generate count (slice_index state.counts place) given.index then Some given else None
 given_in (PutFile conflict) place state world taken given =
     if same_bool given.there (is_there world taken) then Some given else None
 given_in _ place state world taken given = Some given
 
 -- the inbox without what was received, and the outbox with what was sent
-abbrev pub world_after : Kind → World → Session → Outcome → World
+abbrev pub world_after : Kind → World → EndedSession → Outcome → World
 world_after kind world session outcome = record world {
   left = left_after kind;
   outbox = outbox_after outcome.sent;
@@ -137,26 +121,29 @@ world_after kind world session outcome = record world {
     left_after (GetFile filter) = option_map_or (without_name world.left) session.given.file world.left
     left_after _ = world.left
 
-    outbox_after : Option Sent → List Delivery
-    outbox_after (Some sent) = with_delivery world.outbox sent.name (option_map_or (λ file. file.bytes) (slice_get (finished_files session outcome.files) sent.place) [])
+    outbox_after : Option Sent → List ℕ → Option (List ℕ)
+    outbox_after (Some sent) = with_file world.outbox sent.name (option_map_or (λ file. file.bytes) (slice_get (settled_files session outcome.files) sent.place) [])
     outbox_after None = world.outbox
 
 abbrev pub as_taken : State → QueuedFile → TakenFile
 as_taken state file = record { attributes = file.attributes; uuid = uuid_text state.store file.number; bytes = file.bytes }
 
-abbrev pub session_after : Machine → Session → Outcome → Machine
-session_after machine session outcome = (settle session outcome, world_after session.processor.kind machine.1 session outcome)
+abbrev pub session_after : Machine → EndedSession → Outcome → Machine
+session_after machine session outcome = record {
+  state = settle session outcome;
+  world = world_after session.processor.kind machine.world session outcome;
+}
 
-abbrev pub ended_session : Machine → Session → Option Machine
-ended_session machine session =
-    option_map (session_after machine session) (act session.processor.kind (map (as_taken machine.0) session.taken) session.given)
+abbrev pub after_session : Machine → EndedSession → Option Machine
+after_session machine session =
+    option_map (session_after machine session) (act session.processor.kind (map (as_taken machine.state) session.taken) session.given)
 
-abbrev pub session_of : Flow → Machine → (place : ℕ) → Processor → List QueuedFile → Given → Session
+abbrev pub session_of : Flow → Machine → (place : ℕ) → Processor → List QueuedFile → Given → EndedSession
 session_of flow machine place processor taken given = record {
   flow = flow;
   place = place;
   processor = processor;
-  state = machine.0;
+  state = machine.state;
   taken = taken;
   given = given;
 }
@@ -164,9 +151,9 @@ session_of flow machine place processor taken given = record {
 abbrev pub session_step : Flow → Machine → (place : ℕ) → List ℕ → ℕ → Given → Processor → Option Machine
 session_step flow machine place numbers moment given processor =
     option_and_then (λ taken.
-    option_and_then (λ given. ended_session machine (session_of flow machine place processor taken given))
-    (given_in processor.kind place machine.0 machine.1 taken (record given { moment = moment })))
-    (taken_files flow machine.0 place (take_rule_of processor.kind) numbers moment)
+    option_and_then (λ given. after_session machine (session_of flow machine place processor taken given))
+    (given_in processor.kind place machine.state machine.world taken (record given { moment = moment })))
+    (taken_files flow machine.state place (take_rule_of processor.kind) numbers moment)
 
 -- ---- the queues' own steps
 
@@ -235,17 +222,17 @@ swap_in_step state place batch connection =
 -- ---- all steps
 
 abbrev pub same_world : World → Option State → Option Machine
-same_world world state = option_map (λ state. (state, world)) state
+same_world world state = option_map (λ state. record { state = state; world = world }) state
 
 abbrev pub step : Flow → Machine → Step → Option Machine
 step flow machine (entry.Session processor numbers moment given) =
     option_and_then (session_step flow machine processor numbers moment given) (slice_get flow.processors processor)
 step flow machine (Expire connection numbers moment) =
-    same_world machine.1 (option_and_then (expire_step machine.0 connection numbers moment) (slice_get flow.connections connection))
+    same_world machine.world (option_and_then (expire_step machine.state connection numbers moment) (slice_get flow.connections connection))
 step flow machine (SwapOut connection numbers batch) =
-    same_world machine.1 (option_and_then (swap_out_step machine.0 connection numbers batch) (slice_get flow.connections connection))
+    same_world machine.world (option_and_then (swap_out_step machine.state connection numbers batch) (slice_get flow.connections connection))
 step flow machine (SwapIn connection batch) =
-    same_world machine.1 (option_and_then (swap_in_step machine.0 connection batch) (slice_get flow.connections connection))
+    same_world machine.world (option_and_then (swap_in_step machine.state connection batch) (slice_get flow.connections connection))
 
 -- a journal's steps, one after the other
 abbrev pub replay : Flow → Machine → List Entry → Option Machine

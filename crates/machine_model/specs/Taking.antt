@@ -7,7 +7,7 @@ use Rattle.expr_lang.specs.declared.error.EvalError.{EvalError}
 use Rattle.expr_lang.specs.Value.{text, as_number}
 use Rattle.machine_model.specs.declared.kind.TakeRule.{TakeRule}
 use Rattle.machine_model.specs.declared.kind.TakeRule.TheVariants.{Source, One, Bin, Defragment}
-use Rattle.machine_model.specs.declared.state.QueuedFile.{QueuedFile}
+use Rattle.machine_model.specs.State.{QueuedFile}
 
 -- The files from the first on, at most so many, as long as their contents fill no more than this room.
 abbrev pub filling : (most room : ℕ) → List QueuedFile → List QueuedFile

@@ -11,8 +11,6 @@ mod journal;
 mod kind;
 mod laws;
 mod pattern;
-mod state;
-mod world;
 
 pub use filter::Filter;
 pub use flow::{Connection, ConnectionList, Flow, Processor, ProcessorList, QueueLimits};
@@ -27,5 +25,3 @@ pub use laws::{
     replays_keep_numbers, replays_number_events, replays_tell_kin, settling_keeps_numbers,
 };
 pub use pattern::Pattern;
-pub use state::{EventList, Kinship, KinshipList, Queue, QueueList, QueuedFile, State};
-pub use world::{Delivery, DeliveryList, NameList, World};
