@@ -1,5 +1,5 @@
 -- Which files a session has taken: distinct ones of its queue, as many as its rule admits.
-use Rattle.std.proofs.Common.{◌≡◌, ◌≢◌, inl, inr, ℕ, zero, suc, ◌+◌, ◌≤◌, Bool, true, false, cond, List, [], ◌∷◌, length, refl, ap, ◌∙◌, arith}
+use Rattle.std.proofs.Common.{◌≡◌, ◌≢◌, inl, inr, ℕ, zero, suc, ◌+◌, ◌≤◌, Bool, true, false, cond, List, [], ◌∷◌, length, map, refl, ap, ◌∙◌, arith}
 use Rattle.std.specs.Prelude.{◌==◌, ◌&&◌, not, All, Contains, Option, Some, None, IfSome, is_some, find, filter, unwrap_or, slice_get, option_and_then}
 use Rattle.std.specs.List.{flat_map, cons_option, list_all, enumerate_from, AllPairs}
 use Rattle.std.proofs.lemmas.Bool.{and_parts, eqb-true, leb-true, cases_eq, ne_eqb, true≢false, not-true}
@@ -9,10 +9,11 @@ use Rattle.machine_model.specs.declared.flow.Flow.{Flow}
 use Rattle.machine_model.specs.declared.kind.TakeRule.{TakeRule}
 use Rattle.machine_model.specs.declared.kind.TakeRule.TheVariants.{Source, One, Bin, Defragment}
 use Rattle.machine_model.specs.State.{QueuedFile, State}
-use Rattle.machine_model.specs.Files.{is_active, active_files, file_numbered, queue_at, are_active, are_distinct, is_number_among}
+use Rattle.machine_model.specs.Files.{is_active, active_files, active_views, file_numbered, queue_at, are_active, are_distinct, is_number_among, view_of}
 use Rattle.machine_model.specs.Laws.{MayTake, files_of_all}
 use Rattle.machine_model.specs.Order.{eligible_files}
 use Rattle.machine_model.specs.Stepping.{has_all, source_of, may_be_taken, admits, is_in_turn, files_of, taken_from, taken_files}
+use Rattle.machine_model.specs.View.{FileView}
 use Rattle.machine_model.proofs.Keyed.{differ_from_once}
 use Rattle.machine_model.proofs.Options.{if_and_then, if_when}
 use Rattle.machine_model.proofs.Ordered.{pairs_nil, contains_later}
@@ -102,7 +103,7 @@ files-all queue (number ∷ numbers) h =
     let parts = and_parts (is_some (file_numbered (active_files queue) number)) (are_active queue numbers) h in
     length-found (find (has_number number) queue) (files_of queue numbers) (found_in_all (has_number number) is_active queue parts.0) ∙ ap suc (files-all queue numbers parts.1)
 
-may_take : (rule : TakeRule) (eligible : List QueuedFile) (numbers : List ℕ) → admits rule eligible numbers ≡ true → MayTake rule (length numbers)
+may_take : (rule : TakeRule) (eligible : List FileView) (numbers : List ℕ) → admits rule eligible numbers ≡ true → MayTake rule (length numbers)
 may_take Source eligible numbers h = eqb-true (length numbers) 0 h
 may_take One eligible numbers h = eqb-true (length numbers) 1 h
 may_take (Bin min max) eligible numbers h =
@@ -123,8 +124,8 @@ took-from : (state : State) (rule : TakeRule) (numbers : List ℕ) (moment place
 took-from state rule numbers moment place connection active =
     let queue = queue_at state place in
     let files = files_of queue numbers in
-    let eligible = eligible_files connection.order connection.limits moment queue in
-    if_when (are_distinct numbers && list_all (may_be_taken connection moment) files && admits rule eligible numbers) files (Took state rule) (λ passes.
+    let eligible = eligible_files connection.order connection.limits moment (active_views queue) in
+    if_when (are_distinct numbers && list_all (may_be_taken connection moment) (map view_of files) && admits rule eligible numbers) files (Took state rule) (λ passes.
     let outer = and_parts _ (admits rule eligible numbers) passes in
     let distinct = (and_parts (are_distinct numbers) _ outer.0).0 in
     record {
