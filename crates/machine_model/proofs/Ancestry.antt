@@ -5,6 +5,7 @@ use Rattle.std.specs.FinSet.{from_list, union}
 use Rattle.std.specs.List.{flat_map}
 use Rattle.std.proofs.lemmas.Bool.{eq-eqb}
 use Rattle.std.proofs.lemmas.List.Concat.{flat_map-append}
+use Rattle.flowfile_record.specs.Outcome.{parents_of}
 use Rattle.flowfile_record.specs.Kin.{kin_of, kin_of_all}
 use Rattle.flowfile_record.specs.declared.event.Event.{Event}
 use Rattle.flowfile_record.specs.declared.worked.Origin.{Origin}
@@ -12,7 +13,7 @@ use Rattle.flowfile_record.specs.declared.worked.Origin.TheVariants as origin
 use Rattle.flowfile_record.specs.declared.worked.Outcome.{Outcome}
 use Rattle.flowfile_record.specs.declared.event.EventKind.TheVariants as kind
 use Rattle.machine_model.specs.Events.{Draft, of_file, number_at, is_forked_from, forks, joined, clone_event, cloned, sent, drafts, numbered_from, ascending}
-use Rattle.machine_model.specs.Placing.{EndedSession, SettledFile, SettlementClone, settled_files, settlement_clones, parents_in}
+use Rattle.machine_model.specs.Placing.{EndedSession, SettledFile, SettlementClone, settled_files, settlement_clones}
 use Rattle.machine_model.specs.State.{Kin}
 use Rattle.machine_model.specs.Settling.{kin_of_files}
 use Rattle.machine_model.proofs.Among.{Among, each_among, among_left, among_right, among_either, comes_from, goes_to, is_made, makes, ascending-has}
@@ -27,10 +28,10 @@ use Rattle.machine_model.proofs.Tally.{Each}
 pub kin-has : (files : List SettledFile) (clones : List SettlementClone) (child parent : ℕ) → HasChild files child parent ⊎ HasClone clones child parent → Among (kinship child parent) (kin_of_files files clones)
 kin-has files clones child parent (inl has) =
     let kin = has.kin in
-    let of_file = λ (file : SettledFile). map (λ place. kinship file.number (number_at files place)) (parents_in file.worked.origin) in
+    let of_file = λ (file : SettledFile). map (λ place. kinship file.number (number_at files place)) (parents_of file.worked.origin) in
     among_left (kinship child parent) (flat_map of_file files) _
     (goes_to of_file files has.file (kinship child parent) has.there
-    (subst (λ k. Among k (of_file has.file)) (λ i. kinship (kin.is_child i) (kin.is_parent i)) (makes (λ place. kinship has.file.number (number_at files place)) (parents_in has.file.worked.origin) kin.place kin.named)))
+    (subst (λ k. Among k (of_file has.file)) (λ i. kinship (kin.is_child i) (kin.is_parent i)) (makes (λ place. kinship has.file.number (number_at files place)) (parents_of has.file.worked.origin) kin.place kin.named)))
 kin-has files clones child parent (inr has) =
     let of_clone = λ (clone : SettlementClone). kinship clone.number clone.original.number in
     among_right (kinship child parent) _ (map of_clone clones)
@@ -38,12 +39,12 @@ kin-has files clones child parent (inr has) =
 
 pub kin-had : (files : List SettledFile) (clones : List SettlementClone) (child parent : ℕ) → Among (kinship child parent) (kin_of_files files clones) → HasChild files child parent ⊎ HasClone clones child parent
 kin-had files clones child parent h =
-    let of_file = λ (file : SettledFile). map (λ place. kinship file.number (number_at files place)) (parents_in file.worked.origin) in
+    let of_file = λ (file : SettledFile). map (λ place. kinship file.number (number_at files place)) (parents_of file.worked.origin) in
     let of_clone = λ (clone : SettlementClone). kinship clone.number clone.original.number in
     elim (among_either (kinship child parent) (flat_map of_file files) (map of_clone clones) h) [
       | inl here ↦
           let from = comes_from of_file files (kinship child parent) here in
-          let made = is_made (λ place. kinship from.source.number (number_at files place)) (parents_in from.source.worked.origin) (kinship child parent) from.made in
+          let made = is_made (λ place. kinship from.source.number (number_at files place)) (parents_of from.source.worked.origin) (kinship child parent) from.made in
           inl (record { file = from.source; there = from.there; kin = record { place = made.source; named = made.there; is_child = ap (λ k. k.0) made.is; is_parent = ap (λ k. k.1) made.is } })
       | inr later ↦
           let made = is_made of_clone clones (kinship child parent) later in
@@ -139,7 +140,7 @@ clone_in session files child parent h =
     tell_in d (a ++ b ++ c ++ d) child parent (λ draft m. among_right draft (a ++ b ++ c) d m) h
 
 -- a made file of this origin is told of with each parent
-told_of : (session : EndedSession) (files : List SettledFile) (file : SettledFile) (from : Origin) (place : ℕ) → Among file files → file.worked.origin ≡ from → Among place (parents_in from) → place < length files
+told_of : (session : EndedSession) (files : List SettledFile) (file : SettledFile) (from : Origin) (place : ℕ) → Among file files → file.worked.origin ≡ from → Among place (parents_of from) → place < length files
     → Tell (telling session files) file.number (number_at files place)
 told_of session files file (origin.Forked of) place there is named l =
     let forked : is_forked_from place file.worked.origin ≡ true = ap (is_forked_from place) is ∙ eq-eqb of place (only place of named) in
@@ -172,7 +173,7 @@ told_of session files file origin.Received place there is named l = absurd named
 
 -- origins name files of the outcome
 abbrev pub NameFiles : List SettledFile → Type 0
-NameFiles files = (file : SettledFile) → Among file files → (place : ℕ) → Among place (parents_in file.worked.origin) → place < length files
+NameFiles files = (file : SettledFile) → Among file files → (place : ℕ) → Among place (parents_of file.worked.origin) → place < length files
 
 pub kin-told : (session : EndedSession) (outcome : Outcome) → NameFiles (settled_files session outcome.files) → (child parent : ℕ) → HasKin session outcome child parent → Tell (drafts session outcome) child parent
 kin-told session outcome sound child parent (inl has) =

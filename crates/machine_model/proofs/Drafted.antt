@@ -5,12 +5,13 @@ use Rattle.std.specs.List.{flat_map, enumerate_from, range_with_len}
 use Rattle.std.specs.Option.{option_map_or}
 use Rattle.std.proofs.lemmas.List.{length-append, map-append}
 use Rattle.flowfile_record.specs.Kin.{kin_of}
+use Rattle.flowfile_record.specs.Outcome.{same_attributes}
 use Rattle.flowfile_record.specs.declared.event.Event.{Event}
 use Rattle.flowfile_record.specs.declared.worked.Origin.{Origin}
 use Rattle.flowfile_record.specs.declared.worked.Origin.TheVariants as origin
 use Rattle.flowfile_record.specs.declared.worked.Outcome.{Outcome}
 use Rattle.flowfile_record.specs.declared.worked.Sent.{Sent}
-use Rattle.machine_model.specs.Events.{Draft, created, received, fork_of, forked_children, forks, joined, clone_event, cloned, modified, attributes_modified, is_removed, same_attributes, routed, sent, dropped, drafts, numbered_from}
+use Rattle.machine_model.specs.Events.{Draft, created, received, fork_of, forked_children, forks, joined, clone_event, cloned, modified, attributes_modified, is_removed, routed, sent, dropped, drafts, numbered_from}
 use Rattle.machine_model.specs.Placing.{EndedSession, SettledFile, SettlementClone, Destination, Queues, Returns, Drops, Leaves, settled_files, settlement_clones}
 use Rattle.machine_model.proofs.Tally.{Each, each-append, each-flat_map, each-map}
 

@@ -4,14 +4,15 @@ use Rattle.std.specs.Prelude.{zip, fold}
 use Rattle.std.specs.FinSet.{from_list}
 use Rattle.std.specs.List.{flat_map}
 use Rattle.std.proofs.lemmas.List.{append-nil, length-append, length-map}
+use Rattle.flowfile_record.specs.Outcome.{parents_of, AreInTurn}
 use Rattle.flowfile_record.specs.Kin.{kin_of, kin_of_all}
 use Rattle.flowfile_record.specs.declared.event.Event.{Event}
 use Rattle.flowfile_record.specs.declared.worked.Worked.{Worked}
 use Rattle.machine_model.specs.State.{QueuedFile, Kin}
 use Rattle.machine_model.specs.Events.{Draft, ascending, drafts, numbered_from}
 use Rattle.machine_model.specs.Files.{queue_at}
-use Rattle.machine_model.specs.Laws.{AreFrom, EventsTellKin, SettlingTellsKin, StepsTellKin, ReplaysTellKin}
-use Rattle.machine_model.specs.Placing.{EndedSession, SettledFile, settled_file, settled_files, settlement_clones, parents_in, numbers_from, next_behind, entered_by, entered_in}
+use Rattle.machine_model.specs.Laws.{EventsTellKin, SettlingTellsKin, StepsTellKin, ReplaysTellKin}
+use Rattle.machine_model.specs.Placing.{EndedSession, SettledFile, settled_file, settled_files, settlement_clones, numbers_from, next_behind, entered_by, entered_in}
 use Rattle.machine_model.specs.Settling.{kin_of_files}
 use Rattle.machine_model.specs.Stepping.{expired, expiry_of, files_of}
 use Rattle.machine_model.proofs.Among.{Among, all_among, is_made}
@@ -23,10 +24,10 @@ use Rattle.machine_model.proofs.Tally.{Each, each-map}
 
 -- ---- origins name files of the outcome
 
-named_before : (place count : ℕ) (files : List Worked) → AreFrom place count files → (file : Worked) → Among file files → (parent : ℕ) → Among parent (parents_in file.origin) → parent < place + length files
+named_before : (place count : ℕ) (files : List Worked) → AreInTurn place count files → (file : Worked) → Among file files → (parent : ℕ) → Among parent (parents_of file.origin) → parent < place + length files
 named_before place count [] h file there parent named = absurd there
 named_before place count (first ∷ files) h file (inl is) parent named =
-    let early : parent < place = all_among (λ p. p < place) parent (parents_in first.origin) h.1 (subst (λ (f : Worked). Among parent (parents_in f.origin)) (sym is) named) in
+    let early : parent < place = all_among (λ p. p < place) parent (parents_of first.origin) h.1 (subst (λ (f : Worked). Among parent (parents_of f.origin)) (sym is) named) in
     omega arith
 named_before place count (first ∷ files) h file (inr there) parent named = omega (arith, named_before (place + 1) count files h.2 file there parent named)
 
@@ -50,14 +51,14 @@ zip-second (x ∷ xs) [] pair h = absurd h
 zip-second (x ∷ xs) (y ∷ ys) pair (inl is) = inl (ap (λ p. p.1) is)
 zip-second (x ∷ xs) (y ∷ ys) pair (inr h) = inr (zip-second xs ys pair h)
 
-name-files : (session : EndedSession) (files : List Worked) → AreFrom 0 (length session.taken) files → NameFiles (settled_files session files)
+name-files : (session : EndedSession) (files : List Worked) → AreInTurn 0 (length session.taken) files → NameFiles (settled_files session files)
 name-files session files is_outcome file there parent named =
     let numbers = numbers_from session.state.next_number (map (λ file. file.number) session.taken) files in
     let own = map (λ (file : QueuedFile). file.entered) session.taken in
     let entered = entered_in session.given.moment own files in
     let made = is_made (λ f. settled_file session (f.0, f.1.0, f.1.1)) (zip numbers (zip entered files)) file there in
     let worked : Among made.source.1.1 files = zip-second entered files made.source.1 (zip-second numbers (zip entered files) made.source made.there) in
-    let below : parent < 0 + length files = named_before 0 (length session.taken) files is_outcome made.source.1.1 worked parent (subst (λ (f : SettledFile). Among parent (parents_in f.worked.origin)) (sym made.is) named) in
+    let below : parent < 0 + length files = named_before 0 (length session.taken) files is_outcome made.source.1.1 worked parent (subst (λ (f : SettledFile). Among parent (parents_of f.worked.origin)) (sym made.is) named) in
     let inner : length (zip entered files) ≡ length files = length-zip entered files (length-built (λ before file. entered_by session.given.moment own before file.origin) [] files ∙ omega arith) in
     let outer : length (zip numbers (zip entered files)) ≡ length (zip entered files) = length-zip numbers (zip entered files) (length-numbers session.state.next_number _ files ∙ sym inner) in
     omega (arith, length-map (zip numbers (zip entered files)) (λ f. settled_file session (f.0, f.1.0, f.1.1)))

@@ -4,11 +4,12 @@ use Rattle.std.proofs.Common.{◌≡◌, inl, inr, ℕ, ◌<◌, true, List, [],
 use Rattle.std.specs.Prelude.{Option, Some, None, filter, slice_get}
 use Rattle.std.specs.List.{flat_map, enumerate_from}
 use Rattle.std.proofs.lemmas.Bool.{eqb-true}
+use Rattle.flowfile_record.specs.Outcome.{parents_of}
 use Rattle.flowfile_record.specs.Kin.{kin_of, pairs_of}
 use Rattle.flowfile_record.specs.declared.worked.Origin.{Origin}
 use Rattle.flowfile_record.specs.declared.worked.Origin.TheVariants as origin
 use Rattle.machine_model.specs.Events.{Draft, number_at, is_forked_from, forked_children, fork_of, forks, ascending, joined, clone_event, cloned}
-use Rattle.machine_model.specs.Placing.{EndedSession, SettledFile, SettlementClone, parents_in}
+use Rattle.machine_model.specs.Placing.{EndedSession, SettledFile, SettlementClone}
 use Rattle.machine_model.proofs.Among.{Among, ComesFrom, comes_from, goes_to, IsMade, is_made, makes, kept_by, keeps, ascending-had}
 use Rattle.machine_model.proofs.Drafted.{joined_part, cloned_part, clones_part}
 use Rattle.machine_model.proofs.Places.{at_place_below, enumerated, place_of, number-at}
@@ -23,7 +24,7 @@ Tell drafts child parent = Among (child, parent) (flat_map (λ draft. kin_of (dr
 -- a file is that child, and its origin names that parent
 pub record IsChild (files : List SettledFile) (file : SettledFile) (child parent : ℕ) : Type 0 where
   pub place : ℕ
-  pub named : Among place (parents_in file.worked.origin)
+  pub named : Among place (parents_of file.worked.origin)
   pub is_child : file.number ≡ child
   pub is_parent : number_at files place ≡ parent
 
@@ -59,7 +60,7 @@ pair_of parents children child parent h k =
 
 -- ---- forks
 
-forked_names : (place : ℕ) (from : Origin) → is_forked_from place from ≡ true → Among place (parents_in from)
+forked_names : (place : ℕ) (from : Origin) → is_forked_from place from ≡ true → Among place (parents_of from)
 forked_names place (origin.Forked parent) h = inl (eqb-true parent place h)
 forked_names place (origin.Part parent) h = inl (eqb-true parent place h)
 forked_names place (origin.Taken of) h = cc
@@ -122,7 +123,7 @@ fork_told session files file place there forked l =
 -- ---- joins and clones
 
 joined_tells : (session : EndedSession) (files : List SettledFile) (file : SettledFile) (from : Origin) (draft : Draft) (child parent : ℕ) → Among draft (joined session files file from)
-    → Among (child, parent) (kin_of (draft 0)) → (file.number ≡ child) × IsMade (number_at files) (parents_in from) parent
+    → Among (child, parent) (kin_of (draft 0)) → (file.number ≡ child) × IsMade (number_at files) (parents_of from) parent
 joined_tells session files file (origin.Joined parents) draft child parent (inl is) k =
     let pair = pair_parts (ascending (map (number_at files) parents)) (file.number ∷ []) child parent (subst (λ d. Among (child, parent) (kin_of (d 0))) (sym is) k) in
     (only child file.number pair.has_child, is_made (number_at files) parents parent (ascending-had parent (map (number_at files) parents) pair.has_parent))
@@ -145,7 +146,7 @@ cloned_at session files file of (Some original) draft child parent is h k = told
         (only child file.number pair.has_child, number-at files of original is ∙ only parent original.number pair.has_parent)
 
 cloned_tells : (session : EndedSession) (files : List SettledFile) (file : SettledFile) (from : Origin) (draft : Draft) (child parent : ℕ) → Among draft (cloned session files file from)
-    → Among (child, parent) (kin_of (draft 0)) → (file.number ≡ child) × IsMade (number_at files) (parents_in from) parent
+    → Among (child, parent) (kin_of (draft 0)) → (file.number ≡ child) × IsMade (number_at files) (parents_of from) parent
 cloned_tells session files file (origin.Cloned of) draft child parent h k =
     let told = cloned_at session files file of (slice_get files of) draft child parent refl h k in
     (told.0, record { source = of; there = inl refl; is = told.1 })
@@ -156,7 +157,7 @@ cloned_tells session files file (origin.Forked of) draft child parent h k = absu
 cloned_tells session files file (origin.Part of) draft child parent h k = absurd h
 cloned_tells session files file (origin.Joined parents) draft child parent h k = absurd h
 
-has_child : (files : List SettledFile) (file : SettledFile) (child parent : ℕ) → Among file files → (file.number ≡ child) × IsMade (number_at files) (parents_in file.worked.origin) parent → HasChild files child parent
+has_child : (files : List SettledFile) (file : SettledFile) (child parent : ℕ) → Among file files → (file.number ≡ child) × IsMade (number_at files) (parents_of file.worked.origin) parent → HasChild files child parent
 has_child files file child parent there (is, made) =
     record { file = file; there = there; kin = record { place = made.source; named = made.there; is_child = is; is_parent = made.is } }
 

@@ -1,4 +1,5 @@
 pub mod Acted
+pub mod ActedWhole
 pub mod Among
 pub mod Ancestry
 pub mod Batches

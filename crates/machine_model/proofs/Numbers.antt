@@ -1,6 +1,6 @@
 -- Which numbers the files of a finished session have: those that were taken, and then the next ones in a row.
 use Rattle.std.proofs.Common.{◌≡◌, ◌⊎◌, inl, inr, ℕ, suc, ◌+◌, ◌<◌, ◌≤◌, Bool, true, false, List, [], ◌∷◌, ◌++◌, map, length, get_or, drop, refl, sym, ap, ◌∙◌, arith}
-use Rattle.std.specs.Prelude.{◌==◌, not, slice_index, zip}
+use Rattle.std.specs.Prelude.{◌==◌, slice_index, zip}
 use Rattle.std.specs.List.{range_with_len}
 use Rattle.std.proofs.lemmas.List.{drop_more, drop_all, length-map}
 use Rattle.std.proofs.lemmas.List.Sums.{sum_by-cons}
@@ -9,8 +9,8 @@ use Rattle.flowfile_record.specs.declared.worked.Origin.{Origin}
 use Rattle.flowfile_record.specs.declared.worked.Origin.TheVariants.{Taken, Created, Received, Forked, Part, Cloned, Joined}
 use Rattle.flowfile_record.specs.declared.worked.Worked.{Worked}
 use Rattle.machine_model.specs.State.{QueuedFile}
-use Rattle.machine_model.specs.Laws.{StandsInTurn, AreFrom}
-use Rattle.machine_model.specs.Placing.{EndedSession, SettledFile, SettlementClone, settled_file, settled_files, entered_in, numbers_from, number_by, next_behind, count_made, is_taken, clones_from}
+use Rattle.flowfile_record.specs.Outcome.{is_made, StandsInTurn, AreInTurn}
+use Rattle.machine_model.specs.Placing.{EndedSession, SettledFile, SettlementClone, settled_file, settled_files, entered_in, numbers_from, number_by, next_behind, count_made, clones_from}
 use Rattle.machine_model.proofs.Tally.{bit, many, tally-append, tally-map, tally-zip, run_below, run_past, run_once}
 use Rattle.machine_model.proofs.Keyed.{Counted}
 
@@ -18,13 +18,13 @@ use Rattle.machine_model.proofs.Keyed.{Counted}
 record StandsAsTaken (place count next : ℕ) (taken : List ℕ) (origin : Origin) : Type 0 where
   number : number_by next taken origin ≡ get_or taken place 0
   behind : next_behind next origin ≡ next
-  as_taken : is_taken origin ≡ true
+  as_taken : is_made origin ≡ false
   within : place < count
 
 record StandsAsMade (place count next : ℕ) (taken : List ℕ) (origin : Origin) : Type 0 where
   number : number_by next taken origin ≡ next
   behind : next_behind next origin ≡ next + 1
-  as_made : is_taken origin ≡ false
+  as_made : is_made origin ≡ true
   past : count ≤ place
 
 abbrev Stands : (place count next : ℕ) (taken : List ℕ) → Origin → Type 0
@@ -39,8 +39,8 @@ stands place count next taken (Part parent) h = inr (record { number = refl; beh
 stands place count next taken (Cloned parent) h = inr (record { number = refl; behind = refl; as_made = refl; past = h })
 stands place count next taken (Joined parents) h = inr (record { number = refl; behind = refl; as_made = refl; past = h })
 
-made_of : (file : Worked) (files : List Worked) (b : Bool) → is_taken file.origin ≡ b → count_made (file ∷ files) ≡ bit (not b) + count_made files
-made_of file files b is = sum_by-cons (λ (f : Worked). bit (not (is_taken f.origin))) file files ∙ ap (λ t. bit (not t) + count_made files) is
+made_of : (file : Worked) (files : List Worked) (b : Bool) → is_made file.origin ≡ b → count_made (file ∷ files) ≡ bit b + count_made files
+made_of file files b is = sum_by-cons (λ (f : Worked). bit (is_made f.origin)) file files ∙ ap (λ t. bit t + count_made files) is
 
 after_taken : (number behind made made' next place : ℕ) (taken : List ℕ) (rest : ℕ → List ℕ) → number ≡ get_or taken place 0 → behind ≡ next → made' ≡ made
     → place < length taken → rest next ≡ drop (place + 1) taken ++ range_with_len next made → number ∷ rest behind ≡ drop place taken ++ range_with_len next made'
@@ -52,15 +52,15 @@ after_made number behind made made' next place taken rest p q r l h =
     let past : length taken ≤ place + 1 = omega arith in
     rw (p, q, r, drop_all place taken l) (ap (λ xs. next ∷ xs) (rw (drop_all (place + 1) taken past) at h))
 
-pub numbers_are : (taken : List ℕ) (next place : ℕ) (files : List Worked) → AreFrom place (length taken) files
+pub numbers_are : (taken : List ℕ) (next place : ℕ) (files : List Worked) → AreInTurn place (length taken) files
     → numbers_from next taken files ≡ drop place taken ++ range_with_len next (count_made files)
 numbers_are taken next place [] h = rw (drop_all place taken h)
 numbers_are taken next place (file ∷ files) (turn, parents, rest) =
     elim (stands place (length taken) next taken file.origin turn) [
       | inl s ↦ after_taken (number_by next taken file.origin) (next_behind next file.origin) (count_made files) (count_made (file ∷ files)) next place taken
-          (λ n. numbers_from n taken files) s.number s.behind (made_of file files true s.as_taken ∙ omega arith) s.within (numbers_are taken next (place + 1) files rest)
+          (λ n. numbers_from n taken files) s.number s.behind (made_of file files false s.as_taken ∙ omega arith) s.within (numbers_are taken next (place + 1) files rest)
       | inr s ↦ after_made (number_by next taken file.origin) (next_behind next file.origin) (count_made files) (count_made (file ∷ files)) next place taken
-          (λ n. numbers_from n taken files) s.number s.behind (made_of file files false s.as_made ∙ omega arith) s.past (numbers_are taken (next + 1) (place + 1) files rest)
+          (λ n. numbers_from n taken files) s.number s.behind (made_of file files true s.as_made ∙ omega arith) s.past (numbers_are taken (next + 1) (place + 1) files rest)
     ]
 
 -- ---- files and clones by number
@@ -81,7 +81,7 @@ finished-le session files n =
       tally-zip (λ (m : ℕ). bit (m == n)) numbers (zip entered files),
     )
 
-pub finished-below : (session : EndedSession) (files : List Worked) → AreFrom 0 (length session.taken) files
+pub finished-below : (session : EndedSession) (files : List Worked) → AreInTurn 0 (length session.taken) files
     → Counted (λ (file : QueuedFile). file.number) session.state.next_number session.taken
     → AreFilesBelow (session.state.next_number + count_made files) (settled_files session files)
 finished-below session files outcome taken = record {

@@ -14,22 +14,22 @@ use Rattle.machine_model.specs.declared.journal.Step.TheVariants as entry
 use Rattle.machine_model.specs.State.{QueuedFile, State, Machine}
 use Rattle.machine_model.specs.Acting.{TakenFile, act}
 use Rattle.machine_model.specs.Kinds.{take_rule_of}
-use Rattle.machine_model.specs.Laws.{HasTaken, IsOutcomeOf}
+use Rattle.machine_model.specs.Laws.{HasTaken, EndsAllInTurn}
 use Rattle.machine_model.specs.Placing.{EndedSession}
 use Rattle.machine_model.specs.Settling.{settle}
 use Rattle.machine_model.specs.Stepping.{step, replay, session_step, session_of, session_after, after_session, taken_files, given_in, as_taken, expire_step, swap_out_step, swap_in_step, same_world}
-use Rattle.machine_model.proofs.Acted.{act-gives}
+use Rattle.machine_model.proofs.Acted.{act-ends}
 use Rattle.machine_model.proofs.Options.{if_and_then, if_map, if_at}
 use Rattle.machine_model.proofs.Took.{Took, taken-took}
 
 -- a fact of states that the settlement of each session and the queues' own steps keep
 pub record IsKept (P : State → Type 0) : Type 0 where
-  pub settling : (session : EndedSession) (outcome : Outcome) → HasTaken session → IsOutcomeOf (length session.taken) outcome → P session.state → P (settle session outcome)
+  pub settling : (session : EndedSession) (outcome : Outcome) → HasTaken session → EndsAllInTurn (length session.taken) outcome → P session.state → P (settle session outcome)
   pub expiry : (state : State) (place : ℕ) (numbers : List ℕ) (moment : ℕ) (connection : Connection) → P state → IfSome (expire_step state place numbers moment connection) P
   pub swap_out : (state : State) (place : ℕ) (numbers : List ℕ) (batch : ℕ) (connection : Connection) → P state → IfSome (swap_out_step state place numbers batch connection) P
   pub swap_in : (state : State) (place batch : ℕ) (connection : Connection) → P state → IfSome (swap_in_step state place batch connection) P
 
-outcome_of : (own : List QueuedFile) (taken : List TakenFile) (outcome : Outcome) → length taken ≡ length own → IsOutcomeOf (length taken) outcome → IsOutcomeOf (length own) outcome
+outcome_of : (own : List QueuedFile) (taken : List TakenFile) (outcome : Outcome) → length taken ≡ length own → EndsAllInTurn (length taken) outcome → EndsAllInTurn (length own) outcome
 outcome_of own taken outcome same h = rw same at h
 
 session-kept : (P : State → Type 0) → IsKept P → (flow : Flow) (machine : Machine) (place : ℕ) (numbers : List ℕ) (moment : ℕ) (given : Given) (processor : Processor) → P machine.state
@@ -46,7 +46,7 @@ session-kept P kept flow machine place numbers moment given processor before =
     let session = session_of flow machine place processor taken found in
     if_map (session_after machine session) (act processor.kind seen found) (λ after. P after.state) (λ outcome outcome_is.
     kept.settling session outcome (record { differ = took.differ; there = took.there })
-    (outcome_of taken seen outcome same (if_at (act processor.kind seen found) outcome (IsOutcomeOf (length seen)) outcome_is (act-gives processor.kind seen found (rw same took.many_enough)))) before)))
+    (outcome_of taken seen outcome same (if_at (act processor.kind seen found) outcome (EndsAllInTurn (length seen)) outcome_is (act-ends processor.kind seen found (rw same took.many_enough)))) before)))
 
 in_same_world : (P : State → Type 0) (machine : Machine) (state : Option State) → IfSome state P → IfSome (same_world machine.world state) (λ after. P after.state)
 in_same_world P machine None h = tt

@@ -1,10 +1,9 @@
 -- The events that tell of a session.
-use Rattle.std.specs.Prelude.{ℕ, ◌+◌, ◌==◌, ◌&&◌, nat_le, Bool, true, false, List, [], ◌∷◌, ◌++◌, ◌||◌, length, map, filter, Option, Some, None, slice_get, slice_index, unwrap_or, bytes_eq, if◌then◌else◌}
+use Rattle.std.specs.Prelude.{ℕ, ◌+◌, ◌==◌, nat_le, Bool, true, false, List, [], ◌∷◌, ◌++◌, ◌||◌, length, map, filter, Option, Some, None, slice_get, slice_index, unwrap_or, if◌then◌else◌}
 use Rattle.std.specs.Option.{option_map_or}
 use Rattle.std.specs.List.{flat_map, enumerate_from}
-use Rattle.std.specs.FinMap.{entries}
 use Rattle.sha2.specs.Sha256.{sha256}
-use Rattle.flowfile_record.specs.Attributes.{AttributeMap}
+use Rattle.flowfile_record.specs.Outcome.{same_attributes}
 use Rattle.flowfile_record.specs.declared.event.Event.{Event}
 use Rattle.flowfile_record.specs.declared.event.EventKind.{EventKind}
 use Rattle.flowfile_record.specs.declared.event.EventKind.TheVariants as kind
@@ -92,14 +91,6 @@ cloned session files clone _ = []
 abbrev pub is_removed : End → Bool
 is_removed Removed = true
 is_removed _ = false
-
-abbrev pub same_pairs : List (List ℕ × List ℕ) → List (List ℕ × List ℕ) → Bool
-same_pairs [] [] = true
-same_pairs (pair ∷ pairs) (other ∷ others) = bytes_eq pair.0 other.0 && bytes_eq pair.1 other.1 && same_pairs pairs others
-same_pairs _ _ = false
-
-abbrev pub same_attributes : AttributeMap → AttributeMap → Bool
-same_attributes a b = same_pairs (entries a) (entries b)
 
 -- a taken file that stays: its content was written, or else its attributes were changed
 abbrev pub modified : EndedSession → SettledFile → Origin → List Draft

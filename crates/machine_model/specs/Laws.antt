@@ -1,14 +1,15 @@
 -- What holds of the machine: of the order of queues, of outcomes, of numbers, of events and of replays.
-use Rattle.std.specs.Prelude.{map, ◌≡◌, ◌≢◌, ◌⊎◌, ℕ, ◌+◌, ◌<◌, ◌≤◌, true, false, List, [], ◌∷◌, ◌++◌, All, Contains, MatchOption, IfSome, option_and_then, length, Some}
+use Rattle.std.specs.Prelude.{map, ◌≡◌, ◌≢◌, ◌⊎◌, ℕ, ◌^◌, ◌<◌, ◌≤◌, true, false, List, [], ◌∷◌, ◌++◌, All, Contains, MatchOption, IfSome, option_and_then, length, Some}
 use Rattle.std.specs.FinSet.{from_list}
 use Rattle.std.specs.List.{range_with_len, AllPairs, flat_map}
 use Rattle.std.specs.List.Sorted.{IsPermutation}
+use Rattle.flowfile_record.specs.Attributes.{IsWithinLimits}
 use Rattle.flowfile_record.specs.Kin.{kin_of_all}
+use Rattle.flowfile_record.specs.Name.{IsName}
+use Rattle.flowfile_record.specs.Outcome.{AreInTurn, IsOutcome}
+use Rattle.flowfile_record.specs.declared.TheConstants.{CONTENT_MAX}
 use Rattle.flowfile_record.specs.declared.event.Event.{Event}
-use Rattle.flowfile_record.specs.declared.worked.Origin.{Origin}
-use Rattle.flowfile_record.specs.declared.worked.Origin.TheVariants.{Taken}
 use Rattle.flowfile_record.specs.declared.worked.Outcome.{Outcome}
-use Rattle.flowfile_record.specs.declared.worked.Worked.{Worked}
 use Rattle.prioritizer.specs.declared.prioritizer.Prioritizer.{Prioritizer}
 use Rattle.machine_model.specs.declared.flow.Flow.{Flow}
 use Rattle.machine_model.specs.declared.flow.QueueLimits.{QueueLimits}
@@ -16,13 +17,14 @@ use Rattle.machine_model.specs.declared.given.Given.{Given}
 use Rattle.machine_model.specs.declared.journal.Entry.{Entry}
 use Rattle.machine_model.specs.declared.journal.Step.{Step}
 use Rattle.machine_model.specs.declared.kind.Kind.{Kind}
+use Rattle.machine_model.specs.declared.kind.Kind.TheVariants.{GenerateFlowFile}
 use Rattle.machine_model.specs.declared.kind.TakeRule.{TakeRule}
 use Rattle.machine_model.specs.declared.kind.TakeRule.TheVariants.{Source, One, Bin, Defragment}
 use Rattle.machine_model.specs.State.{QueuedFile, State, Machine}
-use Rattle.machine_model.specs.Acting.{TakenFile, act}
-use Rattle.machine_model.specs.Kinds.{take_rule_of}
+use Rattle.machine_model.specs.Acting.{TakenFile, act, generated_text}
+use Rattle.machine_model.specs.Kinds.{take_rule_of, relationships_of}
 use Rattle.machine_model.specs.Order.{goes_before, in_order, is_eligible, best}
-use Rattle.machine_model.specs.Placing.{EndedSession, parents_in}
+use Rattle.machine_model.specs.Placing.{EndedSession}
 use Rattle.machine_model.specs.Settling.{settle}
 use Rattle.machine_model.specs.View.{FileView}
 use Rattle.machine_model.specs.Stepping.{step, replay}
@@ -83,22 +85,6 @@ ReplayOfJoined = (flow : Flow) (machine : Machine) (journal further : List Entry
 
 -- ---- outcomes
 
--- a taken file stands at its place, and a made one behind all taken ones
-abbrev pub StandsInTurn : (place count : ℕ) → Origin → Type 0
-StandsInTurn place count (Taken of) = (of ≡ place) × (place < count)
-StandsInTurn place count _ = count ≤ place
-
--- the files of a session's outcome from a place on: what is left of so many taken ones, then made ones, whose parents
--- stand before them
-abbrev pub AreFrom : (place count : ℕ) → List Worked → Type 0
-AreFrom place count [] = count ≤ place
-AreFrom place count (file ∷ files) =
-    StandsInTurn place count file.origin × All (λ parent. parent < place) (parents_in file.origin) × AreFrom (place + 1) count files
-
--- all taken files, of which there are so many, each once and in turn, then made ones
-abbrev pub IsOutcomeOf : (count : ℕ) → Outcome → Type 0
-IsOutcomeOf count outcome = AreFrom 0 count outcome.files
-
 -- a rule takes so many files
 abbrev pub MayTake : TakeRule → (count : ℕ) → Type 0
 MayTake Source count = count ≡ 0
@@ -106,9 +92,34 @@ MayTake One count = count ≡ 1
 MayTake (Bin min max) count = (1 ≤ count) × (count ≤ max)
 MayTake Defragment count = (1 ≤ count) × (count ≤ 1000)
 
+-- a session ends all files that it took, each once and in turn, and then some that it made
+abbrev pub EndsAllInTurn : (count : ℕ) → Outcome → Type 0
+EndsAllInTurn count outcome = AreInTurn 0 count outcome.files
+
+abbrev pub ActsEndAllInTurn : Type 0
+ActsEndAllInTurn = (kind : Kind) (taken : List TakenFile) (given : Given) → MayTake (take_rule_of kind) (length taken) →
+    IfSome (act kind taken given) (EndsAllInTurn (length taken))
+
+-- what a generator's text is worth is no longer than a content
+abbrev pub HasTextWithin : Kind → (index : ℕ) → Type 0
+HasTextWithin (GenerateFlowFile count custom_text) index = length (generated_text custom_text index) ≤ CONTENT_MAX
+HasTextWithin _ index = Unit {0}
+
+-- What a processor may be handed: as many files as its rule takes, each within the limits of a flow file; an index of 64
+-- bits; the name of a file of the inbox, and bytes that a content may have.
+pub record MayBeHanded (kind : Kind) (taken : List TakenFile) (given : Given) : Type 0 where
+  pub count : MayTake (take_rule_of kind) (length taken)
+  pub contents : All (λ file. length file.bytes ≤ CONTENT_MAX) taken
+  pub attributes : All (λ file. IsWithinLimits file.attributes) taken
+  pub index : given.index < 2 ^ 64
+  pub name : IfSome given.file IsName
+  pub bytes : IfSome given.bytes (λ bytes. length bytes ≤ CONTENT_MAX)
+  pub text : HasTextWithin kind given.index
+
+-- the outcome is one of a session with the processor's relationships, over the contents that were taken
 abbrev pub ActsGiveOutcomes : Type 0
-ActsGiveOutcomes = (kind : Kind) (taken : List TakenFile) (given : Given) → MayTake (take_rule_of kind) (length taken) →
-    IfSome (act kind taken given) (IsOutcomeOf (length taken))
+ActsGiveOutcomes = (kind : Kind) (taken : List TakenFile) (given : Given) → MayBeHanded kind taken given →
+    IfSome (act kind taken given) (IsOutcome (length (relationships_of kind)) (map (λ file. length file.bytes) taken))
 
 -- ---- numbers and arrivals
 
@@ -137,7 +148,7 @@ pub record HasTaken (session : EndedSession) : Type 0 where
   pub there : All (Contains (files_of_all session.state)) session.taken
 
 abbrev pub SettlingKeepsNumbers : Type 0
-SettlingKeepsNumbers = (session : EndedSession) (outcome : Outcome) → IsWellNumbered session.state → HasTaken session → IsOutcomeOf (length session.taken) outcome →
+SettlingKeepsNumbers = (session : EndedSession) (outcome : Outcome) → IsWellNumbered session.state → HasTaken session → EndsAllInTurn (length session.taken) outcome →
     IsWellNumbered (settle session outcome)
 
 abbrev pub StepsKeepNumbers : Type 0
@@ -177,7 +188,7 @@ abbrev pub EventsTellKin : State → Type 0
 EventsTellKin state = state.kin ≡ from_list (kin_of_all state.events)
 
 abbrev pub SettlingTellsKin : Type 0
-SettlingTellsKin = (session : EndedSession) (outcome : Outcome) → IsOutcomeOf (length session.taken) outcome → EventsTellKin session.state → EventsTellKin (settle session outcome)
+SettlingTellsKin = (session : EndedSession) (outcome : Outcome) → EndsAllInTurn (length session.taken) outcome → EventsTellKin session.state → EventsTellKin (settle session outcome)
 
 abbrev pub StepsTellKin : Type 0
 StepsTellKin = (flow : Flow) (machine : Machine) (entry : Step) → EventsTellKin machine.state → IfSome (step flow machine entry) (λ after. EventsTellKin after.state)

@@ -1,12 +1,11 @@
 -- What becomes of the files of a finished session: their numbers, their contents, and where they go.
-use Rattle.std.specs.Prelude.{ℕ, ◌+◌, ◌-◌, ◌^◌, ◌&&◌, ◌==◌, min, not, Bool, true, false, List, [], ◌∷◌, ◌++◌, take, drop, map, filter, fold, count_by, unwrap_or, slice_get, slice_index, codes, zip, if◌then◌else◌}
+use Rattle.std.specs.Prelude.{ℕ, ◌+◌, ◌-◌, ◌^◌, ◌&&◌, ◌==◌, min, Bool, true, false, List, [], ◌∷◌, ◌++◌, map, filter, fold, count_by, unwrap_or, slice_get, slice_index, codes, zip, if◌then◌else◌}
 use Rattle.std.specs.List.{enumerate_from, flat_map}
 use Rattle.std.specs.FinMap.{insert, contains_key}
 use Rattle.uuid.specs.Text.{hyphenated_text, lower}
 use Rattle.flowfile_record.specs.Attributes.{AttributeMap}
 use Rattle.flowfile_record.specs.Identifier.{identifier}
-use Rattle.flowfile_record.specs.declared.worked.Body.{Body}
-use Rattle.flowfile_record.specs.declared.worked.Body.TheVariants.{Whole, Part, New}
+use Rattle.flowfile_record.specs.Outcome.{is_made, content_of}
 use Rattle.flowfile_record.specs.declared.worked.End.{End}
 use Rattle.flowfile_record.specs.declared.worked.End.TheVariants.{To, Back, Removed}
 use Rattle.flowfile_record.specs.declared.worked.Origin.{Origin}
@@ -58,24 +57,6 @@ abbrev pub goes : Flow → ℕ → Processor → End → Destination
 goes flow place processor (To relationship) = to_relationship flow place processor (relationship_at processor relationship)
 goes flow place processor Back = Returns
 goes flow place processor Removed = Leaves
-
--- the content of a body, over the contents that were taken
-abbrev pub content_of : List (List ℕ) → Body → List ℕ
-content_of taken (Whole of) = unwrap_or (slice_get taken of) []
-content_of taken (Part of offset size) = take size (drop offset (unwrap_or (slice_get taken of) []))
-content_of taken (New bytes) = bytes
-
-abbrev pub is_taken : Origin → Bool
-is_taken (origin.Taken place) = true
-is_taken _ = false
-
--- The places that an origin names as parents.
-abbrev pub parents_in : Origin → List ℕ
-parents_in (origin.Forked parent) = parent ∷ []
-parents_in (origin.Part parent) = parent ∷ []
-parents_in (origin.Cloned parent) = parent ∷ []
-parents_in (origin.Joined parents) = parents
-parents_in _ = []
 
 -- a taken file keeps its number, and a made one gets the next
 abbrev pub number_by : (next : ℕ) (taken : List ℕ) → Origin → ℕ
@@ -179,7 +160,7 @@ clones_from next [] = []
 clones_from next (clone ∷ clones) = record { number = next; original = clone.0; connection = clone.1 } ∷ clones_from (next + 1) clones
 
 abbrev pub count_made : List Worked → ℕ
-count_made files = count_by (λ file. not (is_taken file.origin)) files
+count_made files = count_by (λ file. is_made file.origin) files
 
 -- their numbers follow those of all made files
 abbrev pub settlement_clones : EndedSession → List Worked → List SettlementClone

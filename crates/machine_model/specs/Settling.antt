@@ -4,10 +4,11 @@ use Rattle.std.specs.FinSet.{union, from_list}
 use Rattle.std.specs.List.{flat_map, enumerate_from}
 use Rattle.machine_model.specs.declared.kind.Kind.{Kind}
 use Rattle.machine_model.specs.declared.kind.Kind.TheVariants.{GenerateFlowFile}
+use Rattle.flowfile_record.specs.Outcome.{parents_of}
 use Rattle.flowfile_record.specs.declared.worked.Outcome.{Outcome}
 use Rattle.machine_model.specs.State.{QueuedFile, State}
 use Rattle.machine_model.specs.Events.{drafts, numbered_from, number_at}
-use Rattle.machine_model.specs.Placing.{EndedSession, SettledFile, SettlementClone, settled_files, settlement_clones, Destination, Queues, Returns, parents_in, count_made}
+use Rattle.machine_model.specs.Placing.{EndedSession, SettledFile, SettlementClone, settled_files, settlement_clones, Destination, Queues, Returns, count_made}
 
 -- a file in a queue, with this arrival
 abbrev pub in_queue : SettledFile → (number arrival : ℕ) → QueuedFile
@@ -56,7 +57,7 @@ staying files queue = flat_map (λ queued. staying_as queued (find (λ file. fil
 -- each made file with each parent that its origin names, and each clone with its original
 abbrev pub kin_of_files : List SettledFile → List SettlementClone → List (ℕ × ℕ)
 kin_of_files files clones =
-    flat_map (λ file. map (λ place. (file.number, number_at files place)) (parents_in file.worked.origin)) files
+    flat_map (λ file. map (λ place. (file.number, number_at files place)) (parents_of file.worked.origin)) files
     ++ map (λ clone. (clone.number, clone.original.number)) clones
 
 -- one more for a generator

@@ -1,5 +1,5 @@
 //! What holds of the machine's definitions, each law as the contract of a function that does nothing.
-ghost use Rattle.machine_model.specs.Laws.{NoneGoesBeforeItself, GoingBeforeChains, ArrivalsTell, OrderKeepsFiles, OrderHolds, OrderIsOnly, BestIsBest, BestIsOnly, ReplayOfOneMore, ReplayOfJoined, ActsGiveOutcomes, SettlingKeepsNumbers, StepsKeepNumbers, ReplaysKeepNumbers, SettlingNumbersEvents, StepsNumberEvents, ReplaysNumberEvents, ReplaysAddEvents, SettlingTellsKin, StepsTellKin, ReplaysTellKin};
+ghost use Rattle.machine_model.specs.Laws.{NoneGoesBeforeItself, GoingBeforeChains, ArrivalsTell, OrderKeepsFiles, OrderHolds, OrderIsOnly, BestIsBest, BestIsOnly, ReplayOfOneMore, ReplayOfJoined, ActsEndAllInTurn, ActsGiveOutcomes, SettlingKeepsNumbers, StepsKeepNumbers, ReplaysKeepNumbers, SettlingNumbersEvents, StepsNumberEvents, ReplaysNumberEvents, ReplaysAddEvents, SettlingTellsKin, StepsTellKin, ReplaysTellKin};
 
 /// The order of a queue is a total one of files whose arrivals differ.
 pub fn order_is_total()
@@ -29,10 +29,11 @@ pub fn replay_goes_on()
     ensures joined { ReplayOfJoined }
 {}
 
-/// A processor makes of the files that it took all of them, each once and in turn, and then files whose parents stand
-/// before them.
+/// A processor ends all files that it took, each once and in turn, and then files whose parents stand before them. Where
+/// what it is handed is within the limits of flow files, what it makes is an outcome of its relationships.
 pub fn acts_give_outcomes()
-    ensures { ActsGiveOutcomes }
+    ensures in_turn { ActsEndAllInTurn }
+    ensures whole { ActsGiveOutcomes }
 {}
 
 /// A session leaves the queues well numbered, whatever outcome it had.
