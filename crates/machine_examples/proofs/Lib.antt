@@ -7,3 +7,4 @@ pub mod TriedPicks
 pub mod TriedPuts
 pub mod TriedRun
 pub mod TriedSizes
+pub mod TriedWorlds

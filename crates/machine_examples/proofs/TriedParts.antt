@@ -11,11 +11,11 @@ use Rattle.machine_model.specs.declared.flow.Flow.{Flow}
 use Rattle.machine_model.specs.declared.flow.Processor.{Processor}
 use Rattle.machine_model.specs.declared.given.Given.{Given}
 use Rattle.machine_model.specs.declared.journal.Step.TheVariants as entry
-use Rattle.machine_model.specs.declared.state.QueuedFile.{QueuedFile}
+use Rattle.machine_model.specs.State.{QueuedFile, Machine}
 use Rattle.machine_model.specs.Acting.{act, received_attributes}
 use Rattle.machine_model.specs.Kinds.{take_rule_of}
-use Rattle.machine_model.specs.Stepping.{Machine, step, session_step, taken_files, given_in, as_taken, ended_session, session_after, session_of}
-use Rattle.machine_model.specs.Events.{same_attributes, same_pairs}
+use Rattle.machine_model.specs.Stepping.{step, session_step, taken_files, given_in, as_taken, after_session, session_after, session_of}
+use Rattle.flowfile_record.specs.Outcome.{same_attributes, same_pairs}
 
 bytes_eq-self : (bytes : List ℕ) → bytes_eq bytes bytes ≡ true
 bytes_eq-self bytes = (bytes_eq-Decides bytes bytes).1 refl
@@ -30,26 +30,26 @@ same_attributes-self attributes = same_pairs-self (entries attributes)
 -- A session's step, from what it takes, is given and makes.
 pub session-gives : (flow : Flow) (machine : Machine) (place : ℕ) (numbers : List ℕ) (moment : ℕ) (given given' : Given) (processor : Processor) (taken : List QueuedFile) (outcome : Outcome) →
     slice_get flow.processors place ≡ Some processor →
-    taken_files flow machine.0 place (take_rule_of processor.kind) numbers moment ≡ Some taken →
-    given_in processor.kind place machine.0 machine.1 taken (record given { moment = moment }) ≡ Some given' →
-    act processor.kind (map (as_taken machine.0) taken) given' ≡ Some outcome →
+    taken_files flow machine.state place (take_rule_of processor.kind) numbers moment ≡ Some taken →
+    given_in processor.kind place machine.state machine.world taken (record given { moment = moment }) ≡ Some given' →
+    act processor.kind (map (as_taken machine.state) taken) given' ≡ Some outcome →
     step flow machine (entry.Session place numbers moment given) ≡ Some (session_after machine (session_of flow machine place processor taken given') outcome)
 session-gives flow machine place numbers moment given given' processor taken outcome has takes is_given makes =
     ap (option_and_then (session_step flow machine place numbers moment given)) has
-    ∙ ap (option_and_then (λ (taken : List QueuedFile). option_and_then (λ (given : Given). ended_session machine (session_of flow machine place processor taken given)) (given_in processor.kind place machine.0 machine.1 taken (record given { moment = moment })))) takes
-    ∙ ap (option_and_then (λ (given : Given). ended_session machine (session_of flow machine place processor taken given))) is_given
+    ∙ ap (option_and_then (λ (taken : List QueuedFile). option_and_then (λ (given : Given). after_session machine (session_of flow machine place processor taken given)) (given_in processor.kind place machine.state machine.world taken (record given { moment = moment })))) takes
+    ∙ ap (option_and_then (λ (given : Given). after_session machine (session_of flow machine place processor taken given))) is_given
     ∙ ap (option_map (session_after machine (session_of flow machine place processor taken given'))) makes
 
 -- No step where what a session is given doesn't stand in the state and the world.
 pub session-refused : (flow : Flow) (machine : Machine) (place : ℕ) (numbers : List ℕ) (moment : ℕ) (given : Given) (processor : Processor) (taken : List QueuedFile) →
     slice_get flow.processors place ≡ Some processor →
-    taken_files flow machine.0 place (take_rule_of processor.kind) numbers moment ≡ Some taken →
-    given_in processor.kind place machine.0 machine.1 taken (record given { moment = moment }) ≡ None →
+    taken_files flow machine.state place (take_rule_of processor.kind) numbers moment ≡ Some taken →
+    given_in processor.kind place machine.state machine.world taken (record given { moment = moment }) ≡ None →
     step flow machine (entry.Session place numbers moment given) ≡ None
 session-refused flow machine place numbers moment given processor taken has takes refused =
     ap (option_and_then (session_step flow machine place numbers moment given)) has
-    ∙ ap (option_and_then (λ (taken : List QueuedFile). option_and_then (λ (given : Given). ended_session machine (session_of flow machine place processor taken given)) (given_in processor.kind place machine.0 machine.1 taken (record given { moment = moment })))) takes
-    ∙ ap (option_and_then (λ (given : Given). ended_session machine (session_of flow machine place processor taken given))) refused
+    ∙ ap (option_and_then (λ (taken : List QueuedFile). option_and_then (λ (given : Given). after_session machine (session_of flow machine place processor taken given)) (given_in processor.kind place machine.state machine.world taken (record given { moment = moment })))) takes
+    ∙ ap (option_and_then (λ (given : Given). after_session machine (session_of flow machine place processor taken given))) refused
 
 -- ---- attributes that differ
 

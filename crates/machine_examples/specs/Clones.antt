@@ -17,17 +17,13 @@ use Rattle.machine_model.specs.declared.flow.Flow.{Flow}
 use Rattle.machine_model.specs.declared.flow.Processor.{Processor}
 use Rattle.machine_model.specs.declared.kind.Conflict.TheVariants.{Replace}
 use Rattle.machine_model.specs.declared.kind.Kind.TheVariants.{GetFile, GenerateFlowFile, PutFile, DuplicateFlowFile}
-use Rattle.machine_model.specs.declared.state.Kinship.{Kinship}
-use Rattle.machine_model.specs.declared.state.QueuedFile.{QueuedFile}
-use Rattle.machine_model.specs.declared.state.State.{State}
+use Rattle.machine_model.specs.State.{QueuedFile, State}
 use Rattle.machine_model.specs.Acting.{passed_on, received_attributes, generated_attributes, text_or_nothing}
-use Rattle.machine_model.specs.Placing.{Session, is_taken, uuid_text, with_filename}
+use Rattle.flowfile_record.specs.Outcome.{is_made}
+use Rattle.machine_model.specs.Placing.{EndedSession, uuid_text, with_filename}
 use Rattle.machine_model.specs.Settling.{settle}
 use Rattle.machine_model.specs.Stepping.{step}
-use Rattle.machine_examples.specs.Small.{hi, both, processor, connection, wide, a_txt, a_file, waiting, state_of, at_moment, session, told, nothing}
-
-abbrev pub kin : (child parent : ℕ) → Kinship
-kin child parent = record { child = child; parent = parent }
+use Rattle.machine_examples.specs.Small.{hi, both, processor, connection, wide, a_txt, a_file, waiting, machine, state_of, kin_of, at_moment, session, told, nothing}
 
 -- the event that a file was cloned
 abbrev pub clone_of : (number moment : ℕ) → (component : List ℕ) → (file clone : ℕ) → List ℕ → Event
@@ -49,7 +45,7 @@ duplicating = record {
 abbrev pub one_file : State
 one_file = state_of ((a_file 1 1 ∷ []) ∷ [] ∷ []) 2 2 (0 ∷ 0 ∷ 0 ∷ [])
 
-abbrev pub ending : Session
+abbrev pub ending : EndedSession
 ending = record { flow = duplicating; place = 1; processor = dup; state = one_file; taken = a_file 1 1 ∷ []; given = at_moment 2000 }
 
 abbrev pub clone : Worked
@@ -62,7 +58,7 @@ abbrev pub five_files : State
 five_files = record (state_of ([] ∷ (a_file 1 2 ∷ a_file 2 3 ∷ a_file 3 4 ∷ a_file 4 5 ∷ a_file 5 6 ∷ []) ∷ []) 6 7 (0 ∷ 0 ∷ 0 ∷ [])) {
   events = clone_of 1 2000 (codes "dup") 1 2 hi ∷ clone_of 2 2000 (codes "dup") 1 3 hi ∷ clone_of 3 2000 (codes "dup") 1 4 hi
       ∷ clone_of 4 2000 (codes "dup") 1 5 hi ∷ [];
-  kin = kin 2 1 ∷ kin 3 1 ∷ kin 4 1 ∷ kin 5 1 ∷ [];
+  kin = kin_of ((2, 1) ∷ (3, 1) ∷ (4, 1) ∷ (5, 1) ∷ []);
 }
 
 abbrev pub FourClonesFollow : Type 0
@@ -73,7 +69,7 @@ FourClonesFollow = settle ending with_four_clones ≡ five_files
 abbrev pub doubling : Flow
 doubling = record duplicating { connections = connection (codes "c1") 0 1 wide ∷ connection (codes "c2") 1 2 wide ∷ connection (codes "c3") 1 2 wide ∷ [] }
 
-abbrev pub penalising : Session
+abbrev pub penalising : EndedSession
 penalising = record ending { flow = doubling; state = state_of ((a_file 1 1 ∷ []) ∷ [] ∷ [] ∷ []) 2 2 (0 ∷ 0 ∷ 0 ∷ []) }
 
 abbrev pub until_32 : (number arrival : ℕ) → QueuedFile
@@ -84,7 +80,7 @@ ClonesArePenalisedToo =
     settle penalising (record { files = passed_on 0 (received_attributes a_txt) true 0 ∷ []; sent = None })
     ≡ record (state_of ([] ∷ (until_32 1 2 ∷ []) ∷ (until_32 2 3 ∷ []) ∷ []) 3 4 (0 ∷ 0 ∷ 0 ∷ [])) {
       events = clone_of 1 2000 (codes "dup") 1 2 hi ∷ [];
-      kin = kin 2 1 ∷ [];
+      kin = kin_of ((2, 1) ∷ []);
     }
 
 -- ---- a file that a GenerateFlowFile made, whose relationship leads to three connections
@@ -108,18 +104,18 @@ three_files text =
     record (state_of ((waiting 1 1 named (content text) ∷ []) ∷ (waiting 2 2 named (content text) ∷ []) ∷ (waiting 3 3 named (content text) ∷ []) ∷ []) 4 4 (1 ∷ 0 ∷ [])) {
       events = told 1 1000 kind.Create (codes "gen") 1 [] (content text) ∷ clone_of 2 1000 (codes "gen") 1 2 (content text)
           ∷ clone_of 3 1000 (codes "gen") 1 3 (content text) ∷ [];
-      kin = kin 2 1 ∷ kin 3 1 ∷ [];
+      kin = kin_of ((2, 1) ∷ (3, 1) ∷ []);
     }
 
 abbrev pub EachConnectionGetsOne : Type 0
 EachConnectionGetsOne =
-    (text : Expr) → step (generating text) (state_of ([] ∷ [] ∷ [] ∷ []) 1 1 (0 ∷ 0 ∷ []), nothing) (session 0 [] 1000 (record (at_moment 1000) { index = 1 }))
-    ≡ Some (three_files text, nothing)
+    (text : Expr) → step (generating text) (machine (state_of ([] ∷ [] ∷ [] ∷ []) 1 1 (0 ∷ 0 ∷ [])) nothing) (session 0 [] 1000 (record (at_moment 1000) { index = 1 }))
+    ≡ Some (machine (three_files text) nothing)
 
 -- ---- names of made files
 
 abbrev pub MadeIsNamed : Type 0
-MadeIsNamed = (from : Origin) (store number : ℕ) (attributes : AttributeMap) → is_taken from ≡ false → get attributes (codes "filename") ≡ None →
+MadeIsNamed = (from : Origin) (store number : ℕ) (attributes : AttributeMap) → is_made from ≡ true → get attributes (codes "filename") ≡ None →
     get (with_filename from store number attributes) (codes "filename") ≡ Some (uuid_text store number)
 
 abbrev pub NamedKeepsItsName : Type 0

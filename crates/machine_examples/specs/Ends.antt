@@ -5,11 +5,9 @@ use Rattle.machine_model.specs.declared.flow.Flow.{Flow}
 use Rattle.machine_model.specs.declared.flow.QueueLimits.{QueueLimits}
 use Rattle.machine_model.specs.declared.kind.Conflict.TheVariants.{Replace}
 use Rattle.machine_model.specs.declared.kind.Kind.TheVariants.{GenerateFlowFile, UpdateAttribute}
-use Rattle.machine_model.specs.declared.state.QueuedFile.{QueuedFile}
-use Rattle.machine_model.specs.declared.state.State.{State}
-use Rattle.machine_model.specs.declared.world.World.{World}
+use Rattle.machine_model.specs.State.{QueuedFile, State, World}
 use Rattle.machine_model.specs.Quiet.{quiet, blocked}
-use Rattle.machine_examples.specs.Small.{hi, processor, connection, wide, get_to_put, a_txt, a_file, state_of, nothing, delivery}
+use Rattle.machine_examples.specs.Small.{hi, processor, connection, wide, get_to_put, a_txt, a_file, state_of, nothing, inbox_of}
 
 -- ---- GetFile to PutFile, whose files expire after 500 milliseconds
 
@@ -18,7 +16,7 @@ QuietIs files world moment answer =
     quiet (get_to_put Replace (record wide { expiration = 500 })) (state_of (files ∷ []) 9 9 (0 ∷ 0 ∷ [])) world moment ≡ answer
 
 abbrev pub left_a : World
-left_a = record { inbox = delivery a_txt hi ∷ []; left = a_txt ∷ []; outbox = [] }
+left_a = inbox_of a_txt hi
 
 abbrev pub taken_a : World
 taken_a = record left_a { left = [] }

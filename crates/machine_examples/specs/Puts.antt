@@ -5,14 +5,14 @@ use Rattle.flowfile_record.specs.Attributes.{AttributeMap}
 use Rattle.flowfile_record.specs.declared.event.Event.{Event}
 use Rattle.flowfile_record.specs.declared.event.EventKind.TheVariants as kind
 use Rattle.flowfile_record.specs.declared.worked.Outcome.{Outcome}
+use Rattle.flowfile_record.specs.NamedFile.{with_file}
 use Rattle.machine_model.specs.declared.kind.Conflict.{Conflict}
 use Rattle.machine_model.specs.declared.kind.Conflict.TheVariants.{Replace, Ignore, Fail}
 use Rattle.machine_model.specs.declared.kind.Kind.TheVariants.{PutFile}
-use Rattle.machine_model.specs.declared.state.State.{State}
-use Rattle.machine_model.specs.declared.world.World.{World}
+use Rattle.machine_model.specs.State.{State, World}
 use Rattle.machine_model.specs.Acting.{act, alone, passed_on, received_attributes}
 use Rattle.machine_model.specs.Stepping.{step}
-use Rattle.machine_examples.specs.Small.{hi, wide, get_to_put, a_txt, a_file, state_of, at_moment, session, told, delivery, with_a}
+use Rattle.machine_examples.specs.Small.{hi, wide, get_to_put, a_txt, a_file, state_of, at_moment, session, told, machine, no_file, with_a}
 
 -- to success, and its bytes to the outbox; to success alone; penalised to failure
 abbrev pub sent : AttributeMap → Outcome
@@ -55,11 +55,11 @@ emptied events = record (state_of ([] ∷ []) 2 2 (0 ∷ 0 ∷ [])) { events = e
 
 abbrev pub PutsOver : Conflict → List Event → World → Type 0
 PutsOver conflict events world =
-    step (get_to_put conflict wide) (state_of ((a_file 1 1 ∷ []) ∷ []) 2 2 (0 ∷ 0 ∷ []), with_a) (session 1 (1 ∷ []) 2000 (record (at_moment 2000) { there = true }))
-    ≡ Some (emptied events, world)
+    step (get_to_put conflict wide) (machine (state_of ((a_file 1 1 ∷ []) ∷ []) 2 2 (0 ∷ 0 ∷ [])) with_a) (session 1 (1 ∷ []) 2000 (record (at_moment 2000) { there = true }))
+    ≡ Some (machine (emptied events) world)
 
 abbrev pub ReplacePutsOver : Type 0
-ReplacePutsOver = PutsOver Replace (put_event 1 ∷ drop_event 2 (codes "success") ∷ []) (record with_a { outbox = delivery a_txt hi ∷ [] })
+ReplacePutsOver = PutsOver Replace (put_event 1 ∷ drop_event 2 (codes "success") ∷ []) (record with_a { outbox = with_file no_file a_txt hi })
 
 abbrev pub IgnoreLeaves : Type 0
 IgnoreLeaves = PutsOver Ignore (drop_event 1 (codes "success") ∷ []) with_a

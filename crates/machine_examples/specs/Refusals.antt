@@ -7,16 +7,14 @@ use Rattle.machine_model.specs.declared.journal.Step.{Step}
 use Rattle.machine_model.specs.declared.journal.Step.TheVariants.{Expire, SwapOut, SwapIn}
 use Rattle.machine_model.specs.declared.kind.Conflict.TheVariants.{Replace}
 use Rattle.machine_model.specs.declared.kind.Kind.TheVariants.{GenerateFlowFile}
-use Rattle.machine_model.specs.declared.state.QueuedFile.{QueuedFile}
-use Rattle.machine_model.specs.declared.state.State.{State}
-use Rattle.machine_model.specs.declared.world.World.{World}
+use Rattle.machine_model.specs.State.{QueuedFile, State, World}
 use Rattle.machine_model.specs.declared.kind.TakeRule.TheVariants.{One, Bin}
 use Rattle.machine_model.specs.Stepping.{step, taken_files}
 use Rattle.machine_examples.specs.Told.{through, merge}
-use Rattle.machine_examples.specs.Small.{hi, success, processor, wide, get_to_put, a_txt, a_file, state_of, at_moment, session, nothing, delivery}
+use Rattle.machine_examples.specs.Small.{hi, success, processor, wide, get_to_put, a_txt, a_file, state_of, at_moment, session, machine, nothing, inbox_of}
 
 abbrev pub IsRefused : Flow → State → World → Step → Type 0
-IsRefused flow state world entry = step flow (state, world) entry ≡ None
+IsRefused flow state world entry = step flow (machine state world) entry ≡ None
 
 -- these files in the queue of the one connection, whose files expire after 500 milliseconds and are swapped past 2
 abbrev pub limited : QueueLimits
@@ -108,16 +106,16 @@ RefusesToGet world entry = IsRefused (get_to_put Replace wide) (state_of ([] ∷
 
 -- the file was taken before; it never was there; none is named; a file is named beside numbers
 abbrev pub GoneIsNotReceived : Type 0
-GoneIsNotReceived = RefusesToGet (record { inbox = delivery a_txt hi ∷ []; left = []; outbox = [] }) get_a
+GoneIsNotReceived = RefusesToGet (record (inbox_of a_txt hi) { left = [] }) get_a
 
 abbrev pub MissingIsNotReceived : Type 0
-MissingIsNotReceived = RefusesToGet (record { inbox = []; left = codes "b" ∷ []; outbox = [] }) get_a
+MissingIsNotReceived = RefusesToGet (record nothing { left = codes "b" ∷ [] }) get_a
 
 abbrev pub NamelessIsNotReceived : Type 0
-NamelessIsNotReceived = RefusesToGet (record { inbox = delivery a_txt hi ∷ []; left = a_txt ∷ []; outbox = [] }) (session 0 [] 1000 (at_moment 1000))
+NamelessIsNotReceived = RefusesToGet (inbox_of a_txt hi) (session 0 [] 1000 (at_moment 1000))
 
 abbrev pub SourceTakesNone : Type 0
-SourceTakesNone = RefusesToGet (record { inbox = delivery a_txt hi ∷ []; left = a_txt ∷ []; outbox = [] }) (session 0 (1 ∷ []) 1000 (record (at_moment 1000) { file = Some a_txt }))
+SourceTakesNone = RefusesToGet (inbox_of a_txt hi) (session 0 (1 ∷ []) 1000 (record (at_moment 1000) { file = Some a_txt }))
 
 -- whether the outbox has the name is told wrongly
 abbrev pub RefusesAnswer : World → (there : Bool) → Type 0

@@ -4,10 +4,9 @@ use Rattle.flowfile_record.specs.declared.worked.End.TheVariants.{Back}
 use Rattle.flowfile_record.specs.declared.worked.Outcome.{Outcome}
 use Rattle.machine_model.specs.declared.kind.Conflict.TheVariants.{Replace}
 use Rattle.machine_model.specs.declared.kind.Kind.TheVariants.{PutFile}
-use Rattle.machine_model.specs.declared.state.QueuedFile.{QueuedFile}
-use Rattle.machine_model.specs.declared.state.State.{State}
+use Rattle.machine_model.specs.State.{QueuedFile, State}
 use Rattle.machine_model.specs.Acting.{passed_on, received_attributes}
-use Rattle.machine_model.specs.Placing.{Session}
+use Rattle.machine_model.specs.Placing.{EndedSession}
 use Rattle.machine_model.specs.Settling.{settle}
 use Rattle.machine_examples.specs.Small.{both, processor, wide, get_to_put, a_txt, a_file, state_of, at_moment}
 
@@ -19,7 +18,7 @@ abbrev pub three : QueuedFile → State
 three middle = state_of ((a_file 1 1 ∷ middle ∷ a_file 3 3 ∷ []) ∷ []) 4 4 (0 ∷ 0 ∷ [])
 
 -- the session took the second file, whose penalty has ended, and ends at a moment
-abbrev pub ending_at : ℕ → Session
+abbrev pub ending_at : ℕ → EndedSession
 ending_at moment = record {
   flow = get_to_put Replace wide;
   place = 1;

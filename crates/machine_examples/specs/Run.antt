@@ -2,15 +2,15 @@
 use Rattle.std.specs.Prelude.{◌≡◌, ℕ, List, [], ◌∷◌, Some, None, codes}
 use Rattle.flowfile_record.specs.declared.event.Event.{Event}
 use Rattle.flowfile_record.specs.declared.event.EventKind.TheVariants as kind
+use Rattle.flowfile_record.specs.NamedFile.{with_file}
 use Rattle.machine_model.specs.declared.flow.Flow.{Flow}
 use Rattle.machine_model.specs.declared.journal.Entry.{Entry}
 use Rattle.machine_model.specs.declared.journal.Step.{Step}
 use Rattle.machine_model.specs.declared.kind.Conflict.TheVariants.{Replace}
-use Rattle.machine_model.specs.declared.state.State.{State}
-use Rattle.machine_model.specs.declared.world.World.{World}
+use Rattle.machine_model.specs.State.{State, World}
 use Rattle.machine_model.specs.Acting.{received_attributes}
 use Rattle.machine_model.specs.Stepping.{step, replay}
-use Rattle.machine_examples.specs.Small.{get_to_put, a_txt, wide, told, waiting, state_of, at_moment, session, delivery}
+use Rattle.machine_examples.specs.Small.{get_to_put, a_txt, wide, told, waiting, state_of, at_moment, session, machine, no_file, inbox_of}
 
 abbrev pub flow : Flow
 flow = get_to_put Replace wide
@@ -29,7 +29,7 @@ abbrev pub before : State
 before = state_of ([] ∷ []) 1 1 (0 ∷ 0 ∷ [])
 
 abbrev pub world_before : List ℕ → World
-world_before bytes = record { inbox = delivery a_txt bytes ∷ []; left = a_txt ∷ []; outbox = [] }
+world_before bytes = inbox_of a_txt bytes
 
 abbrev pub receive : List ℕ → Event
 receive bytes = told 1 1000 kind.Receive (codes "get") 1 a_txt bytes
@@ -49,13 +49,13 @@ abbrev pub after : List ℕ → State
 after bytes = record (state_of ([] ∷ []) 2 2 (0 ∷ 0 ∷ [])) { events = receive bytes ∷ send_and_drop bytes }
 
 abbrev pub world_after : List ℕ → World
-world_after bytes = record (world_between bytes) { outbox = delivery a_txt bytes ∷ [] }
+world_after bytes = record (world_between bytes) { outbox = with_file no_file a_txt bytes }
 
 abbrev pub IsReceived : List ℕ → Type 0
-IsReceived bytes = step flow (before, world_before bytes) getting ≡ Some (between bytes, world_between bytes)
+IsReceived bytes = step flow (machine before (world_before bytes)) getting ≡ Some (machine (between bytes) (world_between bytes))
 
 abbrev pub IsSent : List ℕ → Type 0
-IsSent bytes = step flow (between bytes, world_between bytes) putting ≡ Some (after bytes, world_after bytes)
+IsSent bytes = step flow (machine (between bytes) (world_between bytes)) putting ≡ Some (machine (after bytes) (world_after bytes))
 
 abbrev pub IsDelivered : List ℕ → Type 0
-IsDelivered bytes = replay flow (before, world_before bytes) journal ≡ Some (after bytes, world_after bytes)
+IsDelivered bytes = replay flow (machine before (world_before bytes)) journal ≡ Some (machine (after bytes) (world_after bytes))

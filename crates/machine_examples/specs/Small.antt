@@ -1,7 +1,9 @@
 -- Small flows, files and steps that the machine's definitions are tried on.
-use Rattle.std.specs.Prelude.{ℕ, false, List, [], ◌∷◌, length, None, codes}
+use Rattle.std.specs.Prelude.{ℕ, false, List, [], ◌∷◌, length, Option, None, codes}
+use Rattle.std.specs.FinSet.{empty, from_list, union}
 use Rattle.sha2.specs.Sha256.{sha256}
 use Rattle.flowfile_record.specs.Attributes.{AttributeMap}
+use Rattle.flowfile_record.specs.NamedFile.{with_file}
 use Rattle.flowfile_record.specs.declared.event.Event.{Event}
 use Rattle.flowfile_record.specs.declared.event.EventKind.{EventKind}
 use Rattle.machine_model.specs.declared.flow.Flow.{Flow}
@@ -15,10 +17,7 @@ use Rattle.machine_model.specs.declared.kind.Conflict.{Conflict}
 use Rattle.machine_model.specs.declared.kind.Kind.{Kind}
 use Rattle.machine_model.specs.declared.kind.Kind.TheVariants.{GetFile, PutFile}
 use Rattle.machine_model.specs.Acting.{received_attributes}
-use Rattle.machine_model.specs.declared.state.QueuedFile.{QueuedFile}
-use Rattle.machine_model.specs.declared.state.State.{State}
-use Rattle.machine_model.specs.declared.world.Delivery.{Delivery}
-use Rattle.machine_model.specs.declared.world.World.{World}
+use Rattle.machine_model.specs.State.{QueuedFile, Kin, State, World, Machine}
 
 abbrev pub hi : List ℕ
 hi = 104 ∷ 105 ∷ []
@@ -60,10 +59,17 @@ a_txt = codes "a.txt"
 abbrev pub a_file : (number arrival : ℕ) → QueuedFile
 a_file number arrival = waiting number arrival (received_attributes a_txt) hi
 
+-- no file came from another, and so many did
+abbrev pub no_kin : Kin
+no_kin = empty
+
+abbrev pub kin_of : List (ℕ × ℕ) → Kin
+kin_of pairs = union no_kin (from_list pairs)
+
 -- a state in which nothing has happened, with these queues and the numbers that come next
-abbrev pub state_of : List (List QueuedFile) → (next_number next_arrival : ℕ) → (generated : List ℕ) → State
-state_of queues next_number next_arrival generated =
-    record { store = 0x123456789abcde; queues = queues; events = []; kin = []; next_number = next_number; next_arrival = next_arrival; next_batch = 1; generated = generated }
+abbrev pub state_of : List (List QueuedFile) → (next_number next_arrival : ℕ) → (counts : List ℕ) → State
+state_of queues next_number next_arrival counts =
+    record { store = 0x123456789abcde; queues = queues; events = []; kin = no_kin; next_number = next_number; next_arrival = next_arrival; next_batch = 1; counts = counts }
 
 abbrev pub at_moment : ℕ → Given
 at_moment moment = record { moment = moment; index = 0; there = false; file = None; bytes = None }
@@ -86,12 +92,20 @@ told number moment kind component file detail bytes = record {
   digest = sha256 bytes;
 }
 
-abbrev pub nothing : World
-nothing = record { inbox = []; left = []; outbox = [] }
+-- an outbox that has nothing under any name
+abbrev pub no_file : List ℕ → Option (List ℕ)
+no_file name = None
 
-abbrev pub delivery : List ℕ → List ℕ → Delivery
-delivery name bytes = record { name = name; bytes = bytes }
+abbrev pub nothing : World
+nothing = record { inbox = []; left = []; outbox = no_file }
+
+-- the inbox has this file, which is left
+abbrev pub inbox_of : (name bytes : List ℕ) → World
+inbox_of name bytes = record { inbox = record { name = name; bytes = bytes } ∷ []; left = name ∷ []; outbox = no_file }
 
 -- the outbox has the file already
 abbrev pub with_a : World
-with_a = record { inbox = []; left = []; outbox = delivery a_txt (1 ∷ []) ∷ [] }
+with_a = record nothing { outbox = with_file no_file a_txt (1 ∷ []) }
+
+abbrev pub machine : State → World → Machine
+machine state world = record { state = state; world = world }

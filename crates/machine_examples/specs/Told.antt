@@ -14,13 +14,11 @@ use Rattle.machine_model.specs.declared.flow.Processor.{Processor}
 use Rattle.machine_model.specs.declared.kind.Conflict.TheVariants.{Replace}
 use Rattle.machine_model.specs.declared.kind.Kind.TheVariants.{GetFile, PutFile, SplitText, MergeContent}
 use Rattle.machine_model.specs.declared.kind.MergeStrategy.TheVariants.{BinPacking}
-use Rattle.machine_model.specs.declared.state.QueuedFile.{QueuedFile}
-use Rattle.machine_model.specs.declared.state.State.{State}
+use Rattle.machine_model.specs.State.{QueuedFile, State}
 use Rattle.machine_model.specs.Acting.{received_attributes, passed_on, made_file}
-use Rattle.machine_model.specs.Placing.{Session}
+use Rattle.machine_model.specs.Placing.{EndedSession}
 use Rattle.machine_model.specs.Settling.{settle}
-use Rattle.machine_examples.specs.Small.{hi, both, processor, connection, wide, get_to_put, a_txt, a_file, waiting, state_of, at_moment, told}
-use Rattle.machine_examples.specs.Clones.{kin}
+use Rattle.machine_examples.specs.Small.{hi, both, processor, connection, wide, get_to_put, a_txt, a_file, waiting, state_of, kin_of, at_moment, told}
 
 abbrev pub attributes : AttributeMap
 attributes = received_attributes a_txt
@@ -41,7 +39,7 @@ split = processor (codes "split") (SplitText 1) (codes "original" ∷ codes "fai
 abbrev pub part : (offset : ℕ) → Worked
 part offset = record { origin = origin.Part 0; attributes = attributes; body = body.Part 0 offset 1; end = To 1; written = false; penalised = false; routed = None }
 
-abbrev pub splitting : Session
+abbrev pub splitting : EndedSession
 splitting = record {
   flow = through split (codes "splits");
   place = 1;
@@ -55,7 +53,7 @@ abbrev pub after_split : State
 after_split = record (state_of ([] ∷ (waiting 2 2 attributes (104 ∷ []) ∷ waiting 3 3 attributes (105 ∷ []) ∷ []) ∷ []) 4 4 (0 ∷ 0 ∷ 0 ∷ [])) {
   events = record (told 1 2000 kind.Fork (codes "split") 1 [] hi) { parents = 1 ∷ []; children = 2 ∷ 3 ∷ [] }
       ∷ told 2 2000 kind.Drop (codes "split") 1 (codes "original") hi ∷ [];
-  kin = kin 2 1 ∷ kin 3 1 ∷ [];
+  kin = kin_of ((2, 1) ∷ (3, 1) ∷ []);
 }
 
 abbrev pub SplitTells : Type 0
@@ -69,7 +67,7 @@ merge = processor (codes "merge") (MergeContent BinPacking 1 2) (codes "original
 abbrev pub early : QueuedFile
 early = record (a_file 3 2) { entered = 900 }
 
-abbrev pub joining : Session
+abbrev pub joining : EndedSession
 joining = record {
   flow = through merge (codes "merged");
   place = 1;
@@ -83,7 +81,7 @@ abbrev pub after_join : State
 after_join = record (state_of ([] ∷ (record (waiting 6 3 attributes (hi ++ hi)) { entered = 900 } ∷ []) ∷ []) 7 4 (0 ∷ 0 ∷ 0 ∷ [])) {
   events = record (told 1 2000 kind.Join (codes "merge") 6 [] (hi ++ hi)) { parents = 3 ∷ 5 ∷ []; children = 6 ∷ [] }
       ∷ told 2 2000 kind.Drop (codes "merge") 5 (codes "original") hi ∷ told 3 2000 kind.Drop (codes "merge") 3 (codes "original") hi ∷ [];
-  kin = kin 6 5 ∷ kin 6 3 ∷ [];
+  kin = kin_of ((6, 5) ∷ (6, 3) ∷ []);
 }
 
 abbrev pub JoinTells : Type 0
@@ -93,7 +91,7 @@ JoinTells =
 
 -- ---- a file that is changed, and leaves
 
-abbrev pub changing : Session
+abbrev pub changing : EndedSession
 changing = record {
   flow = get_to_put Replace wide;
   place = 1;

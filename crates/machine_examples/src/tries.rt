@@ -143,10 +143,10 @@ pub fn batches_go_and_come_back()
     ensures waits { BatchMustWait }
     ensures comes { BatchComesBack }
     ensures all { GoesAndComesBack }
-    ensures due { SwapsDueAre (a_file 1 1 ∷ a_file 2 2 ∷ late ∷ []) true false }
-    ensures swapped { SwapsDueAre (a_file 1 1 ∷ a_file 2 2 ∷ late_in_batch ∷ []) false false }
-    ensures expired { SwapsDueAre (a_file 2 2 ∷ late_in_batch ∷ []) false true }
-    ensures none { SwapsDueAre (a_file 2 2 ∷ []) false false }
+    ensures due { SwapsDueAre (a_file 1 1 ∷ a_file 2 2 ∷ late ∷ []) (Some (3 ∷ [])) None }
+    ensures swapped { SwapsDueAre (a_file 1 1 ∷ a_file 2 2 ∷ late_in_batch ∷ []) None None }
+    ensures expired { SwapsDueAre (a_file 2 2 ∷ late_in_batch ∷ []) None (Some 1) }
+    ensures none { SwapsDueAre (a_file 2 2 ∷ []) None None }
 {}
 
 /// A file that goes back stands where it stood, under a penalty if it was penalised.

@@ -7,7 +7,7 @@ returns c = record {
   enough = refl;
   most = refl;
   none = refl;
-  full = λ full is. rw (is, is) refl;
+  full = λ full is. rw is refl;
   room_for_nothing = λ full is. rw is refl;
   nothing_behind = λ full is. rw is refl;
 }
