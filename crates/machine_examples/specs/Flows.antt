@@ -1,13 +1,19 @@
 -- Tried: flows that are sound, and flows that aren't.
-use Rattle.std.specs.Prelude.{ℕ, List, [], ◌∷◌, None, codes}
+use Rattle.std.specs.Prelude.{◌≡◌, ℕ, Bool, List, [], ◌∷◌, Some, None, codes}
 use Rattle.expr_lang.specs.declared.syntax.Expr.{Expr}
+use Rattle.expr_lang.specs.Tree.{Term, embedded, joined}
+use Rattle.expr_lang.specs.View.{tree_of}
 use Rattle.machine_model.specs.declared.flow.Flow.{Flow}
 use Rattle.machine_model.specs.declared.flow.Connection.{Connection}
 use Rattle.machine_model.specs.declared.flow.Processor.{Processor}
 use Rattle.machine_model.specs.declared.kind.Conflict.TheVariants.{Replace}
-use Rattle.machine_model.specs.declared.kind.Kind.TheVariants.{GetFile, PutFile, MergeContent}
+use Rattle.machine_model.specs.declared.kind.Kind.TheVariants.{GetFile, PutFile, AttributesToJson, MergeContent, RouteOnContent}
+use Rattle.machine_model.specs.declared.kind.Destination.TheVariants.{Content}
+use Rattle.machine_model.specs.declared.kind.MatchRequirement.TheVariants.{Exactly, Contains}
+use Rattle.machine_model.specs.declared.kind.OwnPattern.{OwnPattern}
+use Rattle.machine_model.specs.declared.pattern.Pattern.{Pattern}
 use Rattle.machine_model.specs.declared.kind.MergeStrategy.TheVariants.{BinPacking}
-use Rattle.machine_model.specs.Sound.{IsSound}
+use Rattle.machine_model.specs.Sound.{HasText, IsSound, IsSoundKind, are_within_ranges}
 use Rattle.machine_examples.specs.Small.{success, both, processor, connection, wide, get_to_put}
 use Rattle.machine_examples.specs.Clones.{generating}
 use Rattle.machine_examples.specs.Ends.{ring}
@@ -15,10 +21,10 @@ use Rattle.machine_examples.specs.Told.{through}
 
 -- the flows of the other tries
 abbrev pub GeneratingIsSound : Type 0
-GeneratingIsSound = (text : Expr) → IsSound (generating text)
+GeneratingIsSound = (text : Expr) → HasText text → IsSound (generating text)
 
 abbrev pub RingIsSound : Type 0
-RingIsSound = (text : Expr) → IsSound (ring text)
+RingIsSound = (text : Expr) → HasText text → IsSound (ring text)
 
 abbrev pub IsUnsound : Flow → Type 0
 IsUnsound flow = IsSound flow → ⊥
@@ -63,3 +69,30 @@ blank = flow_of (processor (codes "get it") (GetFile None) [] ∷ putting both �
 -- a connection to a processor that isn't there
 abbrev pub nowhere : Flow
 nowhere = flow_of (getting ∷ putting both ∷ []) (connection (codes "c1") 0 2 wide ∷ [])
+
+-- ---- texts and patterns
+
+-- one embedded expression alone is no text that is joined
+abbrev pub AloneIsNotJoined : Type 0
+AloneIsNotJoined = (expression : Expr) (term : Term) → tree_of expression ≡ joined (embedded term ∷ []) → HasText expression → ⊥
+
+-- a filter is marked, and one that isn't is unsound
+abbrev pub MarkedIsSound : Type 0
+MarkedIsSound = (pattern : Pattern) → pattern.text ≡ codes "\\A(?:a)\\z" → IsSoundKind (GetFile (Some pattern))
+
+abbrev pub UnmarkedIsUnsound : Type 0
+UnmarkedIsUnsound = (pattern : Pattern) → pattern.text ≡ codes "a" → IsSoundKind (GetFile (Some pattern)) → ⊥
+
+-- so is a pattern that a whole content must match, but not one that it contains
+abbrev pub by : Pattern → OwnPattern
+by pattern = record { name = codes "red"; pattern = pattern }
+
+abbrev pub ExactIsMarked : Type 0
+ExactIsMarked = (pattern : Pattern) → pattern.text ≡ codes "a" → IsSoundKind (RouteOnContent Exactly (by pattern ∷ [])) → ⊥
+
+abbrev pub ContainedIsNot : Type 0
+ContainedIsNot = (pattern : Pattern) → IsSoundKind (RouteOnContent Contains (by pattern ∷ []))
+
+-- of a list's names
+abbrev pub ListIs : List ℕ → Bool → Type 0
+ListIs name answer = are_within_ranges (AttributesToJson Content (name ∷ [])) ≡ answer

@@ -1,6 +1,5 @@
 -- Small flows, files and steps that the machine's definitions are tried on.
-use Rattle.std.specs.Prelude.{ℕ, ◌+◌, Bool, true, false, List, [], ◌∷◌, length, Option, Some, None, codes}
-use Rattle.std.specs.FinMap.{empty}
+use Rattle.std.specs.Prelude.{ℕ, false, List, [], ◌∷◌, length, None, codes}
 use Rattle.sha2.specs.Sha256.{sha256}
 use Rattle.flowfile_record.specs.Attributes.{AttributeMap}
 use Rattle.flowfile_record.specs.declared.event.Event.{Event}

@@ -10,7 +10,7 @@ ghost use Rattle.machine_examples.specs.Clones.{FourClonesFollow, ClonesArePenal
 ghost use Rattle.machine_examples.specs.Ends.{QuietIs, left_a, taken_a, penalised, BlockedIs, RingIsQuiet, ringed};
 ghost use Rattle.machine_examples.specs.Expiries.{ExpiredIs, OneExpires, NoneExpiresAtOnce, TwoExpire, BatchGoes, BatchMustWait, BatchComesBack, GoesAndComesBack, SwapsDueAre, late, late_in_batch};
 ghost use Rattle.machine_examples.specs.Families.{IsAncestorOf, IsNoAncestorOf, IsDescendantOf, IsNoDescendantOf, Tells, TellsNot, cloned, joined, stranger};
-ghost use Rattle.machine_examples.specs.Flows.{GeneratingIsSound, RingIsSound, IsUnsound, unconnected, terminated, into_source, doubled, tight, turned, blank, nowhere};
+ghost use Rattle.machine_examples.specs.Flows.{GeneratingIsSound, RingIsSound, IsUnsound, MarkedIsSound, ContainedIsNot, ListIs, AloneIsNotJoined, UnmarkedIsUnsound, ExactIsMarked, unconnected, terminated, into_source, doubled, tight, turned, blank, nowhere};
 ghost use Rattle.machine_examples.specs.Orders.{EligibleAre, FullIs, first, second, third, penalised as under_penalty, swapped, since};
 ghost use Rattle.machine_examples.specs.Sizes.{FullIsReceived, TooLongIsNotReceived, TooLongIsLeft};
 ghost use Rattle.machine_examples.specs.Told.{SplitTells, JoinTells, WritingTells, SettingTells, BothTellOne, RemovedTellsNone, UnchangedTellsNone, RoutedTells, through, split, merge};
@@ -304,6 +304,9 @@ pub fn flows_are_sound()
     ensures ring { RingIsSound }
     ensures splitting { IsSound (through split (codes "splits")) }
     ensures merging { IsSound (through merge (codes "merged")) }
+    ensures marked { MarkedIsSound }
+    ensures contained { ContainedIsNot }
+    ensures listed { ListIs (codes "a b") true }
 {}
 
 /// Flows that are wrong in one thing.
@@ -316,4 +319,11 @@ pub fn flows_are_unsound()
     ensures turned { IsUnsound turned }
     ensures blank { IsUnsound blank }
     ensures nowhere { IsUnsound nowhere }
+    ensures alone { AloneIsNotJoined }
+    ensures unmarked { UnmarkedIsUnsound }
+    ensures exact { ExactIsMarked }
+    ensures empty_name { ListIs [] false }
+    ensures comma { ListIs (codes "a,b") false }
+    ensures blank_front { ListIs (codes " a") false }
+    ensures blank_end { ListIs (codes "a ") false }
 {}

@@ -5,9 +5,9 @@ use Rattle.std.specs.List.{flat_map}
 use Rattle.std.proofs.lemmas.Bool.{and_parts, eqb-true}
 use Rattle.machine_model.specs.declared.flow.Connection.{Connection}
 use Rattle.machine_model.specs.State.{QueuedFile, State}
-use Rattle.machine_model.specs.Files.{queue_at, is_number_among}
+use Rattle.machine_model.specs.Files.{queue_at, is_number_among, is_in_batch}
 use Rattle.machine_model.specs.Laws.{AreNumbered, IsWellNumbered, StepsKeepNumbers, ReplaysKeepNumbers}
-use Rattle.machine_model.specs.Stepping.{expire_step, expired, without_files, swap_out_step, swapped_out, swap_in_step, swapped_in, is_in_batch}
+use Rattle.machine_model.specs.Stepping.{expire_step, expired, without_files, swap_out_step, swapped_out, swap_in_step, swapped_in}
 use Rattle.machine_model.proofs.Batches.{astray, astray_batch, rebatched, changed-le, either-le, next-within}
 use Rattle.machine_model.proofs.Keyed.{Counted, counted, numbered}
 use Rattle.machine_model.proofs.Options.{if_when}

@@ -1,8 +1,9 @@
 -- Which files a session has taken: distinct ones of its queue, as many as its rule admits.
-use Rattle.std.proofs.Common.{◌≡◌, ◌≢◌, inl, inr, ℕ, zero, suc, ◌+◌, ◌≤◌, Bool, true, false, cond, List, [], ◌∷◌, length, refl, ap, arith}
+use Rattle.std.proofs.Common.{◌≡◌, ◌≢◌, inl, inr, ℕ, zero, suc, ◌+◌, ◌≤◌, Bool, true, false, cond, List, [], ◌∷◌, length, map, refl, ap, subst, arith}
 use Rattle.std.specs.Prelude.{◌==◌, ◌&&◌, not, All, Contains, Option, Some, None, IfSome, is_some, find, unwrap_or, slice_get, option_and_then}
 use Rattle.std.specs.List.{flat_map, cons_option, list_all, AllPairs}
 use Rattle.std.proofs.lemmas.Bool.{and_parts, eqb-true, leb-true, cases_eq, ne_eqb, true≢false, not-true}
+use Rattle.std.proofs.lemmas.List.{length-map}
 use Rattle.std.proofs.lemmas.List.Elements.{All-nil, All-cons, Contains-append_left, Contains-append_right}
 use Rattle.prioritizer.specs.declared.prioritizer.Prioritizer.{Prioritizer}
 use Rattle.machine_model.specs.declared.flow.Connection.{Connection}
@@ -10,7 +11,8 @@ use Rattle.machine_model.specs.declared.flow.Flow.{Flow}
 use Rattle.machine_model.specs.declared.kind.TakeRule.{TakeRule}
 use Rattle.machine_model.specs.declared.kind.TakeRule.TheVariants.{Source, One, Bin, Defragment}
 use Rattle.machine_model.specs.State.{QueuedFile, State}
-use Rattle.machine_model.specs.Files.{queue_at, are_distinct, is_number_among}
+use Rattle.machine_model.specs.Files.{queue_at, are_distinct, is_number_among, view_of}
+use Rattle.machine_model.specs.View.{FileView}
 use Rattle.machine_model.specs.Laws.{MayTake, files_of_all}
 use Rattle.machine_model.specs.Stepping.{source_of, may_be_taken, admits, is_in_turn, files_of, taken_from, taken_files}
 use Rattle.machine_model.proofs.Keyed.{differ_from_once}
@@ -79,7 +81,7 @@ in_some_queue [] place file h = h
 in_some_queue (queue ∷ queues) zero file h = Contains-append_left queue (flat_map (λ queue. queue) queues) file h
 in_some_queue (queue ∷ queues) (suc place) file h = Contains-append_right queue (flat_map (λ queue. queue) queues) file (in_some_queue queues place file h)
 
-may_take : (rule : TakeRule) (order : List Prioritizer) (files : List QueuedFile) → admits rule order files ≡ true → MayTake rule (length files)
+may_take : (rule : TakeRule) (order : List Prioritizer) (files : List FileView) → admits rule order files ≡ true → MayTake rule (length files)
 may_take Source order files h = eqb-true (length files) 0 h
 may_take One order files h = eqb-true (length files) 1 h
 may_take (Bin min max) order files h =
@@ -99,13 +101,14 @@ took-from : (state : State) (rule : TakeRule) (numbers : List ℕ) (moment place
 took-from state rule numbers moment place connection =
     let queue = queue_at state place in
     let files = files_of queue numbers in
-    if_when (are_distinct numbers && list_all (may_be_taken connection moment) files && admits rule connection.order files) files (Took state rule) (λ passes.
-    let outer = and_parts _ (admits rule connection.order files) passes in
+    let views = map view_of files in
+    if_when (are_distinct numbers && list_all (may_be_taken connection moment) views && admits rule connection.order views) files (Took state rule) (λ passes.
+    let outer = and_parts _ (admits rule connection.order views) passes in
     let distinct = (and_parts (are_distinct numbers) _ outer.0).0 in
     record {
       differ = differ_from_once number_of files (λ n. omega (arith, files-once queue numbers n, distinct-once numbers distinct n));
       there = files-there (Contains (files_of_all state)) queue numbers (λ file in_queue. in_some_queue state.queues place file in_queue);
-      many_enough = may_take rule connection.order files outer.1;
+      many_enough = subst (MayTake rule) (length-map files view_of) (may_take rule connection.order views outer.1);
     })
 
 took-by : (flow : Flow) (state : State) (processor : ℕ) (rule : TakeRule) (numbers : List ℕ) (moment : ℕ)

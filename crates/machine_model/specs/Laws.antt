@@ -26,50 +26,51 @@ use Rattle.machine_model.specs.Lineage.{Lineage, IsLineage}
 use Rattle.machine_model.specs.Order.{goes_before, in_order, is_eligible, best}
 use Rattle.machine_model.specs.Placing.{EndedSession}
 use Rattle.machine_model.specs.Settling.{settle}
+use Rattle.machine_model.specs.View.{FileView}
 use Rattle.machine_model.specs.Stepping.{step, replay}
 
 -- ---- the order of a queue
 
 -- no file goes before itself, and what goes before a file goes before all that the file goes before
 abbrev pub NoneGoesBeforeItself : Type 0
-NoneGoesBeforeItself = (order : List Prioritizer) (file : QueuedFile) → goes_before order file file ≡ false
+NoneGoesBeforeItself = (order : List Prioritizer) (file : FileView) → goes_before order file file ≡ false
 
 abbrev pub GoingBeforeChains : Type 0
-GoingBeforeChains = (order : List Prioritizer) (a b c : QueuedFile) → goes_before order a b ≡ true → goes_before order b c ≡ true → goes_before order a c ≡ true
+GoingBeforeChains = (order : List Prioritizer) (a b c : FileView) → goes_before order a b ≡ true → goes_before order b c ≡ true → goes_before order a c ≡ true
 
 -- of two files whose arrivals differ one goes before the other
 abbrev pub ArrivalsTell : Type 0
-ArrivalsTell = (order : List Prioritizer) (a b : QueuedFile) → a.arrival ≢ b.arrival → (goes_before order a b ≡ true) ⊎ (goes_before order b a ≡ true)
+ArrivalsTell = (order : List Prioritizer) (a b : FileView) → a.arrival ≢ b.arrival → (goes_before order a b ≡ true) ⊎ (goes_before order b a ≡ true)
 
 -- the same files, of which none goes before an earlier one
 abbrev pub OrderKeepsFiles : Type 0
-OrderKeepsFiles = (order : List Prioritizer) (files : List QueuedFile) → IsPermutation files (in_order order files)
+OrderKeepsFiles = (order : List Prioritizer) (files : List FileView) → IsPermutation files (in_order order files)
 
 abbrev pub OrderHolds : Type 0
-OrderHolds = (order : List Prioritizer) (files : List QueuedFile) → AllPairs (λ earlier later. goes_before order later earlier ≡ false) (in_order order files)
+OrderHolds = (order : List Prioritizer) (files : List FileView) → AllPairs (λ earlier later. goes_before order later earlier ≡ false) (in_order order files)
 
 -- where no two have one arrival, no other list has the same files with none behind one that it goes before
-abbrev pub ArrivalsDiffer : List QueuedFile → Type 0
+abbrev pub ArrivalsDiffer : List FileView → Type 0
 ArrivalsDiffer files = AllPairs (λ one other. one.arrival ≢ other.arrival) files
 
 abbrev pub OrderIsOnly : Type 0
-OrderIsOnly = (order : List Prioritizer) (files sorted : List QueuedFile) → ArrivalsDiffer files → IsPermutation files sorted
+OrderIsOnly = (order : List Prioritizer) (files sorted : List FileView) → ArrivalsDiffer files → IsPermutation files sorted
     → AllPairs (λ earlier later. goes_before order later earlier ≡ false) sorted → sorted ≡ in_order order files
 
 -- the file is an eligible one of these files, and no eligible one goes before it
-pub record IsBest (order : List Prioritizer) (limits : QueueLimits) (moment : ℕ) (files : List QueuedFile) (file : QueuedFile) : Type 0 where
+pub record IsBest (order : List Prioritizer) (limits : QueueLimits) (moment : ℕ) (files : List FileView) (file : FileView) : Type 0 where
   pub stands_there : Contains files file
   pub eligible : is_eligible limits moment file ≡ true
   pub first : All (λ other. is_eligible limits moment other ≡ true → goes_before order other file ≡ false) files
 
 -- there is a best file exactly where any is eligible
 abbrev pub BestIsBest : Type 0
-BestIsBest = (order : List Prioritizer) (limits : QueueLimits) (moment : ℕ) (files : List QueuedFile) →
+BestIsBest = (order : List Prioritizer) (limits : QueueLimits) (moment : ℕ) (files : List FileView) →
     MatchOption (best order limits moment files) (All (λ file. is_eligible limits moment file ≡ false) files) (IsBest order limits moment files)
 
 -- where no two have one arrival, no other is that good
 abbrev pub BestIsOnly : Type 0
-BestIsOnly = (order : List Prioritizer) (limits : QueueLimits) (moment : ℕ) (files : List QueuedFile) (file : QueuedFile) → ArrivalsDiffer files
+BestIsOnly = (order : List Prioritizer) (limits : QueueLimits) (moment : ℕ) (files : List FileView) (file : FileView) → ArrivalsDiffer files
     → IsBest order limits moment files file → best order limits moment files ≡ Some file
 
 -- ---- replays

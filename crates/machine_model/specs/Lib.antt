@@ -14,3 +14,4 @@ pub mod Sound
 pub mod State
 pub mod Stepping
 pub mod Taking
+pub mod View

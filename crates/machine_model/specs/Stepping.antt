@@ -1,7 +1,7 @@
 -- A step of the machine, and the replay of a journal.
 use Rattle.std.specs.Prelude.{ℕ, ◌+◌, ◌==◌, ◌&&◌, not, nat_lt, nat_le, Bool, true, false, List, [], ◌∷◌, ◌++◌, length, map, filter, find, Option, Some, None, is_none, is_some, option_map, option_and_then, slice_get, slice_index, slice_set, bytes_eq, if◌then◌else◌}
 use Rattle.std.specs.Option.{option_map_or}
-use Rattle.std.specs.List.{list_all, list_any, enumerate_from, filter_map}
+use Rattle.std.specs.List.{list_all, enumerate_from, filter_map}
 use Rattle.sha2.specs.Sha256.{sha256}
 use Rattle.flowfile_record.specs.declared.TheConstants.{CONTENT_MAX}
 use Rattle.flowfile_record.specs.declared.event.EventKind.TheVariants as kind
@@ -23,13 +23,14 @@ use Rattle.machine_model.specs.declared.kind.TakeRule.TheVariants.{Source, One, 
 use Rattle.machine_model.specs.State.{QueuedFile, State, World, Machine}
 use Rattle.flowfile_record.specs.NamedFile.{bytes_of, with_file}
 use Rattle.machine_model.specs.Acting.{TakenFile, act, passes, name_in}
-use Rattle.machine_model.specs.Due.{batch_size, batches}
+use Rattle.machine_model.specs.Due.{batch_size, lowest_batch}
 use Rattle.machine_model.specs.Events.{Draft, ascending, numbered_from}
-use Rattle.machine_model.specs.Files.{is_penalised, is_expired, active_files, file_numbered, queue_at, are_active, are_distinct, is_number_among}
+use Rattle.machine_model.specs.Files.{active_files, file_numbered, queue_at, are_active, are_distinct, is_number_among, is_in_batch, view_of, queue_view}
 use Rattle.machine_model.specs.Kinds.{take_rule_of}
 use Rattle.machine_model.specs.Order.{goes_before}
 use Rattle.machine_model.specs.Placing.{EndedSession, settled_files, uuid_text}
 use Rattle.machine_model.specs.Settling.{settle}
+use Rattle.machine_model.specs.View.{FileView, is_penalised, is_expired}
 
 -- ---- the world
 
@@ -46,17 +47,17 @@ abbrev pub source_of : Flow → State → ℕ → List ℕ → Option (ℕ × Co
 source_of flow state processor numbers = find (has_all state processor numbers) (enumerate_from 0 flow.connections)
 
 -- neither penalised nor expired
-abbrev pub may_be_taken : Connection → ℕ → QueuedFile → Bool
+abbrev pub may_be_taken : Connection → ℕ → FileView → Bool
 may_be_taken connection moment file = not (is_penalised moment file) && not (is_expired connection.limits.expiration moment file)
 
 -- each of these files goes before the next
-abbrev pub is_in_turn : List Prioritizer → List QueuedFile → Bool
+abbrev pub is_in_turn : List Prioritizer → List FileView → Bool
 is_in_turn order [] = true
 is_in_turn order (file ∷ []) = true
 is_in_turn order (file ∷ next ∷ files) = goes_before order file next && is_in_turn order (next ∷ files)
 
 -- a rule admits so many files, and a bin them in their connection's order
-abbrev pub admits : TakeRule → List Prioritizer → List QueuedFile → Bool
+abbrev pub admits : TakeRule → List Prioritizer → List FileView → Bool
 admits Source order files = length files == 0
 admits One order files = length files == 1
 admits (Bin min max) order files = nat_le 1 (length files) && nat_le (length files) max && is_in_turn order files
@@ -69,7 +70,8 @@ files_of queue numbers = filter_map (file_numbered queue) numbers
 abbrev pub taken_from : State → TakeRule → List ℕ → ℕ → ℕ × Connection → Option (List QueuedFile)
 taken_from state rule numbers moment (place, connection) =
     let files = files_of (queue_at state place) numbers in
-    if are_distinct numbers && list_all (may_be_taken connection moment) files && admits rule connection.order files then Some files else None
+    let views = map view_of files in
+    if are_distinct numbers && list_all (may_be_taken connection moment) views && admits rule connection.order views then Some files else None
 
 -- the files that a session takes, where it may take these
 abbrev pub taken_files : Flow → State → ℕ → TakeRule → List ℕ → ℕ → Option (List QueuedFile)
@@ -190,7 +192,7 @@ abbrev pub expire_step : State → (place : ℕ) → List ℕ → ℕ → Connec
 expire_step state place numbers moment connection =
     let queue = queue_at state place in
     if nat_lt 0 (length numbers) && are_distinct numbers && are_active queue numbers
-    && list_all (is_expired connection.limits.expiration moment) (files_of queue numbers)
+    && list_all (is_expired connection.limits.expiration moment) (map view_of (files_of queue numbers))
     then Some (expired state place connection numbers moment) else None
 
 abbrev pub swapped_out : List ℕ → ℕ → QueuedFile → QueuedFile
@@ -204,20 +206,13 @@ swap_out_step state place numbers batch connection =
     && nat_le (connection.limits.swap + size) (length (active_files queue)) && (batch == state.next_batch)
     then Some (record (with_queue state place (map (swapped_out numbers batch) queue)) { next_batch = batch + 1 }) else None
 
-abbrev pub is_in_batch : ℕ → QueuedFile → Bool
-is_in_batch batch file = option_map_or (λ b. b == batch) file.batch false
-
 abbrev pub swapped_in : ℕ → QueuedFile → QueuedFile
 swapped_in batch file = if is_in_batch batch file then record file { batch = None } else file
-
--- the batch is one of these, and none is lower
-abbrev pub is_lowest : ℕ → List ℕ → Bool
-is_lowest batch all = list_any (λ b. b == batch) all && list_all (nat_le batch) all
 
 abbrev pub swap_in_step : State → (place : ℕ) → (batch : ℕ) → Connection → Option State
 swap_in_step state place batch connection =
     let queue = queue_at state place in
-    if is_lowest batch (batches queue) && nat_lt (length (active_files queue)) connection.limits.swap
+    if option_map_or (λ lowest. lowest == batch) (lowest_batch connection.limits (queue_view queue)) false
     then Some (with_queue state place (map (swapped_in batch) queue)) else None
 
 -- ---- all steps

@@ -15,7 +15,7 @@ mod pattern;
 pub use filter::Filter;
 pub use flow::{Connection, ConnectionList, Flow, Processor, ProcessorList, QueueLimits};
 pub use given::Given;
-pub use journal::{Entry, EntryList, Step};
+pub use journal::{Entry, EntryList, RECLAIM_ENTRIES, Step};
 pub use kind::{
     Conflict, Destination, Kind, MatchRequirement, MergeStrategy, OwnExpression, OwnExpressionList,
     OwnPattern, OwnPatternList, Replacement, TakeRule,

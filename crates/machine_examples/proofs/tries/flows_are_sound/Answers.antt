@@ -1,4 +1,5 @@
-use Rattle.machine_examples.proofs.TriedFlows.{get_to_put-sound, duplicating-sound, generating-sound, ring-sound, splitting-sound, merging-sound}
+use Rattle.std.proofs.Common.{refl}
+use Rattle.machine_examples.proofs.TriedFlows.{get_to_put-sound, duplicating-sound, generating-sound, ring-sound, splitting-sound, merging-sound, marked-sound, contained-not}
 use Rattle.machine_examples.proofs.tries.flows_are_sound.Goals as goal
 
 pub returns : goal.returns
@@ -9,4 +10,7 @@ returns c = record {
   ring = ring-sound;
   splitting = splitting-sound;
   merging = merging-sound;
+  marked = marked-sound;
+  contained = contained-not;
+  listed = refl;
 }
