@@ -1,5 +1,5 @@
 -- That the events of a session tell of the kin of its files, and of no other.
-use Rattle.std.proofs.Common.{◌≡◌, ◌⊎◌, inl, inr, ℕ, ◌+◌, ◌<◌, true, List, [], ◌∷◌, ◌++◌, map, length, refl, sym, ap, subst, ◌∙◌, arith}
+use Rattle.std.proofs.Common.{◌≡◌, ◌⊎◌, inl, inr, ℕ, ◌+◌, ◌<◌, true, List, [], ◌∷◌, ◌++◌, map, length, refl, sym, ap, subst, ◌∙◌}
 use Rattle.std.specs.Prelude.{◌↔◌}
 use Rattle.std.specs.FinSet.{from_list, union}
 use Rattle.std.specs.List.{flat_map}
@@ -12,15 +12,14 @@ use Rattle.flowfile_record.specs.declared.worked.Origin.{Origin}
 use Rattle.flowfile_record.specs.declared.worked.Origin.TheVariants as origin
 use Rattle.flowfile_record.specs.declared.worked.Outcome.{Outcome}
 use Rattle.flowfile_record.specs.declared.event.EventKind.TheVariants as kind
-use Rattle.machine_model.specs.Events.{Draft, of_file, number_at, is_forked_from, forks, joined, clone_event, cloned, sent, drafts, numbered_from, ascending}
+use Rattle.machine_model.specs.Events.{Draft, of_file, number_at, is_forked_from, forks, joined, clone_event, is_cloned_from, clonings, sent, drafts, numbered_from, ascending}
 use Rattle.machine_model.specs.Placing.{EndedSession, SettledFile, SettlementClone, settled_files, settlement_clones}
 use Rattle.machine_model.specs.State.{Kin}
 use Rattle.machine_model.specs.Settling.{kin_of_files}
 use Rattle.machine_model.proofs.Among.{Among, each_among, among_left, among_right, among_either, comes_from, goes_to, is_made, makes, ascending-has}
-use Rattle.machine_model.proofs.Drafted.{IsDraft, IsPlain, first_part, joined_part, cloned_part, modified_part, attributes_part, routed_part, clones_part, dropped_part, plain_first_part, plain_modified_part, plain_attributes_part, plain_routed_part, plain_sent, plain_dropped_part}
+use Rattle.machine_model.proofs.Drafted.{IsDraft, IsPlain, first_part, joined_part, modified_part, attributes_part, routed_part, clones_part, dropped_part, plain_first_part, plain_modified_part, plain_attributes_part, plain_routed_part, plain_sent, plain_dropped_part}
 use Rattle.machine_model.proofs.KinSets.{same_kin, kin_joined}
-use Rattle.machine_model.proofs.Kinships.{Tell, kinship, HasChild, HasClone, only, pair_of, fork_told, forks_tell, joins_tell, clones_tell, settlement_tells}
-use Rattle.machine_model.proofs.Places.{at_place_below, number-at}
+use Rattle.machine_model.proofs.Kinships.{Tell, kinship, HasChild, HasClone, only, pair_of, fork_told, clone_told, forks_tell, joins_tell, clones_tell, settlement_tells}
 use Rattle.machine_model.proofs.Tally.{Each}
 
 -- ---- the kin of files and clones
@@ -96,7 +95,7 @@ drafts-tell session outcome child parent h =
     let from = comes_from (λ draft. kin_of (draft 0)) (drafts session outcome) (child, parent) h in
     let draft = from.source in
     let Q : Type 0 = HasKin session outcome child parent in
-    from_part Q draft (first_part session files) (forks session files) (joined_part session files) (cloned_part session files) (modified_part session files)
+    from_part Q draft (first_part session files) (forks session files) (joined_part session files) (clonings session files) (modified_part session files)
     (attributes_part session files) (routed_part session files) (sent session files outcome.sent) (clones_part session clones) (dropped_part session files)
     (plain_tells (first_part session files) draft child parent Q (plain_first_part session files) from.made)
     (λ here. inl (forks_tell session files child parent draft here from.made))
@@ -122,21 +121,21 @@ tell_one ds draft child parent h k = goes_to (λ draft. kin_of (draft 0)) ds dra
 
 -- the parts that tell of made files: forks, joins and clones
 abbrev telling : EndedSession → List SettledFile → List Draft
-telling session files = first_part session files ++ forks session files ++ joined_part session files ++ cloned_part session files
+telling session files = first_part session files ++ forks session files ++ joined_part session files ++ clonings session files
 
 fork_in : (session : EndedSession) (files : List SettledFile) (child parent : ℕ) → Tell (forks session files) child parent → Tell (telling session files) child parent
 fork_in session files child parent h =
-    let a = first_part session files in let b = forks session files in let c = joined_part session files in let d = cloned_part session files in
+    let a = first_part session files in let b = forks session files in let c = joined_part session files in let d = clonings session files in
     tell_in b (a ++ b ++ c ++ d) child parent (λ draft m. among_left draft (a ++ b ++ c) d (among_left draft (a ++ b) c (among_right draft a b m))) h
 
 join_in : (session : EndedSession) (files : List SettledFile) (child parent : ℕ) → Tell (joined_part session files) child parent → Tell (telling session files) child parent
 join_in session files child parent h =
-    let a = first_part session files in let b = forks session files in let c = joined_part session files in let d = cloned_part session files in
+    let a = first_part session files in let b = forks session files in let c = joined_part session files in let d = clonings session files in
     tell_in c (a ++ b ++ c ++ d) child parent (λ draft m. among_left draft (a ++ b ++ c) d (among_right draft (a ++ b) c m)) h
 
-clone_in : (session : EndedSession) (files : List SettledFile) (child parent : ℕ) → Tell (cloned_part session files) child parent → Tell (telling session files) child parent
+clone_in : (session : EndedSession) (files : List SettledFile) (child parent : ℕ) → Tell (clonings session files) child parent → Tell (telling session files) child parent
 clone_in session files child parent h =
-    let a = first_part session files in let b = forks session files in let c = joined_part session files in let d = cloned_part session files in
+    let a = first_part session files in let b = forks session files in let c = joined_part session files in let d = clonings session files in
     tell_in d (a ++ b ++ c ++ d) child parent (λ draft m. among_right draft (a ++ b ++ c) d m) h
 
 -- a made file of this origin is told of with each parent
@@ -149,16 +148,8 @@ told_of session files file (origin.Part of) place there is named l =
     let forked : is_forked_from place file.worked.origin ≡ true = ap (is_forked_from place) is ∙ eq-eqb of place (only place of named) in
     fork_in session files file.number (number_at files place) (fork_told session files file place there forked l)
 told_of session files file (origin.Cloned of) place there is named l =
-    let same : of ≡ place = only place of named in
-    let at = at_place_below files of (omega arith) in
-    let number : number_at files of ≡ at.element.number = number-at files of at.element at.is in
-    let draft = clone_event session at.element file.number in
-    let here : Among draft (cloned session files file (origin.Cloned of)) = rw at.is (inl refl) in
-    let told : Tell (cloned_part session files) file.number at.element.number
-    = tell_one (cloned_part session files) draft file.number at.element.number
-    (goes_to (λ file. cloned session files file file.worked.origin) files file draft there (subst (λ o. Among draft (cloned session files file o)) (sym is) here))
-    (pair_of (at.element.number ∷ []) (file.number ∷ []) file.number at.element.number (inl refl) (inl refl)) in
-    clone_in session files file.number (number_at files place) (subst (Tell (cloned_part session files) file.number) (sym number ∙ ap (number_at files) same) told)
+    let cloned : is_cloned_from place file.worked.origin ≡ true = ap (is_cloned_from place) is ∙ eq-eqb of place (only place of named) in
+    clone_in session files file.number (number_at files place) (clone_told session files file place there cloned l)
 told_of session files file (origin.Joined parents) place there is named l =
     let draft = of_file session kind.Join file (ascending (map (number_at files) parents)) (file.number ∷ []) [] in
     let here : Among draft (joined session files file (origin.Joined parents)) = inl refl in
@@ -181,7 +172,7 @@ kin-told session outcome sound child parent (inl has) =
     let kin = has.kin in
     let told : Tell (telling session files) has.file.number (number_at files kin.place) = told_of session files has.file has.file.worked.origin kin.place has.there refl kin.named (sound has.file has.there kin.place kin.named) in
     tell_in (telling session files) (drafts session outcome) child parent
-    (λ draft m. in_fourth draft (first_part session files) (forks session files) (joined_part session files) (cloned_part session files) (modified_part session files)
+    (λ draft m. in_fourth draft (first_part session files) (forks session files) (joined_part session files) (clonings session files) (modified_part session files)
     (attributes_part session files) (routed_part session files) (sent session files outcome.sent) (clones_part session (settlement_clones session outcome.files)) (dropped_part session files) m)
     (subst (λ (p : ℕ × ℕ). Tell (telling session files) p.0 p.1) (λ i. (kin.is_child i, kin.is_parent i)) told)
 kin-told session outcome sound child parent (inr has) =

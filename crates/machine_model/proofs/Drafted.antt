@@ -11,7 +11,7 @@ use Rattle.flowfile_record.specs.declared.worked.Origin.{Origin}
 use Rattle.flowfile_record.specs.declared.worked.Origin.TheVariants as origin
 use Rattle.flowfile_record.specs.declared.worked.Outcome.{Outcome}
 use Rattle.flowfile_record.specs.declared.worked.Sent.{Sent}
-use Rattle.machine_model.specs.Events.{Draft, created, received, fork_of, forked_children, forks, joined, clone_event, cloned, modified, attributes_modified, is_removed, routed, sent, dropped, drafts, numbered_from}
+use Rattle.machine_model.specs.Events.{Draft, created, received, fork_of, forked_children, forks, joined, clone_event, copies, clonings, modified, attributes_modified, is_removed, routed, sent, dropped, drafts, numbered_from}
 use Rattle.machine_model.specs.Placing.{EndedSession, SettledFile, SettlementClone, Destination, Queues, Returns, Drops, Leaves, settled_files, settlement_clones}
 use Rattle.machine_model.proofs.Tally.{Each, each-append, each-flat_map, each-map}
 
@@ -82,9 +82,10 @@ draft_joined : (session : EndedSession) (files : List SettledFile) (file : Settl
 draft_joined session files file (origin.Joined parents) = (record { number = λ n. refl; kin = λ n. refl }, tt)
 draft_joined session files file _ = tt
 
-draft_cloned : (session : EndedSession) (files : List SettledFile) (file : SettledFile) (from : Origin) → Each IsDraft (cloned session files file from)
-draft_cloned session files file (origin.Cloned parent) = each-option IsDraft _ (slice_get files parent) (λ original. (record { number = λ n. refl; kin = λ n. refl }, tt))
-draft_cloned session files file _ = tt
+draft_clonings : (session : EndedSession) (files : List SettledFile) → Each IsDraft (clonings session files)
+draft_clonings session files =
+    each-flat_map IsDraft (λ f. map (λ copy. clone_event session f.1 copy.number) (copies files f.0)) (enumerate_from 0 files) (λ f.
+    each-map IsDraft (λ copy. clone_event session f.1 copy.number) (copies files f.0) (λ copy. record { number = λ n. refl; kin = λ n. refl }))
 
 -- ---- all drafts of a session, part by part
 
@@ -93,9 +94,6 @@ first_part session files = flat_map (λ file. created session file file.worked.o
 
 abbrev pub joined_part : EndedSession → List SettledFile → List Draft
 joined_part session files = flat_map (λ file. joined session files file file.worked.origin) files
-
-abbrev pub cloned_part : EndedSession → List SettledFile → List Draft
-cloned_part session files = flat_map (λ file. cloned session files file file.worked.origin) files
 
 abbrev pub modified_part : EndedSession → List SettledFile → List Draft
 modified_part session files = flat_map (λ file. modified session file file.worked.origin) files
@@ -143,7 +141,7 @@ session-drafts session outcome =
     let a = first_part session files in
     let b = forks session files in
     let c = joined_part session files in
-    let d = cloned_part session files in
+    let d = clonings session files in
     let e = modified_part session files in
     let f = attributes_part session files in
     let g = routed_part session files in
@@ -160,7 +158,7 @@ session-drafts session outcome =
     (each-append IsDraft (a ++ b) c
     (each-append IsDraft a b (drafts_of_plain a (plain_first_part session files)) (draft_forks session files))
     (each-flat_map IsDraft (λ file. joined session files file file.worked.origin) files (λ file. draft_joined session files file file.worked.origin)))
-    (each-flat_map IsDraft (λ file. cloned session files file file.worked.origin) files (λ file. draft_cloned session files file file.worked.origin)))
+    (draft_clonings session files))
     (drafts_of_plain e (plain_modified_part session files)))
     (drafts_of_plain f (plain_attributes_part session files)))
     (drafts_of_plain g (plain_routed_part session files)))

@@ -11,6 +11,7 @@ pub mod Keyed
 pub mod KinSets
 pub mod Kinships
 pub mod Numbers
+pub mod OnlyLineage
 pub mod OnlyOrder
 pub mod Options
 pub mod Ordered

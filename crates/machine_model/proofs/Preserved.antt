@@ -7,7 +7,6 @@ use Rattle.machine_model.specs.declared.flow.Connection.{Connection}
 use Rattle.machine_model.specs.declared.flow.Flow.{Flow}
 use Rattle.machine_model.specs.declared.flow.Processor.{Processor}
 use Rattle.machine_model.specs.declared.given.Given.{Given}
-use Rattle.machine_model.specs.declared.journal.Entry.{Entry}
 use Rattle.machine_model.specs.declared.journal.Step.{Step}
 use Rattle.machine_model.specs.declared.journal.Step.TheVariants.{Expire, SwapOut, SwapIn}
 use Rattle.machine_model.specs.declared.journal.Step.TheVariants as entry
@@ -17,7 +16,7 @@ use Rattle.machine_model.specs.Kinds.{take_rule_of}
 use Rattle.machine_model.specs.Laws.{HasTaken, EndsAllInTurn}
 use Rattle.machine_model.specs.Placing.{EndedSession}
 use Rattle.machine_model.specs.Settling.{settle}
-use Rattle.machine_model.specs.Stepping.{step, replay, session_step, session_of, session_after, after_session, taken_files, given_in, as_taken, expire_step, swap_out_step, swap_in_step, same_world}
+use Rattle.machine_model.specs.Stepping.{step, replay, session_step, session_of, session_after, after_session, taken_files, given_at, given_in, as_taken, expire_step, swap_out_step, swap_in_step, same_world}
 use Rattle.machine_model.proofs.Acted.{act-ends}
 use Rattle.machine_model.proofs.Options.{if_and_then, if_map, if_at}
 use Rattle.machine_model.proofs.Took.{Took, taken-took}
@@ -36,13 +35,14 @@ session-kept : (P : State → Type 0) → IsKept P → (flow : Flow) (machine : 
     → IfSome (session_step flow machine place numbers moment given processor) (λ after. P after.state)
 session-kept P kept flow machine place numbers moment given processor before =
     let rule = take_rule_of processor.kind in
-    let at_moment = record given { moment = moment } in
-    if_and_then (λ taken. option_and_then (λ given. after_session machine (session_of flow machine place processor taken given)) (given_in processor.kind place machine.state machine.world taken at_moment))
+    if_and_then (λ taken. option_and_then (λ given. after_session machine (session_of flow machine place processor taken given))
+    (option_and_then (given_in processor.kind place machine.state machine.world taken) (given_at moment given)))
     (taken_files flow machine.state place rule numbers moment) (λ after. P after.state) (λ taken taken_is.
     let took = if_at (taken_files flow machine.state place rule numbers moment) taken (Took machine.state rule) taken_is (taken-took flow machine.state place rule numbers moment) in
     let seen = map (as_taken machine.state) taken in
     let same : length seen ≡ length taken = length-map taken (as_taken machine.state) in
-    if_and_then (λ given. after_session machine (session_of flow machine place processor taken given)) (given_in processor.kind place machine.state machine.world taken at_moment) (λ after. P after.state) (λ found found_is.
+    if_and_then (λ given. after_session machine (session_of flow machine place processor taken given))
+    (option_and_then (given_in processor.kind place machine.state machine.world taken) (given_at moment given)) (λ after. P after.state) (λ found found_is.
     let session = session_of flow machine place processor taken found in
     if_map (session_after machine session) (act processor.kind seen found) (λ after. P after.state) (λ outcome outcome_is.
     kept.settling session outcome (record { differ = took.differ; there = took.there })
@@ -62,8 +62,8 @@ step-kept P kept flow machine (SwapOut place numbers batch) before =
 step-kept P kept flow machine (SwapIn place batch) before =
     in_same_world P machine _ (if_and_then (swap_in_step machine.state place batch) (slice_get flow.connections place) P (λ found is. kept.swap_in machine.state place batch found before))
 
-pub replay-kept : (P : State → Type 0) → IsKept P → (flow : Flow) (machine : Machine) (journal : List Entry) → P machine.state → IfSome (replay flow machine journal) (λ after. P after.state)
+pub replay-kept : (P : State → Type 0) → IsKept P → (flow : Flow) (machine : Machine) (steps : List Step) → P machine.state → IfSome (replay flow machine steps) (λ after. P after.state)
 replay-kept P kept flow machine [] before = before
-replay-kept P kept flow machine (first ∷ journal) before =
-    if_and_then (λ after. replay flow after journal) (step flow machine first.step) (λ after. P after.state) (λ after is.
-    replay-kept P kept flow after journal (if_at (step flow machine first.step) after (λ after. P after.state) is (step-kept P kept flow machine first.step before)))
+replay-kept P kept flow machine (first ∷ steps) before =
+    if_and_then (λ after. replay flow after steps) (step flow machine first) (λ after. P after.state) (λ after is.
+    replay-kept P kept flow after steps (if_at (step flow machine first) after (λ after. P after.state) is (step-kept P kept flow machine first before)))

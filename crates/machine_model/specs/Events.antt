@@ -83,10 +83,17 @@ joined session files file _ = []
 abbrev pub clone_event : EndedSession → SettledFile → (clone : ℕ) → Draft
 clone_event session original clone = of_file session kind.Clone original (original.number ∷ []) (clone ∷ []) []
 
--- of the file that was cloned
-abbrev pub cloned : EndedSession → List SettledFile → SettledFile → Origin → List Draft
-cloned session files clone (origin.Cloned parent) = option_map_or (λ original. clone_event session original clone.number ∷ []) (slice_get files parent) []
-cloned session files clone _ = []
+-- a copy of the file at a place
+abbrev pub is_cloned_from : ℕ → Origin → Bool
+is_cloned_from place (origin.Cloned parent) = parent == place
+is_cloned_from place _ = false
+
+abbrev pub copies : List SettledFile → ℕ → List SettledFile
+copies files place = filter (λ file. is_cloned_from place file.worked.origin) files
+
+-- of each file its copies, by their places
+abbrev pub clonings : EndedSession → List SettledFile → List Draft
+clonings session files = flat_map (λ f. map (λ copy. clone_event session f.1 copy.number) (copies files f.0)) (enumerate_from 0 files)
 
 abbrev pub is_removed : End → Bool
 is_removed Removed = true
@@ -119,7 +126,8 @@ dropped session file (Drops relationship) = alone session kind.Drop file relatio
 dropped session file Leaves = alone session kind.Drop file [] ∷ []
 dropped session file _ = []
 
--- one kind behind the other, and of each kind by place, then by connection
+-- one kind behind the other; of each kind by the place of the file that the event is of, and then by that of the copy, or
+-- by connection
 abbrev pub drafts : EndedSession → Outcome → List Draft
 drafts session outcome =
     let files = settled_files session outcome.files in
@@ -127,7 +135,7 @@ drafts session outcome =
     ++ flat_map (λ file. received session file file.worked.origin) files
     ++ forks session files
     ++ flat_map (λ file. joined session files file file.worked.origin) files
-    ++ flat_map (λ file. cloned session files file file.worked.origin) files
+    ++ clonings session files
     ++ flat_map (λ file. modified session file file.worked.origin) files
     ++ flat_map (λ file. attributes_modified session file file.worked.origin) files
     ++ flat_map (λ file. routed session file file.worked.routed) files

@@ -14,7 +14,6 @@ use Rattle.prioritizer.specs.declared.prioritizer.Prioritizer.{Prioritizer}
 use Rattle.machine_model.specs.declared.flow.Flow.{Flow}
 use Rattle.machine_model.specs.declared.flow.QueueLimits.{QueueLimits}
 use Rattle.machine_model.specs.declared.given.Given.{Given}
-use Rattle.machine_model.specs.declared.journal.Entry.{Entry}
 use Rattle.machine_model.specs.declared.journal.Step.{Step}
 use Rattle.machine_model.specs.declared.kind.Kind.{Kind}
 use Rattle.machine_model.specs.declared.kind.Kind.TheVariants.{GenerateFlowFile}
@@ -23,6 +22,7 @@ use Rattle.machine_model.specs.declared.kind.TakeRule.TheVariants.{Source, One, 
 use Rattle.machine_model.specs.State.{QueuedFile, State, Machine}
 use Rattle.machine_model.specs.Acting.{TakenFile, act, generated_text}
 use Rattle.machine_model.specs.Kinds.{take_rule_of, relationships_of}
+use Rattle.machine_model.specs.Lineage.{Lineage, IsLineage}
 use Rattle.machine_model.specs.Order.{goes_before, in_order, is_eligible, best}
 use Rattle.machine_model.specs.Placing.{EndedSession}
 use Rattle.machine_model.specs.Settling.{settle}
@@ -76,12 +76,12 @@ BestIsOnly = (order : List Prioritizer) (limits : QueueLimits) (moment : ℕ) (f
 -- ---- replays
 
 abbrev pub ReplayOfOneMore : Type 0
-ReplayOfOneMore = (flow : Flow) (machine : Machine) (journal : List Entry) (entry : Entry) →
-    replay flow machine (journal ++ entry ∷ []) ≡ option_and_then (λ after. step flow after entry.step) (replay flow machine journal)
+ReplayOfOneMore = (flow : Flow) (machine : Machine) (steps : List Step) (last : Step) →
+    replay flow machine (steps ++ last ∷ []) ≡ option_and_then (λ after. step flow after last) (replay flow machine steps)
 
 abbrev pub ReplayOfJoined : Type 0
-ReplayOfJoined = (flow : Flow) (machine : Machine) (journal further : List Entry) →
-    replay flow machine (journal ++ further) ≡ option_and_then (λ after. replay flow after further) (replay flow machine journal)
+ReplayOfJoined = (flow : Flow) (machine : Machine) (front back : List Step) →
+    replay flow machine (front ++ back) ≡ option_and_then (λ after. replay flow after back) (replay flow machine front)
 
 -- ---- outcomes
 
@@ -152,11 +152,11 @@ SettlingKeepsNumbers = (session : EndedSession) (outcome : Outcome) → IsWellNu
     IsWellNumbered (settle session outcome)
 
 abbrev pub StepsKeepNumbers : Type 0
-StepsKeepNumbers = (flow : Flow) (machine : Machine) (entry : Step) → IsWellNumbered machine.state → IfSome (step flow machine entry) (λ after. IsWellNumbered after.state)
+StepsKeepNumbers = (flow : Flow) (machine : Machine) (one : Step) → IsWellNumbered machine.state → IfSome (step flow machine one) (λ after. IsWellNumbered after.state)
 
 abbrev pub ReplaysKeepNumbers : Type 0
-ReplaysKeepNumbers = (flow : Flow) (machine : Machine) (journal : List Entry) → IsWellNumbered machine.state →
-    IfSome (replay flow machine journal) (λ after. IsWellNumbered after.state)
+ReplaysKeepNumbers = (flow : Flow) (machine : Machine) (steps : List Step) → IsWellNumbered machine.state →
+    IfSome (replay flow machine steps) (λ after. IsWellNumbered after.state)
 
 -- ---- events
 
@@ -168,18 +168,18 @@ abbrev pub SettlingNumbersEvents : Type 0
 SettlingNumbersEvents = (session : EndedSession) (outcome : Outcome) → AreEventsInRow session.state → AreEventsInRow (settle session outcome)
 
 abbrev pub StepsNumberEvents : Type 0
-StepsNumberEvents = (flow : Flow) (machine : Machine) (entry : Step) → AreEventsInRow machine.state → IfSome (step flow machine entry) (λ after. AreEventsInRow after.state)
+StepsNumberEvents = (flow : Flow) (machine : Machine) (one : Step) → AreEventsInRow machine.state → IfSome (step flow machine one) (λ after. AreEventsInRow after.state)
 
 abbrev pub ReplaysNumberEvents : Type 0
-ReplaysNumberEvents = (flow : Flow) (machine : Machine) (journal : List Entry) → AreEventsInRow machine.state →
-    IfSome (replay flow machine journal) (λ after. AreEventsInRow after.state)
+ReplaysNumberEvents = (flow : Flow) (machine : Machine) (steps : List Step) → AreEventsInRow machine.state →
+    IfSome (replay flow machine steps) (λ after. AreEventsInRow after.state)
 
 -- events are added behind those that there are, and none is changed
 abbrev pub AddsEvents : (before after : State) → Type 0
 AddsEvents before after = (more : List Event) × (after.events ≡ before.events ++ more)
 
 abbrev pub ReplaysAddEvents : Type 0
-ReplaysAddEvents = (flow : Flow) (machine : Machine) (journal : List Entry) → IfSome (replay flow machine journal) (λ after. AddsEvents machine.state after.state)
+ReplaysAddEvents = (flow : Flow) (machine : Machine) (steps : List Step) → IfSome (replay flow machine steps) (λ after. AddsEvents machine.state after.state)
 
 -- ---- kin
 
@@ -191,8 +191,13 @@ abbrev pub SettlingTellsKin : Type 0
 SettlingTellsKin = (session : EndedSession) (outcome : Outcome) → EndsAllInTurn (length session.taken) outcome → EventsTellKin session.state → EventsTellKin (settle session outcome)
 
 abbrev pub StepsTellKin : Type 0
-StepsTellKin = (flow : Flow) (machine : Machine) (entry : Step) → EventsTellKin machine.state → IfSome (step flow machine entry) (λ after. EventsTellKin after.state)
+StepsTellKin = (flow : Flow) (machine : Machine) (one : Step) → EventsTellKin machine.state → IfSome (step flow machine one) (λ after. EventsTellKin after.state)
 
 abbrev pub ReplaysTellKin : Type 0
-ReplaysTellKin = (flow : Flow) (machine : Machine) (journal : List Entry) → EventsTellKin machine.state →
-    IfSome (replay flow machine journal) (λ after. EventsTellKin after.state)
+ReplaysTellKin = (flow : Flow) (machine : Machine) (steps : List Step) → EventsTellKin machine.state →
+    IfSome (replay flow machine steps) (λ after. EventsTellKin after.state)
+
+-- ---- lineages
+
+abbrev pub LineageIsOnly : Type 0
+LineageIsOnly = (events : List Event) (file : ℕ) (one other : Lineage) → IsLineage events file one → IsLineage events file other → one ≡ other

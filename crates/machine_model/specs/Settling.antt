@@ -1,5 +1,5 @@
 -- The state that a session leaves.
-use Rattle.std.specs.Prelude.{ℕ, ◌+◌, ◌==◌, List, [], ◌∷◌, ◌++◌, length, map, find, Option, Some, None, slice_index, slice_set, if◌then◌else◌}
+use Rattle.std.specs.Prelude.{ℕ, ◌+◌, ◌==◌, List, [], ◌∷◌, ◌++◌, length, map, find, Option, Some, None, slice_set, if◌then◌else◌}
 use Rattle.std.specs.FinSet.{union, from_list}
 use Rattle.std.specs.List.{flat_map, enumerate_from}
 use Rattle.machine_model.specs.declared.kind.Kind.{Kind}
@@ -60,10 +60,10 @@ kin_of_files files clones =
     flat_map (λ file. map (λ place. (file.number, number_at files place)) (parents_of file.worked.origin)) files
     ++ map (λ clone. (clone.number, clone.original.number)) clones
 
--- one more for a generator
-abbrev pub counts_after : Kind → (place : ℕ) → List ℕ → List ℕ
-counts_after (GenerateFlowFile count text) place counts = slice_set counts place (slice_index counts place + 1)
-counts_after _ place counts = counts
+-- a generator has made as many files as the index says that it was given
+abbrev pub counts_after : Kind → (place index : ℕ) → List ℕ → List ℕ
+counts_after (GenerateFlowFile count text) place index counts = slice_set counts place index
+counts_after _ place index counts = counts
 
 abbrev pub settle : EndedSession → Outcome → State
 settle session outcome =
@@ -77,5 +77,5 @@ settle session outcome =
       kin = union state.kin (from_list (kin_of_files files clones));
       next_number = state.next_number + count_made outcome.files + length clones;
       next_arrival = state.next_arrival + length arriving_files;
-      counts = counts_after session.processor.kind session.place state.counts;
+      counts = counts_after session.processor.kind session.place session.given.index state.counts;
     }

@@ -1,10 +1,11 @@
 -- A step of the machine, and the replay of a journal.
-use Rattle.std.specs.Prelude.{ℕ, ◌+◌, ◌==◌, ◌&&◌, not, nat_lt, nat_le, Bool, true, false, List, [], ◌∷◌, ◌++◌, length, map, filter, find, Option, Some, None, is_some, option_map, option_and_then, slice_get, slice_index, slice_set, bytes_eq, if◌then◌else◌}
+use Rattle.std.specs.Prelude.{ℕ, ◌+◌, ◌==◌, ◌&&◌, not, nat_lt, nat_le, Bool, true, false, List, [], ◌∷◌, ◌++◌, length, map, filter, find, Option, Some, None, is_none, is_some, option_map, option_and_then, slice_get, slice_index, slice_set, bytes_eq, if◌then◌else◌}
 use Rattle.std.specs.Option.{option_map_or}
 use Rattle.std.specs.List.{list_all, enumerate_from, filter_map}
 use Rattle.sha2.specs.Sha256.{sha256}
 use Rattle.flowfile_record.specs.declared.TheConstants.{CONTENT_MAX}
 use Rattle.flowfile_record.specs.declared.event.EventKind.TheVariants as kind
+use Rattle.prioritizer.specs.declared.prioritizer.Prioritizer.{Prioritizer}
 use Rattle.machine_model.specs.declared.pattern.Pattern.{Pattern}
 use Rattle.flowfile_record.specs.declared.worked.Outcome.{Outcome}
 use Rattle.flowfile_record.specs.declared.worked.Sent.{Sent}
@@ -12,7 +13,6 @@ use Rattle.machine_model.specs.declared.flow.Connection.{Connection}
 use Rattle.machine_model.specs.declared.flow.Flow.{Flow}
 use Rattle.machine_model.specs.declared.flow.Processor.{Processor}
 use Rattle.machine_model.specs.declared.given.Given.{Given}
-use Rattle.machine_model.specs.declared.journal.Entry.{Entry}
 use Rattle.machine_model.specs.declared.journal.Step.{Step}
 use Rattle.machine_model.specs.declared.journal.Step.TheVariants.{Expire, SwapOut, SwapIn}
 use Rattle.machine_model.specs.declared.journal.Step.TheVariants as entry
@@ -25,9 +25,9 @@ use Rattle.flowfile_record.specs.NamedFile.{bytes_of, with_file}
 use Rattle.machine_model.specs.Acting.{TakenFile, act, passes, name_in}
 use Rattle.machine_model.specs.Due.{batch_size, lowest_batch}
 use Rattle.machine_model.specs.Events.{Draft, ascending, numbered_from}
-use Rattle.machine_model.specs.Files.{active_files, file_numbered, queue_at, are_active, are_distinct, is_number_among, is_in_batch, view_of, active_views, queue_view}
+use Rattle.machine_model.specs.Files.{active_files, file_numbered, queue_at, are_active, are_distinct, is_number_among, is_in_batch, view_of, queue_view}
 use Rattle.machine_model.specs.Kinds.{take_rule_of}
-use Rattle.machine_model.specs.Order.{eligible_files}
+use Rattle.machine_model.specs.Order.{goes_before}
 use Rattle.machine_model.specs.Placing.{EndedSession, settled_files, uuid_text}
 use Rattle.machine_model.specs.Settling.{settle}
 use Rattle.machine_model.specs.View.{FileView, is_penalised, is_expired}
@@ -50,19 +50,18 @@ source_of flow state processor numbers = find (has_all state processor numbers) 
 abbrev pub may_be_taken : Connection → ℕ → FileView → Bool
 may_be_taken connection moment file = not (is_penalised moment file) && not (is_expired connection.limits.expiration moment file)
 
--- these files stand in the order of the eligible ones
-abbrev pub is_in_turn : List FileView → List ℕ → Bool
-is_in_turn files [] = true
-is_in_turn [] (number ∷ numbers) = false
-is_in_turn (file ∷ files) (number ∷ numbers) =
-    if file.number == number then is_in_turn files numbers else is_in_turn files (number ∷ numbers)
+-- each of these files goes before the next
+abbrev pub is_in_turn : List Prioritizer → List FileView → Bool
+is_in_turn order [] = true
+is_in_turn order (file ∷ []) = true
+is_in_turn order (file ∷ next ∷ files) = goes_before order file next && is_in_turn order (next ∷ files)
 
--- a rule admits so many files of a connection at a moment
-abbrev pub admits : TakeRule → List FileView → List ℕ → Bool
-admits Source eligible numbers = length numbers == 0
-admits One eligible numbers = length numbers == 1
-admits (Bin min max) eligible numbers = nat_le 1 (length numbers) && nat_le (length numbers) max && is_in_turn eligible numbers
-admits Defragment eligible numbers = nat_le 1 (length numbers) && nat_le (length numbers) 1000
+-- a rule admits so many files, and a bin them in their connection's order
+abbrev pub admits : TakeRule → List Prioritizer → List FileView → Bool
+admits Source order files = length files == 0
+admits One order files = length files == 1
+admits (Bin min max) order files = nat_le 1 (length files) && nat_le (length files) max && is_in_turn order files
+admits Defragment order files = nat_le 1 (length files) && nat_le (length files) 1000
 
 -- the taken files, by place
 abbrev pub files_of : List QueuedFile → List ℕ → List QueuedFile
@@ -70,10 +69,9 @@ files_of queue numbers = filter_map (file_numbered queue) numbers
 
 abbrev pub taken_from : State → TakeRule → List ℕ → ℕ → ℕ × Connection → Option (List QueuedFile)
 taken_from state rule numbers moment (place, connection) =
-    let queue = queue_at state place in
-    let files = files_of queue numbers in
-    let eligible = eligible_files connection.order connection.limits moment (active_views queue) in
-    if are_distinct numbers && list_all (may_be_taken connection moment) (map view_of files) && admits rule eligible numbers then Some files else None
+    let files = files_of (queue_at state place) numbers in
+    let views = map view_of files in
+    if are_distinct numbers && list_all (may_be_taken connection moment) views && admits rule connection.order views then Some files else None
 
 -- the files that a session takes, where it may take these
 abbrev pub taken_files : Flow → State → ℕ → TakeRule → List ℕ → ℕ → Option (List QueuedFile)
@@ -100,6 +98,10 @@ is_there world files =
 abbrev pub same_bool : Bool → Bool → Bool
 same_bool true b = b
 same_bool false b = not b
+
+-- a step keeps none of the bytes that its session is given
+abbrev pub given_at : ℕ → Given → Option Given
+given_at moment given = if is_none given.bytes then Some (record given { moment = moment }) else None
 
 -- what a session is given stands in the state and the world; a GetFile is given the file's bytes beside its name
 abbrev pub given_in : Kind → (place : ℕ) → State → World → List QueuedFile → Given → Option Given
@@ -153,7 +155,7 @@ abbrev pub session_step : Flow → Machine → (place : ℕ) → List ℕ → �
 session_step flow machine place numbers moment given processor =
     option_and_then (λ taken.
     option_and_then (λ given. after_session machine (session_of flow machine place processor taken given))
-    (given_in processor.kind place machine.state machine.world taken (record given { moment = moment })))
+    (option_and_then (given_in processor.kind place machine.state machine.world taken) (given_at moment given)))
     (taken_files flow machine.state place (take_rule_of processor.kind) numbers moment)
 
 -- ---- the queues' own steps
@@ -228,7 +230,7 @@ step flow machine (SwapOut connection numbers batch) =
 step flow machine (SwapIn connection batch) =
     same_world machine.world (option_and_then (swap_in_step machine.state connection batch) (slice_get flow.connections connection))
 
--- a journal's steps, one after the other
-abbrev pub replay : Flow → Machine → List Entry → Option Machine
+-- one step after the other
+abbrev pub replay : Flow → Machine → List Step → Option Machine
 replay flow machine [] = Some machine
-replay flow machine (first ∷ journal) = option_and_then (λ after. replay flow after journal) (step flow machine first.step)
+replay flow machine (first ∷ steps) = option_and_then (λ after. replay flow after steps) (step flow machine first)

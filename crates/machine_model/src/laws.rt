@@ -1,5 +1,5 @@
 //! What holds of the machine's definitions, each law as the contract of a function that does nothing.
-ghost use Rattle.machine_model.specs.Laws.{NoneGoesBeforeItself, GoingBeforeChains, ArrivalsTell, OrderKeepsFiles, OrderHolds, OrderIsOnly, BestIsBest, BestIsOnly, ReplayOfOneMore, ReplayOfJoined, ActsEndAllInTurn, ActsGiveOutcomes, SettlingKeepsNumbers, StepsKeepNumbers, ReplaysKeepNumbers, SettlingNumbersEvents, StepsNumberEvents, ReplaysNumberEvents, ReplaysAddEvents, SettlingTellsKin, StepsTellKin, ReplaysTellKin};
+ghost use Rattle.machine_model.specs.Laws.{NoneGoesBeforeItself, GoingBeforeChains, ArrivalsTell, OrderKeepsFiles, OrderHolds, OrderIsOnly, BestIsBest, BestIsOnly, ReplayOfOneMore, ReplayOfJoined, ActsEndAllInTurn, ActsGiveOutcomes, SettlingKeepsNumbers, StepsKeepNumbers, ReplaysKeepNumbers, SettlingNumbersEvents, StepsNumberEvents, ReplaysNumberEvents, ReplaysAddEvents, SettlingTellsKin, StepsTellKin, ReplaysTellKin, LineageIsOnly};
 
 /// The order of a queue is a total one of files whose arrivals differ.
 pub fn order_is_total()
@@ -61,4 +61,9 @@ pub fn replays_tell_kin()
     ensures settling { SettlingTellsKin }
     ensures one_step { StepsTellKin }
     ensures replay { ReplaysTellKin }
+{}
+
+/// A file has one lineage.
+pub fn lineage_is_only()
+    ensures { LineageIsOnly }
 {}
