@@ -6,7 +6,8 @@ use Rattle.machine_model.specs.State.{State}
 use Rattle.std.specs.Prelude.{map}
 use Rattle.machine_model.specs.Events.{ascending, drafts}
 use Rattle.machine_model.specs.Files.{queue_at}
-use Rattle.machine_model.specs.Laws.{AreEventsInRow, AddsEvents, SettlingNumbersEvents, StepsNumberEvents, ReplaysNumberEvents, ReplaysAddEvents}
+use Rattle.machine_model.specs.Laws.{AddsEvents, SettlingNumbersEvents, StepsNumberEvents, ReplaysNumberEvents, ReplaysAddEvents}
+use Rattle.machine_model.specs.Valid.{AreEventsInRow}
 use Rattle.machine_model.specs.Stepping.{expired, expiry_of, files_of}
 use Rattle.machine_model.proofs.Drafted.{IsDraft, session-drafts, row_goes_on}
 use Rattle.machine_model.proofs.Options.{if_when}

@@ -11,7 +11,8 @@ use Rattle.flowfile_record.specs.declared.worked.Worked.{Worked}
 use Rattle.machine_model.specs.State.{QueuedFile, Kin}
 use Rattle.machine_model.specs.Events.{Draft, ascending, drafts, numbered_from}
 use Rattle.machine_model.specs.Files.{queue_at}
-use Rattle.machine_model.specs.Laws.{EventsTellKin, SettlingTellsKin, StepsTellKin, ReplaysTellKin}
+use Rattle.machine_model.specs.Laws.{SettlingTellsKin, StepsTellKin, ReplaysTellKin}
+use Rattle.machine_model.specs.Valid.{EventsTellKin}
 use Rattle.machine_model.specs.Placing.{EndedSession, SettledFile, settled_file, settled_files, settlement_clones, numbers_from, next_behind, entered_by, entered_in}
 use Rattle.machine_model.specs.Settling.{kin_of_files}
 use Rattle.machine_model.specs.Stepping.{expired, expiry_of, files_of}

@@ -27,6 +27,7 @@ use Rattle.machine_model.specs.Order.{goes_before, in_order, is_eligible, best}
 use Rattle.machine_model.specs.Placing.{EndedSession}
 use Rattle.machine_model.specs.Settling.{settle}
 use Rattle.machine_model.specs.View.{FileView}
+use Rattle.machine_model.specs.Valid.{files_of_all, IsWellNumbered, AreEventsInRow, EventsTellKin, IsValid, new_state}
 use Rattle.machine_model.specs.Stepping.{step, replay}
 
 -- ---- the order of a queue
@@ -123,25 +124,6 @@ ActsGiveOutcomes = (kind : Kind) (taken : List TakenFile) (given : Given) → Ma
 
 -- ---- numbers and arrivals
 
-abbrev pub files_of_all : State → List QueuedFile
-files_of_all state = flat_map (λ queue. queue) state.queues
-
--- no two files have one number, and none has the next one or a higher
-pub record AreNumbered (number : QueuedFile → ℕ) (next : ℕ) (files : List QueuedFile) : Type 0 where
-  pub differ : AllPairs (λ one other. number one ≢ number other) files
-  pub below : All (λ file. number file < next) files
-
--- a batch, if the file is swapped out, is 1 or higher, and lower than the next one
-abbrev pub HasBatchBelow : (next : ℕ) → QueuedFile → Type 0
-HasBatchBelow next file = IfSome file.batch (λ batch. (1 ≤ batch) × (batch < next))
-
--- what holds of the numbers, the arrivals and the batches of all files in the queues
-pub record IsWellNumbered (state : State) : Type 0 where
-  pub numbers : AreNumbered (λ file. file.number) state.next_number (files_of_all state)
-  pub arrivals : AreNumbered (λ file. file.arrival) state.next_arrival (files_of_all state)
-  pub first_batch : 1 ≤ state.next_batch
-  pub batches : All (HasBatchBelow state.next_batch) (files_of_all state)
-
 -- the files that a session took are files of the queues, each another one
 pub record HasTaken (session : EndedSession) : Type 0 where
   pub differ : AllPairs (λ (one other : QueuedFile). one.number ≢ other.number) session.taken
@@ -159,10 +141,6 @@ ReplaysKeepNumbers = (flow : Flow) (machine : Machine) (steps : List Step) → I
     IfSome (replay flow machine steps) (λ after. IsWellNumbered after.state)
 
 -- ---- events
-
--- the events are numbered 1, 2, 3 and so on
-abbrev pub AreEventsInRow : State → Type 0
-AreEventsInRow state = map (λ event. event.number) state.events ≡ range_with_len 1 (length state.events)
 
 abbrev pub SettlingNumbersEvents : Type 0
 SettlingNumbersEvents = (session : EndedSession) (outcome : Outcome) → AreEventsInRow session.state → AreEventsInRow (settle session outcome)
@@ -183,10 +161,6 @@ ReplaysAddEvents = (flow : Flow) (machine : Machine) (steps : List Step) → IfS
 
 -- ---- kin
 
--- the kin is the set of what the events name
-abbrev pub EventsTellKin : State → Type 0
-EventsTellKin state = state.kin ≡ from_list (kin_of_all state.events)
-
 abbrev pub SettlingTellsKin : Type 0
 SettlingTellsKin = (session : EndedSession) (outcome : Outcome) → EndsAllInTurn (length session.taken) outcome → EventsTellKin session.state → EventsTellKin (settle session outcome)
 
@@ -196,6 +170,18 @@ StepsTellKin = (flow : Flow) (machine : Machine) (one : Step) → EventsTellKin 
 abbrev pub ReplaysTellKin : Type 0
 ReplaysTellKin = (flow : Flow) (machine : Machine) (steps : List Step) → EventsTellKin machine.state →
     IfSome (replay flow machine steps) (λ after. EventsTellKin after.state)
+
+-- ---- valid states
+
+abbrev pub NewStatesAreValid : Type 0
+NewStatesAreValid = (flow : Flow) (lot : ℕ) → IsValid flow (new_state flow lot)
+
+abbrev pub StepsStayValid : Type 0
+StepsStayValid = (flow : Flow) (machine : Machine) (one : Step) → IsValid flow machine.state → IfSome (step flow machine one) (λ after. IsValid flow after.state)
+
+abbrev pub ReplaysStayValid : Type 0
+ReplaysStayValid = (flow : Flow) (machine : Machine) (steps : List Step) → IsValid flow machine.state →
+    IfSome (replay flow machine steps) (λ after. IsValid flow after.state)
 
 -- ---- lineages
 
