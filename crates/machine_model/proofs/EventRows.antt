@@ -17,7 +17,7 @@ use Rattle.machine_model.proofs.Tally.{each-map}
 pub settle-numbers : SettlingNumbersEvents
 settle-numbers session outcome before = row_goes_on session.state.events (drafts session outcome) (session-drafts session outcome) before
 
-row-kept : IsKept AreEventsInRow
+pub row-kept : IsKept AreEventsInRow
 row-kept = record {
   settling = λ session outcome taken is_outcome before. settle-numbers session outcome before;
   expiry = λ state place numbers moment connection before.

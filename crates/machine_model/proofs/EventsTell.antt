@@ -86,7 +86,7 @@ none_told : (events : List Event) (k : ℕ) (ds : List Draft) (kin : Kin) → Ea
 none_told events k ds kin honest none before =
     before ∙ ap from_list (sym (kin_of_joined events k ds honest ∙ ap (λ xs. kin_of_all events ++ xs) none ∙ append-nil (kin_of_all events)))
 
-kin-kept : IsKept EventsTellKin
+pub kin-kept : IsKept EventsTellKin
 kin-kept = record {
   settling = λ session outcome taken is_outcome before. settle-tells session outcome is_outcome before;
   expiry = λ state place numbers moment connection before.

@@ -2,6 +2,7 @@ pub mod Acted
 pub mod ActedWhole
 pub mod Among
 pub mod Ancestry
+pub mod BatchPlaces
 pub mod Batches
 pub mod Crosses
 pub mod Drafted
@@ -18,6 +19,7 @@ pub mod Ordered
 pub mod Outcomes
 pub mod Places
 pub mod Preserved
+pub mod QueueOrder
 pub mod Replayed
 pub mod Settled
 pub mod SettledNumbers
@@ -25,3 +27,4 @@ pub mod SettlingKeeps
 pub mod Stepped
 pub mod Tally
 pub mod Took
+pub mod Validity

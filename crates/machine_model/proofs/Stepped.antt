@@ -93,7 +93,7 @@ swap_in-keeps state place batch connection before =
 
 -- ---- all steps
 
-well-numbered-kept : IsKept IsWellNumbered
+pub well-numbered-kept : IsKept IsWellNumbered
 well-numbered-kept = record {
   settling = λ session outcome taken is_outcome before. settle-keeps session outcome before taken is_outcome;
   expiry = expire-keeps;

@@ -1,10 +1,8 @@
 -- What holds of the machine: of the order of queues, of outcomes, of numbers, of events and of replays.
 use Rattle.std.specs.Prelude.{map, ◌≡◌, ◌≢◌, ◌⊎◌, ℕ, ◌^◌, ◌<◌, ◌≤◌, true, false, List, [], ◌∷◌, ◌++◌, All, Contains, MatchOption, IfSome, option_and_then, length, Some}
-use Rattle.std.specs.FinSet.{from_list}
-use Rattle.std.specs.List.{range_with_len, AllPairs, flat_map}
+use Rattle.std.specs.List.{AllPairs}
 use Rattle.std.specs.List.Sorted.{IsPermutation}
 use Rattle.flowfile_record.specs.Attributes.{IsWithinLimits}
-use Rattle.flowfile_record.specs.Kin.{kin_of_all}
 use Rattle.flowfile_record.specs.Name.{IsName}
 use Rattle.flowfile_record.specs.Outcome.{AreInTurn, IsOutcome}
 use Rattle.flowfile_record.specs.declared.TheConstants.{CONTENT_MAX}

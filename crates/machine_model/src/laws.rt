@@ -1,5 +1,5 @@
 //! What holds of the machine's definitions, each law as the contract of a function that does nothing.
-ghost use Rattle.machine_model.specs.Laws.{NoneGoesBeforeItself, GoingBeforeChains, ArrivalsTell, OrderKeepsFiles, OrderHolds, OrderIsOnly, BestIsBest, BestIsOnly, ReplayOfOneMore, ReplayOfJoined, ActsEndAllInTurn, ActsGiveOutcomes, SettlingKeepsNumbers, StepsKeepNumbers, ReplaysKeepNumbers, SettlingNumbersEvents, StepsNumberEvents, ReplaysNumberEvents, ReplaysAddEvents, SettlingTellsKin, StepsTellKin, ReplaysTellKin, LineageIsOnly};
+ghost use Rattle.machine_model.specs.Laws.{NoneGoesBeforeItself, GoingBeforeChains, ArrivalsTell, OrderKeepsFiles, OrderHolds, OrderIsOnly, BestIsBest, BestIsOnly, ReplayOfOneMore, ReplayOfJoined, ActsEndAllInTurn, ActsGiveOutcomes, SettlingKeepsNumbers, StepsKeepNumbers, ReplaysKeepNumbers, SettlingNumbersEvents, StepsNumberEvents, ReplaysNumberEvents, ReplaysAddEvents, SettlingTellsKin, StepsTellKin, ReplaysTellKin, NewStatesAreValid, StepsStayValid, ReplaysStayValid, LineageIsOnly};
 
 /// The order of a queue is a total one of files whose arrivals differ.
 pub fn order_is_total()
@@ -61,6 +61,13 @@ pub fn replays_tell_kin()
     ensures settling { SettlingTellsKin }
     ensures one_step { StepsTellKin }
     ensures replay { ReplaysTellKin }
+{}
+
+/// A new store's state is valid, and steps and replays leave a valid one behind a valid one.
+pub fn states_stay_valid()
+    ensures new { NewStatesAreValid }
+    ensures one_step { StepsStayValid }
+    ensures replay { ReplaysStayValid }
 {}
 
 /// A file has one lineage.

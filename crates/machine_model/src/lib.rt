@@ -23,6 +23,6 @@ pub use kind::{
 pub use laws::{
     acts_give_outcomes, best_is_first, lineage_is_only, order_is_total, order_sorts,
     replay_goes_on, replays_keep_numbers, replays_number_events, replays_tell_kin,
-    settling_keeps_numbers,
+    settling_keeps_numbers, states_stay_valid,
 };
 pub use pattern::Pattern;
