@@ -19,7 +19,7 @@ settle-numbers session outcome before = row_goes_on session.state.events (drafts
 
 pub row-kept : IsKept AreEventsInRow
 row-kept = record {
-  settling = λ session outcome taken is_outcome before. settle-numbers session outcome before;
+  settling = λ session outcome taken next ends before. settle-numbers session outcome before;
   expiry = λ state place numbers moment connection before.
       let files = files_of (queue_at state place) (ascending numbers) in
       if_when _ (expired state place connection numbers moment) AreEventsInRow (λ _.
@@ -41,7 +41,7 @@ more_events old events new (more, is) = (more ++ new, ap (λ xs. xs ++ new) is �
 
 adds-kept : (before : State) → IsKept (AddsEvents before)
 adds-kept before = record {
-  settling = λ session outcome taken is_outcome h. more_events before.events session.state.events _ h;
+  settling = λ session outcome taken next ends h. more_events before.events session.state.events _ h;
   expiry = λ state place numbers moment connection h.
       if_when _ (expired state place connection numbers moment) (AddsEvents before) (λ _. more_events before.events state.events _ h);
   swap_out = λ state place numbers batch connection h. if_when _ _ (AddsEvents before) (λ _. h);

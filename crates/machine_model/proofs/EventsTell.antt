@@ -88,7 +88,7 @@ none_told events k ds kin honest none before =
 
 pub kin-kept : IsKept EventsTellKin
 kin-kept = record {
-  settling = λ session outcome taken is_outcome before. settle-tells session outcome is_outcome before;
+  settling = λ session outcome taken next ends before. settle-tells session outcome ends before;
   expiry = λ state place numbers moment connection before.
       let files = files_of (queue_at state place) (ascending numbers) in
       if_when _ (expired state place connection numbers moment) EventsTellKin (λ _.

@@ -8,6 +8,8 @@ pub mod Crosses
 pub mod Drafted
 pub mod EventRows
 pub mod EventsTell
+pub mod GivenIn
+pub mod GoesOn
 pub mod Keyed
 pub mod KinSets
 pub mod Kinships

@@ -22,3 +22,7 @@ when_passes false x P h is = absurd (true≢false (sym h))
 pub if_at : {A : Type 0} (o : Option A) (x : A) (P : A → Type 0) → o ≡ Some x → IfSome o P → P x
 if_at None x P is h = cc
 if_at (Some y) x P is h = let same : y ≡ x = cc in subst P same h
+
+pub if_weaker : {A : Type 0} (o : Option A) (P Q : A → Type 0) → ((x : A) → P x → Q x) → IfSome o P → IfSome o Q
+if_weaker None P Q each h = tt
+if_weaker (Some x) P Q each h = each x h

@@ -95,7 +95,7 @@ swap_in-keeps state place batch connection before =
 
 pub well-numbered-kept : IsKept IsWellNumbered
 well-numbered-kept = record {
-  settling = λ session outcome taken is_outcome before. settle-keeps session outcome before taken is_outcome;
+  settling = λ session outcome taken next ends before. settle-keeps session outcome before taken ends;
   expiry = expire-keeps;
   swap_out = swap_out-keeps;
   swap_in = swap_in-keeps;

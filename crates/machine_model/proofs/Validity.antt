@@ -21,6 +21,7 @@ use Rattle.machine_model.specs.Valid.{IsValid, IsWellNumbered, AreByArrival, Are
 use Rattle.machine_model.proofs.BatchPlaces.{Has, at, has-among, among-has, after-has, set-has, filter-has, change-has, has-below}
 use Rattle.machine_model.proofs.EventRows.{row-kept}
 use Rattle.machine_model.proofs.EventsTell.{kin-kept}
+use Rattle.machine_model.proofs.GivenIn.{IsNextIndex}
 use Rattle.machine_model.proofs.Ordered.{pairs_nil}
 use Rattle.machine_model.proofs.Options.{if_when, when_passes}
 use Rattle.machine_model.proofs.Preserved.{IsKept, step-kept, replay-kept}
@@ -85,8 +86,9 @@ one_place flow state place one other batch valid (inr h) (inr k) = h.0 ∙ sym k
 
 -- ---- each kind of step
 
-settle-valid : (flow : Flow) (session : EndedSession) (outcome : Outcome) → HasTaken session → EndsAllInTurn (length session.taken) outcome → IsValid flow session.state → IsValid flow (settle session outcome)
-settle-valid flow session outcome taken ends valid =
+settle-valid : (flow : Flow) (session : EndedSession) (outcome : Outcome) → HasTaken session → IsNextIndex session.processor.kind session.place session.state.counts session.given.index → EndsAllInTurn (length session.taken) outcome
+    → IsValid flow session.state → IsValid flow (settle session outcome)
+settle-valid flow session outcome taken next ends valid =
     let state = session.state in
     let files = settled_files session outcome.files in
     let coming = newcomers files (settlement_clones session outcome.files) in
@@ -94,13 +96,13 @@ settle-valid flow session outcome taken ends valid =
     record {
       queues = length-map (enumerate_from 0 state.queues) _ ∙ length-enumerate_from 0 state.queues ∙ valid.queues;
       counts = length-counts session.processor.kind session.place session.given.index state.counts ∙ valid.counts;
-      numbered = well-numbered-kept.settling session outcome taken ends valid.numbered;
+      numbered = well-numbered-kept.settling session outcome taken next ends valid.numbered;
       by_arrival = queues-rise files coming state.next_arrival state.queues steady (below flow state valid);
       batches = λ one other batch h k. valid.batches one other batch
           (among-has (at state.queues one) batch (after-has batch files coming state.next_arrival state.queues one steady (has-among _ batch h)))
           (among-has (at state.queues other) batch (after-has batch files coming state.next_arrival state.queues other steady (has-among _ batch k)));
-      events = row-kept.settling session outcome taken ends valid.events;
-      kin = kin-kept.settling session outcome taken ends valid.kin;
+      events = row-kept.settling session outcome taken next ends valid.events;
+      kin = kin-kept.settling session outcome taken next ends valid.kin;
     }
 
 -- what a queue has that stands in another's place
@@ -197,7 +199,7 @@ swap_in-valid flow state place batch connection valid =
 
 valid-kept : (flow : Flow) → IsKept (IsValid flow)
 valid-kept flow = record {
-  settling = λ session outcome taken ends valid. settle-valid flow session outcome taken ends valid;
+  settling = λ session outcome taken next ends valid. settle-valid flow session outcome taken next ends valid;
   expiry = expire-valid flow;
   swap_out = swap_out-valid flow;
   swap_in = swap_in-valid flow;

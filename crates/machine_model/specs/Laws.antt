@@ -1,6 +1,7 @@
 -- What holds of the machine: of the order of queues, of outcomes, of numbers, of events and of replays.
-use Rattle.std.specs.Prelude.{map, ◌≡◌, ◌≢◌, ◌⊎◌, ℕ, ◌^◌, ◌<◌, ◌≤◌, true, false, List, [], ◌∷◌, ◌++◌, All, Contains, MatchOption, IfSome, option_and_then, length, Some}
-use Rattle.std.specs.List.{AllPairs}
+use Rattle.std.specs.Prelude.{map, ◌≡◌, ◌≢◌, ◌⊎◌, ℕ, ◌^◌, ◌<◌, ◌≤◌, true, false, List, [], ◌∷◌, ◌++◌, All, Contains, MatchOption, IfSome, not, filter, option_and_then, slice_get, slice_index, length, Option, Some}
+use Rattle.std.specs.List.{AllPairs, flat_map}
+use Rattle.std.specs.Option.{option_map_or}
 use Rattle.std.specs.List.Sorted.{IsPermutation}
 use Rattle.flowfile_record.specs.Attributes.{IsWithinLimits}
 use Rattle.flowfile_record.specs.Name.{IsName}
@@ -13,13 +14,14 @@ use Rattle.machine_model.specs.declared.flow.Flow.{Flow}
 use Rattle.machine_model.specs.declared.flow.QueueLimits.{QueueLimits}
 use Rattle.machine_model.specs.declared.given.Given.{Given}
 use Rattle.machine_model.specs.declared.journal.Step.{Step}
+use Rattle.machine_model.specs.declared.journal.Step.TheVariants as entry
 use Rattle.machine_model.specs.declared.kind.Kind.{Kind}
-use Rattle.machine_model.specs.declared.kind.Kind.TheVariants.{GenerateFlowFile}
+use Rattle.machine_model.specs.declared.kind.Kind.TheVariants.{GetFile, GenerateFlowFile}
 use Rattle.machine_model.specs.declared.kind.TakeRule.{TakeRule}
 use Rattle.machine_model.specs.declared.kind.TakeRule.TheVariants.{Source, One, Bin, Defragment}
-use Rattle.machine_model.specs.State.{QueuedFile, State, Machine}
+use Rattle.machine_model.specs.State.{QueuedFile, State, World, Machine}
 use Rattle.machine_model.specs.Acting.{TakenFile, act, generated_text}
-use Rattle.machine_model.specs.Kinds.{take_rule_of, relationships_of}
+use Rattle.machine_model.specs.Kinds.{take_rule_of, relationships_of, is_among}
 use Rattle.machine_model.specs.Lineage.{Lineage, IsLineage}
 use Rattle.machine_model.specs.Order.{goes_before, in_order, is_eligible, best}
 use Rattle.machine_model.specs.Placing.{EndedSession}
@@ -180,6 +182,47 @@ StepsStayValid = (flow : Flow) (machine : Machine) (one : Step) → IsValid flow
 abbrev pub ReplaysStayValid : Type 0
 ReplaysStayValid = (flow : Flow) (machine : Machine) (steps : List Step) → IsValid flow machine.state →
     IfSome (replay flow machine steps) (λ after. IsValid flow after.state)
+
+-- ---- what goes on, and what stays
+
+-- no counter is lower, and the store is the same
+pub record GoesOn (before after : State) : Type 0 where
+  pub store : after.store ≡ before.store
+  pub next_number : before.next_number ≤ after.next_number
+  pub next_arrival : before.next_arrival ≤ after.next_arrival
+  pub next_batch : before.next_batch ≤ after.next_batch
+  pub counts : (place : ℕ) → slice_index before.counts place ≤ slice_index after.counts place
+
+abbrev pub StepsGoOn : Type 0
+StepsGoOn = (flow : Flow) (machine : Machine) (one : Step) → IfSome (step flow machine one) (λ after. GoesOn machine.state after.state)
+
+abbrev pub ReplaysGoOn : Type 0
+ReplaysGoOn = (flow : Flow) (machine : Machine) (steps : List Step) → IfSome (replay flow machine steps) (λ after. GoesOn machine.state after.state)
+
+-- the name of the inbox's file that a session received
+abbrev pub received_name : Kind → Option (List ℕ) → List (List ℕ)
+received_name (GetFile filter) (Some name) = name ∷ []
+received_name _ _ = []
+
+abbrev pub names_of_step : Flow → Step → List (List ℕ)
+names_of_step flow (entry.Session processor numbers moment given) = option_map_or (λ found. received_name found.kind given.file) (slice_get flow.processors processor) []
+names_of_step flow _ = []
+
+-- the names that the sessions of GetFile took
+abbrev pub names_taken : Flow → List Step → List (List ℕ)
+names_taken flow steps = flat_map (names_of_step flow) steps
+
+-- the inbox is the same, and of the names that were left those are gone that were taken
+pub record LosesNames (taken : List (List ℕ)) (before after : World) : Type 0 where
+  pub inbox : after.inbox ≡ before.inbox
+  pub left : after.left ≡ filter (λ name. not (is_among name taken)) before.left
+
+abbrev pub StepsLoseNames : Type 0
+StepsLoseNames = (flow : Flow) (machine : Machine) (one : Step) → IfSome (step flow machine one) (λ after. LosesNames (names_of_step flow one) machine.world after.world)
+
+abbrev pub ReplaysLoseNames : Type 0
+ReplaysLoseNames = (flow : Flow) (machine : Machine) (steps : List Step) →
+    IfSome (replay flow machine steps) (λ after. LosesNames (names_taken flow steps) machine.world after.world)
 
 -- ---- lineages
 

@@ -1,5 +1,5 @@
 //! What holds of the machine's definitions, each law as the contract of a function that does nothing.
-ghost use Rattle.machine_model.specs.Laws.{NoneGoesBeforeItself, GoingBeforeChains, ArrivalsTell, OrderKeepsFiles, OrderHolds, OrderIsOnly, BestIsBest, BestIsOnly, ReplayOfOneMore, ReplayOfJoined, ActsEndAllInTurn, ActsGiveOutcomes, SettlingKeepsNumbers, StepsKeepNumbers, ReplaysKeepNumbers, SettlingNumbersEvents, StepsNumberEvents, ReplaysNumberEvents, ReplaysAddEvents, SettlingTellsKin, StepsTellKin, ReplaysTellKin, NewStatesAreValid, StepsStayValid, ReplaysStayValid, LineageIsOnly};
+ghost use Rattle.machine_model.specs.Laws.{NoneGoesBeforeItself, GoingBeforeChains, ArrivalsTell, OrderKeepsFiles, OrderHolds, OrderIsOnly, BestIsBest, BestIsOnly, ReplayOfOneMore, ReplayOfJoined, ActsEndAllInTurn, ActsGiveOutcomes, SettlingKeepsNumbers, StepsKeepNumbers, ReplaysKeepNumbers, SettlingNumbersEvents, StepsNumberEvents, ReplaysNumberEvents, ReplaysAddEvents, SettlingTellsKin, StepsTellKin, ReplaysTellKin, NewStatesAreValid, StepsStayValid, ReplaysStayValid, StepsGoOn, ReplaysGoOn, StepsLoseNames, ReplaysLoseNames, LineageIsOnly};
 
 /// The order of a queue is a total one of files whose arrivals differ.
 pub fn order_is_total()
@@ -68,6 +68,18 @@ pub fn states_stay_valid()
     ensures new { NewStatesAreValid }
     ensures one_step { StepsStayValid }
     ensures replay { ReplaysStayValid }
+{}
+
+/// No counter ever falls, and the store's id stays.
+pub fn counters_never_fall()
+    ensures one_step { StepsGoOn }
+    ensures replay { ReplaysGoOn }
+{}
+
+/// The inbox stays as it was, and of the names that are left just those go that sessions of GetFile take.
+pub fn names_are_lost_by_taking()
+    ensures one_step { StepsLoseNames }
+    ensures replay { ReplaysLoseNames }
 {}
 
 /// A file has one lineage.
