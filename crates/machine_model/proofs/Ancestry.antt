@@ -1,52 +1,53 @@
 -- That the events of a session tell of the kin of its files, and of no other.
-use Rattle.std.proofs.Common.{◌≡◌, ◌⊎◌, inl, inr, ℕ, ◌+◌, ◌<◌, true, List, [], ◌∷◌, ◌++◌, map, length, refl, sym, ap, subst, ◌∙◌, arith}
-use Rattle.std.specs.Prelude.{◌↔◌, Contains}
+use Rattle.std.proofs.Common.{◌≡◌, ◌⊎◌, inl, inr, ℕ, ◌+◌, ◌<◌, true, List, [], ◌∷◌, ◌++◌, map, length, refl, sym, ap, subst, ◌∙◌}
+use Rattle.std.specs.Prelude.{◌↔◌}
+use Rattle.std.specs.FinSet.{from_list, union}
 use Rattle.std.specs.List.{flat_map}
 use Rattle.std.proofs.lemmas.Bool.{eq-eqb}
 use Rattle.std.proofs.lemmas.List.Concat.{flat_map-append}
-use Rattle.std.proofs.lemmas.List.Elements.{Contains-append_left, Contains-append_right, Contains-append_cases}
+use Rattle.flowfile_record.specs.Outcome.{parents_of}
 use Rattle.flowfile_record.specs.Kin.{kin_of, kin_of_all}
 use Rattle.flowfile_record.specs.declared.event.Event.{Event}
 use Rattle.flowfile_record.specs.declared.worked.Origin.{Origin}
 use Rattle.flowfile_record.specs.declared.worked.Origin.TheVariants as origin
 use Rattle.flowfile_record.specs.declared.worked.Outcome.{Outcome}
-use Rattle.machine_model.specs.declared.state.Kinship.{Kinship}
 use Rattle.flowfile_record.specs.declared.event.EventKind.TheVariants as kind
-use Rattle.machine_model.specs.Events.{Draft, of_file, number_at, is_forked_from, forks, joined, clone_event, cloned, sent, drafts, numbered_from, ascending}
-use Rattle.machine_model.specs.Placing.{Session, Finished, SettlementClone, finished_files, settlement_clones, parents_in}
+use Rattle.machine_model.specs.Events.{Draft, of_file, number_at, is_forked_from, forks, joined, clone_event, is_cloned_from, clonings, sent, drafts, numbered_from, ascending}
+use Rattle.machine_model.specs.Placing.{EndedSession, SettledFile, SettlementClone, settled_files, settlement_clones}
+use Rattle.machine_model.specs.State.{Kin}
 use Rattle.machine_model.specs.Settling.{kin_of_files}
-use Rattle.machine_model.proofs.Among.{Among, contains_among, among_contained, each_among, among_left, among_right, among_either, comes_from, goes_to, is_made, makes, ascending-has}
-use Rattle.machine_model.proofs.Drafted.{IsDraft, IsPlain, first_part, joined_part, cloned_part, modified_part, attributes_part, routed_part, clones_part, dropped_part, plain_first_part, plain_modified_part, plain_attributes_part, plain_routed_part, plain_sent, plain_dropped_part}
-use Rattle.machine_model.proofs.Kinships.{Tell, kinship, HasChild, HasClone, only, pair_of, fork_told, forks_tell, joins_tell, clones_tell, settlement_tells}
-use Rattle.machine_model.proofs.Places.{at_place_below, number-at}
+use Rattle.machine_model.proofs.Among.{Among, each_among, among_left, among_right, among_either, comes_from, goes_to, is_made, makes, ascending-has}
+use Rattle.machine_model.proofs.Drafted.{IsDraft, IsPlain, first_part, joined_part, modified_part, attributes_part, routed_part, clones_part, dropped_part, plain_first_part, plain_modified_part, plain_attributes_part, plain_routed_part, plain_sent, plain_dropped_part}
+use Rattle.machine_model.proofs.KinSets.{same_kin, kin_joined}
+use Rattle.machine_model.proofs.Kinships.{Tell, kinship, HasChild, HasClone, only, pair_of, fork_told, clone_told, forks_tell, joins_tell, clones_tell, settlement_tells}
 use Rattle.machine_model.proofs.Tally.{Each}
 
 -- ---- the kin of files and clones
 
-pub kin-has : (files : List Finished) (clones : List SettlementClone) (child parent : ℕ) → HasChild files child parent ⊎ HasClone clones child parent → Among (kinship child parent) (kin_of_files files clones)
+pub kin-has : (files : List SettledFile) (clones : List SettlementClone) (child parent : ℕ) → HasChild files child parent ⊎ HasClone clones child parent → Among (kinship child parent) (kin_of_files files clones)
 kin-has files clones child parent (inl has) =
     let kin = has.kin in
-    let of_file = λ (file : Finished). map (λ place. kinship file.number (number_at files place)) (parents_in file.worked.origin) in
+    let of_file = λ (file : SettledFile). map (λ place. kinship file.number (number_at files place)) (parents_of file.worked.origin) in
     among_left (kinship child parent) (flat_map of_file files) _
     (goes_to of_file files has.file (kinship child parent) has.there
-    (subst (λ k. Among k (of_file has.file)) (λ i. kinship (kin.is_child i) (kin.is_parent i)) (makes (λ place. kinship has.file.number (number_at files place)) (parents_in has.file.worked.origin) kin.place kin.named)))
+    (subst (λ k. Among k (of_file has.file)) (λ i. kinship (kin.is_child i) (kin.is_parent i)) (makes (λ place. kinship has.file.number (number_at files place)) (parents_of has.file.worked.origin) kin.place kin.named)))
 kin-has files clones child parent (inr has) =
     let of_clone = λ (clone : SettlementClone). kinship clone.number clone.original.number in
     among_right (kinship child parent) _ (map of_clone clones)
     (subst (λ k. Among k (map of_clone clones)) (λ i. kinship (has.is_child i) (has.is_parent i)) (makes of_clone clones has.clone has.there))
 
-pub kin-had : (files : List Finished) (clones : List SettlementClone) (child parent : ℕ) → Among (kinship child parent) (kin_of_files files clones) → HasChild files child parent ⊎ HasClone clones child parent
+pub kin-had : (files : List SettledFile) (clones : List SettlementClone) (child parent : ℕ) → Among (kinship child parent) (kin_of_files files clones) → HasChild files child parent ⊎ HasClone clones child parent
 kin-had files clones child parent h =
-    let of_file = λ (file : Finished). map (λ place. kinship file.number (number_at files place)) (parents_in file.worked.origin) in
+    let of_file = λ (file : SettledFile). map (λ place. kinship file.number (number_at files place)) (parents_of file.worked.origin) in
     let of_clone = λ (clone : SettlementClone). kinship clone.number clone.original.number in
     elim (among_either (kinship child parent) (flat_map of_file files) (map of_clone clones) h) [
       | inl here ↦
           let from = comes_from of_file files (kinship child parent) here in
-          let made = is_made (λ place. kinship from.source.number (number_at files place)) (parents_in from.source.worked.origin) (kinship child parent) from.made in
-          inl (record { file = from.source; there = from.there; kin = record { place = made.source; named = made.there; is_child = ap (λ k. k.child) made.is; is_parent = ap (λ k. k.parent) made.is } })
+          let made = is_made (λ place. kinship from.source.number (number_at files place)) (parents_of from.source.worked.origin) (kinship child parent) from.made in
+          inl (record { file = from.source; there = from.there; kin = record { place = made.source; named = made.there; is_child = ap (λ k. k.0) made.is; is_parent = ap (λ k. k.1) made.is } })
       | inr later ↦
           let made = is_made of_clone clones (kinship child parent) later in
-          inr (record { clone = made.source; there = made.there; is_child = ap (λ k. k.child) made.is; is_parent = ap (λ k. k.parent) made.is })
+          inr (record { clone = made.source; there = made.there; is_child = ap (λ k. k.0) made.is; is_parent = ap (λ k. k.1) made.is })
     ]
 
 -- ---- the parts of a session's drafts
@@ -84,17 +85,17 @@ plain_tells ds draft child parent P plain k h =
 
 -- ---- what the events tell is kin
 
-abbrev Kin : Session → Outcome → (child parent : ℕ) → Type 0
-Kin session outcome child parent = HasChild (finished_files session outcome.files) child parent ⊎ HasClone (settlement_clones session outcome.files) child parent
+abbrev HasKin : EndedSession → Outcome → (child parent : ℕ) → Type 0
+HasKin session outcome child parent = HasChild (settled_files session outcome.files) child parent ⊎ HasClone (settlement_clones session outcome.files) child parent
 
-pub drafts-tell : (session : Session) (outcome : Outcome) (child parent : ℕ) → Tell (drafts session outcome) child parent → Kin session outcome child parent
+pub drafts-tell : (session : EndedSession) (outcome : Outcome) (child parent : ℕ) → Tell (drafts session outcome) child parent → HasKin session outcome child parent
 drafts-tell session outcome child parent h =
-    let files = finished_files session outcome.files in
+    let files = settled_files session outcome.files in
     let clones = settlement_clones session outcome.files in
     let from = comes_from (λ draft. kin_of (draft 0)) (drafts session outcome) (child, parent) h in
     let draft = from.source in
-    let Q : Type 0 = Kin session outcome child parent in
-    from_part Q draft (first_part session files) (forks session files) (joined_part session files) (cloned_part session files) (modified_part session files)
+    let Q : Type 0 = HasKin session outcome child parent in
+    from_part Q draft (first_part session files) (forks session files) (joined_part session files) (clonings session files) (modified_part session files)
     (attributes_part session files) (routed_part session files) (sent session files outcome.sent) (clones_part session clones) (dropped_part session files)
     (plain_tells (first_part session files) draft child parent Q (plain_first_part session files) from.made)
     (λ here. inl (forks_tell session files child parent draft here from.made))
@@ -119,26 +120,26 @@ tell_one : (ds : List Draft) (draft : Draft) (child parent : ℕ) → Among draf
 tell_one ds draft child parent h k = goes_to (λ draft. kin_of (draft 0)) ds draft (child, parent) h k
 
 -- the parts that tell of made files: forks, joins and clones
-abbrev telling : Session → List Finished → List Draft
-telling session files = first_part session files ++ forks session files ++ joined_part session files ++ cloned_part session files
+abbrev telling : EndedSession → List SettledFile → List Draft
+telling session files = first_part session files ++ forks session files ++ joined_part session files ++ clonings session files
 
-fork_in : (session : Session) (files : List Finished) (child parent : ℕ) → Tell (forks session files) child parent → Tell (telling session files) child parent
+fork_in : (session : EndedSession) (files : List SettledFile) (child parent : ℕ) → Tell (forks session files) child parent → Tell (telling session files) child parent
 fork_in session files child parent h =
-    let a = first_part session files in let b = forks session files in let c = joined_part session files in let d = cloned_part session files in
+    let a = first_part session files in let b = forks session files in let c = joined_part session files in let d = clonings session files in
     tell_in b (a ++ b ++ c ++ d) child parent (λ draft m. among_left draft (a ++ b ++ c) d (among_left draft (a ++ b) c (among_right draft a b m))) h
 
-join_in : (session : Session) (files : List Finished) (child parent : ℕ) → Tell (joined_part session files) child parent → Tell (telling session files) child parent
+join_in : (session : EndedSession) (files : List SettledFile) (child parent : ℕ) → Tell (joined_part session files) child parent → Tell (telling session files) child parent
 join_in session files child parent h =
-    let a = first_part session files in let b = forks session files in let c = joined_part session files in let d = cloned_part session files in
+    let a = first_part session files in let b = forks session files in let c = joined_part session files in let d = clonings session files in
     tell_in c (a ++ b ++ c ++ d) child parent (λ draft m. among_left draft (a ++ b ++ c) d (among_right draft (a ++ b) c m)) h
 
-clone_in : (session : Session) (files : List Finished) (child parent : ℕ) → Tell (cloned_part session files) child parent → Tell (telling session files) child parent
+clone_in : (session : EndedSession) (files : List SettledFile) (child parent : ℕ) → Tell (clonings session files) child parent → Tell (telling session files) child parent
 clone_in session files child parent h =
-    let a = first_part session files in let b = forks session files in let c = joined_part session files in let d = cloned_part session files in
+    let a = first_part session files in let b = forks session files in let c = joined_part session files in let d = clonings session files in
     tell_in d (a ++ b ++ c ++ d) child parent (λ draft m. among_right draft (a ++ b ++ c) d m) h
 
 -- a made file of this origin is told of with each parent
-told_of : (session : Session) (files : List Finished) (file : Finished) (from : Origin) (place : ℕ) → Among file files → file.worked.origin ≡ from → Among place (parents_in from) → place < length files
+told_of : (session : EndedSession) (files : List SettledFile) (file : SettledFile) (from : Origin) (place : ℕ) → Among file files → file.worked.origin ≡ from → Among place (parents_of from) → place < length files
     → Tell (telling session files) file.number (number_at files place)
 told_of session files file (origin.Forked of) place there is named l =
     let forked : is_forked_from place file.worked.origin ≡ true = ap (is_forked_from place) is ∙ eq-eqb of place (only place of named) in
@@ -147,16 +148,8 @@ told_of session files file (origin.Part of) place there is named l =
     let forked : is_forked_from place file.worked.origin ≡ true = ap (is_forked_from place) is ∙ eq-eqb of place (only place of named) in
     fork_in session files file.number (number_at files place) (fork_told session files file place there forked l)
 told_of session files file (origin.Cloned of) place there is named l =
-    let same : of ≡ place = only place of named in
-    let at = at_place_below files of (omega arith) in
-    let number : number_at files of ≡ at.element.number = number-at files of at.element at.is in
-    let draft = clone_event session at.element file.number in
-    let here : Among draft (cloned session files file (origin.Cloned of)) = rw at.is (inl refl) in
-    let told : Tell (cloned_part session files) file.number at.element.number
-    = tell_one (cloned_part session files) draft file.number at.element.number
-    (goes_to (λ file. cloned session files file file.worked.origin) files file draft there (subst (λ o. Among draft (cloned session files file o)) (sym is) here))
-    (pair_of (at.element.number ∷ []) (file.number ∷ []) file.number at.element.number (inl refl) (inl refl)) in
-    clone_in session files file.number (number_at files place) (subst (Tell (cloned_part session files) file.number) (sym number ∙ ap (number_at files) same) told)
+    let cloned : is_cloned_from place file.worked.origin ≡ true = ap (is_cloned_from place) is ∙ eq-eqb of place (only place of named) in
+    clone_in session files file.number (number_at files place) (clone_told session files file place there cloned l)
 told_of session files file (origin.Joined parents) place there is named l =
     let draft = of_file session kind.Join file (ascending (map (number_at files) parents)) (file.number ∷ []) [] in
     let here : Among draft (joined session files file (origin.Joined parents)) = inl refl in
@@ -170,20 +163,20 @@ told_of session files file origin.Created place there is named l = absurd named
 told_of session files file origin.Received place there is named l = absurd named
 
 -- origins name files of the outcome
-abbrev pub NameFiles : List Finished → Type 0
-NameFiles files = (file : Finished) → Among file files → (place : ℕ) → Among place (parents_in file.worked.origin) → place < length files
+abbrev pub NameFiles : List SettledFile → Type 0
+NameFiles files = (file : SettledFile) → Among file files → (place : ℕ) → Among place (parents_of file.worked.origin) → place < length files
 
-pub kin-told : (session : Session) (outcome : Outcome) → NameFiles (finished_files session outcome.files) → (child parent : ℕ) → Kin session outcome child parent → Tell (drafts session outcome) child parent
+pub kin-told : (session : EndedSession) (outcome : Outcome) → NameFiles (settled_files session outcome.files) → (child parent : ℕ) → HasKin session outcome child parent → Tell (drafts session outcome) child parent
 kin-told session outcome sound child parent (inl has) =
-    let files = finished_files session outcome.files in
+    let files = settled_files session outcome.files in
     let kin = has.kin in
     let told : Tell (telling session files) has.file.number (number_at files kin.place) = told_of session files has.file has.file.worked.origin kin.place has.there refl kin.named (sound has.file has.there kin.place kin.named) in
     tell_in (telling session files) (drafts session outcome) child parent
-    (λ draft m. in_fourth draft (first_part session files) (forks session files) (joined_part session files) (cloned_part session files) (modified_part session files)
+    (λ draft m. in_fourth draft (first_part session files) (forks session files) (joined_part session files) (clonings session files) (modified_part session files)
     (attributes_part session files) (routed_part session files) (sent session files outcome.sent) (clones_part session (settlement_clones session outcome.files)) (dropped_part session files) m)
     (subst (λ (p : ℕ × ℕ). Tell (telling session files) p.0 p.1) (λ i. (kin.is_child i, kin.is_parent i)) told)
 kin-told session outcome sound child parent (inr has) =
-    let files = finished_files session outcome.files in
+    let files = settled_files session outcome.files in
     let clones = settlement_clones session outcome.files in
     let clone = has.clone in
     let draft = clone_event session clone.original clone.number in
@@ -200,25 +193,13 @@ kin_of_numbered : (k : ℕ) (ds : List Draft) → Each IsDraft ds → kin_of_all
 kin_of_numbered k [] h = refl
 kin_of_numbered k (d ∷ ds) h = λ i. h.0.kin k i ++ kin_of_numbered (k + 1) ds h.1 i
 
-pub kin_goes_on : (events : List Event) (k : ℕ) (ds : List Draft) (kin more : List Kinship) → Each IsDraft ds
-    → ((child parent : ℕ) → Contains (kin_of_all events) (child, parent) ↔ Contains kin (kinship child parent))
-    → ((child parent : ℕ) → Tell ds child parent ↔ Among (kinship child parent) more)
-    → (child parent : ℕ) → Contains (kin_of_all (events ++ numbered_from k ds)) (child, parent) ↔ Contains (kin ++ more) (kinship child parent)
-kin_goes_on events k ds kin more honest before new child parent = (forth, back)
-  where
-    parts : kin_of_all (events ++ numbered_from k ds) ≡ kin_of_all events ++ flat_map (λ draft. kin_of (draft 0)) ds
-    parts = flat_map-append kin_of events (numbered_from k ds) ∙ ap (λ xs. kin_of_all events ++ xs) (kin_of_numbered k ds honest)
+pub kin_of_joined : (events : List Event) (k : ℕ) (ds : List Draft) → Each IsDraft ds → kin_of_all (events ++ numbered_from k ds) ≡ kin_of_all events ++ flat_map (λ draft. kin_of (draft 0)) ds
+kin_of_joined events k ds honest = flat_map-append kin_of events (numbered_from k ds) ∙ ap (λ xs. kin_of_all events ++ xs) (kin_of_numbered k ds honest)
 
-    forth : Contains (kin_of_all (events ++ numbered_from k ds)) (child, parent) → Contains (kin ++ more) (kinship child parent)
-    forth h = elim (Contains-append_cases (kin_of_all events) (flat_map (λ draft. kin_of (draft 0)) ds) (child, parent) (subst (λ xs. Contains xs (child, parent)) parts h)) [
-      | inl old ↦ Contains-append_left kin more (kinship child parent) ((before child parent).0 old)
-      | inr told ↦ Contains-append_right kin more (kinship child parent)
-          (contains_among (kinship child parent) more ((new child parent).0 (among_contained (child, parent) (flat_map (λ draft. kin_of (draft 0)) ds) told)))
-    ]
-
-    back : Contains (kin ++ more) (kinship child parent) → Contains (kin_of_all (events ++ numbered_from k ds)) (child, parent)
-    back h = subst (λ xs. Contains xs (child, parent)) (sym parts) (elim (Contains-append_cases kin more (kinship child parent) h) [
-      | inl old ↦ Contains-append_left (kin_of_all events) (flat_map (λ draft. kin_of (draft 0)) ds) (child, parent) ((before child parent).1 old)
-      | inr made ↦ Contains-append_right (kin_of_all events) (flat_map (λ draft. kin_of (draft 0)) ds) (child, parent)
-          (contains_among (child, parent) (flat_map (λ draft. kin_of (draft 0)) ds) ((new child parent).1 (among_contained (kinship child parent) more made)))
-    ])
+-- drafts that tell of just some kin add it to what the events tell of
+pub kin_goes_on : (events : List Event) (k : ℕ) (ds : List Draft) (kin : Kin) (more : List (ℕ × ℕ)) → Each IsDraft ds → kin ≡ from_list (kin_of_all events)
+    → ((child parent : ℕ) → Tell ds child parent ↔ Among (kinship child parent) more) → union kin (from_list more) ≡ from_list (kin_of_all (events ++ numbered_from k ds))
+kin_goes_on events k ds kin more honest before new =
+    let told = flat_map (λ draft. kin_of (draft 0)) ds in
+    let same : from_list more ≡ from_list told = same_kin more told (λ pair. ((new pair.0 pair.1).1, (new pair.0 pair.1).0)) in
+    (λ i. union (before i) (same i)) ∙ kin_joined (kin_of_all events) told ∙ ap from_list (sym (kin_of_joined events k ds honest))

@@ -4,9 +4,9 @@ use Rattle.std.specs.Prelude.{◌==◌, ◌&&◌, not, nat_le, nat_lt, All, Opti
 use Rattle.std.specs.List.{flat_map}
 use Rattle.std.proofs.lemmas.Bool.{le-leb, lt-ltb, leb-true, ltb-true, and_parts, and_from}
 use Rattle.std.proofs.lemmas.List.Elements.{All-nil, All-cons, All-head, All-tail}
-use Rattle.machine_model.specs.declared.state.QueuedFile.{QueuedFile}
-use Rattle.machine_model.specs.Laws.{HasBatchBelow}
-use Rattle.machine_model.specs.Placing.{Finished, Goes, Queues, Returns, Drops, Leaves}
+use Rattle.machine_model.specs.State.{QueuedFile}
+use Rattle.machine_model.specs.Valid.{HasBatchBelow}
+use Rattle.machine_model.specs.Placing.{SettledFile, Destination, Queues, Returns, Drops, Leaves}
 use Rattle.machine_model.specs.Settling.{Newcomer, staying_as}
 use Rattle.machine_model.proofs.Settled.{placed, stayed, queues_after, after-le, IsSteady}
 use Rattle.machine_model.proofs.Tally.{tally, bit, tally-flat_map, tally-map, tally-le, tally-set, Each}
@@ -42,11 +42,11 @@ all-within next (file ∷ files) h = All-cons (HasBatchBelow next) file files (b
 
 -- ---- a session
 
-astray-stays : (next : ℕ) (queued : QueuedFile) (found : Option Finished) → tally (astray next) (staying_as queued found) ≤ astray next queued
+astray-stays : (next : ℕ) (queued : QueuedFile) (found : Option SettledFile) → tally (astray next) (staying_as queued found) ≤ astray next queued
 astray-stays next queued None = omega arith
 astray-stays next queued (Some file) = by_goal file.goes refl
   where
-    by_goal : (goes : Goes) → file.goes ≡ goes → tally (astray next) (staying_as queued (Some file)) ≤ astray next queued
+    by_goal : (goes : Destination) → file.goes ≡ goes → tally (astray next) (staying_as queued (Some file)) ≤ astray next queued
     by_goal (Queues first others) is = rw is (omega arith)
     by_goal Returns is = rw is (omega arith)
     by_goal (Drops relationship) is = rw is (omega arith)
@@ -56,7 +56,7 @@ none-arrive-astray : (next arrival : ℕ) (coming : List Newcomer) → Each IsSt
 none-arrive-astray next arrival [] steady = refl
 none-arrive-astray next arrival (newcomer ∷ rest) steady = omega (arith, ap (astray_batch next) (steady.0.active arrival), none-arrive-astray next (arrival + 1) rest steady.1)
 
-pub batches-after : (files : List Finished) (coming : List Newcomer) (arrival next : ℕ) (queues : List (List QueuedFile)) → Each IsSteady coming
+pub batches-after : (files : List SettledFile) (coming : List Newcomer) (arrival next : ℕ) (queues : List (List QueuedFile)) → Each IsSteady coming
     → All (HasBatchBelow next) (flat_map (λ queue. queue) queues) → All (HasBatchBelow next) (flat_map (λ queue. queue) (queues_after files coming arrival queues))
 batches-after files coming arrival next queues steady before =
     let old = flat_map (λ queue. queue) queues in

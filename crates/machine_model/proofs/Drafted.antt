@@ -5,13 +5,14 @@ use Rattle.std.specs.List.{flat_map, enumerate_from, range_with_len}
 use Rattle.std.specs.Option.{option_map_or}
 use Rattle.std.proofs.lemmas.List.{length-append, map-append}
 use Rattle.flowfile_record.specs.Kin.{kin_of}
+use Rattle.flowfile_record.specs.Outcome.{same_attributes}
 use Rattle.flowfile_record.specs.declared.event.Event.{Event}
 use Rattle.flowfile_record.specs.declared.worked.Origin.{Origin}
 use Rattle.flowfile_record.specs.declared.worked.Origin.TheVariants as origin
 use Rattle.flowfile_record.specs.declared.worked.Outcome.{Outcome}
 use Rattle.flowfile_record.specs.declared.worked.Sent.{Sent}
-use Rattle.machine_model.specs.Events.{Draft, created, received, fork_of, forked_children, forks, joined, clone_event, cloned, modified, attributes_modified, is_removed, same_attributes, routed, sent, dropped, drafts, numbered_from}
-use Rattle.machine_model.specs.Placing.{Session, Finished, SettlementClone, Goes, Queues, Returns, Drops, Leaves, finished_files, settlement_clones}
+use Rattle.machine_model.specs.Events.{Draft, created, received, fork_of, forked_children, forks, joined, clone_event, copies, clonings, modified, attributes_modified, is_removed, routed, sent, dropped, drafts, numbered_from}
+use Rattle.machine_model.specs.Placing.{EndedSession, SettledFile, SettlementClone, Destination, Queues, Returns, Drops, Leaves, settled_files, settlement_clones}
 use Rattle.machine_model.proofs.Tally.{Each, each-append, each-flat_map, each-map}
 
 -- a draft takes its number, and names the same kin under each
@@ -38,34 +39,34 @@ each-option P g (Some x) h = h x
 
 -- ---- what names no kin
 
-plain_created : (session : Session) (file : Finished) (from : Origin) → Each IsPlain (created session file from)
+plain_created : (session : EndedSession) (file : SettledFile) (from : Origin) → Each IsPlain (created session file from)
 plain_created session file origin.Created = (record { number = λ n. refl; kin = λ n. refl }, tt)
 plain_created session file _ = tt
 
-plain_received : (session : Session) (file : Finished) (from : Origin) → Each IsPlain (received session file from)
+plain_received : (session : EndedSession) (file : SettledFile) (from : Origin) → Each IsPlain (received session file from)
 plain_received session file origin.Received = (record { number = λ n. refl; kin = λ n. refl }, tt)
 plain_received session file _ = tt
 
-plain_modified : (session : Session) (file : Finished) (from : Origin) → Each IsPlain (modified session file from)
+plain_modified : (session : EndedSession) (file : SettledFile) (from : Origin) → Each IsPlain (modified session file from)
 plain_modified session file (origin.Taken place) =
     each-cond IsPlain (is_removed file.worked.end) [] _ tt (each-cond IsPlain file.worked.written _ [] (record { number = λ n. refl; kin = λ n. refl }, tt) tt)
 plain_modified session file _ = tt
 
-plain_attributes : (session : Session) (file : Finished) (from : Origin) → Each IsPlain (attributes_modified session file from)
+plain_attributes : (session : EndedSession) (file : SettledFile) (from : Origin) → Each IsPlain (attributes_modified session file from)
 plain_attributes session file (origin.Taken place) =
     each-cond IsPlain _ [] _ tt (each-option IsPlain _ (slice_get session.taken place) (λ taken.
     each-cond IsPlain (same_attributes taken.attributes file.attributes) [] _ tt (record { number = λ n. refl; kin = λ n. refl }, tt)))
 plain_attributes session file _ = tt
 
-plain_routed : (session : Session) (file : Finished) (relationship : Option ℕ) → Each IsPlain (routed session file relationship)
+plain_routed : (session : EndedSession) (file : SettledFile) (relationship : Option ℕ) → Each IsPlain (routed session file relationship)
 plain_routed session file (Some relationship) = (record { number = λ n. refl; kin = λ n. refl }, tt)
 plain_routed session file None = tt
 
-pub plain_sent : (session : Session) (files : List Finished) (put : Option Sent) → Each IsPlain (sent session files put)
+pub plain_sent : (session : EndedSession) (files : List SettledFile) (put : Option Sent) → Each IsPlain (sent session files put)
 plain_sent session files (Some put) = each-option IsPlain _ (slice_get files put.place) (λ file. (record { number = λ n. refl; kin = λ n. refl }, tt))
 plain_sent session files None = tt
 
-plain_dropped : (session : Session) (file : Finished) (goes : Goes) → Each IsPlain (dropped session file goes)
+plain_dropped : (session : EndedSession) (file : SettledFile) (goes : Destination) → Each IsPlain (dropped session file goes)
 plain_dropped session file (Drops relationship) = (record { number = λ n. refl; kin = λ n. refl }, tt)
 plain_dropped session file Leaves = (record { number = λ n. refl; kin = λ n. refl }, tt)
 plain_dropped session file (Queues first others) = tt
@@ -73,76 +74,74 @@ plain_dropped session file Returns = tt
 
 -- ---- what names kin
 
-draft_fork : (session : Session) (parent : Finished) (children : List ℕ) → Each IsDraft (fork_of session parent children)
+draft_fork : (session : EndedSession) (parent : SettledFile) (children : List ℕ) → Each IsDraft (fork_of session parent children)
 draft_fork session parent [] = tt
 draft_fork session parent (child ∷ children) = (record { number = λ n. refl; kin = λ n. refl }, tt)
 
-draft_joined : (session : Session) (files : List Finished) (file : Finished) (from : Origin) → Each IsDraft (joined session files file from)
+draft_joined : (session : EndedSession) (files : List SettledFile) (file : SettledFile) (from : Origin) → Each IsDraft (joined session files file from)
 draft_joined session files file (origin.Joined parents) = (record { number = λ n. refl; kin = λ n. refl }, tt)
 draft_joined session files file _ = tt
 
-draft_cloned : (session : Session) (files : List Finished) (file : Finished) (from : Origin) → Each IsDraft (cloned session files file from)
-draft_cloned session files file (origin.Cloned parent) = each-option IsDraft _ (slice_get files parent) (λ original. (record { number = λ n. refl; kin = λ n. refl }, tt))
-draft_cloned session files file _ = tt
+draft_clonings : (session : EndedSession) (files : List SettledFile) → Each IsDraft (clonings session files)
+draft_clonings session files =
+    each-flat_map IsDraft (λ f. map (λ copy. clone_event session f.1 copy.number) (copies files f.0)) (enumerate_from 0 files) (λ f.
+    each-map IsDraft (λ copy. clone_event session f.1 copy.number) (copies files f.0) (λ copy. record { number = λ n. refl; kin = λ n. refl }))
 
 -- ---- all drafts of a session, part by part
 
-abbrev pub first_part : Session → List Finished → List Draft
+abbrev pub first_part : EndedSession → List SettledFile → List Draft
 first_part session files = flat_map (λ file. created session file file.worked.origin) files ++ flat_map (λ file. received session file file.worked.origin) files
 
-abbrev pub joined_part : Session → List Finished → List Draft
+abbrev pub joined_part : EndedSession → List SettledFile → List Draft
 joined_part session files = flat_map (λ file. joined session files file file.worked.origin) files
 
-abbrev pub cloned_part : Session → List Finished → List Draft
-cloned_part session files = flat_map (λ file. cloned session files file file.worked.origin) files
-
-abbrev pub modified_part : Session → List Finished → List Draft
+abbrev pub modified_part : EndedSession → List SettledFile → List Draft
 modified_part session files = flat_map (λ file. modified session file file.worked.origin) files
 
-abbrev pub attributes_part : Session → List Finished → List Draft
+abbrev pub attributes_part : EndedSession → List SettledFile → List Draft
 attributes_part session files = flat_map (λ file. attributes_modified session file file.worked.origin) files
 
-abbrev pub routed_part : Session → List Finished → List Draft
+abbrev pub routed_part : EndedSession → List SettledFile → List Draft
 routed_part session files = flat_map (λ file. routed session file file.worked.routed) files
 
-abbrev pub clones_part : Session → List SettlementClone → List Draft
+abbrev pub clones_part : EndedSession → List SettlementClone → List Draft
 clones_part session clones = map (λ clone. clone_event session clone.original clone.number) clones
 
-abbrev pub dropped_part : Session → List Finished → List Draft
+abbrev pub dropped_part : EndedSession → List SettledFile → List Draft
 dropped_part session files = flat_map (λ file. dropped session file file.goes) files
 
-pub plain_first_part : (session : Session) (files : List Finished) → Each IsPlain (first_part session files)
+pub plain_first_part : (session : EndedSession) (files : List SettledFile) → Each IsPlain (first_part session files)
 plain_first_part session files =
     each-append IsPlain (flat_map (λ file. created session file file.worked.origin) files) (flat_map (λ file. received session file file.worked.origin) files)
     (each-flat_map IsPlain (λ file. created session file file.worked.origin) files (λ file. plain_created session file file.worked.origin))
     (each-flat_map IsPlain (λ file. received session file file.worked.origin) files (λ file. plain_received session file file.worked.origin))
 
-pub plain_modified_part : (session : Session) (files : List Finished) → Each IsPlain (modified_part session files)
+pub plain_modified_part : (session : EndedSession) (files : List SettledFile) → Each IsPlain (modified_part session files)
 plain_modified_part session files = each-flat_map IsPlain (λ file. modified session file file.worked.origin) files (λ file. plain_modified session file file.worked.origin)
 
-pub plain_attributes_part : (session : Session) (files : List Finished) → Each IsPlain (attributes_part session files)
+pub plain_attributes_part : (session : EndedSession) (files : List SettledFile) → Each IsPlain (attributes_part session files)
 plain_attributes_part session files = each-flat_map IsPlain (λ file. attributes_modified session file file.worked.origin) files (λ file. plain_attributes session file file.worked.origin)
 
-pub plain_routed_part : (session : Session) (files : List Finished) → Each IsPlain (routed_part session files)
+pub plain_routed_part : (session : EndedSession) (files : List SettledFile) → Each IsPlain (routed_part session files)
 plain_routed_part session files = each-flat_map IsPlain (λ file. routed session file file.worked.routed) files (λ file. plain_routed session file file.worked.routed)
 
-pub plain_dropped_part : (session : Session) (files : List Finished) → Each IsPlain (dropped_part session files)
+pub plain_dropped_part : (session : EndedSession) (files : List SettledFile) → Each IsPlain (dropped_part session files)
 plain_dropped_part session files = each-flat_map IsPlain (λ file. dropped session file file.goes) files (λ file. plain_dropped session file file.goes)
 
-draft_forks : (session : Session) (files : List Finished) → Each IsDraft (forks session files)
+draft_forks : (session : EndedSession) (files : List SettledFile) → Each IsDraft (forks session files)
 draft_forks session files = each-flat_map IsDraft (λ f. fork_of session f.1 (forked_children files f.0)) (enumerate_from 0 files) (λ f. draft_fork session f.1 (forked_children files f.0))
 
-draft_clones : (session : Session) (clones : List SettlementClone) → Each IsDraft (clones_part session clones)
+draft_clones : (session : EndedSession) (clones : List SettlementClone) → Each IsDraft (clones_part session clones)
 draft_clones session clones = each-map IsDraft (λ clone. clone_event session clone.original clone.number) clones (λ clone. record { number = λ n. refl; kin = λ n. refl })
 
-pub session-drafts : (session : Session) (outcome : Outcome) → Each IsDraft (drafts session outcome)
+pub session-drafts : (session : EndedSession) (outcome : Outcome) → Each IsDraft (drafts session outcome)
 session-drafts session outcome =
-    let files = finished_files session outcome.files in
+    let files = settled_files session outcome.files in
     let clones = settlement_clones session outcome.files in
     let a = first_part session files in
     let b = forks session files in
     let c = joined_part session files in
-    let d = cloned_part session files in
+    let d = clonings session files in
     let e = modified_part session files in
     let f = attributes_part session files in
     let g = routed_part session files in
@@ -159,7 +158,7 @@ session-drafts session outcome =
     (each-append IsDraft (a ++ b) c
     (each-append IsDraft a b (drafts_of_plain a (plain_first_part session files)) (draft_forks session files))
     (each-flat_map IsDraft (λ file. joined session files file file.worked.origin) files (λ file. draft_joined session files file file.worked.origin)))
-    (each-flat_map IsDraft (λ file. cloned session files file file.worked.origin) files (λ file. draft_cloned session files file file.worked.origin)))
+    (draft_clonings session files))
     (drafts_of_plain e (plain_modified_part session files)))
     (drafts_of_plain f (plain_attributes_part session files)))
     (drafts_of_plain g (plain_routed_part session files)))

@@ -1,31 +1,34 @@
 -- That the events of each state tell of its kin.
 use Rattle.std.proofs.Common.{◌≡◌, inl, inr, ℕ, suc, ◌+◌, ◌<◌, List, [], ◌∷◌, ◌++◌, map, length, refl, sym, ap, subst, ◌∙◌, arith}
-use Rattle.std.specs.Prelude.{◌↔◌, zip, fold}
+use Rattle.std.specs.Prelude.{zip, fold}
+use Rattle.std.specs.FinSet.{from_list}
 use Rattle.std.specs.List.{flat_map}
 use Rattle.std.proofs.lemmas.List.{append-nil, length-append, length-map}
-use Rattle.flowfile_record.specs.Kin.{kin_of}
+use Rattle.flowfile_record.specs.Outcome.{parents_of, AreInTurn}
+use Rattle.flowfile_record.specs.Kin.{kin_of, kin_of_all}
+use Rattle.flowfile_record.specs.declared.event.Event.{Event}
 use Rattle.flowfile_record.specs.declared.worked.Worked.{Worked}
-use Rattle.machine_model.specs.declared.state.QueuedFile.{QueuedFile}
-use Rattle.machine_model.specs.Events.{Draft, ascending, drafts}
+use Rattle.machine_model.specs.State.{QueuedFile, Kin}
+use Rattle.machine_model.specs.Events.{Draft, ascending, drafts, numbered_from}
 use Rattle.machine_model.specs.Files.{queue_at}
-use Rattle.machine_model.specs.Laws.{AreFrom, EventsTellKin, SettlingTellsKin, StepsTellKin, ReplaysTellKin}
-use Rattle.machine_model.specs.Placing.{Session, Finished, finished_file, finished_files, settlement_clones, parents_in, numbers_from, next_behind, entered_by, entered_in}
+use Rattle.machine_model.specs.Laws.{SettlingTellsKin, StepsTellKin, ReplaysTellKin}
+use Rattle.machine_model.specs.Valid.{EventsTellKin}
+use Rattle.machine_model.specs.Placing.{EndedSession, SettledFile, settled_file, settled_files, settlement_clones, numbers_from, next_behind, entered_by, entered_in}
 use Rattle.machine_model.specs.Settling.{kin_of_files}
 use Rattle.machine_model.specs.Stepping.{expired, expiry_of, files_of}
 use Rattle.machine_model.proofs.Among.{Among, all_among, is_made}
-use Rattle.machine_model.proofs.Ancestry.{NameFiles, kin-has, kin-had, drafts-tell, kin-told, kin_goes_on}
+use Rattle.machine_model.proofs.Ancestry.{NameFiles, kin-has, kin-had, drafts-tell, kin-told, kin_of_joined, kin_goes_on}
 use Rattle.machine_model.proofs.Drafted.{IsDraft, session-drafts}
-use Rattle.machine_model.proofs.Kinships.{Tell, kinship}
 use Rattle.machine_model.proofs.Options.{if_when}
 use Rattle.machine_model.proofs.Preserved.{IsKept, step-kept, replay-kept}
-use Rattle.machine_model.proofs.Tally.{each-map}
+use Rattle.machine_model.proofs.Tally.{Each, each-map}
 
 -- ---- origins name files of the outcome
 
-named_before : (place count : ℕ) (files : List Worked) → AreFrom place count files → (file : Worked) → Among file files → (parent : ℕ) → Among parent (parents_in file.origin) → parent < place + length files
+named_before : (place count : ℕ) (files : List Worked) → AreInTurn place count files → (file : Worked) → Among file files → (parent : ℕ) → Among parent (parents_of file.origin) → parent < place + length files
 named_before place count [] h file there parent named = absurd there
 named_before place count (first ∷ files) h file (inl is) parent named =
-    let early : parent < place = all_among (λ p. p < place) parent (parents_in first.origin) h.1 (subst (λ (f : Worked). Among parent (parents_in f.origin)) (sym is) named) in
+    let early : parent < place = all_among (λ p. p < place) parent (parents_of first.origin) h.1 (subst (λ (f : Worked). Among parent (parents_of f.origin)) (sym is) named) in
     omega arith
 named_before place count (first ∷ files) h file (inr there) parent named = omega (arith, named_before (place + 1) count files h.2 file there parent named)
 
@@ -49,23 +52,23 @@ zip-second (x ∷ xs) [] pair h = absurd h
 zip-second (x ∷ xs) (y ∷ ys) pair (inl is) = inl (ap (λ p. p.1) is)
 zip-second (x ∷ xs) (y ∷ ys) pair (inr h) = inr (zip-second xs ys pair h)
 
-name-files : (session : Session) (files : List Worked) → AreFrom 0 (length session.taken) files → NameFiles (finished_files session files)
+name-files : (session : EndedSession) (files : List Worked) → AreInTurn 0 (length session.taken) files → NameFiles (settled_files session files)
 name-files session files is_outcome file there parent named =
     let numbers = numbers_from session.state.next_number (map (λ file. file.number) session.taken) files in
     let own = map (λ (file : QueuedFile). file.entered) session.taken in
     let entered = entered_in session.given.moment own files in
-    let made = is_made (λ f. finished_file session (f.0, f.1.0, f.1.1)) (zip numbers (zip entered files)) file there in
+    let made = is_made (λ f. settled_file session (f.0, f.1.0, f.1.1)) (zip numbers (zip entered files)) file there in
     let worked : Among made.source.1.1 files = zip-second entered files made.source.1 (zip-second numbers (zip entered files) made.source made.there) in
-    let below : parent < 0 + length files = named_before 0 (length session.taken) files is_outcome made.source.1.1 worked parent (subst (λ (f : Finished). Among parent (parents_in f.worked.origin)) (sym made.is) named) in
+    let below : parent < 0 + length files = named_before 0 (length session.taken) files is_outcome made.source.1.1 worked parent (subst (λ (f : SettledFile). Among parent (parents_of f.worked.origin)) (sym made.is) named) in
     let inner : length (zip entered files) ≡ length files = length-zip entered files (length-built (λ before file. entered_by session.given.moment own before file.origin) [] files ∙ omega arith) in
     let outer : length (zip numbers (zip entered files)) ≡ length (zip entered files) = length-zip numbers (zip entered files) (length-numbers session.state.next_number _ files ∙ sym inner) in
-    omega (arith, length-map (zip numbers (zip entered files)) (λ f. finished_file session (f.0, f.1.0, f.1.1)))
+    omega (arith, length-map (zip numbers (zip entered files)) (λ f. settled_file session (f.0, f.1.0, f.1.1)))
 
 -- ---- sessions, steps and replays
 
 pub settle-tells : SettlingTellsKin
 settle-tells session outcome is_outcome before =
-    let files = finished_files session outcome.files in
+    let files = settled_files session outcome.files in
     let clones = settlement_clones session outcome.files in
     kin_goes_on session.state.events (length session.state.events + 1) (drafts session outcome) session.state.kin (kin_of_files files clones) (session-drafts session outcome) before
     (λ child parent. (
@@ -74,23 +77,23 @@ settle-tells session outcome is_outcome before =
     ))
 
 -- an expiry tells of no kin
-expiries_tell : (ds : List Draft) (child parent : ℕ) → flat_map (λ (draft : Draft). kin_of (draft 0)) ds ≡ [] → Tell ds child parent ↔ Among (kinship child parent) []
-expiries_tell ds child parent none = (λ told. rw none at told, λ nothing. absurd nothing)
-
 no_kin : {X : Type 0} (g : X → Draft) → ((x : X) → kin_of (g x 0) ≡ []) → (xs : List X) → flat_map (λ (draft : Draft). kin_of (draft 0)) (map g xs) ≡ []
 no_kin g none [] = refl
 no_kin g none (x ∷ xs) = rw (none x) (no_kin g none xs)
 
-kin-kept : IsKept EventsTellKin
+none_told : (events : List Event) (k : ℕ) (ds : List Draft) (kin : Kin) → Each IsDraft ds → flat_map (λ (draft : Draft). kin_of (draft 0)) ds ≡ [] → kin ≡ from_list (kin_of_all events)
+    → kin ≡ from_list (kin_of_all (events ++ numbered_from k ds))
+none_told events k ds kin honest none before =
+    before ∙ ap from_list (sym (kin_of_joined events k ds honest ∙ ap (λ xs. kin_of_all events ++ xs) none ∙ append-nil (kin_of_all events)))
+
+pub kin-kept : IsKept EventsTellKin
 kin-kept = record {
-  settling = λ session outcome taken is_outcome before. settle-tells session outcome is_outcome before;
+  settling = λ session outcome taken next ends before. settle-tells session outcome ends before;
   expiry = λ state place numbers moment connection before.
       let files = files_of (queue_at state place) (ascending numbers) in
-      let ds = map (expiry_of connection moment) files in
-      if_when _ (expired state place connection numbers moment) EventsTellKin (λ _ child parent.
-      let goes_on = kin_goes_on state.events (length state.events + 1) ds state.kin [] (each-map IsDraft (expiry_of connection moment) files (λ file. record { number = λ n. refl; kin = λ n. refl })) before
-      (λ child parent. expiries_tell ds child parent (no_kin (expiry_of connection moment) (λ file. refl) files)) child parent in
-      rw append-nil at goes_on);
+      if_when _ (expired state place connection numbers moment) EventsTellKin (λ _.
+      none_told state.events (length state.events + 1) (map (expiry_of connection moment) files) state.kin
+      (each-map IsDraft (expiry_of connection moment) files (λ file. record { number = λ n. refl; kin = λ n. refl })) (no_kin (expiry_of connection moment) (λ file. refl) files) before);
   swap_out = λ state place numbers batch connection before. if_when _ _ EventsTellKin (λ _. before);
   swap_in = λ state place batch connection before. if_when _ _ EventsTellKin (λ _. before);
 }

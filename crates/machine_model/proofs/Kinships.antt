@@ -1,35 +1,35 @@
 -- That the kin which a session's events tell of is that of its files: each made file with each parent that its origin
 -- names, and each clone with its original.
 use Rattle.std.proofs.Common.{◌≡◌, inl, inr, ℕ, ◌<◌, true, List, [], ◌∷◌, map, length, refl, sym, ap, subst, ◌∙◌, arith}
-use Rattle.std.specs.Prelude.{Option, Some, None, filter, slice_get}
+use Rattle.std.specs.Prelude.{filter}
 use Rattle.std.specs.List.{flat_map, enumerate_from}
 use Rattle.std.proofs.lemmas.Bool.{eqb-true}
+use Rattle.flowfile_record.specs.Outcome.{parents_of}
 use Rattle.flowfile_record.specs.Kin.{kin_of, pairs_of}
 use Rattle.flowfile_record.specs.declared.worked.Origin.{Origin}
 use Rattle.flowfile_record.specs.declared.worked.Origin.TheVariants as origin
-use Rattle.machine_model.specs.declared.state.Kinship.{Kinship}
-use Rattle.machine_model.specs.Events.{Draft, number_at, is_forked_from, forked_children, fork_of, forks, ascending, joined, clone_event, cloned}
-use Rattle.machine_model.specs.Placing.{Session, Finished, SettlementClone, parents_in}
+use Rattle.machine_model.specs.Events.{Draft, number_at, is_forked_from, forked_children, fork_of, forks, ascending, joined, clone_event, is_cloned_from, copies, clonings}
+use Rattle.machine_model.specs.Placing.{EndedSession, SettledFile, SettlementClone}
 use Rattle.machine_model.proofs.Among.{Among, ComesFrom, comes_from, goes_to, IsMade, is_made, makes, kept_by, keeps, ascending-had}
-use Rattle.machine_model.proofs.Drafted.{joined_part, cloned_part, clones_part}
+use Rattle.machine_model.proofs.Drafted.{joined_part, clones_part}
 use Rattle.machine_model.proofs.Places.{at_place_below, enumerated, place_of, number-at}
 
-abbrev pub kinship : (child parent : ℕ) → Kinship
-kinship child parent = record { child = child; parent = parent }
+abbrev pub kinship : (child parent : ℕ) → ℕ × ℕ
+kinship child parent = (child, parent)
 
 -- drafts name one file as the child of another
 abbrev pub Tell : List Draft → (child parent : ℕ) → Type 0
 Tell drafts child parent = Among (child, parent) (flat_map (λ draft. kin_of (draft 0)) drafts)
 
 -- a file is that child, and its origin names that parent
-pub record IsChild (files : List Finished) (file : Finished) (child parent : ℕ) : Type 0 where
+pub record IsChild (files : List SettledFile) (file : SettledFile) (child parent : ℕ) : Type 0 where
   pub place : ℕ
-  pub named : Among place (parents_in file.worked.origin)
+  pub named : Among place (parents_of file.worked.origin)
   pub is_child : file.number ≡ child
   pub is_parent : number_at files place ≡ parent
 
-pub record HasChild (files : List Finished) (child parent : ℕ) : Type 0 where
-  pub file : Finished
+pub record HasChild (files : List SettledFile) (child parent : ℕ) : Type 0 where
+  pub file : SettledFile
   pub there : Among file files
   pub kin : IsChild files file child parent
 
@@ -60,7 +60,7 @@ pair_of parents children child parent h k =
 
 -- ---- forks
 
-forked_names : (place : ℕ) (from : Origin) → is_forked_from place from ≡ true → Among place (parents_in from)
+forked_names : (place : ℕ) (from : Origin) → is_forked_from place from ≡ true → Among place (parents_of from)
 forked_names place (origin.Forked parent) h = inl (eqb-true parent place h)
 forked_names place (origin.Part parent) h = inl (eqb-true parent place h)
 forked_names place (origin.Taken of) h = cc
@@ -69,7 +69,7 @@ forked_names place origin.Received h = cc
 forked_names place (origin.Cloned parent) h = cc
 forked_names place (origin.Joined parents) h = cc
 
-fork_tells : (session : Session) (parent : Finished) (children : List ℕ) (draft : Draft) (child of : ℕ) → Among draft (fork_of session parent children) → Among (child, of) (kin_of (draft 0))
+fork_tells : (session : EndedSession) (parent : SettledFile) (children : List ℕ) (draft : Draft) (child of : ℕ) → Among draft (fork_of session parent children) → Among (child, of) (kin_of (draft 0))
     → IsPair (parent.number ∷ []) children child of
 fork_tells session parent [] draft child of h k = absurd h
 fork_tells session parent (first ∷ children) draft child of (inl is) k =
@@ -80,13 +80,13 @@ pub only : {X : Type 0} (x y : X) → Among x (y ∷ []) → y ≡ x
 only x y (inl is) = is
 only x y (inr h) = absurd h
 
-pub forks_tell : (session : Session) (files : List Finished) (child parent : ℕ) (draft : Draft) → Among draft (forks session files) → Among (child, parent) (kin_of (draft 0)) → HasChild files child parent
+pub forks_tell : (session : EndedSession) (files : List SettledFile) (child parent : ℕ) (draft : Draft) → Among draft (forks session files) → Among (child, parent) (kin_of (draft 0)) → HasChild files child parent
 forks_tell session files child parent draft h k =
     let from = comes_from (λ f. fork_of session f.1 (forked_children files f.0)) (enumerate_from 0 files) draft h in
     let at = place_of 0 files from.source from.there in
     let place = from.source.0 in
     let pair = fork_tells session from.source.1 (forked_children files place) draft child parent from.made k in
-    let made = is_made (λ (file : Finished). file.number) (filter (λ file. is_forked_from place file.worked.origin) files) child pair.has_child in
+    let made = is_made (λ (file : SettledFile). file.number) (filter (λ file. is_forked_from place file.worked.origin) files) child pair.has_child in
     let passed = kept_by (λ file. is_forked_from place file.worked.origin) files made.source made.there in
     let same : at.place ≡ place = omega (arith, at.number) in
     record {
@@ -100,19 +100,19 @@ forks_tell session files child parent draft h k =
       };
     }
 
-fork_of_some : (session : Session) (parent : Finished) (children : List ℕ) (child : ℕ) → Among child children
+fork_of_some : (session : EndedSession) (parent : SettledFile) (children : List ℕ) (child : ℕ) → Among child children
     → ComesFrom (λ draft. kin_of (draft 0)) (fork_of session parent children) (child, parent.number)
 fork_of_some session parent [] child h = absurd h
 fork_of_some session parent (first ∷ children) child h =
     record { source = _; there = inl refl; made = pair_of (parent.number ∷ []) (first ∷ children) child parent.number h (inl refl) }
 
 -- a forked file is told of
-pub fork_told : (session : Session) (files : List Finished) (file : Finished) (place : ℕ) → Among file files → is_forked_from place file.worked.origin ≡ true → place < length files
+pub fork_told : (session : EndedSession) (files : List SettledFile) (file : SettledFile) (place : ℕ) → Among file files → is_forked_from place file.worked.origin ≡ true → place < length files
     → Tell (forks session files) file.number (number_at files place)
 fork_told session files file place there forked l =
     let at = at_place_below files place l in
     let children = forked_children files place in
-    let child : Among file.number children = makes (λ (f : Finished). f.number) (filter (λ f. is_forked_from place f.worked.origin) files) file (keeps (λ f. is_forked_from place f.worked.origin) files file there forked) in
+    let child : Among file.number children = makes (λ (f : SettledFile). f.number) (filter (λ f. is_forked_from place f.worked.origin) files) file (keeps (λ f. is_forked_from place f.worked.origin) files file there forked) in
     let event = fork_of_some session at.element children file.number child in
     let among : Among event.source (forks session files)
     = goes_to (λ f. fork_of session f.1 (forked_children files f.0)) (enumerate_from 0 files) (place, at.element) event.source
@@ -122,8 +122,8 @@ fork_told session files file place there forked l =
 
 -- ---- joins and clones
 
-joined_tells : (session : Session) (files : List Finished) (file : Finished) (from : Origin) (draft : Draft) (child parent : ℕ) → Among draft (joined session files file from)
-    → Among (child, parent) (kin_of (draft 0)) → (file.number ≡ child) × IsMade (number_at files) (parents_in from) parent
+joined_tells : (session : EndedSession) (files : List SettledFile) (file : SettledFile) (from : Origin) (draft : Draft) (child parent : ℕ) → Among draft (joined session files file from)
+    → Among (child, parent) (kin_of (draft 0)) → (file.number ≡ child) × IsMade (number_at files) (parents_of from) parent
 joined_tells session files file (origin.Joined parents) draft child parent (inl is) k =
     let pair = pair_parts (ascending (map (number_at files) parents)) (file.number ∷ []) child parent (subst (λ d. Among (child, parent) (kin_of (d 0))) (sym is) k) in
     (only child file.number pair.has_child, is_made (number_at files) parents parent (ascending-had parent (map (number_at files) parents) pair.has_parent))
@@ -135,43 +135,61 @@ joined_tells session files file (origin.Forked of) draft child parent h k = absu
 joined_tells session files file (origin.Part of) draft child parent h k = absurd h
 joined_tells session files file (origin.Cloned of) draft child parent h k = absurd h
 
-cloned_at : (session : Session) (files : List Finished) (file : Finished) (of : ℕ) (found : Option Finished) (draft : Draft) (child parent : ℕ) → slice_get files of ≡ found
-    → Among draft (cloned session files file (origin.Cloned of)) → Among (child, parent) (kin_of (draft 0)) → (file.number ≡ child) × (number_at files of ≡ parent)
-cloned_at session files file of None draft child parent is h k = absurd (rw is at h)
-cloned_at session files file of (Some original) draft child parent is h k = told (rw is at h)
-  where
-    told : Among draft (clone_event session original file.number ∷ []) → (file.number ≡ child) × (number_at files of ≡ parent)
-    told h =
-        let pair = pair_parts (original.number ∷ []) (file.number ∷ []) child parent (subst (λ d. Among (child, parent) (kin_of (d 0))) (sym (only draft (clone_event session original file.number) h)) k) in
-        (only child file.number pair.has_child, number-at files of original is ∙ only parent original.number pair.has_parent)
-
-cloned_tells : (session : Session) (files : List Finished) (file : Finished) (from : Origin) (draft : Draft) (child parent : ℕ) → Among draft (cloned session files file from)
-    → Among (child, parent) (kin_of (draft 0)) → (file.number ≡ child) × IsMade (number_at files) (parents_in from) parent
-cloned_tells session files file (origin.Cloned of) draft child parent h k =
-    let told = cloned_at session files file of (slice_get files of) draft child parent refl h k in
-    (told.0, record { source = of; there = inl refl; is = told.1 })
-cloned_tells session files file (origin.Taken of) draft child parent h k = absurd h
-cloned_tells session files file origin.Created draft child parent h k = absurd h
-cloned_tells session files file origin.Received draft child parent h k = absurd h
-cloned_tells session files file (origin.Forked of) draft child parent h k = absurd h
-cloned_tells session files file (origin.Part of) draft child parent h k = absurd h
-cloned_tells session files file (origin.Joined parents) draft child parent h k = absurd h
-
-has_child : (files : List Finished) (file : Finished) (child parent : ℕ) → Among file files → (file.number ≡ child) × IsMade (number_at files) (parents_in file.worked.origin) parent → HasChild files child parent
+has_child : (files : List SettledFile) (file : SettledFile) (child parent : ℕ) → Among file files → (file.number ≡ child) × IsMade (number_at files) (parents_of file.worked.origin) parent → HasChild files child parent
 has_child files file child parent there (is, made) =
     record { file = file; there = there; kin = record { place = made.source; named = made.there; is_child = is; is_parent = made.is } }
 
-pub joins_tell : (session : Session) (files : List Finished) (child parent : ℕ) (draft : Draft) → Among draft (joined_part session files) → Among (child, parent) (kin_of (draft 0)) → HasChild files child parent
+pub joins_tell : (session : EndedSession) (files : List SettledFile) (child parent : ℕ) (draft : Draft) → Among draft (joined_part session files) → Among (child, parent) (kin_of (draft 0)) → HasChild files child parent
 joins_tell session files child parent draft h k =
     let from = comes_from (λ file. joined session files file file.worked.origin) files draft h in
     has_child files from.source child parent from.there (joined_tells session files from.source from.source.worked.origin draft child parent from.made k)
 
-pub clones_tell : (session : Session) (files : List Finished) (child parent : ℕ) (draft : Draft) → Among draft (cloned_part session files) → Among (child, parent) (kin_of (draft 0)) → HasChild files child parent
-clones_tell session files child parent draft h k =
-    let from = comes_from (λ file. cloned session files file file.worked.origin) files draft h in
-    has_child files from.source child parent from.there (cloned_tells session files from.source from.source.worked.origin draft child parent from.made k)
+cloned_names : (place : ℕ) (from : Origin) → is_cloned_from place from ≡ true → Among place (parents_of from)
+cloned_names place (origin.Cloned parent) h = inl (eqb-true parent place h)
+cloned_names place (origin.Taken of) h = cc
+cloned_names place origin.Created h = cc
+cloned_names place origin.Received h = cc
+cloned_names place (origin.Forked parent) h = cc
+cloned_names place (origin.Part parent) h = cc
+cloned_names place (origin.Joined parents) h = cc
 
-pub settlement_tells : (session : Session) (clones : List SettlementClone) (child parent : ℕ) (draft : Draft) → Among draft (clones_part session clones) → Among (child, parent) (kin_of (draft 0)) → HasClone clones child parent
+pub clones_tell : (session : EndedSession) (files : List SettledFile) (child parent : ℕ) (draft : Draft) → Among draft (clonings session files) → Among (child, parent) (kin_of (draft 0)) → HasChild files child parent
+clones_tell session files child parent draft h k =
+    let from = comes_from (λ f. map (λ copy. clone_event session f.1 copy.number) (copies files f.0)) (enumerate_from 0 files) draft h in
+    let at = place_of 0 files from.source from.there in
+    let place = from.source.0 in
+    let original = from.source.1 in
+    let made = is_made (λ (copy : SettledFile). clone_event session original copy.number) (copies files place) draft from.made in
+    let passed = kept_by (λ file. is_cloned_from place file.worked.origin) files made.source made.there in
+    let pair = pair_parts (original.number ∷ []) (made.source.number ∷ []) child parent (subst (λ d. Among (child, parent) (kin_of (d 0))) (sym made.is) k) in
+    let same : at.place ≡ place = omega (arith, at.number) in
+    record {
+      file = made.source;
+      there = passed.0;
+      kin = record {
+        place = place;
+        named = cloned_names place made.source.worked.origin passed.1;
+        is_child = only child made.source.number pair.has_child;
+        is_parent = ap (number_at files) (sym same) ∙ number-at files at.place original at.is ∙ only parent original.number pair.has_parent;
+      };
+    }
+
+-- a copy is told of
+pub clone_told : (session : EndedSession) (files : List SettledFile) (file : SettledFile) (place : ℕ) → Among file files → is_cloned_from place file.worked.origin ≡ true → place < length files
+    → Tell (clonings session files) file.number (number_at files place)
+clone_told session files file place there cloned l =
+    let at = at_place_below files place l in
+    let draft = clone_event session at.element file.number in
+    let here : Among draft (map (λ (copy : SettledFile). clone_event session at.element copy.number) (copies files place))
+    = makes (λ (copy : SettledFile). clone_event session at.element copy.number) (copies files place) file (keeps (λ f. is_cloned_from place f.worked.origin) files file there cloned) in
+    let among : Among draft (clonings session files)
+    = goes_to (λ f. map (λ copy. clone_event session f.1 copy.number) (copies files f.0)) (enumerate_from 0 files) (place, at.element) draft
+    (subst (λ n. Among (n, at.element) (enumerate_from 0 files)) (omega arith) (enumerated 0 files place at.element at.is)) here in
+    subst (λ n. Tell (clonings session files) file.number n) (sym (number-at files place at.element at.is))
+    (goes_to (λ draft. kin_of (draft 0)) (clonings session files) draft (file.number, at.element.number) among
+    (pair_of (at.element.number ∷ []) (file.number ∷ []) file.number at.element.number (inl refl) (inl refl)))
+
+pub settlement_tells : (session : EndedSession) (clones : List SettlementClone) (child parent : ℕ) (draft : Draft) → Among draft (clones_part session clones) → Among (child, parent) (kin_of (draft 0)) → HasClone clones child parent
 settlement_tells session clones child parent draft h k =
     let made = is_made (λ (clone : SettlementClone). clone_event session clone.original clone.number) clones draft h in
     let clone = made.source in

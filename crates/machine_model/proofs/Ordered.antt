@@ -15,9 +15,9 @@ use Rattle.prioritizer.specs.Order.{order_cmp}
 use Rattle.prioritizer.specs.LawsHold.{order_cmp-total, order_cmp-ties}
 use Rattle.prioritizer.specs.declared.prioritizer.Prioritizer.{Prioritizer}
 use Rattle.machine_model.specs.declared.flow.QueueLimits.{QueueLimits}
-use Rattle.machine_model.specs.declared.state.QueuedFile.{QueuedFile}
+use Rattle.machine_model.specs.View.{FileView}
 use Rattle.machine_model.specs.Laws.{NoneGoesBeforeItself, GoingBeforeChains, ArrivalsTell, OrderKeepsFiles, OrderHolds, BestIsBest, IsBest}
-use Rattle.machine_model.specs.Order.{standing_of_file, goes_before, put_in_order, in_order, is_eligible}
+use Rattle.machine_model.specs.Order.{standing_of, goes_before, put_in_order, in_order, is_eligible}
 
 -- ---- a total order
 
@@ -27,32 +27,32 @@ less_from_is_lt Equal h = cc
 less_from_is_lt Greater h = cc
 
 pub goes_before-irreflexive : NoneGoesBeforeItself
-goes_before-irreflexive order file = ap is_lt (tied_itself (order_cmp-total order) (standing_of_file file))
+goes_before-irreflexive order file = ap is_lt (tied_itself (order_cmp-total order) (standing_of file))
 
 pub goes_before-transitive : GoingBeforeChains
 goes_before-transitive order a b c h k =
-    ap is_lt ((order_cmp-total order).trans (standing_of_file a) (standing_of_file b) (standing_of_file c) (less_from_is_lt _ h) (less_from_is_lt _ k))
+    ap is_lt ((order_cmp-total order).trans (standing_of a) (standing_of b) (standing_of c) (less_from_is_lt _ h) (less_from_is_lt _ k))
 
-told : (order : List Prioritizer) (a b : QueuedFile) (o : Ordering) → order_cmp order (standing_of_file a) (standing_of_file b) ≡ o → a.arrival ≢ b.arrival
+told : (order : List Prioritizer) (a b : FileView) (o : Ordering) → order_cmp order (standing_of a) (standing_of b) ≡ o → a.arrival ≢ b.arrival
     → (goes_before order a b ≡ true) ⊎ (goes_before order b a ≡ true)
 told order a b Less is differ = inl (ap is_lt is)
-told order a b Equal is differ = absurd (differ (order_cmp-ties order (standing_of_file a) (standing_of_file b) is))
+told order a b Equal is differ = absurd (differ (order_cmp-ties order (standing_of a) (standing_of b) is))
 told order a b Greater is differ =
-    inr (ap is_lt ((order_cmp-total order).antisymm (standing_of_file b) (standing_of_file a) ∙ ap ordering_reverse is))
+    inr (ap is_lt ((order_cmp-total order).antisymm (standing_of b) (standing_of a) ∙ ap ordering_reverse is))
 
 pub goes_before-total : ArrivalsTell
 goes_before-total order a b differ = told order a b _ refl differ
 
 -- what doesn't go before a file doesn't go before what that file goes before
-stays_behind : (order : List Prioritizer) (file a b : QueuedFile) → goes_before order a b ≡ true → goes_before order file b ≡ false → goes_before order file a ≡ false
+stays_behind : (order : List Prioritizer) (file a b : FileView) → goes_before order a b ≡ true → goes_before order file b ≡ false → goes_before order file a ≡ false
 stays_behind order file a b h k = false_from_ne_true _ (λ t. true≢false (sym (goes_before-transitive order file a b t h) ∙ k))
 
-pub asymmetric : (order : List Prioritizer) (a b : QueuedFile) → goes_before order a b ≡ true → goes_before order b a ≡ false
+pub asymmetric : (order : List Prioritizer) (a b : FileView) → goes_before order a b ≡ true → goes_before order b a ≡ false
 asymmetric order a b h = stays_behind order b a b h (goes_before-irreflexive order b)
 
 -- ---- the same files
 
-put-permutes : (order : List Prioritizer) (file : QueuedFile) (files : List QueuedFile) → IsPermutation (file ∷ files) (put_in_order order file files)
+put-permutes : (order : List Prioritizer) (file : FileView) (files : List FileView) → IsPermutation (file ∷ files) (put_in_order order file files)
 put-permutes order file [] = IsPermutation-refl (file ∷ [])
 put-permutes order file (other ∷ files) =
     elim (goes_before order file other) as (λ b. IsPermutation (file ∷ other ∷ files) (cond b (file ∷ other ∷ files) (other ∷ put_in_order order file files))) [
@@ -68,7 +68,7 @@ in_order-permutes order (file ∷ files) =
 
 -- ---- in order
 
-abbrev pub Follows : List Prioritizer → QueuedFile → QueuedFile → Type 0
+abbrev pub Follows : List Prioritizer → FileView → FileView → Type 0
 Follows order earlier later = goes_before order later earlier ≡ false
 
 pub pairs_head : {X : Type 0} (R : X → X → Type 0) (x : X) (xs : List X) → AllPairs R (x ∷ xs) → All (R x) xs
@@ -80,7 +80,7 @@ pairs_tail R x xs h i j d l m = h (suc i) (suc j) d (omega arith) (omega arith)
 pub pairs_nil : {X : Type 0} (R : X → X → Type 0) → AllPairs R []
 pairs_nil R i j d l m = absurd (omega arith)
 
-put-ordered : (order : List Prioritizer) (file : QueuedFile) (files : List QueuedFile) → AllPairs (Follows order) files → AllPairs (Follows order) (put_in_order order file files)
+put-ordered : (order : List Prioritizer) (file : FileView) (files : List FileView) → AllPairs (Follows order) files → AllPairs (Follows order) (put_in_order order file files)
 put-ordered order file [] h = AllPairs-cons (Follows order) file [] (All-nil (Follows order file)) (pairs_nil (Follows order))
 put-ordered order file (other ∷ files) h =
     let behind : All (Follows order other) files = pairs_head (Follows order) other files h in
@@ -133,7 +133,7 @@ contains_unfiltered p (y ∷ xs) x h =
       | false ↦ λ c. contains_later x y xs (contains_unfiltered p xs x c)
     ] h
 
-first_is_best : (order : List Prioritizer) (limits : QueueLimits) (moment : ℕ) (files sorted : List QueuedFile)
+first_is_best : (order : List Prioritizer) (limits : QueueLimits) (moment : ℕ) (files sorted : List FileView)
     → IsPermutation (filter (is_eligible limits moment) files) sorted → AllPairs (Follows order) sorted
     → MatchOption (slice_get sorted 0) (All (λ file. is_eligible limits moment file ≡ false) files) (IsBest order limits moment files)
 first_is_best order limits moment files [] same ordered = all_fail (is_eligible limits moment) files (sym (length_permutation _ _ same))

@@ -3,7 +3,7 @@ use Rattle.std.proofs.Common.{◌≡◌, inl, inr, ℕ, zero, suc, ◌+◌, ◌<
 use Rattle.std.specs.Prelude.{Some, slice_get}
 use Rattle.std.specs.List.{enumerate_from}
 use Rattle.machine_model.specs.Events.{number_at}
-use Rattle.machine_model.specs.Placing.{Finished}
+use Rattle.machine_model.specs.Placing.{SettledFile}
 use Rattle.machine_model.proofs.Among.{Among}
 
 -- a list has an element at a place
@@ -39,7 +39,7 @@ place_of k (x ∷ xs) numbered (inr h) =
     let rest = place_of (k + 1) xs numbered h in
     record { place = suc rest.place; number = omega (arith, rest.number); is = rest.is }
 
-pub number-at : (files : List Finished) (place : ℕ) (file : Finished) → slice_get files place ≡ Some file → number_at files place ≡ file.number
+pub number-at : (files : List SettledFile) (place : ℕ) (file : SettledFile) → slice_get files place ≡ Some file → number_at files place ≡ file.number
 number-at [] place file is = cc
 number-at (first ∷ files) zero file is = let same : first ≡ file = cc in ap (λ f. f.number) same
 number-at (first ∷ files) (suc place) file is = number-at files place file is

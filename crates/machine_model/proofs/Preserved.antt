@@ -7,64 +7,67 @@ use Rattle.machine_model.specs.declared.flow.Connection.{Connection}
 use Rattle.machine_model.specs.declared.flow.Flow.{Flow}
 use Rattle.machine_model.specs.declared.flow.Processor.{Processor}
 use Rattle.machine_model.specs.declared.given.Given.{Given}
-use Rattle.machine_model.specs.declared.journal.Entry.{Entry}
 use Rattle.machine_model.specs.declared.journal.Step.{Step}
 use Rattle.machine_model.specs.declared.journal.Step.TheVariants.{Expire, SwapOut, SwapIn}
 use Rattle.machine_model.specs.declared.journal.Step.TheVariants as entry
-use Rattle.machine_model.specs.declared.state.QueuedFile.{QueuedFile}
-use Rattle.machine_model.specs.declared.state.State.{State}
+use Rattle.machine_model.specs.State.{QueuedFile, State, Machine}
 use Rattle.machine_model.specs.Acting.{TakenFile, act}
 use Rattle.machine_model.specs.Kinds.{take_rule_of}
-use Rattle.machine_model.specs.Laws.{HasTaken, IsOutcomeOf}
-use Rattle.machine_model.specs.Placing.{Session}
+use Rattle.machine_model.specs.Laws.{HasTaken, EndsAllInTurn}
+use Rattle.machine_model.specs.Placing.{EndedSession}
 use Rattle.machine_model.specs.Settling.{settle}
-use Rattle.machine_model.specs.Stepping.{Machine, step, replay, session_step, session_of, session_after, ended_session, taken_files, given_in, as_taken, expire_step, swap_out_step, swap_in_step, same_world}
-use Rattle.machine_model.proofs.Acted.{act-gives}
+use Rattle.machine_model.specs.Stepping.{step, replay, session_step, session_of, session_after, after_session, taken_files, given_at, given_in, as_taken, expire_step, swap_out_step, swap_in_step, same_world}
+use Rattle.machine_model.proofs.Acted.{act-ends}
+use Rattle.machine_model.proofs.GivenIn.{IsNextIndex, given-index}
 use Rattle.machine_model.proofs.Options.{if_and_then, if_map, if_at}
 use Rattle.machine_model.proofs.Took.{Took, taken-took}
 
 -- a fact of states that the settlement of each session and the queues' own steps keep
 pub record IsKept (P : State → Type 0) : Type 0 where
-  pub settling : (session : Session) (outcome : Outcome) → HasTaken session → IsOutcomeOf (length session.taken) outcome → P session.state → P (settle session outcome)
+  pub settling : (session : EndedSession) (outcome : Outcome) → HasTaken session
+      → IsNextIndex session.processor.kind session.place session.state.counts session.given.index → EndsAllInTurn (length session.taken) outcome → P session.state → P (settle session outcome)
   pub expiry : (state : State) (place : ℕ) (numbers : List ℕ) (moment : ℕ) (connection : Connection) → P state → IfSome (expire_step state place numbers moment connection) P
   pub swap_out : (state : State) (place : ℕ) (numbers : List ℕ) (batch : ℕ) (connection : Connection) → P state → IfSome (swap_out_step state place numbers batch connection) P
   pub swap_in : (state : State) (place batch : ℕ) (connection : Connection) → P state → IfSome (swap_in_step state place batch connection) P
 
-outcome_of : (own : List QueuedFile) (taken : List TakenFile) (outcome : Outcome) → length taken ≡ length own → IsOutcomeOf (length taken) outcome → IsOutcomeOf (length own) outcome
+outcome_of : (own : List QueuedFile) (taken : List TakenFile) (outcome : Outcome) → length taken ≡ length own → EndsAllInTurn (length taken) outcome → EndsAllInTurn (length own) outcome
 outcome_of own taken outcome same h = rw same at h
 
-session-kept : (P : State → Type 0) → IsKept P → (flow : Flow) (machine : Machine) (place : ℕ) (numbers : List ℕ) (moment : ℕ) (given : Given) (processor : Processor) → P machine.0
-    → IfSome (session_step flow machine place numbers moment given processor) (λ after. P after.0)
+session-kept : (P : State → Type 0) → IsKept P → (flow : Flow) (machine : Machine) (place : ℕ) (numbers : List ℕ) (moment : ℕ) (given : Given) (processor : Processor) → P machine.state
+    → IfSome (session_step flow machine place numbers moment given processor) (λ after. P after.state)
 session-kept P kept flow machine place numbers moment given processor before =
     let rule = take_rule_of processor.kind in
-    let at_moment = record given { moment = moment } in
-    if_and_then (λ taken. option_and_then (λ given. ended_session machine (session_of flow machine place processor taken given)) (given_in processor.kind place machine.0 machine.1 taken at_moment))
-    (taken_files flow machine.0 place rule numbers moment) (λ after. P after.0) (λ taken taken_is.
-    let took = if_at (taken_files flow machine.0 place rule numbers moment) taken (Took machine.0 rule) taken_is (taken-took flow machine.0 place rule numbers moment) in
-    let seen = map (as_taken machine.0) taken in
-    let same : length seen ≡ length taken = length-map taken (as_taken machine.0) in
-    if_and_then (λ given. ended_session machine (session_of flow machine place processor taken given)) (given_in processor.kind place machine.0 machine.1 taken at_moment) (λ after. P after.0) (λ found found_is.
+    if_and_then (λ taken. option_and_then (λ given. after_session machine (session_of flow machine place processor taken given))
+    (option_and_then (given_in processor.kind place machine.state machine.world taken) (given_at moment given)))
+    (taken_files flow machine.state place rule numbers moment) (λ after. P after.state) (λ taken taken_is.
+    let took = if_at (taken_files flow machine.state place rule numbers moment) taken (Took machine.state rule) taken_is (taken-took flow machine.state place rule numbers moment) in
+    let seen = map (as_taken machine.state) taken in
+    let same : length seen ≡ length taken = length-map taken (as_taken machine.state) in
+    if_and_then (λ given. after_session machine (session_of flow machine place processor taken given))
+    (option_and_then (given_in processor.kind place machine.state machine.world taken) (given_at moment given)) (λ after. P after.state) (λ found found_is.
     let session = session_of flow machine place processor taken found in
-    if_map (session_after machine session) (act processor.kind seen found) (λ after. P after.0) (λ outcome outcome_is.
-    kept.settling session outcome (record { differ = took.differ; there = took.there })
-    (outcome_of taken seen outcome same (if_at (act processor.kind seen found) outcome (IsOutcomeOf (length seen)) outcome_is (act-gives processor.kind seen found (rw same took.many_enough)))) before)))
+    let next = if_at (option_and_then (given_in processor.kind place machine.state machine.world taken) (given_at moment given)) found
+    (λ found. IsNextIndex processor.kind place machine.state.counts found.index) found_is (given-index processor.kind place machine.state machine.world taken moment given) in
+    if_map (session_after machine session) (act processor.kind seen found) (λ after. P after.state) (λ outcome outcome_is.
+    kept.settling session outcome (record { differ = took.differ; there = took.there }) next
+    (outcome_of taken seen outcome same (if_at (act processor.kind seen found) outcome (EndsAllInTurn (length seen)) outcome_is (act-ends processor.kind seen found (rw same took.many_enough)))) before)))
 
-in_same_world : (P : State → Type 0) (machine : Machine) (state : Option State) → IfSome state P → IfSome (same_world machine.1 state) (λ after. P after.0)
+in_same_world : (P : State → Type 0) (machine : Machine) (state : Option State) → IfSome state P → IfSome (same_world machine.world state) (λ after. P after.state)
 in_same_world P machine None h = tt
 in_same_world P machine (Some state) h = h
 
-pub step-kept : (P : State → Type 0) → IsKept P → (flow : Flow) (machine : Machine) (entry : Step) → P machine.0 → IfSome (step flow machine entry) (λ after. P after.0)
+pub step-kept : (P : State → Type 0) → IsKept P → (flow : Flow) (machine : Machine) (entry : Step) → P machine.state → IfSome (step flow machine entry) (λ after. P after.state)
 step-kept P kept flow machine (entry.Session processor numbers moment given) before =
-    if_and_then (session_step flow machine processor numbers moment given) (slice_get flow.processors processor) (λ after. P after.0) (λ found is. session-kept P kept flow machine processor numbers moment given found before)
+    if_and_then (session_step flow machine processor numbers moment given) (slice_get flow.processors processor) (λ after. P after.state) (λ found is. session-kept P kept flow machine processor numbers moment given found before)
 step-kept P kept flow machine (Expire place numbers moment) before =
-    in_same_world P machine _ (if_and_then (expire_step machine.0 place numbers moment) (slice_get flow.connections place) P (λ found is. kept.expiry machine.0 place numbers moment found before))
+    in_same_world P machine _ (if_and_then (expire_step machine.state place numbers moment) (slice_get flow.connections place) P (λ found is. kept.expiry machine.state place numbers moment found before))
 step-kept P kept flow machine (SwapOut place numbers batch) before =
-    in_same_world P machine _ (if_and_then (swap_out_step machine.0 place numbers batch) (slice_get flow.connections place) P (λ found is. kept.swap_out machine.0 place numbers batch found before))
+    in_same_world P machine _ (if_and_then (swap_out_step machine.state place numbers batch) (slice_get flow.connections place) P (λ found is. kept.swap_out machine.state place numbers batch found before))
 step-kept P kept flow machine (SwapIn place batch) before =
-    in_same_world P machine _ (if_and_then (swap_in_step machine.0 place batch) (slice_get flow.connections place) P (λ found is. kept.swap_in machine.0 place batch found before))
+    in_same_world P machine _ (if_and_then (swap_in_step machine.state place batch) (slice_get flow.connections place) P (λ found is. kept.swap_in machine.state place batch found before))
 
-pub replay-kept : (P : State → Type 0) → IsKept P → (flow : Flow) (machine : Machine) (journal : List Entry) → P machine.0 → IfSome (replay flow machine journal) (λ after. P after.0)
+pub replay-kept : (P : State → Type 0) → IsKept P → (flow : Flow) (machine : Machine) (steps : List Step) → P machine.state → IfSome (replay flow machine steps) (λ after. P after.state)
 replay-kept P kept flow machine [] before = before
-replay-kept P kept flow machine (first ∷ journal) before =
-    if_and_then (λ after. replay flow after journal) (step flow machine first.step) (λ after. P after.0) (λ after is.
-    replay-kept P kept flow after journal (if_at (step flow machine first.step) after (λ after. P after.0) is (step-kept P kept flow machine first.step before)))
+replay-kept P kept flow machine (first ∷ steps) before =
+    if_and_then (λ after. replay flow after steps) (step flow machine first) (λ after. P after.state) (λ after is.
+    replay-kept P kept flow after steps (if_at (step flow machine first) after (λ after. P after.state) is (step-kept P kept flow machine first before)))

@@ -3,8 +3,8 @@ use Rattle.std.proofs.Common.{◌≡◌, inl, inr, ℕ, ◌+◌, ◌≤◌, true
 use Rattle.std.specs.Prelude.{◌==◌, Option, Some, None, find}
 use Rattle.std.specs.List.{flat_map, enumerate_from, range_with_len}
 use Rattle.std.proofs.lemmas.Bool.{cases_lt}
-use Rattle.machine_model.specs.declared.state.QueuedFile.{QueuedFile}
-use Rattle.machine_model.specs.Placing.{Finished, SettlementClone, Goes, Queues, Returns, Drops, Leaves}
+use Rattle.machine_model.specs.State.{QueuedFile}
+use Rattle.machine_model.specs.Placing.{SettledFile, SettlementClone, Destination, Queues, Returns, Drops, Leaves}
 use Rattle.machine_model.specs.Settling.{Newcomer, newcomer, newcomers, in_queue, arriving, staying, staying_as}
 use Rattle.machine_model.proofs.Tally.{tally, bit, many, tally-append, tally-map, tally-flat_map, tally-plus, tally-le, tally-same, tally-none, tally-enumerate, at_place, run_below, run_past, run_once, Each, each-append, each-flat_map, each-map}
 use Rattle.machine_model.proofs.Keyed.{Counted}
@@ -37,20 +37,20 @@ arriving-le w arrival (newcomer ∷ rest) queues =
     )
 
 -- what a queued file leaves in its queue
-abbrev pub stayed : List Finished → QueuedFile → List QueuedFile
+abbrev pub stayed : List SettledFile → QueuedFile → List QueuedFile
 stayed files queued = staying_as queued (find (λ file. file.number == queued.number) files)
 
-abbrev pub queues_after : List Finished → List Newcomer → ℕ → List (List QueuedFile) → List (List QueuedFile)
+abbrev pub queues_after : List SettledFile → List Newcomer → ℕ → List (List QueuedFile) → List (List QueuedFile)
 queues_after files coming arrival queues = map (λ queue. staying files queue.1 ++ arriving arrival queue.0 coming) (enumerate_from 0 queues)
 
-staying-all : (w : QueuedFile → ℕ) (files : List Finished) (queues : List (List QueuedFile))
+staying-all : (w : QueuedFile → ℕ) (files : List SettledFile) (queues : List (List QueuedFile))
     → tally (λ (queue : ℕ × List QueuedFile). tally w (staying files queue.1)) (enumerate_from 0 queues) ≡ tally (λ queued. tally w (stayed files queued)) (flat_map (λ queue. queue) queues)
 staying-all w files queues =
     tally-enumerate (λ queue. tally w (staying files queue)) 0 queues
     ∙ tally-same (λ queue. tally w (staying files queue)) (tally (λ queued. tally w (stayed files queued))) (λ queue. tally-flat_map w (stayed files) queue) queues
     ∙ sym (tally-flat_map (λ queued. tally w (stayed files queued)) (λ queue. queue) queues)
 
-pub after-le : (w : QueuedFile → ℕ) (files : List Finished) (coming : List Newcomer) (arrival : ℕ) (queues : List (List QueuedFile))
+pub after-le : (w : QueuedFile → ℕ) (files : List SettledFile) (coming : List Newcomer) (arrival : ℕ) (queues : List (List QueuedFile))
     → tally w (flat_map (λ queue. queue) (queues_after files coming arrival queues))
     ≤ tally (λ queued. tally w (stayed files queued)) (flat_map (λ queue. queue) queues) + tally w (placed arrival coming)
 after-le w files coming arrival queues =
@@ -69,11 +69,11 @@ after-le w files coming arrival queues =
 
 -- ---- arrivals
 
-arrival_stays : (n : ℕ) (queued : QueuedFile) (found : Option Finished) → many (λ (file : QueuedFile). file.arrival) n (staying_as queued found) ≤ bit (queued.arrival == n)
+arrival_stays : (n : ℕ) (queued : QueuedFile) (found : Option SettledFile) → many (λ (file : QueuedFile). file.arrival) n (staying_as queued found) ≤ bit (queued.arrival == n)
 arrival_stays n queued None = omega arith
 arrival_stays n queued (Some file) = by_goal file.goes refl
   where
-    by_goal : (goes : Goes) → file.goes ≡ goes → many (λ (file : QueuedFile). file.arrival) n (staying_as queued (Some file)) ≤ bit (queued.arrival == n)
+    by_goal : (goes : Destination) → file.goes ≡ goes → many (λ (file : QueuedFile). file.arrival) n (staying_as queued (Some file)) ≤ bit (queued.arrival == n)
     by_goal (Queues first others) is = rw is (omega arith)
     by_goal Returns is = rw is (omega arith)
     by_goal (Drops relationship) is = rw is (omega arith)
@@ -85,13 +85,13 @@ pub record IsSteady (newcomer : Newcomer) : Type 0 where
   pub number : (n : ℕ) → (newcomer.1 n).number ≡ (newcomer.1 0).number
   pub active : (n : ℕ) → (newcomer.1 n).batch ≡ None
 
-steady_file : (file : Finished) (goes : Goes) → Each IsSteady (newcomer file goes)
+steady_file : (file : SettledFile) (goes : Destination) → Each IsSteady (newcomer file goes)
 steady_file file (Queues first others) = (record { arrival = λ n. refl; number = λ n. refl; active = λ n. refl }, tt)
 steady_file file Returns = tt
 steady_file file (Drops relationship) = tt
 steady_file file Leaves = tt
 
-pub newcomers-steady : (files : List Finished) (clones : List SettlementClone) → Each IsSteady (newcomers files clones)
+pub newcomers-steady : (files : List SettledFile) (clones : List SettlementClone) → Each IsSteady (newcomers files clones)
 newcomers-steady files clones =
     each-append IsSteady (flat_map (λ file. newcomer file file.goes) files) _ (each-flat_map IsSteady (λ file. newcomer file file.goes) files (λ file. steady_file file file.goes))
     (each-map IsSteady (λ clone. (clone.connection, in_queue clone.original clone.number)) clones (λ clone. record { arrival = λ n. refl; number = λ n. refl; active = λ n. refl }))
@@ -100,7 +100,7 @@ arrivals_are : (arrival : ℕ) (coming : List Newcomer) → Each IsSteady coming
 arrivals_are arrival [] steady = refl
 arrivals_are arrival (newcomer ∷ rest) steady = rw (steady.0.arrival arrival) (ap (λ xs. arrival ∷ xs) (arrivals_are (arrival + 1) rest steady.1))
 
-pub arrivals-after : (files : List Finished) (coming : List Newcomer) (arrival : ℕ) (queues : List (List QueuedFile)) → Each IsSteady coming
+pub arrivals-after : (files : List SettledFile) (coming : List Newcomer) (arrival : ℕ) (queues : List (List QueuedFile)) → Each IsSteady coming
     → Counted (λ (file : QueuedFile). file.arrival) arrival (flat_map (λ queue. queue) queues)
     → Counted (λ (file : QueuedFile). file.arrival) (arrival + length coming) (flat_map (λ queue. queue) (queues_after files coming arrival queues))
 arrivals-after files coming arrival queues steady before = record {
@@ -109,6 +109,8 @@ arrivals-after files coming arrival queues steady before = record {
     | inr ge ↦ omega (arith, sum n, before.none n ge, run_once arrival (length coming) n)
   ];
   none = λ n le. omega (arith, sum n, before.none n (omega arith), run_past arrival (length coming) n le);
+  first = omega (arith, before.first);
+  some = omega (arith, sum 0, before.some, run_below arrival (length coming) 0 before.first);
 }
   where
     sum : (n : ℕ) → many (λ (file : QueuedFile). file.arrival) n (flat_map (λ queue. queue) (queues_after files coming arrival queues))

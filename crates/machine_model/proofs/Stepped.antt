@@ -4,11 +4,11 @@ use Rattle.std.specs.Prelude.{◌==◌, Some, None, IfSome, unwrap_or, slice_get
 use Rattle.std.specs.List.{flat_map}
 use Rattle.std.proofs.lemmas.Bool.{and_parts, eqb-true}
 use Rattle.machine_model.specs.declared.flow.Connection.{Connection}
-use Rattle.machine_model.specs.declared.state.QueuedFile.{QueuedFile}
-use Rattle.machine_model.specs.declared.state.State.{State}
-use Rattle.machine_model.specs.Files.{queue_at, is_number_among}
-use Rattle.machine_model.specs.Laws.{AreNumbered, IsWellNumbered, StepsKeepNumbers, ReplaysKeepNumbers}
-use Rattle.machine_model.specs.Stepping.{expire_step, expired, without_files, swap_out_step, swapped_out, swap_in_step, swapped_in, is_in_batch}
+use Rattle.machine_model.specs.State.{QueuedFile, State}
+use Rattle.machine_model.specs.Files.{queue_at, is_number_among, is_in_batch}
+use Rattle.machine_model.specs.Laws.{StepsKeepNumbers, ReplaysKeepNumbers}
+use Rattle.machine_model.specs.Valid.{AreNumbered, IsWellNumbered}
+use Rattle.machine_model.specs.Stepping.{expire_step, expired, without_files, swap_out_step, swapped_out, swap_in_step, swapped_in}
 use Rattle.machine_model.proofs.Batches.{astray, astray_batch, rebatched, changed-le, either-le, next-within}
 use Rattle.machine_model.proofs.Keyed.{Counted, counted, numbered}
 use Rattle.machine_model.proofs.Options.{if_when}
@@ -26,6 +26,8 @@ requeued key next queues place queue lighter before =
     numbered key next (flat_map (λ queue. queue) (slice_set queues place queue)) (record {
       once = λ n. omega (arith, fewer n, counts.once n);
       none = λ n le. omega (arith, fewer n, counts.none n le);
+      first = counts.first;
+      some = omega (arith, fewer 0, counts.some);
     })
   where
     counts : Counted key next (flat_map (λ queue. queue) queues)
@@ -91,9 +93,9 @@ swap_in-keeps state place batch connection before =
 
 -- ---- all steps
 
-well-numbered-kept : IsKept IsWellNumbered
+pub well-numbered-kept : IsKept IsWellNumbered
 well-numbered-kept = record {
-  settling = λ session outcome taken is_outcome before. settle-keeps session outcome before taken is_outcome;
+  settling = λ session outcome taken next ends before. settle-keeps session outcome before taken ends;
   expiry = expire-keeps;
   swap_out = swap_out-keeps;
   swap_in = swap_in-keeps;

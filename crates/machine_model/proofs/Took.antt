@@ -1,19 +1,21 @@
 -- Which files a session has taken: distinct ones of its queue, as many as its rule admits.
-use Rattle.std.proofs.Common.{◌≡◌, ◌≢◌, inl, inr, ℕ, zero, suc, ◌+◌, ◌≤◌, Bool, true, false, cond, List, [], ◌∷◌, length, refl, ap, ◌∙◌, arith}
-use Rattle.std.specs.Prelude.{◌==◌, ◌&&◌, not, All, Contains, Option, Some, None, IfSome, is_some, find, filter, unwrap_or, slice_get, option_and_then}
-use Rattle.std.specs.List.{flat_map, cons_option, list_all, enumerate_from, AllPairs}
+use Rattle.std.proofs.Common.{◌≡◌, ◌≢◌, inl, inr, ℕ, zero, suc, ◌+◌, ◌≤◌, Bool, true, false, cond, List, [], ◌∷◌, length, map, refl, ap, subst, arith}
+use Rattle.std.specs.Prelude.{◌==◌, ◌&&◌, not, All, Contains, Option, Some, None, IfSome, is_some, find, unwrap_or, slice_get, option_and_then}
+use Rattle.std.specs.List.{flat_map, cons_option, list_all, AllPairs}
 use Rattle.std.proofs.lemmas.Bool.{and_parts, eqb-true, leb-true, cases_eq, ne_eqb, true≢false, not-true}
+use Rattle.std.proofs.lemmas.List.{length-map}
 use Rattle.std.proofs.lemmas.List.Elements.{All-nil, All-cons, Contains-append_left, Contains-append_right}
+use Rattle.prioritizer.specs.declared.prioritizer.Prioritizer.{Prioritizer}
 use Rattle.machine_model.specs.declared.flow.Connection.{Connection}
 use Rattle.machine_model.specs.declared.flow.Flow.{Flow}
 use Rattle.machine_model.specs.declared.kind.TakeRule.{TakeRule}
 use Rattle.machine_model.specs.declared.kind.TakeRule.TheVariants.{Source, One, Bin, Defragment}
-use Rattle.machine_model.specs.declared.state.QueuedFile.{QueuedFile}
-use Rattle.machine_model.specs.declared.state.State.{State}
-use Rattle.machine_model.specs.Files.{is_active, active_files, file_numbered, queue_at, are_active, are_distinct, is_number_among}
-use Rattle.machine_model.specs.Laws.{MayTake, files_of_all}
-use Rattle.machine_model.specs.Order.{eligible_files}
-use Rattle.machine_model.specs.Stepping.{has_all, source_of, may_be_taken, admits, is_in_turn, files_of, taken_from, taken_files}
+use Rattle.machine_model.specs.State.{QueuedFile, State}
+use Rattle.machine_model.specs.Files.{queue_at, are_distinct, is_number_among, view_of}
+use Rattle.machine_model.specs.View.{FileView}
+use Rattle.machine_model.specs.Laws.{MayTake}
+use Rattle.machine_model.specs.Valid.{files_of_all}
+use Rattle.machine_model.specs.Stepping.{source_of, may_be_taken, admits, is_in_turn, files_of, taken_from, taken_files}
 use Rattle.machine_model.proofs.Keyed.{differ_from_once}
 use Rattle.machine_model.proofs.Options.{if_and_then, if_when}
 use Rattle.machine_model.proofs.Ordered.{pairs_nil, contains_later}
@@ -80,37 +82,14 @@ in_some_queue [] place file h = h
 in_some_queue (queue ∷ queues) zero file h = Contains-append_left queue (flat_map (λ queue. queue) queues) file h
 in_some_queue (queue ∷ queues) (suc place) file h = Contains-append_right queue (flat_map (λ queue. queue) queues) file (in_some_queue queues place file h)
 
--- ---- how many they are
-
-found_in_all : {X : Type 0} (p q : X → Bool) (xs : List X) → is_some (find p (filter q xs)) ≡ true → is_some (find p xs) ≡ true
-found_in_all p q [] h = h
-found_in_all p q (x ∷ xs) h =
-    elim (q x) as (λ b. is_some (find p (cond b (x ∷ filter q xs) (filter q xs))) ≡ true → is_some (cond (p x) (Some x) (find p xs)) ≡ true) [
-      | true ↦ λ h. elim (p x) as (λ b. is_some (cond b (Some x) (find p (filter q xs))) ≡ true → is_some (cond b (Some x) (find p xs)) ≡ true) [
-        | true ↦ λ h. refl
-        | false ↦ λ h. found_in_all p q xs h
-      ] h
-      | false ↦ λ h. elim (p x) as (λ b. is_some (cond b (Some x) (find p xs)) ≡ true) [ true ↦ refl | false ↦ found_in_all p q xs h ]
-    ] h
-
-length-found : {X : Type 0} (found : Option X) (rest : List X) → is_some found ≡ true → length (cons_option found rest) ≡ suc (length rest)
-length-found None rest h = cc
-length-found (Some x) rest h = refl
-
-files-all : (queue : List QueuedFile) (numbers : List ℕ) → are_active queue numbers ≡ true → length (files_of queue numbers) ≡ length numbers
-files-all queue [] h = refl
-files-all queue (number ∷ numbers) h =
-    let parts = and_parts (is_some (file_numbered (active_files queue) number)) (are_active queue numbers) h in
-    length-found (find (has_number number) queue) (files_of queue numbers) (found_in_all (has_number number) is_active queue parts.0) ∙ ap suc (files-all queue numbers parts.1)
-
-may_take : (rule : TakeRule) (eligible : List QueuedFile) (numbers : List ℕ) → admits rule eligible numbers ≡ true → MayTake rule (length numbers)
-may_take Source eligible numbers h = eqb-true (length numbers) 0 h
-may_take One eligible numbers h = eqb-true (length numbers) 1 h
-may_take (Bin min max) eligible numbers h =
-    let outer = and_parts _ (is_in_turn eligible numbers) h in
+may_take : (rule : TakeRule) (order : List Prioritizer) (files : List FileView) → admits rule order files ≡ true → MayTake rule (length files)
+may_take Source order files h = eqb-true (length files) 0 h
+may_take One order files h = eqb-true (length files) 1 h
+may_take (Bin min max) order files h =
+    let outer = and_parts _ (is_in_turn order files) h in
     let parts = and_parts _ _ outer.0 in
-    (leb-true 1 (length numbers) parts.0, leb-true (length numbers) max parts.1)
-may_take Defragment eligible numbers h = let parts = and_parts _ _ h in (leb-true 1 (length numbers) parts.0, leb-true (length numbers) 1000 parts.1)
+    (leb-true 1 (length files) parts.0, leb-true (length files) max parts.1)
+may_take Defragment order files h = let parts = and_parts _ _ h in (leb-true 1 (length files) parts.0, leb-true (length files) 1000 parts.1)
 
 -- ---- what a session takes
 
@@ -119,27 +98,25 @@ pub record Took (state : State) (rule : TakeRule) (taken : List QueuedFile) : Ty
   pub there : All (Contains (files_of_all state)) taken
   pub many_enough : MayTake rule (length taken)
 
-took-from : (state : State) (rule : TakeRule) (numbers : List ℕ) (moment place : ℕ) (connection : Connection) → are_active (queue_at state place) numbers ≡ true
-    → IfSome (taken_from state rule numbers moment (place, connection)) (Took state rule)
-took-from state rule numbers moment place connection active =
+took-from : (state : State) (rule : TakeRule) (numbers : List ℕ) (moment place : ℕ) (connection : Connection) → IfSome (taken_from state rule numbers moment (place, connection)) (Took state rule)
+took-from state rule numbers moment place connection =
     let queue = queue_at state place in
     let files = files_of queue numbers in
-    let eligible = eligible_files connection.order connection.limits moment queue in
-    if_when (are_distinct numbers && list_all (may_be_taken connection moment) files && admits rule eligible numbers) files (Took state rule) (λ passes.
-    let outer = and_parts _ (admits rule eligible numbers) passes in
+    let views = map view_of files in
+    if_when (are_distinct numbers && list_all (may_be_taken connection moment) views && admits rule connection.order views) files (Took state rule) (λ passes.
+    let outer = and_parts _ (admits rule connection.order views) passes in
     let distinct = (and_parts (are_distinct numbers) _ outer.0).0 in
     record {
       differ = differ_from_once number_of files (λ n. omega (arith, files-once queue numbers n, distinct-once numbers distinct n));
       there = files-there (Contains (files_of_all state)) queue numbers (λ file in_queue. in_some_queue state.queues place file in_queue);
-      many_enough = rw (files-all queue numbers active) (may_take rule eligible numbers outer.1);
+      many_enough = subst (MayTake rule) (length-map files view_of) (may_take rule connection.order views outer.1);
     })
 
 took-by : (flow : Flow) (state : State) (processor : ℕ) (rule : TakeRule) (numbers : List ℕ) (moment : ℕ)
     → IfSome (option_and_then (taken_from state rule numbers moment) (source_of flow state processor numbers)) (Took state rule)
 took-by flow state processor rule numbers moment =
     if_and_then (taken_from state rule numbers moment) (source_of flow state processor numbers) (Took state rule) (λ source is.
-    took-from state rule numbers moment source.0 source.1
-    (and_parts _ _ (find-passes (has_all state processor numbers) (enumerate_from 0 flow.connections) source is)).1)
+    took-from state rule numbers moment source.0 source.1)
 
 pub taken-took : (flow : Flow) (state : State) (processor : ℕ) (rule : TakeRule) (numbers : List ℕ) (moment : ℕ) → IfSome (taken_files flow state processor rule numbers moment) (Took state rule)
 taken-took flow state processor Source [] moment = record {

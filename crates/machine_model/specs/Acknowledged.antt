@@ -1,6 +1,12 @@
 -- Which entries of a journal were acknowledged, and when.
-use Rattle.std.specs.Prelude.{ℕ, ◌≤◌, nat_le, Bool, false, List, [], ◌∷◌, count_by, Option, Some, None}
+use Rattle.std.specs.Prelude.{◌≡◌, ℕ, ◌≤◌, nat_le, Bool, false, List, [], ◌∷◌, map, count_by, Option, Some, None, MatchOption}
+use Rattle.std.specs.List.{AllByRecursion}
 use Rattle.machine_model.specs.declared.journal.Entry.{Entry}
+use Rattle.machine_model.specs.declared.journal.Step.{Step}
+
+-- a journal's steps: an entry is acknowledged later than it is made, so what it does never goes by that
+abbrev pub steps : List Entry → List Step
+steps journal = map (λ entry. entry.step) journal
 
 abbrev pub is_acknowledged_by : ℕ → Option ℕ → Bool
 is_acknowledged_by moment None = false
@@ -10,13 +16,9 @@ is_acknowledged_by moment (Some acked) = nat_le acked moment
 abbrev pub acknowledged : List Entry → ℕ → ℕ
 acknowledged journal moment = count_by (λ entry. is_acknowledged_by moment entry.acked) journal
 
--- from a moment on, the moments don't fall along the list, and behind an entry without one there is none
-abbrev pub AreInOrderFrom : ℕ → List (Option ℕ) → Type 0
-AreInOrderFrom moment [] = Unit {0}
-AreInOrderFrom moment (Some acked ∷ rest) = (moment ≤ acked) × AreInOrderFrom acked rest
-AreInOrderFrom moment (None ∷ rest) = AllMissing rest
-  where
-    AllMissing : List (Option ℕ) → Type 0
-    AllMissing [] = Unit {0}
-    AllMissing (None ∷ rest) = AllMissing rest
-    AllMissing (Some acked ∷ rest) = ⊥
+-- The moments at which entries were acknowledged lie between two and don't fall along the journal, and entries that
+-- weren't stand last.
+abbrev pub IsInOrder : (low high : ℕ) → List Entry → Type 0
+IsInOrder low high [] = Unit {0}
+IsInOrder low high (entry ∷ journal) =
+    MatchOption entry.acked (AllByRecursion (λ later. later.acked ≡ None) journal) (λ moment. (low ≤ moment) × (moment ≤ high) × IsInOrder moment high journal)

@@ -62,10 +62,11 @@ abbrev pub text_or_nothing : Answer Value → List ℕ
 text_or_nothing (Ok value) = as_text value
 text_or_nothing (Err error) = []
 
+abbrev pub generated_text : Expr → ℕ → List ℕ
+generated_text custom_text index = text_or_nothing (tree_value (get (generated_attributes index)) (tree_of custom_text))
+
 abbrev pub generated : Expr → ℕ → Outcome
-generated custom_text index =
-    let attributes = generated_attributes index in
-    alone (made_file Created attributes (text_or_nothing (tree_value (get attributes) (tree_of custom_text))) true 0)
+generated custom_text index = alone (made_file Created (generated_attributes index) (generated_text custom_text index) true 0)
 
 -- PutFile: success is 0, failure 1
 abbrev pub put_unless_there : Conflict → (there : Bool) → TakenFile → List ℕ → Outcome

@@ -1,10 +1,9 @@
 -- The events that tell of a session.
-use Rattle.std.specs.Prelude.{ℕ, ◌+◌, ◌==◌, ◌&&◌, nat_le, Bool, true, false, List, [], ◌∷◌, ◌++◌, ◌||◌, length, map, filter, Option, Some, None, slice_get, slice_index, unwrap_or, bytes_eq, if◌then◌else◌}
+use Rattle.std.specs.Prelude.{ℕ, ◌+◌, ◌==◌, nat_le, Bool, true, false, List, [], ◌∷◌, ◌++◌, ◌||◌, length, map, filter, Option, Some, None, slice_get, slice_index, unwrap_or, if◌then◌else◌}
 use Rattle.std.specs.Option.{option_map_or}
 use Rattle.std.specs.List.{flat_map, enumerate_from}
-use Rattle.std.specs.FinMap.{entries}
 use Rattle.sha2.specs.Sha256.{sha256}
-use Rattle.flowfile_record.specs.Attributes.{AttributeMap}
+use Rattle.flowfile_record.specs.Outcome.{same_attributes}
 use Rattle.flowfile_record.specs.declared.event.Event.{Event}
 use Rattle.flowfile_record.specs.declared.event.EventKind.{EventKind}
 use Rattle.flowfile_record.specs.declared.event.EventKind.TheVariants as kind
@@ -14,13 +13,13 @@ use Rattle.flowfile_record.specs.declared.worked.Origin.{Origin}
 use Rattle.flowfile_record.specs.declared.worked.Origin.TheVariants as origin
 use Rattle.flowfile_record.specs.declared.worked.Outcome.{Outcome}
 use Rattle.flowfile_record.specs.declared.worked.Sent.{Sent}
-use Rattle.machine_model.specs.Placing.{Session, Finished, finished_files, settlement_clones, Goes, Drops, Leaves, relationship_at}
+use Rattle.machine_model.specs.Placing.{EndedSession, SettledFile, settled_files, settlement_clones, Destination, Drops, Leaves, relationship_at}
 
 -- an event of a file, whose number isn't given yet
 abbrev pub Draft : Type 0
 Draft = ℕ → Event
 
-abbrev pub of_file : Session → EventKind → Finished → (parents children detail : List ℕ) → Draft
+abbrev pub of_file : EndedSession → EventKind → SettledFile → (parents children detail : List ℕ) → Draft
 of_file session kind file parents children detail = λ number. record {
   number = number;
   kind = kind;
@@ -35,7 +34,7 @@ of_file session kind file parents children detail = λ number. record {
 }
 
 -- an event that names no other file
-abbrev pub alone : Session → EventKind → Finished → (detail : List ℕ) → Draft
+abbrev pub alone : EndedSession → EventKind → SettledFile → (detail : List ℕ) → Draft
 alone session kind file detail = of_file session kind file [] [] detail
 
 -- some numbers, ascending
@@ -48,15 +47,15 @@ ascending [] = []
 ascending (n ∷ rest) = put_ascending n (ascending rest)
 
 -- the number of the file at a place
-abbrev pub number_at : List Finished → ℕ → ℕ
+abbrev pub number_at : List SettledFile → ℕ → ℕ
 number_at files place = slice_index (map (λ file. file.number) files) place
 
-abbrev pub created : Session → Finished → Origin → List Draft
+abbrev pub created : EndedSession → SettledFile → Origin → List Draft
 created session file origin.Created = alone session kind.Create file [] ∷ []
 created session file _ = []
 
 -- the detail is the name that the file had in the inbox
-abbrev pub received : Session → Finished → Origin → List Draft
+abbrev pub received : EndedSession → SettledFile → Origin → List Draft
 received session file origin.Received = alone session kind.Receive file (unwrap_or session.given.file []) ∷ []
 received session file _ = []
 
@@ -66,77 +65,77 @@ is_forked_from place (origin.Forked parent) = parent == place
 is_forked_from place (origin.Part parent) = parent == place
 is_forked_from place _ = false
 
-abbrev pub forked_children : List Finished → ℕ → List ℕ
+abbrev pub forked_children : List SettledFile → ℕ → List ℕ
 forked_children files place = map (λ file. file.number) (filter (λ file. is_forked_from place file.worked.origin) files)
 
-abbrev pub fork_of : Session → Finished → List ℕ → List Draft
+abbrev pub fork_of : EndedSession → SettledFile → List ℕ → List Draft
 fork_of session parent [] = []
 fork_of session parent (child ∷ children) = of_file session kind.Fork parent (parent.number ∷ []) (child ∷ children) [] ∷ []
 
-abbrev pub forks : Session → List Finished → List Draft
+abbrev pub forks : EndedSession → List SettledFile → List Draft
 forks session files = flat_map (λ f. fork_of session f.1 (forked_children files f.0)) (enumerate_from 0 files)
 
-abbrev pub joined : Session → List Finished → Finished → Origin → List Draft
+abbrev pub joined : EndedSession → List SettledFile → SettledFile → Origin → List Draft
 joined session files file (origin.Joined parents) =
     of_file session kind.Join file (ascending (map (number_at files) parents)) (file.number ∷ []) [] ∷ []
 joined session files file _ = []
 
-abbrev pub clone_event : Session → Finished → (clone : ℕ) → Draft
+abbrev pub clone_event : EndedSession → SettledFile → (clone : ℕ) → Draft
 clone_event session original clone = of_file session kind.Clone original (original.number ∷ []) (clone ∷ []) []
 
--- of the file that was cloned
-abbrev pub cloned : Session → List Finished → Finished → Origin → List Draft
-cloned session files clone (origin.Cloned parent) = option_map_or (λ original. clone_event session original clone.number ∷ []) (slice_get files parent) []
-cloned session files clone _ = []
+-- a copy of the file at a place
+abbrev pub is_cloned_from : ℕ → Origin → Bool
+is_cloned_from place (origin.Cloned parent) = parent == place
+is_cloned_from place _ = false
+
+abbrev pub copies : List SettledFile → ℕ → List SettledFile
+copies files place = filter (λ file. is_cloned_from place file.worked.origin) files
+
+-- of each file its copies, by their places
+abbrev pub clonings : EndedSession → List SettledFile → List Draft
+clonings session files = flat_map (λ f. map (λ copy. clone_event session f.1 copy.number) (copies files f.0)) (enumerate_from 0 files)
 
 abbrev pub is_removed : End → Bool
 is_removed Removed = true
 is_removed _ = false
 
-abbrev pub same_pairs : List (List ℕ × List ℕ) → List (List ℕ × List ℕ) → Bool
-same_pairs [] [] = true
-same_pairs (pair ∷ pairs) (other ∷ others) = bytes_eq pair.0 other.0 && bytes_eq pair.1 other.1 && same_pairs pairs others
-same_pairs _ _ = false
-
-abbrev pub same_attributes : AttributeMap → AttributeMap → Bool
-same_attributes a b = same_pairs (entries a) (entries b)
-
 -- a taken file that stays: its content was written, or else its attributes were changed
-abbrev pub modified : Session → Finished → Origin → List Draft
+abbrev pub modified : EndedSession → SettledFile → Origin → List Draft
 modified session file (origin.Taken place) =
     if is_removed file.worked.end then []
     else if file.worked.written then alone session kind.ContentModified file [] ∷ []
     else []
 modified session file _ = []
 
-abbrev pub attributes_modified : Session → Finished → Origin → List Draft
+abbrev pub attributes_modified : EndedSession → SettledFile → Origin → List Draft
 attributes_modified session file (origin.Taken place) =
     if is_removed file.worked.end || file.worked.written then []
     else option_map_or (λ taken. if same_attributes taken.attributes file.attributes then [] else alone session kind.AttributesModified file [] ∷ []) (slice_get session.taken place) []
 attributes_modified session file _ = []
 
-abbrev pub routed : Session → Finished → Option ℕ → List Draft
+abbrev pub routed : EndedSession → SettledFile → Option ℕ → List Draft
 routed session file (Some relationship) = alone session kind.Route file (relationship_at session.processor relationship) ∷ []
 routed session file None = []
 
-abbrev pub sent : Session → List Finished → Option Sent → List Draft
+abbrev pub sent : EndedSession → List SettledFile → Option Sent → List Draft
 sent session files (Some put) = option_map_or (λ file. alone session kind.Send file put.name ∷ []) (slice_get files put.place) []
 sent session files None = []
 
-abbrev pub dropped : Session → Finished → Goes → List Draft
+abbrev pub dropped : EndedSession → SettledFile → Destination → List Draft
 dropped session file (Drops relationship) = alone session kind.Drop file relationship ∷ []
 dropped session file Leaves = alone session kind.Drop file [] ∷ []
 dropped session file _ = []
 
--- one kind behind the other, and of each kind by place, then by connection
-abbrev pub drafts : Session → Outcome → List Draft
+-- one kind behind the other; of each kind by the place of the file that the event is of, and then by that of the copy, or
+-- by connection
+abbrev pub drafts : EndedSession → Outcome → List Draft
 drafts session outcome =
-    let files = finished_files session outcome.files in
+    let files = settled_files session outcome.files in
     flat_map (λ file. created session file file.worked.origin) files
     ++ flat_map (λ file. received session file file.worked.origin) files
     ++ forks session files
     ++ flat_map (λ file. joined session files file file.worked.origin) files
-    ++ flat_map (λ file. cloned session files file file.worked.origin) files
+    ++ clonings session files
     ++ flat_map (λ file. modified session file file.worked.origin) files
     ++ flat_map (λ file. attributes_modified session file file.worked.origin) files
     ++ flat_map (λ file. routed session file file.worked.routed) files

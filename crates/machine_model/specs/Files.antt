@@ -1,19 +1,12 @@
--- Flow files in their queues.
-use Rattle.std.specs.Prelude.{ℕ, ◌-◌, ◌==◌, ◌&&◌, not, nat_lt, nat_le, Bool, true, List, [], ◌∷◌, length, filter, find, sum_by, is_none, is_some, Option, unwrap_or, slice_get}
-use Rattle.std.specs.List.{list_all}
-use Rattle.machine_model.specs.declared.state.QueuedFile.{QueuedFile}
-use Rattle.machine_model.specs.declared.state.State.{State}
+-- Flow files in the machine's queues, and how these are seen.
+use Rattle.std.specs.Prelude.{ℕ, ◌==◌, ◌&&◌, not, Bool, true, false, List, [], ◌∷◌, length, map, filter, find, sum_by, is_none, is_some, Option, unwrap_or, slice_get, if◌then◌else◌}
+use Rattle.std.specs.List.{list_all, filter_map}
+use Rattle.std.specs.Option.{option_map_or}
+use Rattle.machine_model.specs.State.{QueuedFile, State}
+use Rattle.machine_model.specs.View.{FileView, BatchView, QueueView}
 
 abbrev pub is_active : QueuedFile → Bool
 is_active file = is_none file.batch
-
--- its penalty ends after the moment
-abbrev pub is_penalised : ℕ → QueuedFile → Bool
-is_penalised moment file = nat_lt moment file.penalty_end
-
--- so much time has passed since its data entered; a limit of 0 is none
-abbrev pub is_expired : (limit moment : ℕ) → QueuedFile → Bool
-is_expired limit moment file = nat_lt 0 limit && nat_le limit (moment - file.entered)
 
 abbrev pub active_files : List QueuedFile → List QueuedFile
 active_files files = filter is_active files
@@ -38,6 +31,46 @@ abbrev pub are_distinct : List ℕ → Bool
 are_distinct [] = true
 are_distinct (number ∷ numbers) = not (is_number_among numbers number) && are_distinct numbers
 
+-- these numbers, each once
+abbrev pub each_once : List ℕ → List ℕ
+each_once [] = []
+each_once (number ∷ numbers) = if is_number_among numbers number then each_once numbers else number ∷ each_once numbers
+
 -- how many bytes the contents of some files have together
 abbrev pub content_bytes : List QueuedFile → ℕ
 content_bytes files = sum_by (λ file. length file.bytes) files
+
+-- ---- how a queue is seen; the machine's steps are whole sessions, so none of its files is in flight
+
+abbrev pub view_of : QueuedFile → FileView
+view_of file = record {
+  number = file.number;
+  attributes = file.attributes;
+  size = length file.bytes;
+  entered = file.entered;
+  penalty_end = file.penalty_end;
+  arrival = file.arrival;
+  in_flight = false;
+}
+
+abbrev pub active_views : List QueuedFile → List FileView
+active_views files = map view_of (active_files files)
+
+abbrev pub is_in_batch : ℕ → QueuedFile → Bool
+is_in_batch batch file = option_map_or (λ b. b == batch) file.batch false
+
+-- the batches in which files of a queue are swapped out
+abbrev pub batches : List QueuedFile → List ℕ
+batches files = each_once (filter_map (λ file. file.batch) files)
+
+abbrev pub batch_view : List QueuedFile → ℕ → BatchView
+batch_view files batch =
+    let swapped = filter (is_in_batch batch) files in
+    record { number = batch; files = length swapped; size = content_bytes swapped }
+
+abbrev pub queue_view : List QueuedFile → QueueView
+queue_view files = record { active = active_views files; batches = map (batch_view files) (batches files) }
+
+-- the queue of the connection at a place, as it is seen
+abbrev pub queues_of : State → ℕ → QueueView
+queues_of state connection = queue_view (queue_at state connection)

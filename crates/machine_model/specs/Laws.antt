@@ -1,102 +1,90 @@
 -- What holds of the machine: of the order of queues, of outcomes, of numbers, of events and of replays.
-use Rattle.std.specs.Prelude.{◌↔◌, map, ◌≡◌, ◌≢◌, ◌⊎◌, ℕ, ◌+◌, ◌<◌, ◌≤◌, true, false, List, [], ◌∷◌, ◌++◌, All, Contains, MatchOption, IfSome, option_and_then, length, Some}
-use Rattle.std.specs.List.{range_with_len, AllPairs, flat_map}
+use Rattle.std.specs.Prelude.{map, ◌≡◌, ◌≢◌, ◌⊎◌, ℕ, ◌^◌, ◌<◌, ◌≤◌, true, false, List, [], ◌∷◌, ◌++◌, All, Contains, MatchOption, IfSome, not, filter, option_and_then, slice_get, slice_index, length, Option, Some}
+use Rattle.std.specs.List.{AllPairs, flat_map}
+use Rattle.std.specs.Option.{option_map_or}
 use Rattle.std.specs.List.Sorted.{IsPermutation}
+use Rattle.flowfile_record.specs.Attributes.{IsWithinLimits}
+use Rattle.flowfile_record.specs.Name.{IsName}
+use Rattle.flowfile_record.specs.Outcome.{AreInTurn, IsOutcome}
+use Rattle.flowfile_record.specs.declared.TheConstants.{CONTENT_MAX}
 use Rattle.flowfile_record.specs.declared.event.Event.{Event}
-use Rattle.flowfile_record.specs.declared.worked.Origin.{Origin}
-use Rattle.flowfile_record.specs.declared.worked.Origin.TheVariants.{Taken}
 use Rattle.flowfile_record.specs.declared.worked.Outcome.{Outcome}
-use Rattle.flowfile_record.specs.declared.worked.Worked.{Worked}
 use Rattle.prioritizer.specs.declared.prioritizer.Prioritizer.{Prioritizer}
 use Rattle.machine_model.specs.declared.flow.Flow.{Flow}
 use Rattle.machine_model.specs.declared.flow.QueueLimits.{QueueLimits}
 use Rattle.machine_model.specs.declared.given.Given.{Given}
-use Rattle.machine_model.specs.declared.journal.Entry.{Entry}
 use Rattle.machine_model.specs.declared.journal.Step.{Step}
+use Rattle.machine_model.specs.declared.journal.Step.TheVariants as entry
 use Rattle.machine_model.specs.declared.kind.Kind.{Kind}
+use Rattle.machine_model.specs.declared.kind.Kind.TheVariants.{GetFile, GenerateFlowFile}
 use Rattle.machine_model.specs.declared.kind.TakeRule.{TakeRule}
 use Rattle.machine_model.specs.declared.kind.TakeRule.TheVariants.{Source, One, Bin, Defragment}
-use Rattle.machine_model.specs.declared.state.QueuedFile.{QueuedFile}
-use Rattle.machine_model.specs.declared.state.State.{State}
-use Rattle.machine_model.specs.Acting.{TakenFile, act}
-use Rattle.machine_model.specs.Kinds.{take_rule_of}
-use Rattle.machine_model.specs.Lineage.{NamesParent}
+use Rattle.machine_model.specs.State.{QueuedFile, State, World, Machine}
+use Rattle.machine_model.specs.Acting.{TakenFile, act, generated_text}
+use Rattle.machine_model.specs.Kinds.{take_rule_of, relationships_of, is_among}
+use Rattle.machine_model.specs.Lineage.{Lineage, IsLineage}
 use Rattle.machine_model.specs.Order.{goes_before, in_order, is_eligible, best}
-use Rattle.machine_model.specs.Placing.{Session, parents_in}
+use Rattle.machine_model.specs.Placing.{EndedSession}
 use Rattle.machine_model.specs.Settling.{settle}
-use Rattle.machine_model.specs.Stepping.{Machine, step, replay}
+use Rattle.machine_model.specs.View.{FileView}
+use Rattle.machine_model.specs.Valid.{files_of_all, IsWellNumbered, AreEventsInRow, EventsTellKin, IsValid, new_state}
+use Rattle.machine_model.specs.Stepping.{step, replay}
 
 -- ---- the order of a queue
 
 -- no file goes before itself, and what goes before a file goes before all that the file goes before
 abbrev pub NoneGoesBeforeItself : Type 0
-NoneGoesBeforeItself = (order : List Prioritizer) (file : QueuedFile) → goes_before order file file ≡ false
+NoneGoesBeforeItself = (order : List Prioritizer) (file : FileView) → goes_before order file file ≡ false
 
 abbrev pub GoingBeforeChains : Type 0
-GoingBeforeChains = (order : List Prioritizer) (a b c : QueuedFile) → goes_before order a b ≡ true → goes_before order b c ≡ true → goes_before order a c ≡ true
+GoingBeforeChains = (order : List Prioritizer) (a b c : FileView) → goes_before order a b ≡ true → goes_before order b c ≡ true → goes_before order a c ≡ true
 
 -- of two files whose arrivals differ one goes before the other
 abbrev pub ArrivalsTell : Type 0
-ArrivalsTell = (order : List Prioritizer) (a b : QueuedFile) → a.arrival ≢ b.arrival → (goes_before order a b ≡ true) ⊎ (goes_before order b a ≡ true)
+ArrivalsTell = (order : List Prioritizer) (a b : FileView) → a.arrival ≢ b.arrival → (goes_before order a b ≡ true) ⊎ (goes_before order b a ≡ true)
 
 -- the same files, of which none goes before an earlier one
 abbrev pub OrderKeepsFiles : Type 0
-OrderKeepsFiles = (order : List Prioritizer) (files : List QueuedFile) → IsPermutation files (in_order order files)
+OrderKeepsFiles = (order : List Prioritizer) (files : List FileView) → IsPermutation files (in_order order files)
 
 abbrev pub OrderHolds : Type 0
-OrderHolds = (order : List Prioritizer) (files : List QueuedFile) → AllPairs (λ earlier later. goes_before order later earlier ≡ false) (in_order order files)
+OrderHolds = (order : List Prioritizer) (files : List FileView) → AllPairs (λ earlier later. goes_before order later earlier ≡ false) (in_order order files)
 
 -- where no two have one arrival, no other list has the same files with none behind one that it goes before
-abbrev pub ArrivalsDiffer : List QueuedFile → Type 0
+abbrev pub ArrivalsDiffer : List FileView → Type 0
 ArrivalsDiffer files = AllPairs (λ one other. one.arrival ≢ other.arrival) files
 
 abbrev pub OrderIsOnly : Type 0
-OrderIsOnly = (order : List Prioritizer) (files sorted : List QueuedFile) → ArrivalsDiffer files → IsPermutation files sorted
+OrderIsOnly = (order : List Prioritizer) (files sorted : List FileView) → ArrivalsDiffer files → IsPermutation files sorted
     → AllPairs (λ earlier later. goes_before order later earlier ≡ false) sorted → sorted ≡ in_order order files
 
 -- the file is an eligible one of these files, and no eligible one goes before it
-pub record IsBest (order : List Prioritizer) (limits : QueueLimits) (moment : ℕ) (files : List QueuedFile) (file : QueuedFile) : Type 0 where
+pub record IsBest (order : List Prioritizer) (limits : QueueLimits) (moment : ℕ) (files : List FileView) (file : FileView) : Type 0 where
   pub stands_there : Contains files file
   pub eligible : is_eligible limits moment file ≡ true
   pub first : All (λ other. is_eligible limits moment other ≡ true → goes_before order other file ≡ false) files
 
 -- there is a best file exactly where any is eligible
 abbrev pub BestIsBest : Type 0
-BestIsBest = (order : List Prioritizer) (limits : QueueLimits) (moment : ℕ) (files : List QueuedFile) →
+BestIsBest = (order : List Prioritizer) (limits : QueueLimits) (moment : ℕ) (files : List FileView) →
     MatchOption (best order limits moment files) (All (λ file. is_eligible limits moment file ≡ false) files) (IsBest order limits moment files)
 
 -- where no two have one arrival, no other is that good
 abbrev pub BestIsOnly : Type 0
-BestIsOnly = (order : List Prioritizer) (limits : QueueLimits) (moment : ℕ) (files : List QueuedFile) (file : QueuedFile) → ArrivalsDiffer files
+BestIsOnly = (order : List Prioritizer) (limits : QueueLimits) (moment : ℕ) (files : List FileView) (file : FileView) → ArrivalsDiffer files
     → IsBest order limits moment files file → best order limits moment files ≡ Some file
 
 -- ---- replays
 
 abbrev pub ReplayOfOneMore : Type 0
-ReplayOfOneMore = (flow : Flow) (machine : Machine) (journal : List Entry) (entry : Entry) →
-    replay flow machine (journal ++ entry ∷ []) ≡ option_and_then (λ after. step flow after entry.step) (replay flow machine journal)
+ReplayOfOneMore = (flow : Flow) (machine : Machine) (steps : List Step) (last : Step) →
+    replay flow machine (steps ++ last ∷ []) ≡ option_and_then (λ after. step flow after last) (replay flow machine steps)
 
 abbrev pub ReplayOfJoined : Type 0
-ReplayOfJoined = (flow : Flow) (machine : Machine) (journal further : List Entry) →
-    replay flow machine (journal ++ further) ≡ option_and_then (λ after. replay flow after further) (replay flow machine journal)
+ReplayOfJoined = (flow : Flow) (machine : Machine) (front back : List Step) →
+    replay flow machine (front ++ back) ≡ option_and_then (λ after. replay flow after back) (replay flow machine front)
 
 -- ---- outcomes
-
--- a taken file stands at its place, and a made one behind all taken ones
-abbrev pub StandsInTurn : (place count : ℕ) → Origin → Type 0
-StandsInTurn place count (Taken of) = (of ≡ place) × (place < count)
-StandsInTurn place count _ = count ≤ place
-
--- the files of a session's outcome from a place on: what is left of so many taken ones, then made ones, whose parents
--- stand before them
-abbrev pub AreFrom : (place count : ℕ) → List Worked → Type 0
-AreFrom place count [] = count ≤ place
-AreFrom place count (file ∷ files) =
-    StandsInTurn place count file.origin × All (λ parent. parent < place) (parents_in file.origin) × AreFrom (place + 1) count files
-
--- all taken files, of which there are so many, each once and in turn, then made ones
-abbrev pub IsOutcomeOf : (count : ℕ) → Outcome → Type 0
-IsOutcomeOf count outcome = AreFrom 0 count outcome.files
 
 -- a rule takes so many files
 abbrev pub MayTake : TakeRule → (count : ℕ) → Type 0
@@ -105,82 +93,138 @@ MayTake One count = count ≡ 1
 MayTake (Bin min max) count = (1 ≤ count) × (count ≤ max)
 MayTake Defragment count = (1 ≤ count) × (count ≤ 1000)
 
+-- a session ends all files that it took, each once and in turn, and then some that it made
+abbrev pub EndsAllInTurn : (count : ℕ) → Outcome → Type 0
+EndsAllInTurn count outcome = AreInTurn 0 count outcome.files
+
+abbrev pub ActsEndAllInTurn : Type 0
+ActsEndAllInTurn = (kind : Kind) (taken : List TakenFile) (given : Given) → MayTake (take_rule_of kind) (length taken) →
+    IfSome (act kind taken given) (EndsAllInTurn (length taken))
+
+-- what a generator's text is worth is no longer than a content
+abbrev pub HasTextWithin : Kind → (index : ℕ) → Type 0
+HasTextWithin (GenerateFlowFile count custom_text) index = length (generated_text custom_text index) ≤ CONTENT_MAX
+HasTextWithin _ index = Unit {0}
+
+-- What a processor may be handed: as many files as its rule takes, each within the limits of a flow file; an index of 64
+-- bits; the name of a file of the inbox, and bytes that a content may have.
+pub record MayBeHanded (kind : Kind) (taken : List TakenFile) (given : Given) : Type 0 where
+  pub count : MayTake (take_rule_of kind) (length taken)
+  pub contents : All (λ file. length file.bytes ≤ CONTENT_MAX) taken
+  pub attributes : All (λ file. IsWithinLimits file.attributes) taken
+  pub index : given.index < 2 ^ 64
+  pub name : IfSome given.file IsName
+  pub bytes : IfSome given.bytes (λ bytes. length bytes ≤ CONTENT_MAX)
+  pub text : HasTextWithin kind given.index
+
+-- the outcome is one of a session with the processor's relationships, over the contents that were taken
 abbrev pub ActsGiveOutcomes : Type 0
-ActsGiveOutcomes = (kind : Kind) (taken : List TakenFile) (given : Given) → MayTake (take_rule_of kind) (length taken) →
-    IfSome (act kind taken given) (IsOutcomeOf (length taken))
+ActsGiveOutcomes = (kind : Kind) (taken : List TakenFile) (given : Given) → MayBeHanded kind taken given →
+    IfSome (act kind taken given) (IsOutcome (length (relationships_of kind)) (map (λ file. length file.bytes) taken))
 
 -- ---- numbers and arrivals
 
-abbrev pub files_of_all : State → List QueuedFile
-files_of_all state = flat_map (λ queue. queue) state.queues
-
--- no two files have one number, and none has the next one or a higher
-pub record AreNumbered (number : QueuedFile → ℕ) (next : ℕ) (files : List QueuedFile) : Type 0 where
-  pub differ : AllPairs (λ one other. number one ≢ number other) files
-  pub below : All (λ file. number file < next) files
-
--- a batch, if the file is swapped out, is 1 or higher, and lower than the next one
-abbrev pub HasBatchBelow : (next : ℕ) → QueuedFile → Type 0
-HasBatchBelow next file = IfSome file.batch (λ batch. (1 ≤ batch) × (batch < next))
-
--- what holds of the numbers, the arrivals and the batches of all files in the queues
-pub record IsWellNumbered (state : State) : Type 0 where
-  pub numbers : AreNumbered (λ file. file.number) state.next_number (files_of_all state)
-  pub arrivals : AreNumbered (λ file. file.arrival) state.next_arrival (files_of_all state)
-  pub first_batch : 1 ≤ state.next_batch
-  pub batches : All (HasBatchBelow state.next_batch) (files_of_all state)
-
 -- the files that a session took are files of the queues, each another one
-pub record HasTaken (session : Session) : Type 0 where
+pub record HasTaken (session : EndedSession) : Type 0 where
   pub differ : AllPairs (λ (one other : QueuedFile). one.number ≢ other.number) session.taken
   pub there : All (Contains (files_of_all session.state)) session.taken
 
 abbrev pub SettlingKeepsNumbers : Type 0
-SettlingKeepsNumbers = (session : Session) (outcome : Outcome) → IsWellNumbered session.state → HasTaken session → IsOutcomeOf (length session.taken) outcome →
+SettlingKeepsNumbers = (session : EndedSession) (outcome : Outcome) → IsWellNumbered session.state → HasTaken session → EndsAllInTurn (length session.taken) outcome →
     IsWellNumbered (settle session outcome)
 
 abbrev pub StepsKeepNumbers : Type 0
-StepsKeepNumbers = (flow : Flow) (machine : Machine) (entry : Step) → IsWellNumbered machine.0 → IfSome (step flow machine entry) (λ after. IsWellNumbered after.0)
+StepsKeepNumbers = (flow : Flow) (machine : Machine) (one : Step) → IsWellNumbered machine.state → IfSome (step flow machine one) (λ after. IsWellNumbered after.state)
 
 abbrev pub ReplaysKeepNumbers : Type 0
-ReplaysKeepNumbers = (flow : Flow) (machine : Machine) (journal : List Entry) → IsWellNumbered machine.0 →
-    IfSome (replay flow machine journal) (λ after. IsWellNumbered after.0)
+ReplaysKeepNumbers = (flow : Flow) (machine : Machine) (steps : List Step) → IsWellNumbered machine.state →
+    IfSome (replay flow machine steps) (λ after. IsWellNumbered after.state)
 
 -- ---- events
 
--- the events are numbered 1, 2, 3 and so on
-abbrev pub AreEventsInRow : State → Type 0
-AreEventsInRow state = map (λ event. event.number) state.events ≡ range_with_len 1 (length state.events)
-
 abbrev pub SettlingNumbersEvents : Type 0
-SettlingNumbersEvents = (session : Session) (outcome : Outcome) → AreEventsInRow session.state → AreEventsInRow (settle session outcome)
+SettlingNumbersEvents = (session : EndedSession) (outcome : Outcome) → AreEventsInRow session.state → AreEventsInRow (settle session outcome)
 
 abbrev pub StepsNumberEvents : Type 0
-StepsNumberEvents = (flow : Flow) (machine : Machine) (entry : Step) → AreEventsInRow machine.0 → IfSome (step flow machine entry) (λ after. AreEventsInRow after.0)
+StepsNumberEvents = (flow : Flow) (machine : Machine) (one : Step) → AreEventsInRow machine.state → IfSome (step flow machine one) (λ after. AreEventsInRow after.state)
 
 abbrev pub ReplaysNumberEvents : Type 0
-ReplaysNumberEvents = (flow : Flow) (machine : Machine) (journal : List Entry) → AreEventsInRow machine.0 →
-    IfSome (replay flow machine journal) (λ after. AreEventsInRow after.0)
+ReplaysNumberEvents = (flow : Flow) (machine : Machine) (steps : List Step) → AreEventsInRow machine.state →
+    IfSome (replay flow machine steps) (λ after. AreEventsInRow after.state)
 
 -- events are added behind those that there are, and none is changed
 abbrev pub AddsEvents : (before after : State) → Type 0
 AddsEvents before after = (more : List Event) × (after.events ≡ before.events ++ more)
 
 abbrev pub ReplaysAddEvents : Type 0
-ReplaysAddEvents = (flow : Flow) (machine : Machine) (journal : List Entry) → IfSome (replay flow machine journal) (λ after. AddsEvents machine.0 after.0)
+ReplaysAddEvents = (flow : Flow) (machine : Machine) (steps : List Step) → IfSome (replay flow machine steps) (λ after. AddsEvents machine.state after.state)
 
 -- ---- kin
 
--- the events name as parents of each file those that the kin list has
-abbrev pub EventsTellKin : State → Type 0
-EventsTellKin state = (child parent : ℕ) → NamesParent state.events child parent ↔ Contains state.kin (record { child = child; parent = parent })
-
 abbrev pub SettlingTellsKin : Type 0
-SettlingTellsKin = (session : Session) (outcome : Outcome) → IsOutcomeOf (length session.taken) outcome → EventsTellKin session.state → EventsTellKin (settle session outcome)
+SettlingTellsKin = (session : EndedSession) (outcome : Outcome) → EndsAllInTurn (length session.taken) outcome → EventsTellKin session.state → EventsTellKin (settle session outcome)
 
 abbrev pub StepsTellKin : Type 0
-StepsTellKin = (flow : Flow) (machine : Machine) (entry : Step) → EventsTellKin machine.0 → IfSome (step flow machine entry) (λ after. EventsTellKin after.0)
+StepsTellKin = (flow : Flow) (machine : Machine) (one : Step) → EventsTellKin machine.state → IfSome (step flow machine one) (λ after. EventsTellKin after.state)
 
 abbrev pub ReplaysTellKin : Type 0
-ReplaysTellKin = (flow : Flow) (machine : Machine) (journal : List Entry) → EventsTellKin machine.0 →
-    IfSome (replay flow machine journal) (λ after. EventsTellKin after.0)
+ReplaysTellKin = (flow : Flow) (machine : Machine) (steps : List Step) → EventsTellKin machine.state →
+    IfSome (replay flow machine steps) (λ after. EventsTellKin after.state)
+
+-- ---- valid states
+
+abbrev pub NewStatesAreValid : Type 0
+NewStatesAreValid = (flow : Flow) (lot : ℕ) → IsValid flow (new_state flow lot)
+
+abbrev pub StepsStayValid : Type 0
+StepsStayValid = (flow : Flow) (machine : Machine) (one : Step) → IsValid flow machine.state → IfSome (step flow machine one) (λ after. IsValid flow after.state)
+
+abbrev pub ReplaysStayValid : Type 0
+ReplaysStayValid = (flow : Flow) (machine : Machine) (steps : List Step) → IsValid flow machine.state →
+    IfSome (replay flow machine steps) (λ after. IsValid flow after.state)
+
+-- ---- what goes on, and what stays
+
+-- no counter is lower, and the store is the same
+pub record GoesOn (before after : State) : Type 0 where
+  pub store : after.store ≡ before.store
+  pub next_number : before.next_number ≤ after.next_number
+  pub next_arrival : before.next_arrival ≤ after.next_arrival
+  pub next_batch : before.next_batch ≤ after.next_batch
+  pub counts : (place : ℕ) → slice_index before.counts place ≤ slice_index after.counts place
+
+abbrev pub StepsGoOn : Type 0
+StepsGoOn = (flow : Flow) (machine : Machine) (one : Step) → IfSome (step flow machine one) (λ after. GoesOn machine.state after.state)
+
+abbrev pub ReplaysGoOn : Type 0
+ReplaysGoOn = (flow : Flow) (machine : Machine) (steps : List Step) → IfSome (replay flow machine steps) (λ after. GoesOn machine.state after.state)
+
+-- the name of the inbox's file that a session received
+abbrev pub received_name : Kind → Option (List ℕ) → List (List ℕ)
+received_name (GetFile filter) (Some name) = name ∷ []
+received_name _ _ = []
+
+abbrev pub names_of_step : Flow → Step → List (List ℕ)
+names_of_step flow (entry.Session processor numbers moment given) = option_map_or (λ found. received_name found.kind given.file) (slice_get flow.processors processor) []
+names_of_step flow _ = []
+
+-- the names that the sessions of GetFile took
+abbrev pub names_taken : Flow → List Step → List (List ℕ)
+names_taken flow steps = flat_map (names_of_step flow) steps
+
+-- the inbox is the same, and of the names that were left those are gone that were taken
+pub record LosesNames (taken : List (List ℕ)) (before after : World) : Type 0 where
+  pub inbox : after.inbox ≡ before.inbox
+  pub left : after.left ≡ filter (λ name. not (is_among name taken)) before.left
+
+abbrev pub StepsLoseNames : Type 0
+StepsLoseNames = (flow : Flow) (machine : Machine) (one : Step) → IfSome (step flow machine one) (λ after. LosesNames (names_of_step flow one) machine.world after.world)
+
+abbrev pub ReplaysLoseNames : Type 0
+ReplaysLoseNames = (flow : Flow) (machine : Machine) (steps : List Step) →
+    IfSome (replay flow machine steps) (λ after. LosesNames (names_taken flow steps) machine.world after.world)
+
+-- ---- lineages
+
+abbrev pub LineageIsOnly : Type 0
+LineageIsOnly = (events : List Event) (file : ℕ) (one other : Lineage) → IsLineage events file one → IsLineage events file other → one ≡ other

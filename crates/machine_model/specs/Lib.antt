@@ -11,6 +11,8 @@ pub mod Placing
 pub mod Quiet
 pub mod Settling
 pub mod Sound
+pub mod State
 pub mod Stepping
 pub mod Taking
-pub mod Tries
+pub mod Valid
+pub mod View

@@ -1,12 +1,11 @@
 -- What becomes of the files of a finished session: their numbers, their contents, and where they go.
-use Rattle.std.specs.Prelude.{ℕ, ◌+◌, ◌-◌, ◌^◌, ◌&&◌, ◌==◌, min, not, Bool, true, false, List, [], ◌∷◌, ◌++◌, take, drop, map, filter, fold, count_by, unwrap_or, slice_get, slice_index, codes, zip, if◌then◌else◌}
+use Rattle.std.specs.Prelude.{ℕ, ◌+◌, ◌-◌, ◌^◌, ◌&&◌, ◌==◌, min, Bool, true, false, List, [], ◌∷◌, ◌++◌, map, filter, fold, count_by, unwrap_or, slice_get, slice_index, codes, zip, if◌then◌else◌}
 use Rattle.std.specs.List.{enumerate_from, flat_map}
 use Rattle.std.specs.FinMap.{insert, contains_key}
 use Rattle.uuid.specs.Text.{hyphenated_text, lower}
 use Rattle.flowfile_record.specs.Attributes.{AttributeMap}
 use Rattle.flowfile_record.specs.Identifier.{identifier}
-use Rattle.flowfile_record.specs.declared.worked.Body.{Body}
-use Rattle.flowfile_record.specs.declared.worked.Body.TheVariants.{Whole, Part, New}
+use Rattle.flowfile_record.specs.Outcome.{is_made, content_of}
 use Rattle.flowfile_record.specs.declared.worked.End.{End}
 use Rattle.flowfile_record.specs.declared.worked.End.TheVariants.{To, Back, Removed}
 use Rattle.flowfile_record.specs.declared.worked.Origin.{Origin}
@@ -16,8 +15,7 @@ use Rattle.machine_model.specs.declared.flow.Connection.{Connection}
 use Rattle.machine_model.specs.declared.flow.Flow.{Flow}
 use Rattle.machine_model.specs.declared.flow.Processor.{Processor}
 use Rattle.machine_model.specs.declared.given.Given.{Given}
-use Rattle.machine_model.specs.declared.state.QueuedFile.{QueuedFile}
-use Rattle.machine_model.specs.declared.state.State.{State}
+use Rattle.machine_model.specs.State.{QueuedFile, State}
 use Rattle.machine_model.specs.Kinds.{relationships_of, is_among}
 
 -- a flow file's uuid as text
@@ -25,15 +23,15 @@ abbrev pub uuid_text : (store number : ℕ) → List ℕ
 uuid_text store number = hyphenated_text lower (identifier store number)
 
 -- where a file goes
-pub data Goes : Type 0 where
+pub data Destination : Type 0 where
   -- to this connection's queue, and a clone of it to each of the others
-  Queues : (first : ℕ) (others : List ℕ) → Goes
+  Queues : (first : ℕ) (others : List ℕ) → Destination
   -- back to where it was
-  Returns : Goes
+  Returns : Destination
   -- out of the flow, by a relationship that is terminated
-  Drops : (relationship : List ℕ) → Goes
+  Drops : (relationship : List ℕ) → Destination
   -- out of the flow
-  Leaves : Goes
+  Leaves : Destination
 
 -- the places of the connections that a relationship of a processor leads to, in the flow's order
 abbrev pub leads : ℕ → List ℕ → ℕ × Connection → Bool
@@ -42,11 +40,11 @@ leads processor relationship (place, connection) = (connection.source == process
 abbrev pub connections_of : Flow → ℕ → List ℕ → List ℕ
 connections_of flow processor relationship = map (λ c. c.0) (filter (leads processor relationship) (enumerate_from 0 flow.connections))
 
-abbrev pub to_connections : List ℕ → List ℕ → Goes
+abbrev pub to_connections : List ℕ → List ℕ → Destination
 to_connections relationship [] = Drops relationship
 to_connections relationship (first ∷ others) = Queues first others
 
-abbrev pub to_relationship : Flow → ℕ → Processor → List ℕ → Goes
+abbrev pub to_relationship : Flow → ℕ → Processor → List ℕ → Destination
 to_relationship flow place processor relationship =
     if is_among relationship processor.terminated then Drops relationship
     else to_connections relationship (connections_of flow place relationship)
@@ -55,28 +53,10 @@ to_relationship flow place processor relationship =
 abbrev pub relationship_at : Processor → ℕ → List ℕ
 relationship_at processor place = unwrap_or (slice_get (relationships_of processor.kind) place) []
 
-abbrev pub goes : Flow → ℕ → Processor → End → Goes
+abbrev pub goes : Flow → ℕ → Processor → End → Destination
 goes flow place processor (To relationship) = to_relationship flow place processor (relationship_at processor relationship)
 goes flow place processor Back = Returns
 goes flow place processor Removed = Leaves
-
--- the content of a body, over the contents that were taken
-abbrev pub content_of : List (List ℕ) → Body → List ℕ
-content_of taken (Whole of) = unwrap_or (slice_get taken of) []
-content_of taken (Part of offset size) = take size (drop offset (unwrap_or (slice_get taken of) []))
-content_of taken (New bytes) = bytes
-
-abbrev pub is_taken : Origin → Bool
-is_taken (origin.Taken place) = true
-is_taken _ = false
-
--- The places that an origin names as parents.
-abbrev pub parents_in : Origin → List ℕ
-parents_in (origin.Forked parent) = parent ∷ []
-parents_in (origin.Part parent) = parent ∷ []
-parents_in (origin.Cloned parent) = parent ∷ []
-parents_in (origin.Joined parents) = parents
-parents_in _ = []
 
 -- a taken file keeps its number, and a made one gets the next
 abbrev pub number_by : (next : ℕ) (taken : List ℕ) → Origin → ℕ
@@ -125,7 +105,7 @@ penalty_end_of true moment penalty = min (moment + penalty) (2 ^ 64 - 1)
 
 -- a session that ends: its processor and that one's place in the flow, the state in which it ends, the files that it
 -- took, by place, and what it was given
-pub record Session : Type 0 where
+pub record EndedSession : Type 0 where
   pub flow : Flow
   pub place : ℕ
   pub processor : Processor
@@ -134,17 +114,17 @@ pub record Session : Type 0 where
   pub given : Given
 
 -- a file of a session that has ended
-pub record Finished : Type 0 where
+pub record SettledFile : Type 0 where
   pub number : ℕ
   pub worked : Worked
   pub attributes : AttributeMap
   pub bytes : List ℕ
   pub entered : ℕ
   pub penalty_end : ℕ
-  pub goes : Goes
+  pub goes : Destination
 
-abbrev pub finished_file : Session → ℕ × ℕ × Worked → Finished
-finished_file session (number, entered, worked) = record {
+abbrev pub settled_file : EndedSession → ℕ × ℕ × Worked → SettledFile
+settled_file session (number, entered, worked) = record {
   number = number;
   worked = worked;
   attributes = with_filename worked.origin session.state.store number worked.attributes;
@@ -155,34 +135,34 @@ finished_file session (number, entered, worked) = record {
 }
 
 -- the files of a session that has ended, by place
-abbrev pub finished_files : Session → List Worked → List Finished
-finished_files session files =
+abbrev pub settled_files : EndedSession → List Worked → List SettledFile
+settled_files session files =
     let numbers = numbers_from session.state.next_number (map (λ file. file.number) session.taken) files in
     let entered = entered_in session.given.moment (map (λ file. file.entered) session.taken) files in
-    map (λ f. finished_file session (f.0, f.1.0, f.1.1)) (zip numbers (zip entered files))
+    map (λ f. settled_file session (f.0, f.1.0, f.1.1)) (zip numbers (zip entered files))
 
 -- a clone that a file's further connection gets
 pub record SettlementClone : Type 0 where
   pub number : ℕ
-  pub original : Finished
+  pub original : SettledFile
   pub connection : ℕ
 
-abbrev pub further_connections : Goes → List ℕ
+abbrev pub further_connections : Destination → List ℕ
 further_connections (Queues first others) = others
 further_connections _ = []
 
 -- by place, then by connection
-abbrev pub wanted_clones : List Finished → List (Finished × ℕ)
+abbrev pub wanted_clones : List SettledFile → List (SettledFile × ℕ)
 wanted_clones files = flat_map (λ file. map (λ connection. (file, connection)) (further_connections file.goes)) files
 
-abbrev pub clones_from : ℕ → List (Finished × ℕ) → List SettlementClone
+abbrev pub clones_from : ℕ → List (SettledFile × ℕ) → List SettlementClone
 clones_from next [] = []
 clones_from next (clone ∷ clones) = record { number = next; original = clone.0; connection = clone.1 } ∷ clones_from (next + 1) clones
 
 abbrev pub count_made : List Worked → ℕ
-count_made files = count_by (λ file. not (is_taken file.origin)) files
+count_made files = count_by (λ file. is_made file.origin) files
 
 -- their numbers follow those of all made files
-abbrev pub settlement_clones : Session → List Worked → List SettlementClone
+abbrev pub settlement_clones : EndedSession → List Worked → List SettlementClone
 settlement_clones session files =
-    clones_from (session.state.next_number + count_made files) (wanted_clones (finished_files session files))
+    clones_from (session.state.next_number + count_made files) (wanted_clones (settled_files session files))

@@ -1,8 +1,11 @@
 -- Which flows are sound: what a reader of flows accepts, and what every law over a flow asks of it.
-use Rattle.std.specs.Prelude.{◌≢◌, ℕ, ◌^◌, ◌≤◌, ◌==◌, ◌&&◌, ◌||◌, nat_lt, nat_le, not, Bool, true, false, List, [], ◌∷◌, length, map, IsTrue, All, Option, Some, None, slice_get, codes, count_by, if◌then◌else◌}
+use Rattle.std.specs.Prelude.{◌≡◌, ◌≢◌, ℕ, ◌^◌, ◌≤◌, ◌==◌, ◌&&◌, ◌||◌, nat_lt, nat_le, not, Bool, true, false, List, [], ◌∷◌, ◌++◌, length, map, IsTrue, IfSome, All, Option, Some, None, slice_get, codes, count_by, if◌then◌else◌}
 use Rattle.std.specs.List.{list_all, enumerate_from, AllPairs}
 use Rattle.std.specs.Ordering.{nat_cmp, is_lt}
 use Rattle.std.specs.Cmp.Lexicographic.{slice_cmp}
+use Rattle.expr_lang.specs.Grammar.{IsText}
+use Rattle.expr_lang.specs.View.{tree_of}
+use Rattle.expr_lang.specs.declared.syntax.Expr.{Expr}
 use Rattle.flowfile_record.specs.declared.TheConstants.{CONTENT_MAX}
 use Rattle.prioritizer.specs.declared.prioritizer.Prioritizer.{Prioritizer}
 use Rattle.machine_model.specs.declared.flow.Connection.{Connection}
@@ -11,10 +14,12 @@ use Rattle.machine_model.specs.declared.flow.Processor.{Processor}
 use Rattle.machine_model.specs.declared.flow.QueueLimits.{QueueLimits}
 use Rattle.machine_model.specs.declared.kind.Kind.{Kind}
 use Rattle.machine_model.specs.declared.kind.Kind.TheVariants.{GetFile, GenerateFlowFile, PutFile, UpdateAttribute, RouteOnAttribute, AttributesToJson, DuplicateFlowFile, CryptographicHashContent, SplitText, ReplaceText, ExtractText, RouteOnContent, MergeContent, SegmentContent, ModifyBytes}
+use Rattle.machine_model.specs.declared.kind.MatchRequirement.TheVariants.{Exactly}
 use Rattle.machine_model.specs.declared.kind.MergeStrategy.{MergeStrategy}
 use Rattle.machine_model.specs.declared.kind.MergeStrategy.TheVariants.{BinPacking, Defragment}
 use Rattle.machine_model.specs.declared.kind.Replacement.{Replacement}
 use Rattle.machine_model.specs.declared.kind.Replacement.TheVariants as replace
+use Rattle.machine_model.specs.declared.pattern.Pattern.{Pattern}
 use Rattle.machine_model.specs.Kinds.{is_source, relationships_of, is_among}
 
 -- 1 to 64 letters, digits, underscores, dots and dashes
@@ -55,28 +60,66 @@ abbrev pub is_replacement_sound : Replacement → Bool
 is_replacement_sound (replace.Regex search template) = true
 is_replacement_sound (replace.Literal search value) = nat_lt 0 (length search)
 
--- the properties lie within their limits
-abbrev pub is_sound_kind : Kind → Bool
-is_sound_kind (GetFile filter) = true
-is_sound_kind (GenerateFlowFile count text) = nat_le count 1_000_000
-is_sound_kind (PutFile conflict) = true
-is_sound_kind (UpdateAttribute own) = are_own_names (map (λ property. property.name) own)
-is_sound_kind (RouteOnAttribute own) = are_own_relationships (map (λ property. property.name) own)
-is_sound_kind (AttributesToJson destination names) = true
-is_sound_kind (DuplicateFlowFile copies) = within 1 copies 999
-is_sound_kind CryptographicHashContent = true
-is_sound_kind (SplitText lines) = within 1 lines 1_000_000_000
-is_sound_kind (ReplaceText replacement) = is_replacement_sound replacement
-is_sound_kind (ExtractText own) = are_own_names (map (λ property. property.name) own)
-is_sound_kind (RouteOnContent requirement own) = are_own_relationships (map (λ property. property.name) own)
-is_sound_kind (MergeContent strategy minimum maximum) = within 1 minimum 1000 && within 1 maximum 1000 && are_entries_sound strategy minimum maximum
-is_sound_kind (SegmentContent size) = within 1 size CONTENT_MAX
-is_sound_kind (ModifyBytes start end) = nat_le start CONTENT_MAX && nat_le end CONTENT_MAX
+-- a name of a list that stood between commas: something, with no comma in it and no blank at its ends
+abbrev pub begins_blank : List ℕ → Bool
+begins_blank [] = true
+begins_blank (c ∷ cs) = c == 32
+
+abbrev pub ends_blank : List ℕ → Bool
+ends_blank [] = true
+ends_blank (c ∷ []) = c == 32
+ends_blank (c ∷ d ∷ cs) = ends_blank (d ∷ cs)
+
+abbrev pub is_listed_name : List ℕ → Bool
+is_listed_name name = not (begins_blank name) && not (ends_blank name) && list_all (λ c. not (c == 44)) name
+
+-- each property lies within its range
+abbrev pub are_within_ranges : Kind → Bool
+are_within_ranges (GetFile filter) = true
+are_within_ranges (GenerateFlowFile count text) = nat_le count 1_000_000
+are_within_ranges (PutFile conflict) = true
+are_within_ranges (UpdateAttribute own) = are_own_names (map (λ property. property.name) own)
+are_within_ranges (RouteOnAttribute own) = are_own_relationships (map (λ property. property.name) own)
+are_within_ranges (AttributesToJson destination names) = list_all is_listed_name names
+are_within_ranges (DuplicateFlowFile copies) = within 1 copies 999
+are_within_ranges CryptographicHashContent = true
+are_within_ranges (SplitText lines) = within 1 lines 1_000_000_000
+are_within_ranges (ReplaceText replacement) = is_replacement_sound replacement
+are_within_ranges (ExtractText own) = are_own_names (map (λ property. property.name) own)
+are_within_ranges (RouteOnContent requirement own) = are_own_relationships (map (λ property. property.name) own)
+are_within_ranges (MergeContent strategy minimum maximum) =
+    within 1 minimum 1000 && within 1 maximum 1000 && are_entries_sound strategy minimum maximum
+are_within_ranges (SegmentContent size) = within 1 size CONTENT_MAX
+are_within_ranges (ModifyBytes start end) = nat_le start CONTENT_MAX && nat_le end CONTENT_MAX
+
+-- the expression was read from a text of the language
+abbrev pub HasText : Expr → Type 0
+HasText expression = (text : List ℕ) × IsText text (tree_of expression)
+
+-- the pattern was read from a text that lets another one match whole texts alone
+abbrev pub to_match_whole : List ℕ → List ℕ
+to_match_whole pattern = codes "\\A(?:" ++ (pattern ++ codes ")\\z")
+
+abbrev pub MatchesWhole : Pattern → Type 0
+MatchesWhole pattern = (within : List ℕ) × (pattern.text ≡ to_match_whole within)
+
+-- each expression was read from a text, and each pattern that has to match a whole text says so
+abbrev pub AreTextsRead : Kind → Type 0
+AreTextsRead (GetFile filter) = IfSome filter MatchesWhole
+AreTextsRead (GenerateFlowFile count text) = HasText text
+AreTextsRead (UpdateAttribute own) = All (λ property. HasText property.expression) own
+AreTextsRead (RouteOnAttribute own) = All (λ property. HasText property.expression) own
+AreTextsRead (RouteOnContent Exactly own) = All (λ property. MatchesWhole property.pattern) own
+AreTextsRead _ = Unit {0}
+
+pub record IsSoundKind (kind : Kind) : Type 0 where
+  pub ranges : IsTrue (are_within_ranges kind)
+  pub texts : AreTextsRead kind
 
 -- a day of milliseconds at most
 abbrev pub is_sound_processor : Processor → Bool
 is_sound_processor processor =
-    is_id processor.id && is_sound_kind processor.kind && within 1 processor.tasks 16 && nat_le processor.penalty 86_400_000
+    is_id processor.id && within 1 processor.tasks 16 && nat_le processor.penalty 86_400_000
     && are_distinct_texts processor.terminated
     && list_all (λ name. is_among name (relationships_of processor.kind)) processor.terminated
 
@@ -126,6 +169,7 @@ pub record IsSound (flow : Flow) : Type 0 where
   pub processor_ids : IsTrue (are_distinct_texts (map (λ processor. processor.id) flow.processors))
   pub connection_ids : IsTrue (are_distinct_texts (map (λ connection. connection.id) flow.connections))
   pub processors : IsTrue (list_all is_sound_processor flow.processors)
+  pub kinds : All (λ processor. IsSoundKind processor.kind) flow.processors
   pub connections : IsTrue (list_all (is_sound_connection flow) flow.connections)
   pub relationships : IsTrue (list_all (are_sound_relationships flow) (enumerate_from 0 flow.processors))
   pub prioritizers : All (λ connection. EachOnce connection.order) flow.connections

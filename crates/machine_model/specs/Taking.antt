@@ -7,23 +7,23 @@ use Rattle.expr_lang.specs.declared.error.EvalError.{EvalError}
 use Rattle.expr_lang.specs.Value.{text, as_number}
 use Rattle.machine_model.specs.declared.kind.TakeRule.{TakeRule}
 use Rattle.machine_model.specs.declared.kind.TakeRule.TheVariants.{Source, One, Bin, Defragment}
-use Rattle.machine_model.specs.declared.state.QueuedFile.{QueuedFile}
+use Rattle.machine_model.specs.View.{FileView}
 
 -- The files from the first on, at most so many, as long as their contents fill no more than this room.
-abbrev pub filling : (most room : ℕ) → List QueuedFile → List QueuedFile
+abbrev pub filling : (most room : ℕ) → List FileView → List FileView
 filling most room [] = []
 filling zero room (file ∷ files) = []
 filling (suc most) room (file ∷ files) =
-    if nat_le (length file.bytes) room then file ∷ filling most (room - length file.bytes) files else []
+    if nat_le file.size room then file ∷ filling most (room - file.size) files else []
 
 -- whether the file behind the first so many would pass the room
-abbrev pub next_would_pass : (count room : ℕ) → List QueuedFile → Bool
+abbrev pub next_would_pass : (count room : ℕ) → List FileView → Bool
 next_would_pass count room [] = false
-next_would_pass zero room (file ∷ files) = nat_lt room (length file.bytes)
-next_would_pass (suc count) room (file ∷ files) = next_would_pass count (room - length file.bytes) files
+next_would_pass zero room (file ∷ files) = nat_lt room file.size
+next_would_pass (suc count) room (file ∷ files) = next_would_pass count (room - file.size) files
 
 -- at least `min` of them, or as many as a content has room for
-abbrev pub bin_of : (min max : ℕ) → List QueuedFile → Option (List QueuedFile)
+abbrev pub bin_of : (min max : ℕ) → List FileView → Option (List FileView)
 bin_of min max files =
     let bin = filling max CONTENT_MAX files in
     if nat_lt 0 (length bin) && (nat_le min (length bin) || next_would_pass (length bin) CONTENT_MAX files) then Some bin else None
@@ -60,36 +60,36 @@ is_fragment_at fragment index None = false
 is_fragment_at fragment index (Some other) =
     bytes_eq other.identifier fragment.identifier && (other.count == fragment.count) && (other.index == index)
 
-abbrev pub fragment_at : Fragment → ℕ → List QueuedFile → Option QueuedFile
+abbrev pub fragment_at : Fragment → ℕ → List FileView → Option FileView
 fragment_at fragment index files = find (λ file. is_fragment_at fragment index (fragment_of file.attributes)) files
 
 -- all of the parts, or none
-abbrev pub joined_option : Option QueuedFile → Option (List QueuedFile) → Option (List QueuedFile)
+abbrev pub joined_option : Option FileView → Option (List FileView) → Option (List FileView)
 joined_option (Some file) (Some files) = Some (file ∷ files)
 joined_option _ _ = None
 
 -- the first fragment of each index from here on, so many
-abbrev pub fragments_from : Fragment → (index left : ℕ) → List QueuedFile → Option (List QueuedFile)
+abbrev pub fragments_from : Fragment → (index left : ℕ) → List FileView → Option (List FileView)
 fragments_from fragment index zero files = Some []
 fragments_from fragment index (suc left) files =
     joined_option (fragment_at fragment index files) (fragments_from fragment (index + 1) left files)
 
 -- a file that is no fragment alone, a fragment with all others of its whole
-abbrev pub whole_of : List QueuedFile → QueuedFile → Option Fragment → Option (List QueuedFile)
+abbrev pub whole_of : List FileView → FileView → Option Fragment → Option (List FileView)
 whole_of files file None = Some (file ∷ [])
 whole_of files file (Some fragment) = fragments_from fragment 1 fragment.count files
 
 -- what the first file of some gives that gives anything
-abbrev pub first_whole : List QueuedFile → List QueuedFile → Option (List QueuedFile)
+abbrev pub first_whole : List FileView → List FileView → Option (List FileView)
 first_whole files [] = None
 first_whole files (file ∷ rest) = first_some (whole_of files file (fragment_of file.attributes)) (first_whole files rest)
   where
-    first_some : Option (List QueuedFile) → Option (List QueuedFile) → Option (List QueuedFile)
+    first_some : Option (List FileView) → Option (List FileView) → Option (List FileView)
     first_some (Some found) other = Some found
     first_some None other = other
 
 -- the files that a session takes of the eligible ones, which stand in their order
-abbrev pub picks : TakeRule → List QueuedFile → Option (List QueuedFile)
+abbrev pub picks : TakeRule → List FileView → Option (List FileView)
 picks Source files = None
 picks One files = option_map (λ file. file ∷ []) (slice_get files 0)
 picks (Bin min max) files = bin_of min max files

@@ -2,6 +2,9 @@
 use crate::Given;
 use flowfile_record::{Numbers, Sequence};
 
+/// How many entries are journaled from one reclaim to the next.
+pub const RECLAIM_ENTRIES: u64 = 256;
+
 /// A step of a run, and the disk's moment at which it was acknowledged, if it was.
 #[derive(Debug, Drop)]
 pub struct Entry {

@@ -1,5 +1,5 @@
 //! What holds of the machine's definitions, each law as the contract of a function that does nothing.
-ghost use Rattle.machine_model.specs.Laws.{NoneGoesBeforeItself, GoingBeforeChains, ArrivalsTell, OrderKeepsFiles, OrderHolds, OrderIsOnly, BestIsBest, BestIsOnly, ReplayOfOneMore, ReplayOfJoined, ActsGiveOutcomes, SettlingKeepsNumbers, StepsKeepNumbers, ReplaysKeepNumbers, SettlingNumbersEvents, StepsNumberEvents, ReplaysNumberEvents, ReplaysAddEvents, SettlingTellsKin, StepsTellKin, ReplaysTellKin};
+ghost use Rattle.machine_model.specs.Laws.{NoneGoesBeforeItself, GoingBeforeChains, ArrivalsTell, OrderKeepsFiles, OrderHolds, OrderIsOnly, BestIsBest, BestIsOnly, ReplayOfOneMore, ReplayOfJoined, ActsEndAllInTurn, ActsGiveOutcomes, SettlingKeepsNumbers, StepsKeepNumbers, ReplaysKeepNumbers, SettlingNumbersEvents, StepsNumberEvents, ReplaysNumberEvents, ReplaysAddEvents, SettlingTellsKin, StepsTellKin, ReplaysTellKin, NewStatesAreValid, StepsStayValid, ReplaysStayValid, StepsGoOn, ReplaysGoOn, StepsLoseNames, ReplaysLoseNames, LineageIsOnly};
 
 /// The order of a queue is a total one of files whose arrivals differ.
 pub fn order_is_total()
@@ -29,10 +29,11 @@ pub fn replay_goes_on()
     ensures joined { ReplayOfJoined }
 {}
 
-/// A processor makes of the files that it took all of them, each once and in turn, and then files whose parents stand
-/// before them.
+/// A processor ends all files that it took, each once and in turn, and then files whose parents stand before them. Where
+/// what it is handed is within the limits of flow files, what it makes is an outcome of its relationships.
 pub fn acts_give_outcomes()
-    ensures { ActsGiveOutcomes }
+    ensures in_turn { ActsEndAllInTurn }
+    ensures whole { ActsGiveOutcomes }
 {}
 
 /// A session leaves the queues well numbered, whatever outcome it had.
@@ -60,4 +61,28 @@ pub fn replays_tell_kin()
     ensures settling { SettlingTellsKin }
     ensures one_step { StepsTellKin }
     ensures replay { ReplaysTellKin }
+{}
+
+/// A new store's state is valid, and steps and replays leave a valid one behind a valid one.
+pub fn states_stay_valid()
+    ensures new { NewStatesAreValid }
+    ensures one_step { StepsStayValid }
+    ensures replay { ReplaysStayValid }
+{}
+
+/// No counter ever falls, and the store's id stays.
+pub fn counters_never_fall()
+    ensures one_step { StepsGoOn }
+    ensures replay { ReplaysGoOn }
+{}
+
+/// The inbox stays as it was, and of the names that are left just those go that sessions of GetFile take.
+pub fn names_are_lost_by_taking()
+    ensures one_step { StepsLoseNames }
+    ensures replay { ReplaysLoseNames }
+{}
+
+/// A file has one lineage.
+pub fn lineage_is_only()
+    ensures { LineageIsOnly }
 {}

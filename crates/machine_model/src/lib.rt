@@ -11,24 +11,18 @@ mod journal;
 mod kind;
 mod laws;
 mod pattern;
-mod state;
-#[cfg(test)]
-mod tests;
-pub mod tries;
-mod world;
 
 pub use filter::Filter;
 pub use flow::{Connection, ConnectionList, Flow, Processor, ProcessorList, QueueLimits};
 pub use given::Given;
-pub use journal::{Entry, EntryList, Step};
+pub use journal::{Entry, EntryList, RECLAIM_ENTRIES, Step};
 pub use kind::{
     Conflict, Destination, Kind, MatchRequirement, MergeStrategy, OwnExpression, OwnExpressionList,
     OwnPattern, OwnPatternList, Replacement, TakeRule,
 };
 pub use laws::{
-    acts_give_outcomes, best_is_first, order_is_total, order_sorts, replay_goes_on,
-    replays_keep_numbers, replays_number_events, replays_tell_kin, settling_keeps_numbers,
+    acts_give_outcomes, best_is_first, counters_never_fall, lineage_is_only,
+    names_are_lost_by_taking, order_is_total, order_sorts, replay_goes_on, replays_keep_numbers,
+    replays_number_events, replays_tell_kin, settling_keeps_numbers, states_stay_valid,
 };
 pub use pattern::Pattern;
-pub use state::{EventList, Kinship, KinshipList, Queue, QueueList, QueuedFile, State};
-pub use world::{Delivery, DeliveryList, NameList, World};

@@ -6,7 +6,7 @@ ghost use Rattle.regex.specs.Strings.{regex_source, regex_config, regex_size, Is
 
 use flowfile_record::Text;
 use regex::{Regex, RegexBuilder};
-use std::alloc::Global;
+use std::alloc::{AllocError, Global};
 
 /// A pattern as `regex` built it from its text, under the syntax's usual options.
 #[derive(Drop)]
@@ -19,6 +19,17 @@ pub struct Pattern {
 }
 
 impl Pattern {
+    /// The pattern of a text that was built already, under the syntax's usual options.
+    pub fn from_regex(alloc: Global, text: Text, regex: Regex) -> Result<Pattern, AllocError>
+        requires source { regex_source regex ≡ text }
+        requires options { regex_config regex ≡ default_config }
+        requires read { IsReadFromSource regex }
+        ensures { IfOk result (λ pattern. (pattern.text ≡ text) × (pattern.regex.value ≡ regex)) }
+    {
+        let regex = Box::new(alloc, regex)?;
+        Ok(Pattern { text, regex })
+    }
+
     /// The pattern of a text. `Syntax` comes where the text is no pattern or nests deeper than 250, `CompiledTooBig`
     /// where its tables would have more bytes than the limit, and `OutOfMemory` where there is no memory.
     pub fn new(alloc: Global, text: Text, size_limit: u64) -> Result<Pattern, regex::Error>
@@ -29,8 +40,8 @@ impl Pattern {
         let built = RegexBuilder::new(text.as_str())
             .size_limit(size_limit as usize)
             .build(alloc)?;
-        match Box::new(alloc, built) {
-            Ok(regex) => Ok(Pattern { text, regex }),
+        match Pattern::from_regex(alloc, text, built) {
+            Ok(pattern) => Ok(pattern),
             Err(_) => Err(regex::Error::OutOfMemory),
         }
     }

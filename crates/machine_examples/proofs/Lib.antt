@@ -1,0 +1,10 @@
+pub mod TriedFamilies
+pub mod TriedFlows
+pub mod TriedNames
+pub mod TriedOutboxes
+pub mod TriedParts
+pub mod TriedPicks
+pub mod TriedPuts
+pub mod TriedRun
+pub mod TriedSizes
+pub mod TriedWorlds

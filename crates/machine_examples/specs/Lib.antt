@@ -1,0 +1,16 @@
+pub mod Acks
+pub mod Clones
+pub mod Ends
+pub mod Expiries
+pub mod Families
+pub mod Flows
+pub mod Orders
+pub mod Outboxes
+pub mod Picks
+pub mod Puts
+pub mod Refusals
+pub mod Returns
+pub mod Run
+pub mod Sizes
+pub mod Small
+pub mod Told

@@ -1,0 +1,136 @@
+-- Tried: which events tell of a session, and what its children are.
+use Rattle.std.specs.Prelude.{◌≡◌, ℕ, Bool, true, false, List, [], ◌∷◌, ◌++◌, Some, None, codes}
+use Rattle.flowfile_record.specs.Attributes.{AttributeMap}
+use Rattle.flowfile_record.specs.declared.event.Event.{Event}
+use Rattle.flowfile_record.specs.declared.event.EventKind.TheVariants as kind
+use Rattle.flowfile_record.specs.declared.worked.Body.TheVariants as body
+use Rattle.flowfile_record.specs.declared.worked.End.{End}
+use Rattle.flowfile_record.specs.declared.worked.End.TheVariants.{To, Removed}
+use Rattle.flowfile_record.specs.declared.worked.Origin.TheVariants as origin
+use Rattle.flowfile_record.specs.declared.worked.Outcome.{Outcome}
+use Rattle.flowfile_record.specs.declared.worked.Worked.{Worked}
+use Rattle.machine_model.specs.declared.flow.Flow.{Flow}
+use Rattle.machine_model.specs.declared.flow.Processor.{Processor}
+use Rattle.machine_model.specs.declared.kind.Conflict.TheVariants.{Replace}
+use Rattle.machine_model.specs.declared.kind.Kind.TheVariants.{GetFile, PutFile, SplitText, MergeContent}
+use Rattle.machine_model.specs.declared.kind.MergeStrategy.TheVariants.{BinPacking}
+use Rattle.machine_model.specs.State.{QueuedFile, State}
+use Rattle.machine_model.specs.Acting.{received_attributes, passed_on, made_file}
+use Rattle.machine_model.specs.Placing.{EndedSession}
+use Rattle.machine_model.specs.Settling.{settle}
+use Rattle.machine_examples.specs.Small.{hi, both, processor, connection, wide, get_to_put, a_txt, a_file, waiting, state_of, kin_of, at_moment, told}
+
+abbrev pub attributes : AttributeMap
+attributes = received_attributes a_txt
+
+-- GetFile to a processor, whose one relationship leads to a PutFile
+abbrev pub through : Processor → (relationship : List ℕ) → Flow
+through middle relationship = record {
+  processors = processor (codes "get") (GetFile None) [] ∷ middle ∷ processor (codes "put") (PutFile Replace) both ∷ [];
+  connections = connection (codes "c1") 0 1 wide ∷ record (connection (codes "c2") 1 2 wide) { relationships = relationship ∷ [] } ∷ [];
+  digest = [];
+}
+
+-- ---- a file is split in two, and leaves
+
+abbrev pub split : Processor
+split = processor (codes "split") (SplitText 1) (codes "original" ∷ codes "failure" ∷ [])
+
+abbrev pub part : (offset : ℕ) → Worked
+part offset = record { origin = origin.Part 0; attributes = attributes; body = body.Part 0 offset 1; end = To 1; written = false; penalised = false; routed = None }
+
+abbrev pub splitting : EndedSession
+splitting = record {
+  flow = through split (codes "splits");
+  place = 1;
+  processor = split;
+  state = state_of ((a_file 1 1 ∷ []) ∷ [] ∷ []) 2 2 (0 ∷ 0 ∷ 0 ∷ []);
+  taken = a_file 1 1 ∷ [];
+  given = at_moment 2000;
+}
+
+abbrev pub after_split : State
+after_split = record (state_of ([] ∷ (waiting 2 2 attributes (104 ∷ []) ∷ waiting 3 3 attributes (105 ∷ []) ∷ []) ∷ []) 4 4 (0 ∷ 0 ∷ 0 ∷ [])) {
+  events = record (told 1 2000 kind.Fork (codes "split") 1 [] hi) { parents = 1 ∷ []; children = 2 ∷ 3 ∷ [] }
+      ∷ told 2 2000 kind.Drop (codes "split") 1 (codes "original") hi ∷ [];
+  kin = kin_of ((2, 1) ∷ (3, 1) ∷ []);
+}
+
+abbrev pub SplitTells : Type 0
+SplitTells = settle splitting (record { files = passed_on 0 attributes false 0 ∷ part 0 ∷ part 1 ∷ []; sent = None }) ≡ after_split
+
+-- ---- two files, 5 and 3, are joined to 6, and leave; the data of 3 entered earlier
+
+abbrev pub merge : Processor
+merge = processor (codes "merge") (MergeContent BinPacking 1 2) (codes "original" ∷ codes "failure" ∷ [])
+
+abbrev pub early : QueuedFile
+early = record (a_file 3 2) { entered = 900 }
+
+abbrev pub joining : EndedSession
+joining = record {
+  flow = through merge (codes "merged");
+  place = 1;
+  processor = merge;
+  state = state_of ((a_file 5 1 ∷ early ∷ []) ∷ [] ∷ []) 6 3 (0 ∷ 0 ∷ 0 ∷ []);
+  taken = a_file 5 1 ∷ early ∷ [];
+  given = at_moment 2000;
+}
+
+abbrev pub after_join : State
+after_join = record (state_of ([] ∷ (record (waiting 6 3 attributes (hi ++ hi)) { entered = 900 } ∷ []) ∷ []) 7 4 (0 ∷ 0 ∷ 0 ∷ [])) {
+  events = record (told 1 2000 kind.Join (codes "merge") 6 [] (hi ++ hi)) { parents = 3 ∷ 5 ∷ []; children = 6 ∷ [] }
+      ∷ told 2 2000 kind.Drop (codes "merge") 5 (codes "original") hi ∷ told 3 2000 kind.Drop (codes "merge") 3 (codes "original") hi ∷ [];
+  kin = kin_of ((6, 5) ∷ (6, 3) ∷ []);
+}
+
+abbrev pub JoinTells : Type 0
+JoinTells =
+    settle joining (record { files = passed_on 0 attributes false 1 ∷ passed_on 1 attributes false 1 ∷ made_file (origin.Joined (0 ∷ 1 ∷ [])) attributes (hi ++ hi) false 0 ∷ []; sent = None })
+    ≡ after_join
+
+-- ---- a file that is changed, and leaves
+
+abbrev pub changing : EndedSession
+changing = record {
+  flow = get_to_put Replace wide;
+  place = 1;
+  processor = processor (codes "put") (PutFile Replace) both;
+  state = state_of ((a_file 1 1 ∷ []) ∷ []) 2 2 (0 ∷ 0 ∷ []);
+  taken = a_file 1 1 ∷ [];
+  given = at_moment 2000;
+}
+
+abbrev pub changed : (written : Bool) → AttributeMap → (bytes : List ℕ) → End → Outcome
+changed written attributes bytes end =
+    record { files = record { origin = origin.Taken 0; attributes = attributes; body = body.New bytes; end = end; written = written; penalised = false; routed = None } ∷ []; sent = None }
+
+abbrev pub Tells : Outcome → List Event → Type 0
+Tells outcome events = (settle changing outcome).events ≡ events
+
+abbrev pub other : AttributeMap
+other = received_attributes (codes "b")
+
+abbrev pub drop_of : (number : ℕ) → (detail bytes : List ℕ) → Event
+drop_of number detail bytes = told number 2000 kind.Drop (codes "put") 1 detail bytes
+
+abbrev pub WritingTells : Type 0
+WritingTells = Tells (changed true attributes [] (To 0)) (told 1 2000 kind.ContentModified (codes "put") 1 [] [] ∷ drop_of 2 (codes "success") [] ∷ [])
+
+abbrev pub SettingTells : Type 0
+SettingTells = Tells (changed false other hi (To 0)) (told 1 2000 kind.AttributesModified (codes "put") 1 [] hi ∷ drop_of 2 (codes "success") hi ∷ [])
+
+-- of both only the writing is told; of a removed file neither; of one that was not changed its end alone
+abbrev pub BothTellOne : Type 0
+BothTellOne = Tells (changed true other [] (To 1)) (told 1 2000 kind.ContentModified (codes "put") 1 [] [] ∷ drop_of 2 (codes "failure") [] ∷ [])
+
+abbrev pub RemovedTellsNone : Type 0
+RemovedTellsNone = Tells (changed true other [] Removed) (drop_of 1 [] [] ∷ [])
+
+abbrev pub UnchangedTellsNone : Type 0
+UnchangedTellsNone = Tells (changed false attributes hi (To 0)) (drop_of 1 (codes "success") hi ∷ [])
+
+abbrev pub RoutedTells : Type 0
+RoutedTells =
+    Tells (record { files = record (passed_on 0 attributes false 0) { routed = Some 0 } ∷ []; sent = None })
+    (told 1 2000 kind.Route (codes "put") 1 (codes "success") hi ∷ drop_of 2 (codes "success") hi ∷ [])

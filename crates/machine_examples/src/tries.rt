@@ -1,0 +1,329 @@
+//! Tries of the machine's definitions: what each gives at small flows, files and steps, as the contracts of functions
+//! that do nothing.
+ghost use Rattle.std.specs.Prelude.{[], ◌∷◌, true, false, Some, None, codes};
+ghost use Rattle.machine_model.specs.declared.kind.Conflict.TheVariants.{Replace, Ignore, Fail};
+ghost use Rattle.machine_model.specs.declared.kind.TakeRule.TheVariants.{Source, One, Bin};
+ghost use Rattle.machine_model.specs.Sound.{IsSound};
+ghost use Rattle.machine_examples.specs.Small.{hi, nothing, with_a, a_file, get_to_put, wide};
+ghost use Rattle.machine_examples.specs.Acks.{AcknowledgedIs};
+ghost use Rattle.machine_examples.specs.Clones.{FourClonesFollow, ClonesArePenalisedToo, duplicating, EachConnectionGetsOne, MadeIsNamed, NamedKeepsItsName, TakenStaysNameless};
+ghost use Rattle.machine_examples.specs.Ends.{QuietIs, left_a, taken_a, penalised, BlockedIs, RingIsQuiet, ringed};
+ghost use Rattle.machine_examples.specs.Expiries.{ExpiredIs, OneExpires, NoneExpiresAtOnce, TwoExpire, BatchGoes, BatchMustWait, BatchComesBack, GoesAndComesBack, SwapsDueAre, late, late_in_batch};
+ghost use Rattle.machine_examples.specs.Families.{IsAncestorOf, IsNoAncestorOf, IsDescendantOf, IsNoDescendantOf, Tells, TellsNot, cloned, joined, stranger};
+ghost use Rattle.machine_examples.specs.Flows.{GeneratingIsSound, RingIsSound, IsUnsound, MarkedIsSound, ContainedIsNot, ListIs, AloneIsNotJoined, UnmarkedIsUnsound, ExactIsMarked, unconnected, terminated, into_source, doubled, tight, turned, blank, nowhere};
+ghost use Rattle.machine_examples.specs.Orders.{EligibleAre, FullIs, first, second, third, penalised as under_penalty, swapped, since};
+ghost use Rattle.machine_examples.specs.Sizes.{FullIsReceived, TooLongIsNotReceived, TooLongIsLeft};
+ghost use Rattle.machine_examples.specs.Told.{SplitTells, JoinTells, WritingTells, SettingTells, BothTellOne, RemovedTellsNone, UnchangedTellsNone, RoutedTells, through, split, merge};
+ghost use Rattle.prioritizer.specs.declared.prioritizer.Prioritizer.TheVariants.{FirstInFirstOut, NewestFlowFileFirst, OldestFlowFileFirst};
+ghost use Rattle.machine_examples.specs.Picks.{PicksOf, FullPicks, no_bytes, part, FragmentIs, TwoAreNoWhole, ThreeAreAWhole, LoneGoesBesideTwo, EarlierWholeGoes, EarlierLoneGoes, one, two, three};
+ghost use Rattle.machine_examples.specs.Outboxes.{PutReads};
+ghost use Rattle.machine_examples.specs.Puts.{PutsNamed, NamelessFails, BadNameFails, ReplacePutsOver, IgnoreLeaves, FailLeaves, sent, passed, failed};
+ghost use Rattle.machine_examples.specs.Returns.{ReturnsUntil, latest};
+ghost use Rattle.machine_examples.specs.Refusals.{ExpiredIsNotTaken, NoneIsTakenTwice, PenalisedIsNotTaken, SwappedIsNotTaken, StrangeIsNotTaken, TwoAreNotPut, NoneIsNotPut, NoSuchProcessor, NoSuchConnection, FreshDoesNotExpire, OneOfTwoIsFresh, NothingDoesNotExpire, NoneExpiresTwice, OtherBatchDoesNotGo, TwoDoNotGo, FewDoNotGo, HigherBatchDoesNotCome, StrangeBatchDoesNotCome, BatchWaitsWhileTwoAreActive, GoneIsNotReceived, MissingIsNotReceived, NamelessIsNotReceived, SourceTakesNone, RefusesAnswer, RefusesIndex, TakesToPut, TakesToMerge, penalised as penalty};
+ghost use Rattle.machine_examples.specs.Run.{IsReceived, IsSent, IsDelivered};
+
+/// A GetFile and a PutFile deliver a file, also one with no bytes.
+pub fn a_file_is_delivered()
+    ensures received { IsReceived hi }
+    ensures sent { IsSent hi }
+    ensures replayed { IsDelivered hi }
+    ensures replayed_empty { IsDelivered [] }
+{}
+
+/// A file of the greatest content is received; one that is a byte longer isn't, and keeps no flow from being quiet.
+pub fn long_files_are_left()
+    ensures full { FullIsReceived }
+    ensures too_long { TooLongIsNotReceived }
+    ensures left { TooLongIsLeft }
+{}
+
+/// What a session may not take.
+pub fn takes_are_refused()
+    ensures expired { ExpiredIsNotTaken }
+    ensures twice { NoneIsTakenTwice }
+    ensures penalised { PenalisedIsNotTaken }
+    ensures swapped { SwappedIsNotTaken }
+    ensures strange { StrangeIsNotTaken }
+    ensures two { TwoAreNotPut }
+    ensures none { NoneIsNotPut }
+    ensures no_processor { NoSuchProcessor }
+{}
+
+/// What a session may take: a fresh file, one whose penalty is over, and any of those that wait.
+pub fn takes_are_allowed()
+    ensures fresh { TakesToPut (a_file 1 1 ∷ []) (1 ∷ []) 1499 (a_file 1 1 ∷ []) }
+    ensures free { TakesToPut (penalty (a_file 1 1) 1200 ∷ []) (1 ∷ []) 1200 (penalty (a_file 1 1) 1200 ∷ []) }
+    ensures second { TakesToPut (a_file 1 1 ∷ a_file 2 2 ∷ []) (2 ∷ []) 1000 (a_file 2 2 ∷ []) }
+{}
+
+/// A bin takes neither more than its greatest number, nor files out of turn, nor one twice, nor none. It may leave some
+/// out.
+pub fn bins_are_taken()
+    ensures three { TakesToMerge (1 ∷ 2 ∷ 3 ∷ []) None }
+    ensures turned { TakesToMerge (2 ∷ 1 ∷ []) None }
+    ensures twice { TakesToMerge (1 ∷ 1 ∷ []) None }
+    ensures none { TakesToMerge [] None }
+    ensures first { TakesToMerge (1 ∷ 2 ∷ []) (Some (a_file 1 1 ∷ a_file 2 2 ∷ [])) }
+    ensures skipping { TakesToMerge (1 ∷ 3 ∷ []) (Some (a_file 1 1 ∷ a_file 3 3 ∷ [])) }
+{}
+
+/// What a queue's own steps may not do.
+pub fn queue_steps_are_refused()
+    ensures fresh { FreshDoesNotExpire }
+    ensures one_fresh { OneOfTwoIsFresh }
+    ensures nothing { NothingDoesNotExpire }
+    ensures twice { NoneExpiresTwice }
+    ensures no_connection { NoSuchConnection }
+    ensures other_batch { OtherBatchDoesNotGo }
+    ensures two { TwoDoNotGo }
+    ensures few { FewDoNotGo }
+    ensures higher { HigherBatchDoesNotCome }
+    ensures strange { StrangeBatchDoesNotCome }
+    ensures waits { BatchWaitsWhileTwoAreActive }
+{}
+
+/// What a session may not be given.
+pub fn givens_are_refused()
+    ensures gone { GoneIsNotReceived }
+    ensures missing { MissingIsNotReceived }
+    ensures nameless { NamelessIsNotReceived }
+    ensures taking { SourceTakesNone }
+    ensures there { RefusesAnswer nothing true }
+    ensures not_there { RefusesAnswer with_a false }
+    ensures same_index { RefusesIndex 1 1 }
+    ensures skipped_index { RefusesIndex 1 3 }
+    ensures past_count { RefusesIndex 2 3 }
+{}
+
+/// Of entries acknowledged at 3 and at 5 and one that never was.
+pub fn acknowledgements_are_counted()
+    ensures before { AcknowledgedIs 2 0 }
+    ensures first { AcknowledgedIs 3 1 }
+    ensures between { AcknowledgedIs 4 1 }
+    ensures second { AcknowledgedIs 5 2 }
+    ensures never { AcknowledgedIs 1000 2 }
+{}
+
+/// A DuplicateFlowFile's file and its four clones go to one connection, in turn.
+pub fn clones_follow()
+    ensures { FourClonesFollow }
+{}
+
+/// A penalised file's clone waits as long as the file.
+pub fn clones_are_penalised_too()
+    ensures { ClonesArePenalisedToo }
+{}
+
+/// A made file goes to the first of three connections, and a clone of it to each of the others.
+pub fn each_connection_gets_one()
+    ensures { EachConnectionGetsOne }
+{}
+
+/// A made file without `filename` is named by its uuid; any other keeps its attributes.
+pub fn made_files_are_named()
+    ensures made { MadeIsNamed }
+    ensures named { NamedKeepsItsName }
+    ensures taken { TakenStaysNameless }
+{}
+
+/// Files expire, and events tell of them by ascending numbers.
+pub fn files_expire()
+    ensures at_limit { ExpiredIs 1 1001 true }
+    ensures at_once { ExpiredIs 1 1000 false }
+    ensures before_entry { ExpiredIs 1 500 false }
+    ensures without_limit { ExpiredIs 0 1000000 false }
+    ensures one { OneExpires }
+    ensures too_early { NoneExpiresAtOnce }
+    ensures two { TwoExpire }
+{}
+
+/// A batch of one goes where three files are active at a threshold of two, and comes back once one is.
+pub fn batches_go_and_come_back()
+    ensures goes { BatchGoes }
+    ensures waits { BatchMustWait }
+    ensures comes { BatchComesBack }
+    ensures all { GoesAndComesBack }
+    ensures due { SwapsDueAre (a_file 1 1 ∷ a_file 2 2 ∷ late ∷ []) (Some (3 ∷ [])) None }
+    ensures swapped { SwapsDueAre (a_file 1 1 ∷ a_file 2 2 ∷ late_in_batch ∷ []) None None }
+    ensures expired { SwapsDueAre (a_file 2 2 ∷ late_in_batch ∷ []) None (Some 1) }
+    ensures none { SwapsDueAre (a_file 2 2 ∷ []) None None }
+{}
+
+/// A file that goes back stands where it stood, under a penalty if it was penalised.
+pub fn files_return()
+    ensures free { ReturnsUntil 2000 false 0 }
+    ensures penalised { ReturnsUntil 2000 true 32000 }
+    ensures saturated { ReturnsUntil latest true latest }
+{}
+
+/// What a PutFile makes of a file, by its strategy and by whether the outbox has the name.
+pub fn files_are_put()
+    ensures replace_new { PutsNamed Replace false sent }
+    ensures ignore_new { PutsNamed Ignore false sent }
+    ensures fail_new { PutsNamed Fail false sent }
+    ensures replace_there { PutsNamed Replace true sent }
+    ensures ignore_there { PutsNamed Ignore true passed }
+    ensures fail_there { PutsNamed Fail true failed }
+{}
+
+/// A file without `filename`, or with one that can't name a file, is no file to put.
+pub fn bad_names_fail()
+    ensures none { NamelessFails }
+    ensures slash { BadNameFails (codes "a/b") }
+    ensures nothing { BadNameFails [] }
+    ensures parent { BadNameFails (codes "..") }
+{}
+
+/// What becomes of the file and of the outbox where the outbox has the name.
+pub fn files_are_put_over()
+    ensures replace { ReplacePutsOver }
+    ensures ignore { IgnoreLeaves }
+    ensures fail { FailLeaves }
+{}
+
+/// Behind a put the outbox reads as before, but for the file that was put.
+pub fn puts_are_read()
+    ensures { PutReads }
+{}
+
+/// The best file, or none.
+pub fn best_files_are_picked()
+    ensures one { PicksOf One (two ∷ one ∷ []) (Some (two ∷ [])) }
+    ensures none { PicksOf One [] None }
+    ensures source { PicksOf Source (one ∷ []) None }
+{}
+
+/// A bin has at least its least number of files unless the next would not fit, and at most its greatest.
+pub fn bins_are_picked()
+    ensures too_few { PicksOf (Bin 2 5) (one ∷ []) None }
+    ensures enough { PicksOf (Bin 2 5) (one ∷ two ∷ []) (Some (one ∷ two ∷ [])) }
+    ensures most { PicksOf (Bin 1 2) (one ∷ two ∷ three ∷ []) (Some (one ∷ two ∷ [])) }
+    ensures none { PicksOf (Bin 1 2) [] None }
+    ensures full { FullPicks 3 (two ∷ []) (λ full. Some (full ∷ [])) }
+    ensures room_for_nothing { FullPicks 2 (no_bytes ∷ []) (λ full. Some (full ∷ no_bytes ∷ [])) }
+    ensures nothing_behind { FullPicks 2 [] (λ full. None) }
+{}
+
+/// Which attributes make a file a fragment.
+pub fn fragments_are_told()
+    ensures third { FragmentIs (codes "3") (codes "3") (part 3) }
+    ensures zero { FragmentIs (codes "0") (codes "3") None }
+    ensures past { FragmentIs (codes "4") (codes "3") None }
+    ensures no_number { FragmentIs (codes "x") (codes "3") None }
+    ensures too_many { FragmentIs (codes "1") (codes "1001") None }
+{}
+
+/// All parts of a whole go, in their order, or none; a file that is no part goes alone; the earlier of the two goes.
+pub fn wholes_are_picked()
+    ensures two { TwoAreNoWhole }
+    ensures three { ThreeAreAWhole }
+    ensures beside { LoneGoesBesideTwo }
+    ensures whole { EarlierWholeGoes }
+    ensures lone { EarlierLoneGoes }
+{}
+
+/// A flow is quiet where no name is left and nothing is queued, expired or penalised.
+pub fn quiet_is_told()
+    ensures empty { QuietIs [] taken_a 1000 true }
+    ensures left { QuietIs [] left_a 1000 false }
+    ensures queued { QuietIs (a_file 1 1 ∷ []) taken_a 1000 false }
+    ensures penalised { QuietIs (penalised ∷ []) taken_a 1200 false }
+    ensures expired { QuietIs (a_file 1 1 ∷ []) taken_a 1500 false }
+{}
+
+/// A ring is blocked where each processor that wants to work has a full queue behind it.
+pub fn blocked_is_told()
+    ensures blocked { BlockedIs (ringed (a_file 3 1 ∷ []) (a_file 1 2 ∷ []) (a_file 2 3 ∷ []) 3) (Some 1) }
+    ensures loud { RingIsQuiet (ringed (a_file 3 1 ∷ []) (a_file 1 2 ∷ []) (a_file 2 3 ∷ []) 3) false }
+    ensures room { BlockedIs (ringed (a_file 3 1 ∷ []) [] (a_file 2 3 ∷ []) 3) None }
+    ensures generating { BlockedIs (ringed (a_file 3 1 ∷ []) (a_file 1 2 ∷ []) (a_file 2 3 ∷ []) 2) None }
+    ensures nothing_wanted { BlockedIs (ringed [] [] [] 3) None }
+    ensures quiet { RingIsQuiet (ringed [] [] [] 3) true }
+    ensures more_to_make { RingIsQuiet (ringed [] [] [] 2) false }
+{}
+
+/// Who came from whom, over a clone and a join.
+pub fn families_are_told()
+    ensures parent { IsAncestorOf 4 2 }
+    ensures other_parent { IsAncestorOf 4 3 }
+    ensures grandparent { IsAncestorOf 4 1 }
+    ensures child { IsDescendantOf 1 2 }
+    ensures grandchild { IsDescendantOf 1 4 }
+    ensures no_sibling { IsNoAncestorOf 2 3 }
+    ensures no_child { IsNoAncestorOf 2 4 }
+    ensures no_other { IsNoDescendantOf 3 2 }
+    ensures tells_clone { Tells 4 cloned }
+    ensures tells_join { Tells 1 joined }
+    ensures tells_not { TellsNot 4 stranger }
+{}
+
+/// A split tells one FORK of all parts, and each part has its bytes; a join tells its parents by ascending numbers, and
+/// the child's data entered when the earliest of theirs did.
+pub fn children_are_told()
+    ensures split { SplitTells }
+    ensures joined { JoinTells }
+{}
+
+/// What is told of a file that a session took, by what it did to it.
+pub fn changes_are_told()
+    ensures written { WritingTells }
+    ensures set { SettingTells }
+    ensures both { BothTellOne }
+    ensures removed { RemovedTellsNone }
+    ensures unchanged { UnchangedTellsNone }
+    ensures routed { RoutedTells }
+{}
+
+/// Which files are eligible, and in which order.
+pub fn queues_are_ordered()
+    ensures default { EligibleAre [] (first ∷ second ∷ third ∷ []) (second ∷ third ∷ first ∷ []) }
+    ensures oldest { EligibleAre (OldestFlowFileFirst ∷ []) (first ∷ second ∷ third ∷ []) (second ∷ third ∷ first ∷ []) }
+    ensures newest { EligibleAre (NewestFlowFileFirst ∷ []) (first ∷ second ∷ third ∷ []) (first ∷ second ∷ third ∷ []) }
+    ensures arrival { EligibleAre (FirstInFirstOut ∷ []) (third ∷ second ∷ first ∷ []) (first ∷ second ∷ third ∷ []) }
+    ensures under_penalty { EligibleAre [] (under_penalty 4001 ∷ second ∷ []) (second ∷ []) }
+    ensures penalty_over { EligibleAre [] (under_penalty 4000 ∷ second ∷ []) (second ∷ under_penalty 4000 ∷ []) }
+    ensures swapped { EligibleAre [] (second ∷ swapped ∷ []) (second ∷ []) }
+    ensures expired { EligibleAre [] (second ∷ since 500 ∷ []) (second ∷ []) }
+    ensures almost { EligibleAre [] (second ∷ since 501 ∷ []) (since 501 ∷ second ∷ []) }
+{}
+
+/// A queue is full at a limit on its files or on its bytes, with swapped files counted; a limit of 0 is none.
+pub fn full_queues_are_told()
+    ensures below { FullIs 3 0 (first ∷ swapped ∷ []) false }
+    ensures at { FullIs 2 0 (first ∷ swapped ∷ []) true }
+    ensures below_bytes { FullIs 0 5 (first ∷ swapped ∷ []) false }
+    ensures at_bytes { FullIs 0 4 (first ∷ swapped ∷ []) true }
+    ensures unlimited { FullIs 0 0 (first ∷ swapped ∷ []) false }
+{}
+
+/// The flows of these tries are sound.
+pub fn flows_are_sound()
+    ensures get_to_put { IsSound (get_to_put Replace wide) }
+    ensures duplicating { IsSound duplicating }
+    ensures generating { GeneratingIsSound }
+    ensures ring { RingIsSound }
+    ensures splitting { IsSound (through split (codes "splits")) }
+    ensures merging { IsSound (through merge (codes "merged")) }
+    ensures marked { MarkedIsSound }
+    ensures contained { ContainedIsNot }
+    ensures listed { ListIs (codes "a b") true }
+{}
+
+/// Flows that are wrong in one thing.
+pub fn flows_are_unsound()
+    ensures unconnected { IsUnsound unconnected }
+    ensures terminated { IsUnsound terminated }
+    ensures into_source { IsUnsound into_source }
+    ensures doubled { IsUnsound doubled }
+    ensures tight { IsUnsound tight }
+    ensures turned { IsUnsound turned }
+    ensures blank { IsUnsound blank }
+    ensures nowhere { IsUnsound nowhere }
+    ensures alone { AloneIsNotJoined }
+    ensures unmarked { UnmarkedIsUnsound }
+    ensures exact { ExactIsMarked }
+    ensures empty_name { ListIs [] false }
+    ensures comma { ListIs (codes "a,b") false }
+    ensures blank_front { ListIs (codes " a") false }
+    ensures blank_end { ListIs (codes "a ") false }
+{}
