@@ -22,23 +22,19 @@ ghost use Rattle.machine_examples.specs.Returns.{ReturnsUntil, latest};
 ghost use Rattle.machine_examples.specs.Refusals.{ExpiredIsNotTaken, NoneIsTakenTwice, PenalisedIsNotTaken, SwappedIsNotTaken, StrangeIsNotTaken, TwoAreNotPut, NoneIsNotPut, NoSuchProcessor, NoSuchConnection, FreshDoesNotExpire, OneOfTwoIsFresh, NothingDoesNotExpire, NoneExpiresTwice, OtherBatchDoesNotGo, TwoDoNotGo, FewDoNotGo, HigherBatchDoesNotCome, StrangeBatchDoesNotCome, BatchWaitsWhileTwoAreActive, GoneIsNotReceived, MissingIsNotReceived, NamelessIsNotReceived, SourceTakesNone, RefusesAnswer, RefusesIndex, TakesToPut, TakesToMerge, penalised as penalty};
 ghost use Rattle.machine_examples.specs.Run.{IsReceived, IsSent, IsDelivered};
 
-/// A GetFile and a PutFile deliver a file, also one with no bytes.
-pub fn a_file_is_delivered()
+/// What is received and sent, from the inbox to the outbox.
+pub fn files_go_through()
     ensures received { IsReceived hi }
     ensures sent { IsSent hi }
     ensures replayed { IsDelivered hi }
     ensures replayed_empty { IsDelivered [] }
+    ensures long_full { FullIsReceived }
+    ensures long_too_long { TooLongIsNotReceived }
+    ensures long_left { TooLongIsLeft }
 {}
 
-/// A file of the greatest content is received; one that is a byte longer isn't, and keeps no flow from being quiet.
-pub fn long_files_are_left()
-    ensures full { FullIsReceived }
-    ensures too_long { TooLongIsNotReceived }
-    ensures left { TooLongIsLeft }
-{}
-
-/// What a session may not take.
-pub fn takes_are_refused()
+/// What a session may not take, and what it may not be given.
+pub fn sessions_are_refused()
     ensures expired { ExpiredIsNotTaken }
     ensures twice { NoneIsTakenTwice }
     ensures penalised { PenalisedIsNotTaken }
@@ -47,24 +43,29 @@ pub fn takes_are_refused()
     ensures two { TwoAreNotPut }
     ensures none { NoneIsNotPut }
     ensures no_processor { NoSuchProcessor }
+    ensures given_gone { GoneIsNotReceived }
+    ensures given_missing { MissingIsNotReceived }
+    ensures given_nameless { NamelessIsNotReceived }
+    ensures given_taking { SourceTakesNone }
+    ensures given_there { RefusesAnswer nothing true }
+    ensures given_not_there { RefusesAnswer with_a false }
+    ensures given_same_index { RefusesIndex 1 1 }
+    ensures given_skipped_index { RefusesIndex 1 3 }
+    ensures given_past_count { RefusesIndex 2 3 }
 {}
 
-/// What a session may take: a fresh file, one whose penalty is over, and any of those that wait.
+/// What a session may take: a fresh file, one whose penalty is over, and any of those that wait. A bin takes neither more
+/// than its greatest number, nor files out of turn, nor one twice, nor none; it may leave some out.
 pub fn takes_are_allowed()
     ensures fresh { TakesToPut (a_file 1 1 ∷ []) (1 ∷ []) 1499 (a_file 1 1 ∷ []) }
     ensures free { TakesToPut (penalty (a_file 1 1) 1200 ∷ []) (1 ∷ []) 1200 (penalty (a_file 1 1) 1200 ∷ []) }
     ensures second { TakesToPut (a_file 1 1 ∷ a_file 2 2 ∷ []) (2 ∷ []) 1000 (a_file 2 2 ∷ []) }
-{}
-
-/// A bin takes neither more than its greatest number, nor files out of turn, nor one twice, nor none. It may leave some
-/// out.
-pub fn bins_are_taken()
-    ensures three { TakesToMerge (1 ∷ 2 ∷ 3 ∷ []) None }
-    ensures turned { TakesToMerge (2 ∷ 1 ∷ []) None }
-    ensures twice { TakesToMerge (1 ∷ 1 ∷ []) None }
-    ensures none { TakesToMerge [] None }
-    ensures first { TakesToMerge (1 ∷ 2 ∷ []) (Some (a_file 1 1 ∷ a_file 2 2 ∷ [])) }
-    ensures skipping { TakesToMerge (1 ∷ 3 ∷ []) (Some (a_file 1 1 ∷ a_file 3 3 ∷ [])) }
+    ensures bin_three { TakesToMerge (1 ∷ 2 ∷ 3 ∷ []) None }
+    ensures bin_turned { TakesToMerge (2 ∷ 1 ∷ []) None }
+    ensures bin_twice { TakesToMerge (1 ∷ 1 ∷ []) None }
+    ensures bin_none { TakesToMerge [] None }
+    ensures bin_first { TakesToMerge (1 ∷ 2 ∷ []) (Some (a_file 1 1 ∷ a_file 2 2 ∷ [])) }
+    ensures bin_skipping { TakesToMerge (1 ∷ 3 ∷ []) (Some (a_file 1 1 ∷ a_file 3 3 ∷ [])) }
 {}
 
 /// What a queue's own steps may not do.
@@ -82,52 +83,9 @@ pub fn queue_steps_are_refused()
     ensures waits { BatchWaitsWhileTwoAreActive }
 {}
 
-/// What a session may not be given.
-pub fn givens_are_refused()
-    ensures gone { GoneIsNotReceived }
-    ensures missing { MissingIsNotReceived }
-    ensures nameless { NamelessIsNotReceived }
-    ensures taking { SourceTakesNone }
-    ensures there { RefusesAnswer nothing true }
-    ensures not_there { RefusesAnswer with_a false }
-    ensures same_index { RefusesIndex 1 1 }
-    ensures skipped_index { RefusesIndex 1 3 }
-    ensures past_count { RefusesIndex 2 3 }
-{}
-
-/// Of entries acknowledged at 3 and at 5 and one that never was.
-pub fn acknowledgements_are_counted()
-    ensures before { AcknowledgedIs 2 0 }
-    ensures first { AcknowledgedIs 3 1 }
-    ensures between { AcknowledgedIs 4 1 }
-    ensures second { AcknowledgedIs 5 2 }
-    ensures never { AcknowledgedIs 1000 2 }
-{}
-
-/// A DuplicateFlowFile's file and its four clones go to one connection, in turn.
-pub fn clones_follow()
-    ensures { FourClonesFollow }
-{}
-
-/// A penalised file's clone waits as long as the file.
-pub fn clones_are_penalised_too()
-    ensures { ClonesArePenalisedToo }
-{}
-
-/// A made file goes to the first of three connections, and a clone of it to each of the others.
-pub fn each_connection_gets_one()
-    ensures { EachConnectionGetsOne }
-{}
-
-/// A made file without `filename` is named by its uuid; any other keeps its attributes.
-pub fn made_files_are_named()
-    ensures made { MadeIsNamed }
-    ensures named { NamedKeepsItsName }
-    ensures taken { TakenStaysNameless }
-{}
-
-/// Files expire, and events tell of them by ascending numbers.
-pub fn files_expire()
+/// Files expire, and events tell of them by ascending numbers. A batch of one goes where three files are active at a
+/// threshold of two, and comes back once one is.
+pub fn queue_steps_are_told()
     ensures at_limit { ExpiredIs 1 1001 true }
     ensures at_once { ExpiredIs 1 1000 false }
     ensures before_entry { ExpiredIs 1 500 false }
@@ -135,114 +93,126 @@ pub fn files_expire()
     ensures one { OneExpires }
     ensures too_early { NoneExpiresAtOnce }
     ensures two { TwoExpire }
+    ensures batch_goes { BatchGoes }
+    ensures batch_waits { BatchMustWait }
+    ensures batch_comes { BatchComesBack }
+    ensures batch_all { GoesAndComesBack }
+    ensures batch_due { SwapsDueAre (a_file 1 1 ∷ a_file 2 2 ∷ late ∷ []) (Some (3 ∷ [])) None }
+    ensures batch_swapped { SwapsDueAre (a_file 1 1 ∷ a_file 2 2 ∷ late_in_batch ∷ []) None None }
+    ensures batch_expired { SwapsDueAre (a_file 2 2 ∷ late_in_batch ∷ []) None (Some 1) }
+    ensures batch_none { SwapsDueAre (a_file 2 2 ∷ []) None None }
 {}
 
-/// A batch of one goes where three files are active at a threshold of two, and comes back once one is.
-pub fn batches_go_and_come_back()
-    ensures goes { BatchGoes }
-    ensures waits { BatchMustWait }
-    ensures comes { BatchComesBack }
-    ensures all { GoesAndComesBack }
-    ensures due { SwapsDueAre (a_file 1 1 ∷ a_file 2 2 ∷ late ∷ []) (Some (3 ∷ [])) None }
-    ensures swapped { SwapsDueAre (a_file 1 1 ∷ a_file 2 2 ∷ late_in_batch ∷ []) None None }
-    ensures expired { SwapsDueAre (a_file 2 2 ∷ late_in_batch ∷ []) None (Some 1) }
-    ensures none { SwapsDueAre (a_file 2 2 ∷ []) None None }
+/// A DuplicateFlowFile's file and its four clones go to one connection, in turn; a penalised file's clone waits as long
+/// as the file; a made file goes to the first of three connections, and a clone of it to each of the others. A made file
+/// without `filename` is named by its uuid; any other keeps its attributes.
+pub fn clones_are_told()
+    ensures follow { FourClonesFollow }
+    ensures penalised_too { ClonesArePenalisedToo }
+    ensures each_connection { EachConnectionGetsOne }
+    ensures name_made { MadeIsNamed }
+    ensures name_named { NamedKeepsItsName }
+    ensures name_taken { TakenStaysNameless }
 {}
 
-/// A file that goes back stands where it stood, under a penalty if it was penalised.
-pub fn files_return()
-    ensures free { ReturnsUntil 2000 false 0 }
-    ensures penalised { ReturnsUntil 2000 true 32000 }
-    ensures saturated { ReturnsUntil latest true latest }
-{}
-
-/// What a PutFile makes of a file, by its strategy and by whether the outbox has the name.
-pub fn files_are_put()
+/// What a PutFile makes of a file, by its strategy, by whether the outbox has the name, and by whether the name can name
+/// a file; and what becomes of the outbox. A file that goes back stands where it stood.
+pub fn puts_are_told()
     ensures replace_new { PutsNamed Replace false sent }
     ensures ignore_new { PutsNamed Ignore false sent }
     ensures fail_new { PutsNamed Fail false sent }
     ensures replace_there { PutsNamed Replace true sent }
     ensures ignore_there { PutsNamed Ignore true passed }
     ensures fail_there { PutsNamed Fail true failed }
+    ensures name_none { NamelessFails }
+    ensures name_slash { BadNameFails (codes "a/b") }
+    ensures name_nothing { BadNameFails [] }
+    ensures name_parent { BadNameFails (codes "..") }
+    ensures over_replace { ReplacePutsOver }
+    ensures over_ignore { IgnoreLeaves }
+    ensures over_fail { FailLeaves }
+    ensures read { PutReads }
+    ensures back_free { ReturnsUntil 2000 false 0 }
+    ensures back_penalised { ReturnsUntil 2000 true 32000 }
+    ensures back_saturated { ReturnsUntil latest true latest }
 {}
 
-/// A file without `filename`, or with one that can't name a file, is no file to put.
-pub fn bad_names_fail()
-    ensures none { NamelessFails }
-    ensures slash { BadNameFails (codes "a/b") }
-    ensures nothing { BadNameFails [] }
-    ensures parent { BadNameFails (codes "..") }
-{}
-
-/// What becomes of the file and of the outbox where the outbox has the name.
-pub fn files_are_put_over()
-    ensures replace { ReplacePutsOver }
-    ensures ignore { IgnoreLeaves }
-    ensures fail { FailLeaves }
-{}
-
-/// Behind a put the outbox reads as before, but for the file that was put.
-pub fn puts_are_read()
-    ensures { PutReads }
-{}
-
-/// The best file, or none.
-pub fn best_files_are_picked()
+/// The best file, or none. A bin has at least its least number of files unless the next would not fit, and at most its
+/// greatest. All parts of a whole go, in their order, or none; a file that is no part goes alone; the earlier goes.
+pub fn picks_are_told()
     ensures one { PicksOf One (two ∷ one ∷ []) (Some (two ∷ [])) }
     ensures none { PicksOf One [] None }
     ensures source { PicksOf Source (one ∷ []) None }
+    ensures bin_too_few { PicksOf (Bin 2 5) (one ∷ []) None }
+    ensures bin_enough { PicksOf (Bin 2 5) (one ∷ two ∷ []) (Some (one ∷ two ∷ [])) }
+    ensures bin_most { PicksOf (Bin 1 2) (one ∷ two ∷ three ∷ []) (Some (one ∷ two ∷ [])) }
+    ensures bin_none { PicksOf (Bin 1 2) [] None }
+    ensures bin_full { FullPicks 3 (two ∷ []) (λ full. Some (full ∷ [])) }
+    ensures bin_room_for_nothing { FullPicks 2 (no_bytes ∷ []) (λ full. Some (full ∷ no_bytes ∷ [])) }
+    ensures bin_nothing_behind { FullPicks 2 [] (λ full. None) }
+    ensures part_third { FragmentIs (codes "3") (codes "3") (part 3) }
+    ensures part_zero { FragmentIs (codes "0") (codes "3") None }
+    ensures part_past { FragmentIs (codes "4") (codes "3") None }
+    ensures part_no_number { FragmentIs (codes "x") (codes "3") None }
+    ensures part_too_many { FragmentIs (codes "1") (codes "1001") None }
+    ensures whole_two { TwoAreNoWhole }
+    ensures whole_three { ThreeAreAWhole }
+    ensures whole_beside { LoneGoesBesideTwo }
+    ensures whole_whole { EarlierWholeGoes }
+    ensures whole_lone { EarlierLoneGoes }
 {}
 
-/// A bin has at least its least number of files unless the next would not fit, and at most its greatest.
-pub fn bins_are_picked()
-    ensures too_few { PicksOf (Bin 2 5) (one ∷ []) None }
-    ensures enough { PicksOf (Bin 2 5) (one ∷ two ∷ []) (Some (one ∷ two ∷ [])) }
-    ensures most { PicksOf (Bin 1 2) (one ∷ two ∷ three ∷ []) (Some (one ∷ two ∷ [])) }
-    ensures none { PicksOf (Bin 1 2) [] None }
-    ensures full { FullPicks 3 (two ∷ []) (λ full. Some (full ∷ [])) }
-    ensures room_for_nothing { FullPicks 2 (no_bytes ∷ []) (λ full. Some (full ∷ no_bytes ∷ [])) }
-    ensures nothing_behind { FullPicks 2 [] (λ full. None) }
-{}
-
-/// Which attributes make a file a fragment.
-pub fn fragments_are_told()
-    ensures third { FragmentIs (codes "3") (codes "3") (part 3) }
-    ensures zero { FragmentIs (codes "0") (codes "3") None }
-    ensures past { FragmentIs (codes "4") (codes "3") None }
-    ensures no_number { FragmentIs (codes "x") (codes "3") None }
-    ensures too_many { FragmentIs (codes "1") (codes "1001") None }
-{}
-
-/// All parts of a whole go, in their order, or none; a file that is no part goes alone; the earlier of the two goes.
-pub fn wholes_are_picked()
-    ensures two { TwoAreNoWhole }
-    ensures three { ThreeAreAWhole }
-    ensures beside { LoneGoesBesideTwo }
-    ensures whole { EarlierWholeGoes }
-    ensures lone { EarlierLoneGoes }
-{}
-
-/// A flow is quiet where no name is left and nothing is queued, expired or penalised.
-pub fn quiet_is_told()
+/// A flow is quiet where no name is left and nothing is queued, expired or penalised. A ring is blocked where each
+/// processor that wants to work has a full queue behind it.
+pub fn ends_are_told()
     ensures empty { QuietIs [] taken_a 1000 true }
     ensures left { QuietIs [] left_a 1000 false }
     ensures queued { QuietIs (a_file 1 1 ∷ []) taken_a 1000 false }
     ensures penalised { QuietIs (penalised ∷ []) taken_a 1200 false }
     ensures expired { QuietIs (a_file 1 1 ∷ []) taken_a 1500 false }
+    ensures ring_blocked { BlockedIs (ringed (a_file 3 1 ∷ []) (a_file 1 2 ∷ []) (a_file 2 3 ∷ []) 3) (Some 1) }
+    ensures ring_loud { RingIsQuiet (ringed (a_file 3 1 ∷ []) (a_file 1 2 ∷ []) (a_file 2 3 ∷ []) 3) false }
+    ensures ring_room { BlockedIs (ringed (a_file 3 1 ∷ []) [] (a_file 2 3 ∷ []) 3) None }
+    ensures ring_generating { BlockedIs (ringed (a_file 3 1 ∷ []) (a_file 1 2 ∷ []) (a_file 2 3 ∷ []) 2) None }
+    ensures ring_nothing_wanted { BlockedIs (ringed [] [] [] 3) None }
+    ensures ring_quiet { RingIsQuiet (ringed [] [] [] 3) true }
+    ensures ring_more_to_make { RingIsQuiet (ringed [] [] [] 2) false }
 {}
 
-/// A ring is blocked where each processor that wants to work has a full queue behind it.
-pub fn blocked_is_told()
-    ensures blocked { BlockedIs (ringed (a_file 3 1 ∷ []) (a_file 1 2 ∷ []) (a_file 2 3 ∷ []) 3) (Some 1) }
-    ensures loud { RingIsQuiet (ringed (a_file 3 1 ∷ []) (a_file 1 2 ∷ []) (a_file 2 3 ∷ []) 3) false }
-    ensures room { BlockedIs (ringed (a_file 3 1 ∷ []) [] (a_file 2 3 ∷ []) 3) None }
-    ensures generating { BlockedIs (ringed (a_file 3 1 ∷ []) (a_file 1 2 ∷ []) (a_file 2 3 ∷ []) 2) None }
-    ensures nothing_wanted { BlockedIs (ringed [] [] [] 3) None }
-    ensures quiet { RingIsQuiet (ringed [] [] [] 3) true }
-    ensures more_to_make { RingIsQuiet (ringed [] [] [] 2) false }
+/// Which files are eligible, and in which order. A queue is full at a limit on its files or on its bytes, with swapped
+/// files counted; a limit of 0 is none.
+pub fn queues_are_seen()
+    ensures default { EligibleAre [] (first ∷ second ∷ third ∷ []) (second ∷ third ∷ first ∷ []) }
+    ensures oldest { EligibleAre (OldestFlowFileFirst ∷ []) (first ∷ second ∷ third ∷ []) (second ∷ third ∷ first ∷ []) }
+    ensures newest { EligibleAre (NewestFlowFileFirst ∷ []) (first ∷ second ∷ third ∷ []) (first ∷ second ∷ third ∷ []) }
+    ensures arrival { EligibleAre (FirstInFirstOut ∷ []) (third ∷ second ∷ first ∷ []) (first ∷ second ∷ third ∷ []) }
+    ensures under_penalty { EligibleAre [] (under_penalty 4001 ∷ second ∷ []) (second ∷ []) }
+    ensures penalty_over { EligibleAre [] (under_penalty 4000 ∷ second ∷ []) (second ∷ under_penalty 4000 ∷ []) }
+    ensures swapped { EligibleAre [] (second ∷ swapped ∷ []) (second ∷ []) }
+    ensures expired { EligibleAre [] (second ∷ since 500 ∷ []) (second ∷ []) }
+    ensures almost { EligibleAre [] (second ∷ since 501 ∷ []) (since 501 ∷ second ∷ []) }
+    ensures full_below { FullIs 3 0 (first ∷ swapped ∷ []) false }
+    ensures full_at { FullIs 2 0 (first ∷ swapped ∷ []) true }
+    ensures full_below_bytes { FullIs 0 5 (first ∷ swapped ∷ []) false }
+    ensures full_at_bytes { FullIs 0 4 (first ∷ swapped ∷ []) true }
+    ensures full_unlimited { FullIs 0 0 (first ∷ swapped ∷ []) false }
 {}
 
-/// Who came from whom, over a clone and a join.
+/// A split tells one FORK of all parts, and each part has its bytes; a join tells its parents by ascending numbers, and
+/// the child's data entered when the earliest of theirs did. What is told of a file goes by what a session did to it.
+pub fn events_are_told()
+    ensures split { SplitTells }
+    ensures joined { JoinTells }
+    ensures change_written { WritingTells }
+    ensures change_set { SettingTells }
+    ensures change_both { BothTellOne }
+    ensures change_removed { RemovedTellsNone }
+    ensures change_unchanged { UnchangedTellsNone }
+    ensures change_routed { RoutedTells }
+{}
+
+/// Who came from whom, over a clone and a join; and of entries acknowledged at 3 and at 5 and one that never was, how
+/// many were by a moment.
 pub fn families_are_told()
     ensures parent { IsAncestorOf 4 2 }
     ensures other_parent { IsAncestorOf 4 3 }
@@ -255,45 +225,11 @@ pub fn families_are_told()
     ensures tells_clone { Tells 4 cloned }
     ensures tells_join { Tells 1 joined }
     ensures tells_not { TellsNot 4 stranger }
-{}
-
-/// A split tells one FORK of all parts, and each part has its bytes; a join tells its parents by ascending numbers, and
-/// the child's data entered when the earliest of theirs did.
-pub fn children_are_told()
-    ensures split { SplitTells }
-    ensures joined { JoinTells }
-{}
-
-/// What is told of a file that a session took, by what it did to it.
-pub fn changes_are_told()
-    ensures written { WritingTells }
-    ensures set { SettingTells }
-    ensures both { BothTellOne }
-    ensures removed { RemovedTellsNone }
-    ensures unchanged { UnchangedTellsNone }
-    ensures routed { RoutedTells }
-{}
-
-/// Which files are eligible, and in which order.
-pub fn queues_are_ordered()
-    ensures default { EligibleAre [] (first ∷ second ∷ third ∷ []) (second ∷ third ∷ first ∷ []) }
-    ensures oldest { EligibleAre (OldestFlowFileFirst ∷ []) (first ∷ second ∷ third ∷ []) (second ∷ third ∷ first ∷ []) }
-    ensures newest { EligibleAre (NewestFlowFileFirst ∷ []) (first ∷ second ∷ third ∷ []) (first ∷ second ∷ third ∷ []) }
-    ensures arrival { EligibleAre (FirstInFirstOut ∷ []) (third ∷ second ∷ first ∷ []) (first ∷ second ∷ third ∷ []) }
-    ensures under_penalty { EligibleAre [] (under_penalty 4001 ∷ second ∷ []) (second ∷ []) }
-    ensures penalty_over { EligibleAre [] (under_penalty 4000 ∷ second ∷ []) (second ∷ under_penalty 4000 ∷ []) }
-    ensures swapped { EligibleAre [] (second ∷ swapped ∷ []) (second ∷ []) }
-    ensures expired { EligibleAre [] (second ∷ since 500 ∷ []) (second ∷ []) }
-    ensures almost { EligibleAre [] (second ∷ since 501 ∷ []) (since 501 ∷ second ∷ []) }
-{}
-
-/// A queue is full at a limit on its files or on its bytes, with swapped files counted; a limit of 0 is none.
-pub fn full_queues_are_told()
-    ensures below { FullIs 3 0 (first ∷ swapped ∷ []) false }
-    ensures at { FullIs 2 0 (first ∷ swapped ∷ []) true }
-    ensures below_bytes { FullIs 0 5 (first ∷ swapped ∷ []) false }
-    ensures at_bytes { FullIs 0 4 (first ∷ swapped ∷ []) true }
-    ensures unlimited { FullIs 0 0 (first ∷ swapped ∷ []) false }
+    ensures acked_before { AcknowledgedIs 2 0 }
+    ensures acked_first { AcknowledgedIs 3 1 }
+    ensures acked_between { AcknowledgedIs 4 1 }
+    ensures acked_second { AcknowledgedIs 5 2 }
+    ensures acked_never { AcknowledgedIs 1000 2 }
 {}
 
 /// The flows of these tries are sound.
