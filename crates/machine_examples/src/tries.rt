@@ -1,21 +1,25 @@
 //! Tries of the machine's definitions: what each gives at small flows, files and steps, as the contracts of functions
 //! that do nothing.
-ghost use Rattle.std.specs.Prelude.{[], ◌∷◌, true, false, Some, None, codes};
+ghost use Rattle.std.specs.Prelude.{◌-◌, [], ◌∷◌, true, false, Some, None, codes};
 ghost use Rattle.machine_model.specs.declared.kind.Conflict.TheVariants.{Replace, Ignore, Fail};
 ghost use Rattle.machine_model.specs.declared.kind.TakeRule.TheVariants.{Source, One, Bin};
 ghost use Rattle.machine_model.specs.Sound.{IsSound};
 ghost use Rattle.machine_examples.specs.Small.{hi, nothing, with_a, a_file, get_to_put, wide};
 ghost use Rattle.machine_examples.specs.Acks.{AcknowledgedIs};
-ghost use Rattle.machine_examples.specs.Clones.{FourClonesFollow, ClonesArePenalisedToo, duplicating, EachConnectionGetsOne, MadeIsNamed, NamedKeepsItsName, TakenStaysNameless};
-ghost use Rattle.machine_examples.specs.Ends.{QuietIs, left_a, taken_a, penalised, BlockedIs, RingIsQuiet, ringed};
+ghost use Rattle.machine_examples.specs.Batches.{LastOf, six, nth, StepGives, queued, two_gone, two_batches, lower_back, BatchesAre, batch, FullWith, EligibleOf, ExpiredOf, GoesOf, ComesOf, FullOf, flying, still, waiting_penalised};
+ghost use Rattle.machine_examples.specs.Elsewhere.{SecondExpires, NotOfTheFirst, SecondSwapsOut, SecondSwapsIn, FirstsBatchIsNotSeconds, TakesOf, ExpiryIs, SwapOutIs, SwapInIs, CheckpointIs, ReclaimIs, chained, fresh, both_wait, both_swapped, three as first_three, three_more, in_batch, last_log};
+ghost use Rattle.machine_model.specs.Files.{view_of};
+ghost use Rattle.machine_model.specs.declared.journal.Step.TheVariants.{SwapOut, SwapIn};
+ghost use Rattle.machine_examples.specs.Clones.{TwoFanOut, CopiesGoByOriginals, BesideADrop, NoValueIsEmpty, FourClonesFollow, ClonesArePenalisedToo, duplicating, EachConnectionGetsOne, MadeIsNamed, NamedKeepsItsName, TakenStaysNameless};
+ghost use Rattle.machine_examples.specs.Ends.{in_batch as one_in_batch, NarrowIs, FilteredIsLeft, FoundIsWanted, SwappingIsQuiet, QuietIs, left_a, taken_a, penalised, BlockedIs, RingIsQuiet, ringed};
 ghost use Rattle.machine_examples.specs.Expiries.{ExpiredIs, OneExpires, NoneExpiresAtOnce, TwoExpire, BatchGoes, BatchMustWait, BatchComesBack, GoesAndComesBack, SwapsDueAre, late, late_in_batch};
 ghost use Rattle.machine_examples.specs.Families.{IsAncestorOf, IsNoAncestorOf, IsDescendantOf, IsNoDescendantOf, Tells, TellsNot, cloned, joined, stranger};
 ghost use Rattle.machine_examples.specs.Flows.{GeneratingIsSound, RingIsSound, IsUnsound, MarkedIsSound, ContainedIsNot, ListIs, AloneIsNotJoined, UnmarkedIsUnsound, ExactIsMarked, unconnected, terminated, into_source, doubled, tight, turned, blank, nowhere};
-ghost use Rattle.machine_examples.specs.Orders.{EligibleAre, FullIs, first, second, third, penalised as under_penalty, swapped, since};
+ghost use Rattle.machine_examples.specs.Orders.{PrioritiesTell, EligibleAre, FullIs, first, second, third, penalised as under_penalty, swapped, since};
 ghost use Rattle.machine_examples.specs.Sizes.{FullIsReceived, TooLongIsNotReceived, TooLongIsLeft};
 ghost use Rattle.machine_examples.specs.Told.{SplitTells, JoinTells, WritingTells, SettingTells, BothTellOne, RemovedTellsNone, UnchangedTellsNone, RoutedTells, through, split, merge};
 ghost use Rattle.prioritizer.specs.declared.prioritizer.Prioritizer.TheVariants.{FirstInFirstOut, NewestFlowFileFirst, OldestFlowFileFirst};
-ghost use Rattle.machine_examples.specs.Picks.{PicksOf, FullPicks, no_bytes, part, FragmentIs, TwoAreNoWhole, ThreeAreAWhole, LoneGoesBesideTwo, EarlierWholeGoes, EarlierLoneGoes, one, two, three};
+ghost use Rattle.machine_examples.specs.Picks.{WholeGoesBesideAPart, EarlierOfTwoWholes, FirstOfDoubled, TwiceIsNoWhole, CountsTellWholes, NoCountIsNone, NoIdentifierIsNone, PicksOf, FullPicks, no_bytes, part, FragmentIs, TwoAreNoWhole, ThreeAreAWhole, LoneGoesBesideTwo, EarlierWholeGoes, EarlierLoneGoes, one, two, three};
 ghost use Rattle.machine_examples.specs.Outboxes.{PutReads};
 ghost use Rattle.machine_examples.specs.Puts.{PutsNamed, NamelessFails, BadNameFails, ReplacePutsOver, IgnoreLeaves, FailLeaves, sent, passed, failed};
 ghost use Rattle.machine_examples.specs.Returns.{ReturnsUntil, latest};
@@ -113,6 +117,10 @@ pub fn clones_are_told()
     ensures name_made { MadeIsNamed }
     ensures name_named { NamedKeepsItsName }
     ensures name_taken { TakenStaysNameless }
+    ensures two_fan_out { TwoFanOut }
+    ensures copies { CopiesGoByOriginals }
+    ensures beside_a_drop { BesideADrop }
+    ensures no_value { NoValueIsEmpty }
 {}
 
 /// What a PutFile makes of a file, by its strategy, by whether the outbox has the name, and by whether the name can name
@@ -160,6 +168,13 @@ pub fn picks_are_told()
     ensures whole_beside { LoneGoesBesideTwo }
     ensures whole_whole { EarlierWholeGoes }
     ensures whole_lone { EarlierLoneGoes }
+    ensures whole_beside_part { WholeGoesBesideAPart }
+    ensures whole_of_two { EarlierOfTwoWholes }
+    ensures doubled { FirstOfDoubled }
+    ensures twice { TwiceIsNoWhole }
+    ensures other_count { CountsTellWholes }
+    ensures no_count { NoCountIsNone }
+    ensures no_identifier { NoIdentifierIsNone }
 {}
 
 /// A flow is quiet where no name is left and nothing is queued, expired or penalised. A ring is blocked where each
@@ -177,6 +192,11 @@ pub fn ends_are_told()
     ensures ring_nothing_wanted { BlockedIs (ringed [] [] [] 3) None }
     ensures ring_quiet { RingIsQuiet (ringed [] [] [] 3) true }
     ensures ring_more_to_make { RingIsQuiet (ringed [] [] [] 2) false }
+    ensures ring_beside_full { NarrowIs (ringed (a_file 3 1 ∷ []) (a_file 1 2 ∷ []) (a_file 2 3 ∷ []) 3) (Some 1) }
+    ensures ring_all_full { NarrowIs (ringed (a_file 3 1 ∷ []) (a_file 1 2 ∷ []) (a_file 2 3 ∷ []) 2) (Some 0) }
+    ensures filtered { FilteredIsLeft }
+    ensures found { FoundIsWanted }
+    ensures swapped { SwappingIsQuiet (one_in_batch ∷ []) 1000 false }
 {}
 
 /// Which files are eligible, and in which order. A queue is full at a limit on its files or on its bytes, with swapped
@@ -196,6 +216,7 @@ pub fn queues_are_seen()
     ensures full_below_bytes { FullIs 0 5 (first ∷ swapped ∷ []) false }
     ensures full_at_bytes { FullIs 0 4 (first ∷ swapped ∷ []) true }
     ensures full_unlimited { FullIs 0 0 (first ∷ swapped ∷ []) false }
+    ensures priorities { PrioritiesTell }
 {}
 
 /// A split tells one FORK of all parts, and each part has its bytes; a join tells its parents by ascending numbers, and
@@ -262,4 +283,59 @@ pub fn flows_are_unsound()
     ensures comma { ListIs (codes "a,b") false }
     ensures blank_front { ListIs (codes " a") false }
     ensures blank_end { ListIs (codes "a ") false }
+{}
+
+/// At the second of two connections: each step, whose files a session takes, and what is due of both. A checkpoint and a
+/// reclaim at their edges.
+pub fn second_queues_are_told()
+    ensures expires { SecondExpires }
+    ensures not_first { NotOfTheFirst }
+    ensures goes { SecondSwapsOut }
+    ensures comes { SecondSwapsIn }
+    ensures other_batch { FirstsBatchIsNotSeconds }
+    ensures takes { TakesOf 2 2 (Some (a_file 2 2 ∷ [])) }
+    ensures elsewhere { TakesOf 2 1 None }
+    ensures before { TakesOf 1 1 (Some (a_file 1 1 ∷ [])) }
+    ensures behind { TakesOf 1 2 None }
+    ensures expiry { ExpiryIs (chained (fresh ∷ []) (a_file 3 3 ∷ fresh ∷ a_file 1 4 ∷ [])) 2000 (Some (1, 1 ∷ 3 ∷ [])) }
+    ensures expiry_first { ExpiryIs both_wait 2000 (Some (0, 1 ∷ [])) }
+    ensures expiry_none { ExpiryIs both_wait 1499 None }
+    ensures swap_out { SwapOutIs (chained (a_file 9 9 ∷ []) three_more) (Some (1, 6 ∷ [])) }
+    ensures swap_out_first { SwapOutIs (chained first_three three_more) (Some (0, 3 ∷ [])) }
+    ensures swap_out_none { SwapOutIs both_wait None }
+    ensures swap_in { SwapInIs (chained (a_file 1 1 ∷ []) (in_batch 2 (a_file 2 2) ∷ in_batch 1 (a_file 3 3) ∷ [])) (Some (1, 1)) }
+    ensures swap_in_first { SwapInIs both_swapped (Some (0, 1)) }
+    ensures swap_in_none { SwapInIs both_wait None }
+    ensures checkpoint { CheckpointIs 4096 1 true }
+    ensures no_checkpoint { CheckpointIs 4095 1 false }
+    ensures last_but_one { CheckpointIs 9999 (last_log - 1) true }
+    ensures last { CheckpointIs 9999 last_log false }
+    ensures reclaim { ReclaimIs 256 true }
+    ensures no_reclaim { ReclaimIs 255 false }
+{}
+
+/// Batches of two: which files go, by the queue's order, and which come back. Files in flight go nowhere, count as active
+/// where a batch may come back, and count towards full, with the swapped ones.
+pub fn batches_are_told()
+    ensures last { LastOf [] six (Some (5 ∷ 6 ∷ [])) }
+    ensures newest { LastOf (NewestFlowFileFirst ∷ []) six (Some (2 ∷ 1 ∷ [])) }
+    ensures few { LastOf [] (nth 1 ∷ nth 2 ∷ nth 3 ∷ nth 4 ∷ nth 5 ∷ []) None }
+    ensures two_go { StepGives (queued six 7) (SwapOut 0 (6 ∷ 5 ∷ []) 7) (Some (queued two_gone 8)) }
+    ensures one_goes_not { StepGives (queued six 7) (SwapOut 0 (6 ∷ []) 7) None }
+    ensures views { BatchesAre two_batches (batch 2 2 4 ∷ batch 3 3 6 ∷ []) }
+    ensures lower_comes { StepGives (queued two_batches 7) (SwapIn 0 2) (Some (queued lower_back 7)) }
+    ensures higher_waits { StepGives (queued two_batches 7) (SwapIn 0 3) None }
+    ensures full { FullWith 6 0 two_batches true }
+    ensures not_full { FullWith 7 0 two_batches false }
+    ensures full_bytes { FullWith 0 12 two_batches true }
+    ensures not_full_bytes { FullWith 0 13 two_batches false }
+    ensures flight_is_not_eligible { EligibleOf (flying (a_file 1 1) ∷ still 2 ∷ []) (still 2 ∷ []) }
+    ensures flight_does_not_expire { ExpiredOf (still 3 ∷ flying (a_file 2 2) ∷ still 1 ∷ view_of late ∷ []) (1 ∷ 3 ∷ []) }
+    ensures flight_does_not_go { GoesOf (still 1 ∷ still 2 ∷ flying (a_file 3 3) ∷ []) None }
+    ensures last_at_rest_goes { GoesOf (still 1 ∷ still 3 ∷ flying (a_file 4 4) ∷ still 2 ∷ []) (Some (3 ∷ [])) }
+    ensures penalised_goes { GoesOf (still 1 ∷ still 2 ∷ waiting_penalised 3 ∷ []) (Some (3 ∷ [])) }
+    ensures flight_is_active { ComesOf (still 1 ∷ flying (a_file 2 2) ∷ []) None }
+    ensures lowest_comes { ComesOf (flying (a_file 2 2) ∷ []) (Some 5) }
+    ensures flight_counts { FullOf 4 (still 1 ∷ flying (a_file 2 2) ∷ []) true }
+    ensures flight_counts_once { FullOf 5 (still 1 ∷ flying (a_file 2 2) ∷ []) false }
 {}

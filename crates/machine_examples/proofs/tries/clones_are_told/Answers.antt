@@ -13,4 +13,8 @@ returns c = record {
   name_made = made-named;
   name_named = named-keeps;
   name_taken = λ place store number attributes. refl;
+  two_fan_out = rw (received-filename a_txt, same_attributes-self (received_attributes a_txt)) refl;
+  copies = rw (same_attributes-self (received_attributes a_txt)) refl;
+  beside_a_drop = rw (same_attributes-self (received_attributes a_txt)) refl;
+  no_value = λ text error is. rw is refl;
 }

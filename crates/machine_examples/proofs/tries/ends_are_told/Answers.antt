@@ -15,4 +15,9 @@ returns c = record {
   ring_nothing_wanted = λ text. refl;
   ring_quiet = λ text. refl;
   ring_more_to_make = λ text. refl;
+  ring_beside_full = λ text. refl;
+  ring_all_full = λ text. refl;
+  filtered = λ pattern none. (rw none refl, rw none refl);
+  found = λ pattern some. rw some refl;
+  swapped = refl;
 }

@@ -1,3 +1,4 @@
+use Rattle.machine_examples.proofs.TriedPicks.{countless, nameless}
 use Rattle.machine_examples.proofs.TriedPicks.{third-part, zero-part, past-part, strange-part, many-parts, two-no-whole, three-whole, lone-beside, whole-earlier, lone-earlier}
 use Rattle.std.proofs.Common.{refl}
 use Rattle.machine_examples.proofs.tries.picks_are_told.Goals as goal
@@ -24,4 +25,11 @@ returns c = record {
   whole_beside = lone-beside;
   whole_whole = whole-earlier;
   whole_lone = lone-earlier;
+  whole_beside_part = λ a b c d again greater are. simp (are.first, are.second, are.other_first);
+  whole_of_two = λ a b c d again greater are. simp (are.first, are.second, are.other_first, are.other_second);
+  doubled = λ a b c d again greater are. simp (are.first, are.second, are.first_again);
+  twice = λ a b c d again greater are. simp (are.first, are.first_again);
+  other_count = λ a b c d again greater are. simp (are.first, are.of_greater);
+  no_count = countless;
+  no_identifier = nameless;
 }
