@@ -1,6 +1,6 @@
 //! A run over devices in memory, stopped at every moment and begun anew.
 use super::*;
-use disk_trait::{MemoryDisk, Pick};
+use disk_trait::{Disk, MemoryDisk, Pick};
 use std::alloc::Global;
 use std::test::Fail;
 use world_io::{
