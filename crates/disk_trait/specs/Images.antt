@@ -1,10 +1,11 @@
 -- What a stop may leave, at each moment.
-use Rattle.std.specs.Prelude.{◌≡◌, ℕ, ◌+◌, ◌-◌, ◌^◌, ◌≤◌, min}
+use Rattle.std.specs.Prelude.{◌≡◌, ℕ, ◌≤◌}
+use Rattle.disk_trait.specs.Count.{one_more}
 use Rattle.disk_trait.specs.Files.{Files}
 
 -- one more call, counted up to 2^64 - 1
 abbrev pub next_moment : ℕ → ℕ
-next_moment t = min (t + 1) (2 ^ 64 - 1)
+next_moment = one_more
 
 -- one of these files, after a step
 abbrev pub After : (Files → Files → Type 0) → (Files → Type 0) → Files → Type 0

@@ -5,7 +5,7 @@ use Rattle.std.specs.Prelude.{Option, None, Some, Ok, Err, IsSome, IsNone, IfSom
 use Rattle.disk_trait.specs.Files.{Files}
 use Rattle.disk_trait.specs.declared.damage.Damage.{Damage}
 use Rattle.disk_trait.proofs.Moments.{left_at_the_end, wider_at_each}
-use Rattle.world_io.specs.Inbox.{InboxFile, bytes_of}
+use Rattle.flowfile_record.specs.NamedFile.{NamedFile, bytes_of}
 use Rattle.flowfile_record.specs.declared.TheConstants.{CONTENT_MAX}
 use Rattle.store_core.specs.Opening.{SinceSync}
 use Rattle.store_core.specs.State.{stands_for}
@@ -19,7 +19,7 @@ use Rattle.run_top.specs.declared.status.TheConstants.{DONE, DAMAGED, DISK_FAULT
 use Rattle.run_top.proofs.Journals.{whole_prefix, acknowledged-all}
 
 -- a run that was just opened
-pub begins : {D : Type 0} (moment : D → ℕ) (images : D → ℕ → Files → Type 0) (held : Files) (old new : D) (queue : List Queued) (left : List InboxFile) (standing : List ℕ → Option (List ℕ))
+pub begins : {D : Type 0} (moment : D → ℕ) (images : D → ℕ → Files → Type 0) (held : Files) (old new : D) (queue : List Queued) (left : List NamedFile) (standing : List ℕ → Option (List ℕ))
     → SinceSync moment images old new (λ c. stands_for c ≡ stands_for held) → stands_for held ≡ Ok queue
     → IsRunning moment images (record { queue = queue; left = left; outbox = standing }) old new queue left standing
 begins moment images held old new queue left standing since stands =
@@ -70,14 +70,14 @@ none_to_get m name (Some bytes) large = ⊎_elim
     (λ (too : CONTENT_MAX < length bytes). let fits : nat_le (length bytes) CONTENT_MAX ≡ false = grind (arith, nat_tests, too) in grind (arith, nat_tests, fits))
     (large refl)
 
-pub is_quiet : (m : Machine) (left : List InboxFile) → m.queue ≡ [] → m.left ≡ left → IsLeftBut [] left → IsQuiet m
+pub is_quiet : (m : Machine) (left : List NamedFile) → m.queue ≡ [] → m.left ≡ left → IsLeftBut [] left → IsQuiet m
 is_quiet m left waits lies but = record {
   nothing_waits = waits;
-  nothing_to_take = λ name. ap (λ (l : List InboxFile). got m name (bytes_of l name)) lies ∙ none_to_get m name (bytes_of left name) (but.others name);
+  nothing_to_take = λ name. ap (λ (l : List NamedFile). got m name (bytes_of l name)) lies ∙ none_to_get m name (bytes_of left name) (but.others name);
 }
 
 -- a run that was done
-pub ends : {D : Type 0} (held : D → Files) (moment : D → ℕ) (images : D → ℕ → Files → Type 0) (opened : Machine) (old new : D) (left : List InboxFile) (standing : List ℕ → Option (List ℕ))
+pub ends : {D : Type 0} (held : D → Files) (moment : D → ℕ) (images : D → ℕ → Files → Type 0) (opened : Machine) (old new : D) (left : List NamedFile) (standing : List ℕ → Option (List ℕ))
     → IsRunning moment images opened old new [] left standing → IsLeftBut [] left → stands_for (held new) ≡ Ok [] → HasRun DONE held moment images opened old new left standing
 ends held moment images opened old new left standing run but stands = record {
   journal = run.journal;

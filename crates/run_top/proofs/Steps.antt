@@ -6,8 +6,8 @@ use Rattle.std.specs.Prelude.{Option, None, Some, Ok, nat_le, if◌then◌else�
 use Rattle.disk_trait.specs.Files.{Files}
 use Rattle.disk_trait.specs.Images.{Since}
 use Rattle.disk_trait.specs.declared.damage.Damage.{Damage}
-use Rattle.world_io.specs.Inbox.{InboxFile, bytes_of, without}
-use Rattle.world_io.specs.Outbox.{with_file}
+use Rattle.flowfile_record.specs.NamedFile.{NamedFile, bytes_of, without}
+use Rattle.flowfile_record.specs.NamedFile.{with_file}
 use Rattle.flowfile_record.specs.declared.TheConstants.{CONTENT_MAX}
 use Rattle.store_core.specs.Entry.{queued}
 use Rattle.store_core.specs.State.{stands_for}
@@ -38,7 +38,7 @@ pub works_on : (failed : Bool) → (failed ≡ true → ⊥) → failed ≡ fals
 works_on true none = absurd (none refl)
 works_on false none = refl
 
-module _ {D : Type 0} (held : D → Files) (moment : D → ℕ) (images : D → ℕ → Files → Type 0) (opened : Machine) (first now : D) (queue : List Queued) (left : List InboxFile) (standing : List ℕ → Option (List ℕ))
+module _ {D : Type 0} (held : D → Files) (moment : D → ℕ) (images : D → ℕ → Files → Type 0) (opened : Machine) (first now : D) (queue : List Queued) (left : List NamedFile) (standing : List ℕ → Option (List ℕ))
     (run : IsRunning moment images opened first now queue left standing) where
   -- a run that stops between two steps
   pub stops_between : (error : RunError) → HasRun (status_of error) held moment images opened first now left standing
@@ -73,7 +73,7 @@ module _ {D : Type 0} (held : D → Files) (moment : D → ℕ) (images : D → 
     done = λ is. absurd (omega arith);
   }
 
-module _ {D : Type 0} (held : D → Files) (moment : D → ℕ) (images : D → ℕ → Files → Type 0) (opened : Machine) (first old new : D) (queue : List Queued) (left : List InboxFile) (standing : List ℕ → Option (List ℕ)) where
+module _ {D : Type 0} (held : D → Files) (moment : D → ℕ) (images : D → ℕ → Files → Type 0) (opened : Machine) (first old new : D) (queue : List Queued) (left : List NamedFile) (standing : List ℕ → Option (List ℕ)) where
   abbrev BeforeOr : List Queued → List Queued → Type 0
   BeforeOr before after = Since moment images old new (λ c. (stands_for c ≡ Ok before) ⊎ (stands_for c ≡ Ok after))
 
@@ -129,7 +129,7 @@ module _ {D : Type 0} (held : D → Files) (moment : D → ℕ) (images : D → 
 
       gets : step run.reached (Get name) ≡ Some after_get
       gets =
-          let lies : bytes_of run.reached.left name ≡ Some bytes = ap (λ (l : List InboxFile). bytes_of l name) run.lies ∙ found in
+          let lies : bytes_of run.reached.left name ≡ Some bytes = ap (λ (l : List NamedFile). bytes_of l name) run.lies ∙ found in
           let fits : nat_le (length bytes) CONTENT_MAX ≡ true = grind (arith, nat_tests, small) in
           ap (got run.reached name) lies ∙ ap (λ (b : Bool). if b then Some after_get else None) fits
 
@@ -184,28 +184,28 @@ module _ {D : Type 0} (held : D → Files) (moment : D → ℕ) (images : D → 
         got_gone = gone_without opened.left left name run.journal (run.journal ++ entry_acked ∷ []) run.gone (λ n was. was_got-before n run.journal entry_acked was) (was_got-last name run.journal entry_acked refl refl)
 
         -- it was acknowledged and removed
-        pub get_done : (after : List InboxFile) → after ≡ without name left → IsRunning moment images opened first new (queue ++ queued name bytes ∷ []) after standing
+        pub get_done : (after : List NamedFile) → after ≡ without name left → IsRunning moment images opened first new (queue ++ queued name bytes ∷ []) after standing
         get_done after removed = record {
           journal = run.journal ++ entry_acked ∷ [];
           reached = after_get;
           ran = got_ran;
           all = all-append run.journal entry_acked run.all refl;
-          gone = subst (λ (l : List InboxFile). IsGoneByEntry opened.left l (run.journal ++ entry_acked ∷ [])) (sym removed) got_gone;
+          gone = subst (λ (l : List NamedFile). IsGoneByEntry opened.left l (run.journal ++ entry_acked ∷ [])) (sym removed) got_gone;
           waits = joins;
           lies = ap (without name) run.lies ∙ sym removed;
           stands = run.stands;
         }
 
         -- it was acknowledged, and its removal failed: it may be left
-        pub get_left : (after : List InboxFile) → (after ≡ left) ⊎ (after ≡ without name left) → HasRun INBOX_FAULT held moment images opened first new after standing
+        pub get_left : (after : List NamedFile) → (after ≡ left) ⊎ (after ≡ without name left) → HasRun INBOX_FAULT held moment images opened first new after standing
         get_left after either = record {
           journal = run.journal ++ entry_acked ∷ [];
           reached = after_get;
           ran = got_ran;
           acked = inl (acknowledged-all (run.journal ++ entry_acked ∷ []) (moment first + 1) (moment new) (moment new) (all-append run.journal entry_acked run.all refl) got_ran.in_order (omega arith));
           gone = ⊎_elim
-              (λ (same : after ≡ left). subst (λ (l : List InboxFile). IsGoneByEntry opened.left l (run.journal ++ entry_acked ∷ [])) (sym same) (λ n here none. was_got-before n run.journal entry_acked (run.gone n here none)))
-              (λ (removed : after ≡ without name left). subst (λ (l : List InboxFile). IsGoneByEntry opened.left l (run.journal ++ entry_acked ∷ [])) (sym removed) got_gone)
+              (λ (same : after ≡ left). subst (λ (l : List NamedFile). IsGoneByEntry opened.left l (run.journal ++ entry_acked ∷ [])) (sym same) (λ n here none. was_got-before n run.journal entry_acked (run.gone n here none)))
+              (λ (removed : after ≡ without name left). subst (λ (l : List NamedFile). IsGoneByEntry opened.left l (run.journal ++ entry_acked ∷ [])) (sym removed) got_gone)
               either;
           inbox = ⊎_elim
               (λ (same : after ≡ left). inr (record {

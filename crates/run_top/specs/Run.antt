@@ -4,7 +4,7 @@ use Rattle.disk_trait.specs.Files.{Files}
 use Rattle.disk_trait.specs.Images.{SinceMoment, Since, next_moment}
 use Rattle.disk_trait.specs.Faults.{CountsFaults}
 use Rattle.disk_trait.specs.declared.damage.Damage.{Damage}
-use Rattle.world_io.specs.Inbox.{InboxFile, bytes_of}
+use Rattle.flowfile_record.specs.NamedFile.{NamedFile, bytes_of}
 use Rattle.store_core.specs.declared.queued.Queued.{Queued}
 use Rattle.store_core.specs.Opening.{SinceSync}
 use Rattle.store_core.specs.State.{stands_for}
@@ -36,11 +36,11 @@ abbrev pub IsAckedBy : (now status : ℕ) → List Entry → Type 0
 IsAckedBy now status journal = (acknowledged journal now ≡ length journal) ⊎ ((status ≡ DISK_FAULT) × (acknowledged journal now + 1 ≡ length journal))
 
 -- each name that is gone from the inbox is that of an acknowledged entry
-abbrev pub IsGoneByEntry : (before after : List InboxFile) → List Entry → Type 0
+abbrev pub IsGoneByEntry : (before after : List NamedFile) → List Entry → Type 0
 IsGoneByEntry before after journal = (name : List ℕ) → IsSome (bytes_of before name) → IsNone (bytes_of after name) → WasGot name journal
 
 -- The inbox is as before the journal's last step, which got a file: disk or inbox failed before the file was removed.
-pub record IsLeftOver (status : ℕ) (opened : Machine) (journal : List Entry) (left : List InboxFile) : Type 0 where
+pub record IsLeftOver (status : ℕ) (opened : Machine) (journal : List Entry) (left : List NamedFile) : Type 0 where
   pub failed : (status ≡ DISK_FAULT) ⊎ (status ≡ INBOX_FAULT)
   pub before : List Entry
   pub last : Entry
@@ -66,7 +66,7 @@ pub record IsDone (reached : Machine) (held : Files) : Type 0 where
 
 -- Whatever its status: a journal tells what the run did to disk, inbox and outbox. Inbox and outbox are those of the
 -- whole journal, but for the one file at which a device failed.
-pub record HasRun {D : Type 0} (status : ℕ) (held : D → Files) (moment : D → ℕ) (images : D → ℕ → Files → Type 0) (opened : Machine) (old new : D) (left : List InboxFile) (standing : List ℕ → Option (List ℕ)) : Type 0 where
+pub record HasRun {D : Type 0} (status : ℕ) (held : D → Files) (moment : D → ℕ) (images : D → ℕ → Files → Type 0) (opened : Machine) (old new : D) (left : List NamedFile) (standing : List ℕ → Option (List ℕ)) : Type 0 where
   pub journal : List Entry
   pub reached : Machine
   pub ran : Replays moment images opened journal reached old new

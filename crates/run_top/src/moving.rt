@@ -3,7 +3,8 @@
 ghost use Rattle.std.specs.Prelude.{◌≡◌, ◌⊎◌, ℕ, ◌+◌, ◌<◌, ◌≤◌, false, List, [], Option, length, map, IsTrue, IsSome, OnOk, IsErrOf};
 ghost use Rattle.disk_trait.specs.Faults.{CountsFaults};
 ghost use Rattle.disk_trait.specs.declared.damage.Damage.{Damage as TheDamage};
-ghost use Rattle.world_io.specs.Inbox.{InboxFile, IsAscending, bytes_of};
+ghost use Rattle.flowfile_record.specs.NamedFile.{NamedFile, bytes_of};
+ghost use Rattle.world_io.specs.Inbox.{IsAscending};
 ghost use Rattle.store_core.specs.Kept.{IsKeptOn};
 ghost use Rattle.run_top.specs.Machine.{Machine};
 ghost use Rattle.run_top.specs.Run.{HasRun};
@@ -27,10 +28,10 @@ fn put_first<D: Disk, O: Outbox>(
     requires kept { IsKeptOn D.moment D.images store.old disk.old }
     requires some { 0 < length store.old.files }
 
-    ensures goes_on { OnOk result ((opened : Machine) (first : D) (left : List InboxFile) → IsTrue O.tells
+    ensures goes_on { OnOk result ((opened : Machine) (first : D) (left : List NamedFile) → IsTrue O.tells
         → IsRunning D.moment D.images opened first disk.old store.old.files left (O.standing outbox.old)
         → IsRunning D.moment D.images opened first disk.new store.new.files left (O.standing outbox.new)) }
-    ensures stopped { (error : TheError) → IsErrOf result error → (opened : Machine) (first : D) (left : List InboxFile) → IsTrue O.tells
+    ensures stopped { (error : TheError) → IsErrOf result error → (opened : Machine) (first : D) (left : List NamedFile) → IsTrue O.tells
         → IsRunning D.moment D.images opened first disk.old store.old.files left (O.standing outbox.old)
         → HasRun (status_of error) D.held D.moment D.images opened first disk.new left (O.standing outbox.new) }
 
@@ -105,10 +106,10 @@ fn put_all<D: Disk, O: Outbox>(
     requires works { store.old.failed ≡ false }
     requires kept { IsKeptOn D.moment D.images store.old disk.old }
 
-    ensures goes_on { OnOk result ((opened : Machine) (first : D) (left : List InboxFile) → IsTrue O.tells
+    ensures goes_on { OnOk result ((opened : Machine) (first : D) (left : List NamedFile) → IsTrue O.tells
         → IsRunning D.moment D.images opened first disk.old store.old.files left (O.standing outbox.old)
         → IsRunning D.moment D.images opened first disk.new store.new.files left (O.standing outbox.new)) }
-    ensures stopped { (error : TheError) → IsErrOf result error → (opened : Machine) (first : D) (left : List InboxFile) → IsTrue O.tells
+    ensures stopped { (error : TheError) → IsErrOf result error → (opened : Machine) (first : D) (left : List NamedFile) → IsTrue O.tells
         → IsRunning D.moment D.images opened first disk.old store.old.files left (O.standing outbox.old)
         → HasRun (status_of error) D.held D.moment D.images opened first disk.new left (O.standing outbox.new) }
 

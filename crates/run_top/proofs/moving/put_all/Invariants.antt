@@ -1,5 +1,5 @@
 use Rattle.std.proofs.Common.{◌≡◌, ◌≤◌, false, List, length, IsTrue}
-use Rattle.world_io.specs.Inbox.{InboxFile}
+use Rattle.flowfile_record.specs.NamedFile.{NamedFile}
 use Rattle.store_core.specs.Kept.{IsKeptOn}
 use Rattle.run_top.specs.Machine.{Machine}
 use Rattle.run_top.specs.Running.{IsRunning}
@@ -9,7 +9,7 @@ abbrev pub invariant-loop-store : goal.invariant-loop-store
 invariant-loop-store g l = record {
   works : l.store.failed ≡ false;
   kept : IsKeptOn g.D.Disk.moment g.D.Disk.images l.store l.disk;
-  goes_on : (opened : Machine) (first : g.row.D.Denot) (left : List InboxFile) → IsTrue g.O.Outbox.tells
+  goes_on : (opened : Machine) (first : g.row.D.Denot) (left : List NamedFile) → IsTrue g.O.Outbox.tells
       → IsRunning g.D.Disk.moment g.D.Disk.images opened first l.fn.disk l.fn.store.files left (g.O.Outbox.standing l.fn.outbox)
       → IsRunning g.D.Disk.moment g.D.Disk.images opened first l.disk l.store.files left (g.O.Outbox.standing l.outbox);
   disk_faults : g.D.Disk.faults l.fn.disk ≤ g.D.Disk.faults l.disk;

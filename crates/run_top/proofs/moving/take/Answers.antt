@@ -1,7 +1,7 @@
 use Rattle.std.proofs.Common.{◌≡◌, ◌⊎◌, ⊎_elim, inl, inr, ℕ, true, ◌≤◌, List, [], ◌∷◌, ◌++◌, length, sym, ◌∙◌, ap, subst}
 use Rattle.std.specs.Prelude.{Ok, Err, Some}
 use Rattle.disk_trait.specs.Files.{Files}
-use Rattle.world_io.specs.Inbox.{InboxFile, bytes_of, without}
+use Rattle.flowfile_record.specs.NamedFile.{NamedFile, bytes_of, without}
 use Rattle.flowfile_record.specs.declared.TheConstants.{CONTENT_MAX}
 use Rattle.store_core.specs.Entry.{queued}
 use Rattle.store_core.specs.State.{stands_for}
@@ -16,41 +16,41 @@ use Rattle.run_top.proofs.moving.take.Goals as goal
 
 pub returns-in_default-clause-stopped : goal.returns-in_default-clause-stopped
 returns-in_default-clause-stopped g c error is opened first standing told run =
-    subst (λ (l : List InboxFile). HasRun (status_of error) g.D.Disk.held g.D.Disk.moment g.D.Disk.images opened first c.args.disk.now l standing) (sym c.size.ensures.left)
+    subst (λ (l : List NamedFile). HasRun (status_of error) g.D.Disk.held g.D.Disk.moment g.D.Disk.images opened first c.args.disk.now l standing) (sym c.size.ensures.left)
     (stops_between g.D.Disk.held g.D.Disk.moment g.D.Disk.images opened first c.args.disk.now c.args.store.now.files (g.I.Inbox.left c.args.inbox.now) standing run error)
 
 pub returns-in-Err-clause-stopped : goal.returns-in-Err-clause-stopped
 returns-in-Err-clause-stopped g c error is opened first standing told run =
-    subst (λ (l : List InboxFile). HasRun (status_of error) g.D.Disk.held g.D.Disk.moment g.D.Disk.images opened first c.args.disk.now l standing) (sym (c.read.ensures.left ∙ c.size.ensures.left))
+    subst (λ (l : List NamedFile). HasRun (status_of error) g.D.Disk.held g.D.Disk.moment g.D.Disk.images opened first c.args.disk.now l standing) (sym (c.read.ensures.left ∙ c.size.ensures.left))
     (stops_between g.D.Disk.held g.D.Disk.moment g.D.Disk.images opened first c.args.disk.now c.args.store.now.files (g.I.Inbox.left c.args.inbox.now) standing run error)
 
 pub returns-in-Err-add-clause-stopped : goal.returns-in-Err-add-clause-stopped
 returns-in-Err-add-clause-stopped g c error is opened first standing told run =
-    let left : List InboxFile = g.I.Inbox.left c.args.inbox.now in
+    let left : List NamedFile = g.I.Inbox.left c.args.inbox.now in
     let files : List Queued = c.args.store.now.files in
     let name : List ℕ = c.args.name.now in
     let bytes : List ℕ = c.as_slice.result.now in
     let sized : g.I.Inbox.left c.size.new.self ≡ left = c.size.ensures.left in
     let read : g.I.Inbox.left c.read.new.self ≡ left = c.read.ensures.left ∙ sized in
     let found : bytes_of left name ≡ Some bytes =
-    ap (λ (l : List InboxFile). bytes_of l name) (sym sized) ∙ c.in_default-read.ensures.bytes told ∙ ap Some (sym c.as_slice.ensures.value) in
+    ap (λ (l : List NamedFile). bytes_of l name) (sym sized) ∙ c.in_default-read.ensures.bytes told ∙ ap Some (sym c.as_slice.ensures.value) in
     let small : length bytes ≤ CONTENT_MAX = subst (λ (b : List ℕ). length b ≤ CONTENT_MAX) (sym c.as_slice.ensures.value) c.in_default-read.ensures.most in
     let since = c.add.ensures.images c.requires.works in
     let told_as : c.from-in-Err-add.result ≡ error = cc in
-    subst (λ (l : List InboxFile). HasRun (status_of error) g.D.Disk.held g.D.Disk.moment g.D.Disk.images opened first c.add.new.disk l standing) (sym read)
+    subst (λ (l : List NamedFile). HasRun (status_of error) g.D.Disk.held g.D.Disk.moment g.D.Disk.images opened first c.add.new.disk l standing) (sym read)
     (add_refused g.D.Disk.held g.D.Disk.moment g.D.Disk.images opened first c.args.disk.now c.add.new.disk files left standing run name bytes found small since c.in-Err-add.error error (sym c.from-in-Err-add.ensures ∙ told_as)
     (λ reopen. cc (c.in-Err-add.ensures.reopen.0 (ap Err reopen), c.requires.works)) (λ damage damaged. c.in-Err-add.ensures.kinds damage (ap Err damaged)) (λ memory. (c.in-Err-add.ensures.untouched (inr (ap Err memory))).1))
 
 pub returns-in_default-remove-clause-stopped : goal.returns-in_default-remove-clause-stopped
 returns-in_default-remove-clause-stopped g c error is opened first standing told run =
-    let left : List InboxFile = g.I.Inbox.left c.args.inbox.now in
+    let left : List NamedFile = g.I.Inbox.left c.args.inbox.now in
     let files : List Queued = c.args.store.now.files in
     let name : List ℕ = c.args.name.now in
     let bytes : List ℕ = c.as_slice.result.now in
     let sized : g.I.Inbox.left c.size.new.self ≡ left = c.size.ensures.left in
     let read : g.I.Inbox.left c.read.new.self ≡ left = c.read.ensures.left ∙ sized in
     let found : bytes_of left name ≡ Some bytes =
-    ap (λ (l : List InboxFile). bytes_of l name) (sym sized) ∙ c.in_default-read.ensures.bytes told ∙ ap Some (sym c.as_slice.ensures.value) in
+    ap (λ (l : List NamedFile). bytes_of l name) (sym sized) ∙ c.in_default-read.ensures.bytes told ∙ ap Some (sym c.as_slice.ensures.value) in
     let small : length bytes ≤ CONTENT_MAX = subst (λ (b : List ℕ). length b ≤ CONTENT_MAX) (sym c.as_slice.ensures.value) c.in_default-read.ensures.most in
     let since = c.add.ensures.images c.requires.works in
     let works = works_on c.add.new.self.failed (λ t. ⊎_elim (λ (o : c.args.store.now.failed ≡ true). cc (o, c.requires.works)) (λ e. cc (e, c.in_default-add.is)) (c.in_default-add.ensures.failed.0 t)) in
@@ -66,14 +66,14 @@ returns-in_default-remove-clause-stopped g c error is opened first standing told
 
 pub returns-clause-goes_on : goal.returns-clause-goes_on
 returns-clause-goes_on g c opened first standing told run =
-    let left : List InboxFile = g.I.Inbox.left c.args.inbox.now in
+    let left : List NamedFile = g.I.Inbox.left c.args.inbox.now in
     let files : List Queued = c.args.store.now.files in
     let name : List ℕ = c.args.name.now in
     let bytes : List ℕ = c.as_slice.result.now in
     let sized : g.I.Inbox.left c.size.new.self ≡ left = c.size.ensures.left in
     let read : g.I.Inbox.left c.read.new.self ≡ left = c.read.ensures.left ∙ sized in
     let found : bytes_of left name ≡ Some bytes =
-    ap (λ (l : List InboxFile). bytes_of l name) (sym sized) ∙ c.in_default-read.ensures.bytes told ∙ ap Some (sym c.as_slice.ensures.value) in
+    ap (λ (l : List NamedFile). bytes_of l name) (sym sized) ∙ c.in_default-read.ensures.bytes told ∙ ap Some (sym c.as_slice.ensures.value) in
     let small : length bytes ≤ CONTENT_MAX = subst (λ (b : List ℕ). length b ≤ CONTENT_MAX) (sym c.as_slice.ensures.value) c.in_default-read.ensures.most in
     let since = c.add.ensures.images c.requires.works in
     let works = works_on c.add.new.self.failed (λ t. ⊎_elim (λ (o : c.args.store.now.failed ≡ true). cc (o, c.requires.works)) (λ e. cc (e, c.in_default-add.is)) (c.in_default-add.ensures.failed.0 t)) in

@@ -1,5 +1,5 @@
 use Rattle.disk_trait.proofs.Moments.{and_syncs}
-use Rattle.disk_trait.proofs.settle.write_synced.Goals as goal
+use Rattle.disk_trait.proofs.synced.write_synced.Goals as goal
 
 pub returns-clause-images : goal.returns-clause-images
 returns-clause-images g c =
