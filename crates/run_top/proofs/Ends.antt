@@ -1,32 +1,36 @@
 -- How a run begins and ends.
-use Rattle.std.proofs.Common.{◌≡◌, ◌⊎◌, ⊎_elim, ℕ, ◌+◌, ◌<◌, false, List, [], length, refl, sym, ◌∙◌, ap, arith}
+use Rattle.std.proofs.Common.{◌≡◌, ◌⊎◌, inl, inr, ⊎_elim, ℕ, ◌+◌, ◌<◌, false, List, [], length, refl, sym, ◌∙◌, ap, arith}
 use Rattle.std.proofs.lemmas.Bool.Decides.{nat_tests}
-use Rattle.std.specs.Prelude.{Option, None, Some, Ok, IsSome, IsNone, IfSome, nat_le}
+use Rattle.std.specs.Prelude.{Option, None, Some, Ok, Err, IsSome, IsNone, IfSome, nat_le}
 use Rattle.disk_trait.specs.Files.{Files}
+use Rattle.disk_trait.specs.declared.damage.Damage.{Damage}
+use Rattle.disk_trait.proofs.Moments.{left_at_the_end, wider_at_each}
 use Rattle.flowfile_record.specs.NamedFile.{NamedFile, bytes_of}
 use Rattle.flowfile_record.specs.declared.TheConstants.{CONTENT_MAX}
 use Rattle.store_core.specs.Opening.{SinceSync}
 use Rattle.store_core.specs.State.{stands_for}
 use Rattle.store_core.specs.declared.queued.Queued.{Queued}
+use Rattle.store_core.specs.declared.error.StoreError.{StoreError}
 use Rattle.run_top.specs.Machine.{Machine, got, IsQuiet}
-use Rattle.run_top.specs.Run.{IsRunning, HasRun, IsLeftBut}
-use Rattle.run_top.specs.declared.status.TheConstants.{DONE}
+use Rattle.run_top.specs.Run.{HasRun, IsLeftDamaged, IsPrefix}
+use Rattle.run_top.specs.Running.{IsRunning, IsLeftBut}
+use Rattle.run_top.specs.Status.{status_of, error_of}
+use Rattle.run_top.specs.declared.status.TheConstants.{DONE, DAMAGED, DISK_FAULT, OUT_OF_MEMORY}
 use Rattle.run_top.proofs.Journals.{whole_prefix, acknowledged-all}
 
 -- a run that was just opened
 pub begins : {D : Type 0} (moment : D → ℕ) (images : D → ℕ → Files → Type 0) (held : Files) (old new : D) (queue : List Queued) (left : List NamedFile) (standing : List ℕ → Option (List ℕ))
     → SinceSync moment images old new (λ c. stands_for c ≡ stands_for held) → stands_for held ≡ Ok queue
-    → IsRunning (record { queue = queue; left = left; outbox = standing }) (moment old + 1) (images new) (moment new) queue left standing
+    → IsRunning moment images (record { queue = queue; left = left; outbox = standing }) old new queue left standing
 begins moment images held old new queue left standing since stands =
     let opened : Machine = record { queue = queue; left = left; outbox = standing } in
     record {
       journal = [];
       reached = opened;
       ran = record {
-        begun = omega (arith, since.later);
         replays = refl;
         in_order = tt;
-        prefixes = λ k c from up now. whole_prefix opened opened [] k c refl (since.each k c (omega arith) up now ∙ stands);
+        prefixes = wider_at_each moment images (moment old + 1) old new (λ k c. stands_for c ≡ stands_for held) (IsPrefix opened []) since (λ k c from up there same. whole_prefix opened opened [] k c refl (same ∙ stands));
       };
       all = tt;
       gone = λ name here none. absurd (neither (bytes_of left name) here none);
@@ -38,6 +42,25 @@ begins moment images held old new queue left standing since stands =
     neither : (o : Option (List ℕ)) → IsSome o → IsNone o → ⊥
     neither None some none = cc
     neither (Some bytes) some none = cc
+
+-- a refusal of the opening has one of three statuses
+told_by : (failure : StoreError) (status : ℕ) → status ≡ status_of (error_of failure) → (status ≡ DAMAGED) ⊎ (status ≡ DISK_FAULT) ⊎ (status ≡ OUT_OF_MEMORY)
+told_by StoreError.Disk status is = inr (inl is)
+told_by StoreError.Memory status is = inr (inr is)
+told_by StoreError.MustReopen status is = inr (inl is)
+told_by (StoreError.Damaged damage) status is = inl is
+
+-- an opening that was refused on files that stand for damage
+pub leaves_damage : {D I O : Type 0} (held : D → Files) (moment : D → ℕ) (images : D → ℕ → Files → Type 0) (damage : Damage) (old new : D) (inbox : I) (outbox : O) (failure : StoreError) (status : ℕ)
+    → status ≡ status_of (error_of failure) → SinceSync moment images old new (λ c. stands_for c ≡ stands_for (held old)) → stands_for (held old) ≡ Err damage → images new (moment new) (held new)
+    → IsLeftDamaged status held moment images damage old new inbox inbox outbox outbox
+leaves_damage held moment images damage old new inbox outbox failure status is since stands there = record {
+  told = told_by failure status is;
+  since = wider_at_each moment images (moment old + 1) old new (λ k c. stands_for c ≡ stands_for (held old)) (λ k c. stands_for c ≡ Err damage) since (λ k c from up left same. same ∙ stands);
+  stands = left_at_the_end moment images (moment old + 1) old new (λ k c. stands_for c ≡ stands_for (held old)) since (held new) there ∙ stands;
+  inbox = refl;
+  outbox = refl;
+}
 
 -- nothing is left that may be taken
 none_to_get : (m : Machine) (name : List ℕ) (found : Option (List ℕ)) → (IsSome found → ⊥ ⊎ IfSome found (λ bytes. CONTENT_MAX < length bytes)) → got m name found ≡ None
@@ -54,18 +77,18 @@ is_quiet m left waits lies but = record {
 }
 
 -- a run that was done
-pub ends : (opened : Machine) (held : Files) (images : ℕ → Files → Type 0) (start now : ℕ) (left : List NamedFile) (standing : List ℕ → Option (List ℕ))
-    → IsRunning opened start images now [] left standing → IsLeftBut [] left → stands_for held ≡ Ok [] → HasRun DONE opened held images start now left standing
-ends opened held images start now left standing run but stands = record {
+pub ends : {D : Type 0} (held : D → Files) (moment : D → ℕ) (images : D → ℕ → Files → Type 0) (opened : Machine) (old new : D) (left : List NamedFile) (standing : List ℕ → Option (List ℕ))
+    → IsRunning moment images opened old new [] left standing → IsLeftBut [] left → stands_for (held new) ≡ Ok [] → HasRun DONE held moment images opened old new left standing
+ends held moment images opened old new left standing run but stands = record {
   journal = run.journal;
   reached = run.reached;
   ran = run.ran;
+  acked = inl (acknowledged-all run.journal (moment old + 1) (moment new) (moment new) run.all run.ran.in_order (omega arith));
   gone = run.gone;
-  outbox = λ _. sym run.stands;
+  inbox = inl (sym run.lies);
+  outbox = inl (sym run.stands);
   done = λ _. record {
-    acknowledged_all = acknowledged-all run.journal start now now run.all run.ran.in_order (omega arith);
     disk = stands ∙ ap Ok (sym run.waits);
-    inbox = sym run.lies;
     quiet = is_quiet run.reached left run.waits run.lies but;
   };
 }

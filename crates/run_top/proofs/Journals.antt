@@ -1,5 +1,5 @@
 -- How a journal grows by one step, and what the disk's images stand for meanwhile.
-use Rattle.std.proofs.Common.{◌≡◌, ◌⊎◌, inl, inr, ⊎_elim, ℕ, ◌+◌, ◌<◌, ◌≤◌, Bool, true, false, List, [], ◌∷◌, ◌++◌, length, refl, sym, ◌∙◌, ap, subst, arith, append_assoc}
+use Rattle.std.proofs.Common.{◌≡◌, ◌⊎◌, inl, inr, ⊎_elim, ℕ, ◌+◌, ◌<◌, ◌≤◌, Bool, true, false, List, [], ◌∷◌, ◌++◌, length, refl, sym, ◌∙◌, ap, subst, arith, append_assoc, length-append}
 use Rattle.std.proofs.lemmas.List.{append-nil}
 use Rattle.std.proofs.lemmas.Bool.{cases_lt}
 use Rattle.std.proofs.lemmas.Bool.Decides.{nat_tests}
@@ -7,6 +7,7 @@ use Rattle.std.specs.Prelude.{Option, None, Some, Ok, IsSome, MatchOption, if◌
 use Rattle.std.specs.List.{AllByRecursion}
 use Rattle.disk_trait.specs.Files.{Files}
 use Rattle.disk_trait.specs.Images.{Since}
+use Rattle.disk_trait.proofs.Moments.{one_part_after_another}
 use Rattle.store_core.specs.State.{stands_for}
 use Rattle.run_top.specs.Machine.{Machine, Entry, Step, Get, step, replay, replay_from, acknowledged, is_acked_by, IsInOrder, IsAcknowledged, WasGot}
 use Rattle.run_top.specs.Run.{IsPrefix, Replays}
@@ -53,6 +54,13 @@ acknowledged-all (entry ∷ journal) low high k all order le =
     let one = ap count_of here.0 in
     omega (arith, one, acknowledged-all journal here.1.0 high k all.1 here.1.1 le)
 
+-- a journal whose last entry alone isn't acknowledged
+pub acknowledged-open : (journal : List Entry) (s : Step) (low high k : ℕ) → IsAcknowledged journal → IsInOrder low high journal → high ≤ k
+    → acknowledged (journal ++ record { step = s; acked = None } ∷ []) k + 1 ≡ length (journal ++ record { step = s; acked = None } ∷ [])
+acknowledged-open journal s low high k all order le =
+    let entry : Entry = record { step = s; acked = None } in
+    omega (arith, acknowledged-append journal entry k, acknowledged-all journal low high k all order le, length-append journal (entry ∷ []))
+
 orders : (low high later : ℕ) (acked : Option ℕ) (rest more : List Entry) → IsSome acked → high ≤ later → MatchOption acked (AllByRecursion (λ later. later.acked ≡ None) rest) (λ moment. (low ≤ moment) × (moment ≤ high) × IsInOrder moment high rest)
     → ((m : ℕ) → m ≤ high → IsInOrder m high rest → IsInOrder m later more)
     → MatchOption acked (AllByRecursion (λ later. later.acked ≡ None) more) (λ moment. (low ≤ moment) × (moment ≤ later) × IsInOrder moment later more)
@@ -65,11 +73,6 @@ in_order-append : (journal : List Entry) (entry : Entry) (low high later : ℕ) 
 in_order-append [] entry low high later begun le all order last = last low begun
 in_order-append (e ∷ journal) entry low high later begun le all order last =
     orders low high later e.acked journal (journal ++ entry ∷ []) all.0 le order (λ m up rest. in_order-append journal entry m high later up le all.1 rest last)
-
--- the same journal, later
-in_order-wider : (journal : List Entry) (low high later : ℕ) → high ≤ later → IsAcknowledged journal → IsInOrder low high journal → IsInOrder low later journal
-in_order-wider [] low high later le all order = order
-in_order-wider (e ∷ journal) low high later le all order = orders low high later e.acked journal journal all.0 le order (λ m up rest. in_order-wider journal m high later le all.1 rest)
 
 pub all-append : (journal : List Entry) (entry : Entry) → IsAcknowledged journal → IsSome entry.acked → IsAcknowledged (journal ++ entry ∷ [])
 all-append [] entry all some = (some, tt)
@@ -110,47 +113,50 @@ longer_prefix opened journal entry k c isnt prefix =
       stands = prefix.stands;
     }
 
-module _ {D : Type 0} (moment : D → ℕ) (images : D → ℕ → Files → Type 0) (old new : D) (opened reached next : Machine) (journal : List Entry) (start : ℕ) where
-  -- what a stop leaves while an entry is made, where it isn't counted yet
-  meanwhile : (entry : Entry) → Replays opened journal reached (images old) start (moment old) → step reached entry.step ≡ Some next
-      → Since moment images old new (λ c. (stands_for c ≡ Ok reached.queue) ⊎ (stands_for c ≡ Ok next.queue))
-      → (k : ℕ) (c : Files) → start ≤ k → k ≤ moment new → images new k c → is_acked_by k entry.acked ≡ false → IsPrefix opened (journal ++ entry ∷ []) k c
-  meanwhile entry ran steps since k c from up left isnt = ⊎_elim
-      (λ (early : k < moment old). longer_prefix opened journal entry k c isnt (ran.prefixes k c from (omega arith) (since.past k c (omega arith) left)))
-      (λ (late : moment old ≤ k). ⊎_elim
-      (λ (before : stands_for c ≡ Ok reached.queue). longer_prefix opened journal entry k c isnt (whole_prefix opened reached journal k c ran.replays before))
-      (λ (after : stands_for c ≡ Ok next.queue). whole_prefix opened next (journal ++ entry ∷ []) k c (replay-append opened reached journal entry ran.replays ∙ steps) after)
-      (since.each k c late up left))
-      (cases_lt k (moment old))
+-- an entry isn't acknowledged before its moment
+not_yet : (now k : ℕ) → k < now → is_acked_by k (Some now) ≡ false
+not_yet now k early = grind (arith, nat_tests)
+
+module _ {D : Type 0} (moment : D → ℕ) (images : D → ℕ → Files → Type 0) (first old new : D) (opened reached next : Machine) (journal : List Entry) where
+  abbrev BeforeOrAfter : Files → Type 0
+  BeforeOrAfter c = (stands_for c ≡ Ok reached.queue) ⊎ (stands_for c ≡ Ok next.queue)
+
+  -- what a stop leaves while an entry is made, as long as it isn't acknowledged
+  meanwhile : (entry : Entry) → replay opened journal ≡ Some reached → step reached entry.step ≡ Some next → (k : ℕ) (c : Files) → is_acked_by k entry.acked ≡ false → BeforeOrAfter c
+      → IsPrefix opened (journal ++ entry ∷ []) k c
+  meanwhile entry replays steps k c isnt either = ⊎_elim
+      (λ (before : stands_for c ≡ Ok reached.queue). longer_prefix opened journal entry k c isnt (whole_prefix opened reached journal k c replays before))
+      (λ (after : stands_for c ≡ Ok next.queue). whole_prefix opened next (journal ++ entry ∷ []) k c (replay-append opened reached journal entry replays ∙ steps) after)
+      either
 
   -- a step that wasn't acknowledged
-  pub step_open : (s : Step) → Replays opened journal reached (images old) start (moment old) → IsAcknowledged journal → step reached s ≡ Some next
-      → Since moment images old new (λ c. (stands_for c ≡ Ok reached.queue) ⊎ (stands_for c ≡ Ok next.queue))
-      → Replays opened (journal ++ record { step = s; acked = None } ∷ []) next (images new) start (moment new)
+  pub step_open : (s : Step) → Replays moment images opened journal reached first old → IsAcknowledged journal → step reached s ≡ Some next → Since moment images old new BeforeOrAfter
+      → Replays moment images opened (journal ++ record { step = s; acked = None } ∷ []) next first new
   step_open s ran all steps since =
       let entry : Entry = record { step = s; acked = None } in
       record {
-        begun = omega (arith, ran.begun, since.later);
         replays = replay-append opened reached journal entry ran.replays ∙ steps;
-        in_order = in_order-append journal entry start (moment old) (moment new) ran.begun since.later all ran.in_order (λ m le. tt);
-        prefixes = λ k c from up left. meanwhile entry ran steps since k c from up left refl;
+        in_order = in_order-append journal entry (moment first + 1) (moment old) (moment new) ran.prefixes.begun since.later all ran.in_order (λ m le. tt);
+        prefixes = one_part_after_another moment images (moment first + 1) (moment old) first old new (IsPrefix opened journal) (λ k. BeforeOrAfter) (IsPrefix opened (journal ++ entry ∷ [])) ran.prefixes since (omega arith)
+            (λ k c from early. longer_prefix opened journal entry k c refl)
+            (λ k c late up left. meanwhile entry ran.replays steps k c refl);
       }
 
   -- a step that was acknowledged at the end
-  pub step_acked : (s : Step) → Replays opened journal reached (images old) start (moment old) → IsAcknowledged journal → step reached s ≡ Some next
-      → Since moment images old new (λ c. (stands_for c ≡ Ok reached.queue) ⊎ (stands_for c ≡ Ok next.queue))
+  pub step_acked : (s : Step) → Replays moment images opened journal reached first old → IsAcknowledged journal → step reached s ≡ Some next → Since moment images old new BeforeOrAfter
       → ((c : Files) → images new (moment new) c → stands_for c ≡ Ok next.queue)
-      → Replays opened (journal ++ record { step = s; acked = Some (moment new) } ∷ []) next (images new) start (moment new)
+      → Replays moment images opened (journal ++ record { step = s; acked = Some (moment new) } ∷ []) next first new
   step_acked s ran all steps since now_stands =
       let entry : Entry = record { step = s; acked = Some (moment new) } in
       record {
-        begun = omega (arith, ran.begun, since.later);
         replays = replay-append opened reached journal entry ran.replays ∙ steps;
-        in_order = in_order-append journal entry start (moment old) (moment new) ran.begun since.later all ran.in_order (λ m le. (omega (arith, since.later), omega arith, tt));
-        prefixes = λ k c from up left. ⊎_elim
-            (λ (early : k < moment new). meanwhile entry ran steps since k c from up left (grind (arith, nat_tests)))
+        in_order = in_order-append journal entry (moment first + 1) (moment old) (moment new) ran.prefixes.begun since.later all ran.in_order (λ m le. (omega (arith, since.later), omega arith, tt));
+        prefixes = one_part_after_another moment images (moment first + 1) (moment old) first old new (IsPrefix opened journal) (λ k. BeforeOrAfter) (IsPrefix opened (journal ++ entry ∷ [])) ran.prefixes since (omega arith)
+            (λ k c from early. longer_prefix opened journal entry k c (not_yet (moment new) k (omega (arith, early, since.later))))
+            (λ k c late up left either. ⊎_elim
+            (λ (before : k < moment new). meanwhile entry ran.replays steps k c (not_yet (moment new) k before) either)
             (λ (last : moment new ≤ k).
             let same : k ≡ moment new = omega arith in
             whole_prefix opened next (journal ++ entry ∷ []) k c (replay-append opened reached journal entry ran.replays ∙ steps) (now_stands c (subst (λ (m : ℕ). images new m c) same left)))
-            (cases_lt k (moment new));
+            (cases_lt k (moment new)));
       }

@@ -10,7 +10,8 @@ use Rattle.std.specs.List.{AllByRecursion}
 use Rattle.std.specs.Ordering.{nat_cmp, is_eq}
 use Rattle.std.specs.Cmp.Lexicographic.{slice_cmp, texts_ties}
 use Rattle.std.specs.declared.cmp.Ordering.TheVariants.{Less}
-use Rattle.run_top.specs.Run.{IsTooLarge, IsGoneByEntry, IsOneOf, IsLeftBut, TakesOrLeaves}
+use Rattle.run_top.specs.Run.{IsGoneByEntry}
+use Rattle.run_top.specs.Running.{IsTooLarge, IsOneOf, IsLeftBut, TakesOrLeaves}
 use Rattle.flowfile_record.specs.declared.TheConstants.{CONTENT_MAX}
 use Rattle.run_top.specs.Machine.{Entry, WasGot}
 

@@ -1,16 +1,17 @@
 -- What a run promises.
-use Rattle.std.specs.Prelude.{◌≡◌, ◌≢◌, ◌⊎◌, ℕ, ◌<◌, ◌≤◌, List, [], ◌∷◌, ◌++◌, length, Option, Some, Result, Ok, Err, ⊤, IsSome, IsNone, IfSome}
+use Rattle.std.specs.Prelude.{◌≡◌, ◌≢◌, ◌⊎◌, ℕ, ◌+◌, ◌≤◌, List, [], ◌∷◌, ◌++◌, length, Option, Some, Result, Ok, Err, ⊤, IsSome, IsNone, IsTrue, Bool}
 use Rattle.disk_trait.specs.Files.{Files}
-use Rattle.std.specs.List.{AllByRecursion}
-use Rattle.flowfile_record.specs.NamedFile.{NamedFile, bytes_of, without}
-use Rattle.flowfile_record.specs.declared.TheConstants.{CONTENT_MAX}
+use Rattle.disk_trait.specs.Images.{SinceMoment, Since, next_moment}
+use Rattle.disk_trait.specs.Faults.{CountsFaults}
+use Rattle.disk_trait.specs.declared.damage.Damage.{Damage}
+use Rattle.flowfile_record.specs.NamedFile.{NamedFile, bytes_of}
 use Rattle.store_core.specs.declared.queued.Queued.{Queued}
+use Rattle.store_core.specs.Opening.{SinceSync}
 use Rattle.store_core.specs.State.{stands_for}
-use Rattle.disk_trait.specs.Images.{Since}
 use Rattle.run_top.specs.Status.{status_of}
 use Rattle.run_top.specs.declared.status.RunError.{RunError}
-use Rattle.run_top.specs.Machine.{Machine, Entry, replay, acknowledged, IsInOrder, IsAcknowledged, WasGot, IsQuiet}
-use Rattle.run_top.specs.declared.status.TheConstants.{DONE, DISK_FAULT, OUTBOX_FAULT}
+use Rattle.run_top.specs.declared.status.TheConstants.{DONE, DAMAGED, DISK_FAULT, INBOX_FAULT, OUTBOX_FAULT, OUT_OF_MEMORY}
+use Rattle.run_top.specs.Machine.{Machine, Entry, Get, replay, acknowledged, IsInOrder, WasGot, IsQuiet}
 
 -- These files stand for the queue after a prefix of the journal, and each entry that was acknowledged by the moment
 -- is in it.
@@ -23,72 +24,91 @@ pub record IsPrefix (opened : Machine) (journal : List Entry) (k : ℕ) (c : Fil
   pub replays : replay opened front ≡ Some reached
   pub stands : stands_for c ≡ Ok reached.queue
 
--- Up to now the journal leads from the opened state to this one, its moments are in order, and at every moment since
--- the start whatever a stop may leave is a prefix.
-pub record Replays (opened : Machine) (journal : List Entry) (reached : Machine) (images : ℕ → Files → Type 0) (start now : ℕ) : Type 0 where
-  pub begun : start ≤ now
+-- The journal leads from the opened state to this one, its moments are in order, and from behind the opening's first
+-- sync on, whatever a stop may leave is a prefix. What a stop before that could leave is as it was.
+pub record Replays {D : Type 0} (moment : D → ℕ) (images : D → ℕ → Files → Type 0) (opened : Machine) (journal : List Entry) (reached : Machine) (old new : D) : Type 0 where
   pub replays : replay opened journal ≡ Some reached
-  pub in_order : IsInOrder start now journal
-  pub prefixes : (k : ℕ) (c : Files) → start ≤ k → k ≤ now → images k c → IsPrefix opened journal k c
+  pub in_order : IsInOrder (moment old + 1) (moment new) journal
+  pub prefixes : SinceMoment moment images (moment old + 1) old new (IsPrefix opened journal)
+
+-- By now each entry is acknowledged. At a fault of the disk the last one may not be.
+abbrev pub IsAckedBy : (now status : ℕ) → List Entry → Type 0
+IsAckedBy now status journal = (acknowledged journal now ≡ length journal) ⊎ ((status ≡ DISK_FAULT) × (acknowledged journal now + 1 ≡ length journal))
 
 -- each name that is gone from the inbox is that of an acknowledged entry
 abbrev pub IsGoneByEntry : (before after : List NamedFile) → List Entry → Type 0
 IsGoneByEntry before after journal = (name : List ℕ) → IsSome (bytes_of before name) → IsNone (bytes_of after name) → WasGot name journal
 
--- At the end of a run that was done: every entry is acknowledged, disk, inbox and outbox are those of the whole
--- journal, and the flow is quiet.
-pub record IsDone (journal : List Entry) (reached : Machine) (held : Files) (left : List NamedFile) (now : ℕ) : Type 0 where
-  pub acknowledged_all : acknowledged journal now ≡ length journal
+-- The inbox is as before the journal's last step, which got a file: disk or inbox failed before the file was removed.
+pub record IsLeftOver (status : ℕ) (opened : Machine) (journal : List Entry) (left : List NamedFile) : Type 0 where
+  pub failed : (status ≡ DISK_FAULT) ⊎ (status ≡ INBOX_FAULT)
+  pub before : List Entry
+  pub last : Entry
+  pub parts : before ++ last ∷ [] ≡ journal
+  pub name : List ℕ
+  pub got : last.step ≡ Get name
+  pub reached : Machine
+  pub replays : replay opened before ≡ Some reached
+  pub still : left ≡ reached.left
+
+-- The outbox failed at the first file that waits. What stands under its name may be anything, and the file still waits.
+pub record IsStoppedAtPut (status : ℕ) (reached : Machine) (standing : List ℕ → Option (List ℕ)) : Type 0 where
+  pub failed : status ≡ OUTBOX_FAULT
+  pub file : Queued
+  pub rest : List Queued
+  pub waits : reached.queue ≡ file ∷ rest
+  pub others : (other : List ℕ) → other ≢ file.name → standing other ≡ reached.outbox other
+
+-- At the end of a run that was done: what the disk holds is that of the whole journal, and the flow is quiet.
+pub record IsDone (reached : Machine) (held : Files) : Type 0 where
   pub disk : stands_for held ≡ Ok reached.queue
-  pub inbox : left ≡ reached.left
   pub quiet : IsQuiet reached
 
--- Whatever its status: a journal tells what the run did to disk, inbox and outbox. The outbox is that of the whole
--- journal unless it failed.
-pub record HasRun (status : ℕ) (opened : Machine) (held : Files) (images : ℕ → Files → Type 0) (start now : ℕ) (left : List NamedFile) (standing : List ℕ → Option (List ℕ)) : Type 0 where
+-- Whatever its status: a journal tells what the run did to disk, inbox and outbox. Inbox and outbox are those of the
+-- whole journal, but for the one file at which a device failed.
+pub record HasRun {D : Type 0} (status : ℕ) (held : D → Files) (moment : D → ℕ) (images : D → ℕ → Files → Type 0) (opened : Machine) (old new : D) (left : List NamedFile) (standing : List ℕ → Option (List ℕ)) : Type 0 where
   pub journal : List Entry
   pub reached : Machine
-  pub ran : Replays opened journal reached images start now
+  pub ran : Replays moment images opened journal reached old new
+  pub acked : IsAckedBy (moment new) status journal
   pub gone : IsGoneByEntry opened.left left journal
-  pub outbox : status ≢ OUTBOX_FAULT → standing ≡ reached.outbox
-  pub done : status ≡ DONE → IsDone journal reached held left now
+  pub inbox : (left ≡ reached.left) ⊎ IsLeftOver status opened journal left
+  pub outbox : (standing ≡ reached.outbox) ⊎ IsStoppedAtPut status reached standing
+  pub done : status ≡ DONE → IsDone reached (held new)
 
--- Between two steps: every entry is acknowledged, and store, inbox and outbox are those of the whole journal.
-pub record IsRunning (opened : Machine) (start : ℕ) (images : ℕ → Files → Type 0) (now : ℕ) (queue : List Queued) (left : List NamedFile) (standing : List ℕ → Option (List ℕ)) : Type 0 where
-  pub journal : List Entry
-  pub reached : Machine
-  pub ran : Replays opened journal reached images start now
-  pub all : IsAcknowledged journal
-  pub gone : IsGoneByEntry opened.left left journal
-  pub waits : reached.queue ≡ queue
-  pub lies : reached.left ≡ left
-  pub stands : reached.outbox ≡ standing
+-- The opening's first sync failed: nothing was done, and the disk's fault is told.
+pub record IsNotOpened {D I O : Type 0} (status : ℕ) (moment : D → ℕ) (images : D → ℕ → Files → Type 0) (old new : D) (inbox_old inbox_new : I) (outbox_old outbox_new : O) : Type 0 where
+  pub fault : status ≡ DISK_FAULT
+  pub since : Since moment images old new (images old (moment old))
+  pub inbox : inbox_new ≡ inbox_old
+  pub outbox : outbox_new ≡ outbox_old
 
--- a file that is left has more bytes than a content may
-abbrev pub IsTooLarge : List NamedFile → List ℕ → Type 0
-IsTooLarge left name = IfSome (bytes_of left name) (λ bytes. CONTENT_MAX < length bytes)
+-- Files that stand for this damage are left so: what the disk holds and, from behind the opening's first sync on,
+-- whatever a stop may leave.
+pub record IsLeftDamaged {D I O : Type 0} (status : ℕ) (held : D → Files) (moment : D → ℕ) (images : D → ℕ → Files → Type 0) (damage : Damage) (old new : D) (inbox_old inbox_new : I) (outbox_old outbox_new : O) : Type 0 where
+  pub told : (status ≡ DAMAGED) ⊎ (status ≡ DISK_FAULT) ⊎ (status ≡ OUT_OF_MEMORY)
+  pub since : SinceSync moment images old new (λ c. stands_for c ≡ Err damage)
+  pub stands : stands_for (held new) ≡ Err damage
+  pub inbox : inbox_new ≡ inbox_old
+  pub outbox : outbox_new ≡ outbox_old
 
--- A file was removed, or it stays and is too large.
-abbrev pub TakesOrLeaves : List ℕ → (before after : List NamedFile) → Type 0
-TakesOrLeaves name before after = (after ≡ without name before) ⊎ ((after ≡ before) × IsTooLarge before name)
+-- Damage was told: on a disk that tells the files stand for some. On any disk they are as before, and of the calls that
+-- change something there was one sync.
+pub record IsToldDamaged {D I O : Type 0} (tells : Bool) (held : D → Files) (moment : D → ℕ) (old new : D) (inbox_old inbox_new : I) (outbox_old outbox_new : O) : Type 0 where
+  pub found : IsTrue tells → (damage : Damage) × (stands_for (held old) ≡ Err damage)
+  pub same : held new ≡ held old
+  pub one_sync : moment new ≡ next_moment (moment old)
+  pub inbox : inbox_new ≡ inbox_old
+  pub outbox : outbox_new ≡ outbox_old
 
--- a text among others
-abbrev pub IsOneOf : List (List ℕ) → List ℕ → Type 0
-IsOneOf [] name = ⊥
-IsOneOf (first ∷ names) name = (first ≡ name) ⊎ IsOneOf names name
+-- A device's fault count never falls, and its status is answered only where the count rose, or stands at its type's
+-- end.
+pub record CountsEachFault (status : ℕ) (disk_old disk_new inbox_old inbox_new outbox_old outbox_new : ℕ) : Type 0 where
+  pub disk : CountsFaults disk_old disk_new (status ≡ DISK_FAULT)
+  pub inbox : CountsFaults inbox_old inbox_new (status ≡ INBOX_FAULT)
+  pub outbox : CountsFaults outbox_old outbox_new (status ≡ OUTBOX_FAULT)
 
--- All but these names that are left are too large, and each of these is left.
-pub record IsLeftBut (names : List (List ℕ)) (left : List NamedFile) : Type 0 where
-  pub here : AllByRecursion (λ name. IsSome (bytes_of left name)) names
-  pub others : (name : List ℕ) → IsSome (bytes_of left name) → IsOneOf names name ⊎ IsTooLarge left name
-
--- The status of how a run ended.
+-- the status of how a run ended
 abbrev pub status_at : Result ⊤ RunError → ℕ
 status_at (Ok done) = DONE
 status_at (Err error) = status_of error
-
--- The opening's first sync failed: nothing was done, and the disk's fault is told.
-pub record IsNotOpened {D : Type 0} (status : ℕ) (held : D → Files) (moment : D → ℕ) (images : D → ℕ → Files → Type 0) (old new : D) : Type 0 where
-  pub fault : status ≡ DISK_FAULT
-  pub same : held new ≡ held old
-  pub since : Since moment images old new (images old (moment old))

@@ -7,7 +7,8 @@ ghost use Rattle.flowfile_record.specs.NamedFile.{NamedFile, bytes_of};
 ghost use Rattle.world_io.specs.Inbox.{IsAscending};
 ghost use Rattle.store_core.specs.Kept.{IsKeptOn};
 ghost use Rattle.run_top.specs.Machine.{Machine};
-ghost use Rattle.run_top.specs.Run.{HasRun, IsRunning, TakesOrLeaves, IsLeftBut};
+ghost use Rattle.run_top.specs.Run.{HasRun};
+ghost use Rattle.run_top.specs.Running.{IsRunning, TakesOrLeaves, IsLeftBut};
 ghost use Rattle.run_top.specs.Status.{status_of};
 ghost use Rattle.run_top.specs.declared.status.RunError.{RunError as TheError};
 
@@ -27,12 +28,12 @@ fn put_first<D: Disk, O: Outbox>(
     requires kept { IsKeptOn D.moment D.images store.old disk.old }
     requires some { 0 < length store.old.files }
 
-    ensures goes_on { OnOk result ((opened : Machine) (start : ℕ) (left : List NamedFile) → IsTrue O.tells
-        → IsRunning opened start (D.images disk.old) (D.moment disk.old) store.old.files left (O.standing outbox.old)
-        → IsRunning opened start (D.images disk.new) (D.moment disk.new) store.new.files left (O.standing outbox.new)) }
-    ensures stopped { (error : TheError) → IsErrOf result error → (opened : Machine) (start : ℕ) (left : List NamedFile) → IsTrue O.tells
-        → IsRunning opened start (D.images disk.old) (D.moment disk.old) store.old.files left (O.standing outbox.old)
-        → HasRun (status_of error) opened (D.held disk.new) (D.images disk.new) start (D.moment disk.new) left (O.standing outbox.new) }
+    ensures goes_on { OnOk result ((opened : Machine) (first : D) (left : List NamedFile) → IsTrue O.tells
+        → IsRunning D.moment D.images opened first disk.old store.old.files left (O.standing outbox.old)
+        → IsRunning D.moment D.images opened first disk.new store.new.files left (O.standing outbox.new)) }
+    ensures stopped { (error : TheError) → IsErrOf result error → (opened : Machine) (first : D) (left : List NamedFile) → IsTrue O.tells
+        → IsRunning D.moment D.images opened first disk.old store.old.files left (O.standing outbox.old)
+        → HasRun (status_of error) D.held D.moment D.images opened first disk.new left (O.standing outbox.new) }
 
     ensures works { OnOk result (store.new.failed ≡ false) }
     ensures kept { OnOk result (IsKeptOn D.moment D.images store.new disk.new) }
@@ -63,12 +64,12 @@ fn take<D: Disk, I: Inbox>(
     requires kept { IsKeptOn D.moment D.images store.old disk.old }
     requires left { IsTrue I.tells → IsSome (bytes_of (I.left inbox.old) name.now) }
 
-    ensures goes_on { OnOk result ((opened : Machine) (start : ℕ) (standing : List ℕ → Option (List ℕ)) → IsTrue I.tells
-        → IsRunning opened start (D.images disk.old) (D.moment disk.old) store.old.files (I.left inbox.old) standing
-        → IsRunning opened start (D.images disk.new) (D.moment disk.new) store.new.files (I.left inbox.new) standing) }
-    ensures stopped { (error : TheError) → IsErrOf result error → (opened : Machine) (start : ℕ) (standing : List ℕ → Option (List ℕ)) → IsTrue I.tells
-        → IsRunning opened start (D.images disk.old) (D.moment disk.old) store.old.files (I.left inbox.old) standing
-        → HasRun (status_of error) opened (D.held disk.new) (D.images disk.new) start (D.moment disk.new) (I.left inbox.new) standing }
+    ensures goes_on { OnOk result ((opened : Machine) (first : D) (standing : List ℕ → Option (List ℕ)) → IsTrue I.tells
+        → IsRunning D.moment D.images opened first disk.old store.old.files (I.left inbox.old) standing
+        → IsRunning D.moment D.images opened first disk.new store.new.files (I.left inbox.new) standing) }
+    ensures stopped { (error : TheError) → IsErrOf result error → (opened : Machine) (first : D) (standing : List ℕ → Option (List ℕ)) → IsTrue I.tells
+        → IsRunning D.moment D.images opened first disk.old store.old.files (I.left inbox.old) standing
+        → HasRun (status_of error) D.held D.moment D.images opened first disk.new (I.left inbox.new) standing }
     ensures left { OnOk result (IsTrue I.tells → TakesOrLeaves name.now (I.left inbox.old) (I.left inbox.new)) }
 
     ensures works { OnOk result (store.new.failed ≡ false) }
@@ -105,12 +106,12 @@ fn put_all<D: Disk, O: Outbox>(
     requires works { store.old.failed ≡ false }
     requires kept { IsKeptOn D.moment D.images store.old disk.old }
 
-    ensures goes_on { OnOk result ((opened : Machine) (start : ℕ) (left : List NamedFile) → IsTrue O.tells
-        → IsRunning opened start (D.images disk.old) (D.moment disk.old) store.old.files left (O.standing outbox.old)
-        → IsRunning opened start (D.images disk.new) (D.moment disk.new) store.new.files left (O.standing outbox.new)) }
-    ensures stopped { (error : TheError) → IsErrOf result error → (opened : Machine) (start : ℕ) (left : List NamedFile) → IsTrue O.tells
-        → IsRunning opened start (D.images disk.old) (D.moment disk.old) store.old.files left (O.standing outbox.old)
-        → HasRun (status_of error) opened (D.held disk.new) (D.images disk.new) start (D.moment disk.new) left (O.standing outbox.new) }
+    ensures goes_on { OnOk result ((opened : Machine) (first : D) (left : List NamedFile) → IsTrue O.tells
+        → IsRunning D.moment D.images opened first disk.old store.old.files left (O.standing outbox.old)
+        → IsRunning D.moment D.images opened first disk.new store.new.files left (O.standing outbox.new)) }
+    ensures stopped { (error : TheError) → IsErrOf result error → (opened : Machine) (first : D) (left : List NamedFile) → IsTrue O.tells
+        → IsRunning D.moment D.images opened first disk.old store.old.files left (O.standing outbox.old)
+        → HasRun (status_of error) D.held D.moment D.images opened first disk.new left (O.standing outbox.new) }
 
     ensures empty { OnOk result (store.new.files ≡ []) }
     ensures works { OnOk result (store.new.failed ≡ false) }
@@ -140,12 +141,12 @@ pub fn move_all<D: Disk, I: Inbox, O: Outbox>(
     requires names { IsTrue I.tells → names.now ≡ map (λ file. file.name) (I.left inbox.old) }
     requires ascending { IsAscending names.now }
 
-    ensures moved { OnOk result ((opened : Machine) (start : ℕ) → IsTrue I.tells → IsTrue O.tells
-        → IsRunning opened start (D.images disk.old) (D.moment disk.old) store.old.files (I.left inbox.old) (O.standing outbox.old)
-        → IsRunning opened start (D.images disk.new) (D.moment disk.new) [] (I.left inbox.new) (O.standing outbox.new)) }
-    ensures stopped { (error : TheError) → IsErrOf result error → (opened : Machine) (start : ℕ) → IsTrue I.tells → IsTrue O.tells
-        → IsRunning opened start (D.images disk.old) (D.moment disk.old) store.old.files (I.left inbox.old) (O.standing outbox.old)
-        → HasRun (status_of error) opened (D.held disk.new) (D.images disk.new) start (D.moment disk.new) (I.left inbox.new) (O.standing outbox.new) }
+    ensures moved { OnOk result ((opened : Machine) (first : D) → IsTrue I.tells → IsTrue O.tells
+        → IsRunning D.moment D.images opened first disk.old store.old.files (I.left inbox.old) (O.standing outbox.old)
+        → IsRunning D.moment D.images opened first disk.new [] (I.left inbox.new) (O.standing outbox.new)) }
+    ensures stopped { (error : TheError) → IsErrOf result error → (opened : Machine) (first : D) → IsTrue I.tells → IsTrue O.tells
+        → IsRunning D.moment D.images opened first disk.old store.old.files (I.left inbox.old) (O.standing outbox.old)
+        → HasRun (status_of error) D.held D.moment D.images opened first disk.new (I.left inbox.new) (O.standing outbox.new) }
 
     ensures empty { OnOk result (store.new.files ≡ []) }
     ensures none_to_take { OnOk result (IsTrue I.tells → IsLeftBut [] (I.left inbox.new)) }

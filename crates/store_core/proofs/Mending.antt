@@ -108,8 +108,8 @@ hardly_gives log short = read_gives 0 [] false log (hardly_there log short)
 -- a stop within the cut of what stands behind the last gate
 pub cut_gives : (end : ℕ) (queue : List Queued) (closed : Bool) (held d c : Files) → IsRead end queue closed (held the_log) → end + 1 < length (held the_log)
     → d ≡ held → Shortened (end + 1) (d the_log) (c the_log) → stands_for c ≡ Ok queue
-cut_gives end queue closed held d c is long settled cut =
-    let from : Shortened (end + 1) (held the_log) (c the_log) = subst (λ (f : Files). Shortened (end + 1) (f the_log) (c the_log)) settled cut in
+cut_gives end queue closed held d c is long synced cut =
+    let from : Shortened (end + 1) (held the_log) (c the_log) = subst (λ (f : Files). Shortened (end + 1) (f the_log) (c the_log)) synced cut in
     stands_for-log c ∙ read_gives end queue closed (c the_log) (same_gate end queue closed (held the_log) (c the_log) is long from.front (omega (arith, from.no_shorter)))
 
 -- and once it is done
@@ -120,18 +120,18 @@ cut_is_read end queue closed log c is long done =
 -- a stop within the write of a closed gate
 pub gate_gives : (end : ℕ) (queue : List Queued) (closed : Bool) (held d c : Files) → IsRead end queue closed (held the_log) → length (held the_log) ≤ end + 1
     → d ≡ held → Torn end 1 (d the_log) (c the_log) → stands_for c ≡ Ok queue
-gate_gives end queue closed held d c is short settled torn =
-    let from : Torn end 1 (held the_log) (c the_log) = subst (λ (f : Files). Torn end 1 (f the_log) (c the_log)) settled torn in
+gate_gives end queue closed held d c is short synced torn =
+    let from : Torn end 1 (held the_log) (c the_log) = subst (λ (f : Files). Torn end 1 (f the_log) (c the_log)) synced torn in
     stands_for-log c ∙ ends_there end queue closed (held the_log) (c the_log) is from.front (omega (arith, from.no_shorter, is.read.within)) (omega (arith, from.no_longer))
 
 -- a stop before anything was written
 pub held_gives : (end : ℕ) (queue : List Queued) (closed : Bool) (held c : Files) → IsRead end queue closed (held the_log) → c ≡ held → stands_for c ≡ Ok queue
-held_gives end queue closed held c is settled = ap stands_for settled ∙ stands_for-log held ∙ read_gives end queue closed (held the_log) is
+held_gives end queue closed held c is synced = ap stands_for synced ∙ stands_for-log held ∙ read_gives end queue closed (held the_log) is
 
 -- a stop within the cut of a log of at most a byte
 pub clear_gives : (held d c : Files) → length (held the_log) ≤ 1 → d ≡ held → Shortened 0 (d the_log) (c the_log) → stands_for c ≡ Ok []
-clear_gives held d c short settled cut =
-    let from : Shortened 0 (held the_log) (c the_log) = subst (λ (f : Files). Shortened 0 (f the_log) (c the_log)) settled cut in
+clear_gives held d c short synced cut =
+    let from : Shortened 0 (held the_log) (c the_log) = subst (λ (f : Files). Shortened 0 (f the_log) (c the_log)) synced cut in
     stands_for-log c ∙ hardly_gives (c the_log) (omega (arith, from.no_longer))
 
 -- where the last gate is the first byte, there is no entry

@@ -116,7 +116,7 @@ pub staged_log : (end : ℕ) (queue : List Queued) (held now : Files) (was : IsA
 staged_log end queue held now was block frame written is =
     written_behind end queue (held the_log) was frame (now the_log) written.here ∙ ap (λ (l : List ℕ). was.front ++ closed_gate ∷ l) is
 
--- An entry is staged and settled, and then its gate is opened: whatever a stop leaves has it or is without it.
+-- An entry is staged and synced, and then its gate is opened: whatever a stop leaves has it or is without it.
 pub entry_or_none : {D : Type 0} (moment : D → ℕ) (images : D → ℕ → Files → Type 0) (old mid new : D) (held now : Files) (end : ℕ) (queue : List Queued) (entry : LogEntry) (block frame : List ℕ)
     → EachAtRest end queue (images old (moment old)) → IsBlockOf end entry block → frame ≡ block ++ closed_gate ∷ []
     → ((c : Files) → images mid (moment mid) c → images old (moment old) held × At the_log (Overwritten (end + 1) frame) held now)

@@ -1,11 +1,8 @@
 -- What opening promises of stops.
-use Rattle.std.specs.Prelude.{ℕ, ◌<◌, ◌≤◌}
+use Rattle.std.specs.Prelude.{ℕ, ◌+◌}
 use Rattle.disk_trait.specs.Files.{Files}
+use Rattle.disk_trait.specs.Images.{SinceMoment}
 
--- From an opening's start to its end, where its first sync succeeded: time goes on, each moment of the past keeps
--- its images, and from behind that sync on, whatever a stop may leave has P.
-pub record SinceSync {D : Type 0} (moment : D → ℕ) (images : D → ℕ → Files → Type 0) (old new : D) (P : Files → Type 0) : Type 0 where
-  pub later : moment old < moment new
-  pub past : (k : ℕ) (c : Files) → k ≤ moment old → images new k c → images old k c
-  pub kept : (k : ℕ) (c : Files) → k ≤ moment old → images old k c → images new k c
-  pub each : (k : ℕ) (c : Files) → moment old < k → k ≤ moment new → images new k c → P c
+-- From behind an opening's first sync on, whatever a stop may leave has P.
+abbrev pub SinceSync : {D : Type 0} → (D → ℕ) → (D → ℕ → Files → Type 0) → D → D → (Files → Type 0) → Type 0
+SinceSync moment images old new P = SinceMoment moment images (moment old + 1) old new (λ k. P)

@@ -104,6 +104,3 @@ fn add_parts(payload: &[u8]) -> Option<(&[u8], &[u8])>
     }
     Some((name, bytes))
 }
-
-#[cfg(test)]
-mod tests;

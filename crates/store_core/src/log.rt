@@ -1,6 +1,6 @@
 //! The store's log: entries, each behind a gate of one byte.
 //!
-//! An entry counts where its gate is open (0x5A). It is written behind a closed gate and settled, with a
+//! An entry counts where its gate is open (0x5A). It is written behind a closed gate and synced, with a
 //! closed gate of its own behind it, and only then is the gate opened, by a write of its own: a stop
 //! leaves the entry whole or without effect, whatever a torn write may leave.
 ghost use Rattle.std.specs.Prelude.{◌≡◌, ◌⊎◌, ℕ, ◌+◌, ◌^◌, ◌<◌, List, [], ◌∷◌, ◌++◌, length, IsTrue, OnOk, IsErr, Result, Ok};

@@ -88,7 +88,7 @@ fn begin<D: Disk>(disk: &mut D, size: u64, frame: &[u8]) -> Result<u64, Failed>
 }
 
 /// Makes the end of a log that was read whole again, or begins one. Gives the place of the last gate.
-pub fn settle<D: Disk>(disk: &mut D, scan: &Scan, frame: &[u8]) -> Result<u64, Failed>
+pub fn mend<D: Disk>(disk: &mut D, scan: &Scan, frame: &[u8]) -> Result<u64, Failed>
     requires synced { IsOnly (D.held disk.old) (D.images disk.old (D.moment disk.old)) }
     requires read { IsTrue D.tells → IsRead scan.now.end scan.now.queue scan.now.closed (D.held disk.old the_log) }
     requires size { IsTrue D.tells → scan.now.size ≡ length (D.held disk.old the_log) }

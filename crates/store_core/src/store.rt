@@ -14,7 +14,7 @@ ghost use Rattle.store_core.specs.Opening.{SinceSync};
 ghost use Rattle.store_core.specs.Kept.{IsOpened, IsKeptOn};
 
 use crate::log::{CLOSED_GATE, append};
-use crate::open::settle;
+use crate::open::mend;
 use crate::queue::Queue;
 use crate::scan::read_log;
 use crate::{
@@ -90,7 +90,7 @@ fn restore<D: Disk>(alloc: Global, disk: &mut D) -> Result<Store, StoreError>
     let scan = read_log(alloc, disk)?;
     let begins = frame_of(alloc, BEGIN_KIND, &BEGIN_PAYLOAD)?;
     let drop_frame = frame_of(alloc, DROP_KIND, &[])?;
-    let end = settle(disk, &scan, begins.as_slice())?;
+    let end = mend(disk, &scan, begins.as_slice())?;
     Ok(Store {
         alloc,
         queue: scan.queue,
@@ -103,17 +103,19 @@ fn restore<D: Disk>(alloc: Global, disk: &mut D) -> Result<Store, StoreError>
 impl Store {
     /// Opens the store that stands on a disk, whatever a stop left of it, or makes one where there is none.
     ///
-    /// It begins with a sync, reads the log, and mends its end. `Damaged` comes only where the files stand for
-    /// no queue, and where they stand for none the answer is `Damaged`, `Disk` or `Memory`. With `Damaged` or
-    /// `Memory` nothing was written. After any error open again.
+    /// It begins with a sync, reads the log, and mends its end. On a disk that tells, `Damaged` comes only
+    /// where the files stand for no queue, and where they stand for none the answer is `Damaged`, `Disk` or
+    /// `Memory`. With `Damaged` or `Memory` the sync is the one call that could change something, and what
+    /// the disk holds is as before. Where the first sync fails, all that is left is one of the images of
+    /// before. After any error open again.
     pub fn load<D: Disk>(alloc: Global, disk: &mut D) -> Result<Store, StoreError>
         // The queue is the one that the files stand for.
         ensures opened { IfOk result (λ store. IsTrue D.tells → stands_for (D.held disk.old) ≡ Ok store.files) }
         ensures kept { IfOk result (λ store. IsOpened D.moment D.images store disk.new) }
 
-        // From behind the first sync on, whatever a stop leaves stands for the same; else nothing was done.
+        // From behind the first sync on, whatever a stop leaves stands for the same; or that sync failed.
         ensures images { SinceSync D.moment D.images disk.old disk.new (λ c. stands_for c ≡ stands_for (D.held disk.old))
-            ⊎ ((result ≡ Err StoreError.Disk) × (D.held disk.new ≡ D.held disk.old) × Since D.moment D.images disk.old disk.new (D.images disk.old (D.moment disk.old))) }
+            ⊎ ((result ≡ Err StoreError.Disk) × Since D.moment D.images disk.old disk.new (D.images disk.old (D.moment disk.old))) }
 
         ensures damaged { (damage : TheDamage) → IsErrOf result (StoreError.Damaged damage) → IsTrue D.tells → stands_for (D.held disk.old) ≡ Err damage }
         // Of the calls that change something, there was the one sync.

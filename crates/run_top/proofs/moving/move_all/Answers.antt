@@ -1,7 +1,7 @@
 use Rattle.std.proofs.Common.{◌≡◌, ◌+◌, ℕ, List, ◌∷◌, drop, arith, sym, ◌∙◌, ap, subst}
 use Rattle.std.proofs.lemmas.List.{drop_more}
 use Rattle.world_io.specs.Inbox.{IsAscending}
-use Rattle.run_top.specs.Run.{IsLeftBut}
+use Rattle.run_top.specs.Running.{IsLeftBut}
 use Rattle.run_top.proofs.Names.{left_at_first, left_after, ascends_behind}
 use Rattle.run_top.proofs.moving.move_all.Goals as goal
 
@@ -10,7 +10,7 @@ loop-name-init g c = record {
   works = c.in_ok-put_all.ensures.works;
   kept = c.in_ok-put_all.ensures.kept;
   empty = c.in_ok-put_all.ensures.empty;
-  goes_on = λ opened start in_told out_told run. c.in_ok-put_all.ensures.goes_on opened start (g.I.Inbox.left c.args.inbox.now) out_told run;
+  goes_on = λ opened first in_told out_told run. c.in_ok-put_all.ensures.goes_on opened first (g.I.Inbox.left c.args.inbox.now) out_told run;
   left = λ told. left_at_first c.args.names.now (g.I.Inbox.left c.args.inbox.now) (c.requires.names told);
   disk_faults = c.put_all.ensures.disk_cause.never_falls;
   inbox_faults = omega arith;
@@ -22,9 +22,9 @@ loop-name-preserved g c = record {
   works = c.in_ok-put_all-2.ensures.works;
   kept = c.in_ok-put_all-2.ensures.kept;
   empty = c.in_ok-put_all-2.ensures.empty;
-  goes_on = λ opened start in_told out_told run.
-      c.in_ok-put_all-2.ensures.goes_on opened start (g.I.Inbox.left c.take.new.inbox) out_told
-      (c.in_ok-take.ensures.goes_on opened start (g.O.Outbox.standing c.loop-name.outbox) in_told (c.loop-name.invariant.goes_on opened start in_told out_told run));
+  goes_on = λ opened first in_told out_told run.
+      c.in_ok-put_all-2.ensures.goes_on opened first (g.I.Inbox.left c.take.new.inbox) out_told
+      (c.in_ok-take.ensures.goes_on opened first (g.O.Outbox.standing c.loop-name.outbox) in_told (c.loop-name.invariant.goes_on opened first in_told out_told run));
   left = λ told.
       let names : List (List ℕ) = c.args.names.now in
       let name : List ℕ = c.name-item.result in

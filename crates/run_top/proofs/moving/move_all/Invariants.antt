@@ -1,7 +1,7 @@
-use Rattle.std.proofs.Common.{◌≡◌, ◌≤◌, ℕ, false, [], drop, IsTrue}
+use Rattle.std.proofs.Common.{◌≡◌, ◌≤◌, false, [], drop, IsTrue}
 use Rattle.store_core.specs.Kept.{IsKeptOn}
 use Rattle.run_top.specs.Machine.{Machine}
-use Rattle.run_top.specs.Run.{IsRunning, IsLeftBut}
+use Rattle.run_top.specs.Running.{IsRunning, IsLeftBut}
 use Rattle.run_top.proofs.moving.move_all.Given as goal
 
 abbrev pub invariant-loop-name : goal.invariant-loop-name
@@ -9,9 +9,9 @@ invariant-loop-name g l = record {
   works : l.store.failed ≡ false;
   kept : IsKeptOn g.D.Disk.moment g.D.Disk.images l.store l.disk;
   empty : l.store.files ≡ [];
-  goes_on : (opened : Machine) (start : ℕ) → IsTrue g.I.Inbox.tells → IsTrue g.O.Outbox.tells
-      → IsRunning opened start (g.D.Disk.images l.fn.disk) (g.D.Disk.moment l.fn.disk) l.fn.store.files (g.I.Inbox.left l.fn.inbox) (g.O.Outbox.standing l.fn.outbox)
-      → IsRunning opened start (g.D.Disk.images l.disk) (g.D.Disk.moment l.disk) l.store.files (g.I.Inbox.left l.inbox) (g.O.Outbox.standing l.outbox);
+  goes_on : (opened : Machine) (first : g.row.D.Denot) → IsTrue g.I.Inbox.tells → IsTrue g.O.Outbox.tells
+      → IsRunning g.D.Disk.moment g.D.Disk.images opened first l.fn.disk l.fn.store.files (g.I.Inbox.left l.fn.inbox) (g.O.Outbox.standing l.fn.outbox)
+      → IsRunning g.D.Disk.moment g.D.Disk.images opened first l.disk l.store.files (g.I.Inbox.left l.inbox) (g.O.Outbox.standing l.outbox);
   left : IsTrue g.I.Inbox.tells → IsLeftBut (drop l.name-index l.names) (g.I.Inbox.left l.inbox);
   disk_faults : g.D.Disk.faults l.fn.disk ≤ g.D.Disk.faults l.disk;
   inbox_faults : g.I.Inbox.faults l.fn.inbox ≤ g.I.Inbox.faults l.inbox;

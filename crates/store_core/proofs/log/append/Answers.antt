@@ -40,6 +40,6 @@ returns-clause-added g c queue after entry block rest is frame_is fits c' left =
     let staged = staged_log c.args.end queue (g.D.Disk.held old) (g.D.Disk.held mid) was block c.args.frame.now (c.in_ok-write_synced.ensures.written told) frame_is in
     let over = subst (λ (l : List ℕ). Overwritten c.args.end (open_gate ∷ []) l (g.D.Disk.held new the_log)) staged (c.in_ok-write_synced-2.ensures.written told).here in
     let at_rest = written_gate c.args.end queue (g.D.Disk.held old the_log) was entry block is after (g.D.Disk.held new the_log) fits over in
-    let settled = ap (λ (f : Files). f the_log) (c.in_ok-write_synced-2.ensures.synced c' left) in
+    let synced = ap (λ (f : Files). f the_log) (c.in_ok-write_synced-2.ensures.synced c' left) in
     subst (λ (l : List ℕ). IsAtRest (c.args.end + length l) after (c' the_log)) (sym frame_is)
-    (subst (λ (l : List ℕ). IsAtRest (c.args.end + length (block ++ closed_gate ∷ [])) after l) (sym settled) at_rest)
+    (subst (λ (l : List ℕ). IsAtRest (c.args.end + length (block ++ closed_gate ∷ [])) after l) (sym synced) at_rest)

@@ -9,7 +9,7 @@ use Rattle.store_core.specs.Scan.{IsRead}
 use Rattle.store_core.specs.Kept.{IsAtRest}
 use Rattle.store_core.specs.declared.queued.Queued.{Queued}
 use Rattle.store_core.proofs.Mending.{no_entry, nil-length}
-use Rattle.store_core.proofs.open.settle.Goals as goal
+use Rattle.store_core.proofs.open.mend.Goals as goal
 
 pub returns-in_err-cut_tail-clause-images : goal.returns-in_err-cut_tail-clause-images
 returns-in_err-cut_tail-clause-images g c = c.cut_tail.ensures.images c.args.scan.now.queue c.args.scan.now.closed c.requires.read
