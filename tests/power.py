@@ -2,12 +2,12 @@
 """Cuts the power in a record of the built program's calls, and starts the program on what may be left.
 
 A run over a few files is recorded by strace. At each call of the record many stops are tried. What a stop
-leaves is drawn from what no sync has settled by then: of each write all, a part, or any bytes; of each name
+leaves is drawn from what no sync has made durable by then: of each write all, a part, or any bytes; of each name
 that came or went whether it did; of a rename both of its sides or none. Each is made a real folder, and the
 program is started there until it ends with 0. Then every file has to be in `out` with its bytes, and
 nothing may be left over.
 
-This is a model of a file system that settles no more than it is asked to. To show that the trial can find
+This is a model of a file system that makes no more durable than it is asked to. To show that the trial can find
 a loss, it is made again from records in which one kind of sync is left out; each of those has to lose.
 """
 
@@ -90,23 +90,36 @@ def read_call(line, top):
 # What is on the disk, and what is pending.
 
 class File:
-    def __init__(self, settled=b""):
-        self.settled = settled
-        self.held = settled
+    def __init__(self, durable=b""):
+        self.durable = durable
+        self.held = durable
         self.pending = []
 
     def change(self, step):
         self.held = step(self.held)
         self.pending.append(step)
 
-    def settle(self):
-        self.settled = self.held
+    def sync(self):
+        self.durable = self.held
+        self.pending = []
+
+
+class Unreached(File):
+    """A file that holds what the disk never got. The system refused to sync it once, and doesn't tell again."""
+
+    def __init__(self, durable, held):
+        super().__init__(durable)
+        self.held = held
+
+    def sync(self):
+        for step in self.pending:
+            self.durable = step(self.durable)
         self.pending = []
 
 
 class Folder:
     def __init__(self):
-        self.settled = {}
+        self.durable = {}
         self.held = {}
         # Changes of entries, each with the number of the call that made it: a rename makes two.
         self.pending = []
@@ -115,8 +128,8 @@ class Folder:
         apply(self.held, name, node)
         self.pending.append((call, name, node))
 
-    def settle(self):
-        self.settled = dict(self.held)
+    def sync(self):
+        self.durable = dict(self.held)
         self.pending = []
 
 
@@ -127,16 +140,16 @@ def apply(entries, name, node):
         entries[name] = node
 
 
-def settled_tree(path):
+def durable_tree(path):
     """What stands in a real folder, with nothing pending."""
     folder = Folder()
     for entry in os.scandir(os.fsencode(path)):
         if entry.is_dir(follow_symlinks=False):
-            folder.held[entry.name] = settled_tree(entry.path)
+            folder.held[entry.name] = durable_tree(entry.path)
         else:
             with open(entry.path, "rb") as file:
                 folder.held[entry.name] = File(file.read())
-    folder.settle()
+    folder.sync()
     return folder
 
 
@@ -175,7 +188,7 @@ def replay(top, number, call):
     elif kind == "cut":
         find(top, path).change(lambda held: held[:call[2]])
     elif kind == "sync":
-        find(top, path).settle()
+        find(top, path).sync()
 
 
 def overwrite(at, bytes_):
@@ -189,7 +202,7 @@ def overwrite(at, bytes_):
 # What a stop leaves.
 
 def drawn_file(file):
-    left = file.settled
+    left = file.durable
     for step in file.pending:
         if not hasattr(step, "range"):
             left = step(left) if random.random() < 0.5 else left
@@ -215,7 +228,7 @@ def drawn_file(file):
 
 def drawn_tree(folder, done):
     """The entries that a stop leaves of a folder. `done` says of each pending call whether it counts."""
-    entries = dict(folder.settled)
+    entries = dict(folder.durable)
     for call, name, node in folder.pending:
         if done.setdefault(call, random.random() < 0.5):
             apply(entries, name, node)
@@ -255,9 +268,8 @@ def recovers(program, parent, top, what):
     return None
 
 
-def stops(program, parent, start, calls, picks):
+def stops(program, parent, top, calls, picks):
     """Tries stops behind each call of a record. Gives what went wrong, and how many were tried."""
-    top = settled_tree(start)
     wrong, tried = [], 0
     for number in range(len(calls) + 1):
         if number:
@@ -270,17 +282,19 @@ def stops(program, parent, start, calls, picks):
     return wrong, tried
 
 
-def recorded(program, parent, body):
+def recorded(program, parent, body, store=None):
     """Makes a folder with the files in its inbox, records a run, and goes on with both."""
     with new_folder(parent) as folder, new_folder(parent) as start:
-        write_files(folder / "in", FILES)
-        write_files(start / "in", FILES)
+        for made in (folder, start):
+            write_files(made / "in", FILES)
+            if store is not None:
+                write_files(made / "store", store)
         return body(start, record(program, folder))
 
 
 def nothing_is_lost(program, parent, picks):
     def body(start, calls):
-        wrong, tried = stops(program, parent, start, calls, picks)
+        wrong, tried = stops(program, parent, durable_tree(start), calls, picks)
         need(not wrong, f"{len(wrong)} of {tried} stops: {wrong[:3]}")
         return f"{len(calls)} calls, {tried} stops"
     return recorded(program, parent, body)
@@ -291,18 +305,43 @@ def nothing_is_lost_twice(program, parent, picks, rounds):
     def body(start, calls):
         wrong, tried = [], 0
         for _ in range(rounds):
-            top = settled_tree(start)
+            top = durable_tree(start)
             for number in range(random.randint(1, len(calls))):
                 replay(top, number + 1, calls[number])
             with new_folder(parent) as image, new_folder(parent) as copy:
                 lay(top, os.fsencode(image), {})
                 shutil.copytree(image, copy, dirs_exist_ok=True)
-                more, count = stops(program, parent, image, record(program, copy), picks)
+                more, count = stops(program, parent, durable_tree(image), record(program, copy), picks)
             wrong += more
             tried += count
         need(not wrong, f"{len(wrong)} of {tried} stops: {wrong[:3]}")
         return f"{rounds} first stops, {tried} second ones"
     return recorded(program, parent, body)
+
+
+def after_a_refused_sync(program, parent, picks, mark):
+    """The system refused to sync the first file's entry, so that the file is in the log that is read and in the
+    inbox. A run goes on there, and the power is cut."""
+    held = log_format.log(log_format.add("a.txt", FILES["a.txt"]))
+
+    def body(start, calls):
+        top = durable_tree(start)
+        log = Unreached(log_format.log(), held)
+        top.held[b"store"].held[b"log-1"] = top.held[b"store"].durable[b"log-1"] = log
+        return stops(program, parent, top, calls, picks)
+    return recorded(program, parent, body, {"log-1": held, "lock": mark})
+
+
+def nothing_is_lost_behind_a_mark(program, parent, picks):
+    wrong, tried = after_a_refused_sync(program, parent, picks, b"\1")
+    need(not wrong, f"{len(wrong)} of {tried} stops: {wrong[:3]}")
+    return f"{tried} stops"
+
+
+def a_loss_is_found_without_it(program, parent, picks):
+    wrong, tried = after_a_refused_sync(program, parent, picks, b"\0")
+    need(wrong, f"none of {tried} stops lost anything")
+    return f"{len(wrong)} of {tried} stops lose"
 
 
 def is_sync_of(call, kind):
@@ -317,7 +356,7 @@ def a_loss_is_found(program, parent, picks, kind):
     def body(start, calls):
         fewer = [call for call in calls if not is_sync_of(call, kind)]
         need(len(fewer) < len(calls), "there was no such sync")
-        wrong, tried = stops(program, parent, start, fewer, picks)
+        wrong, tried = stops(program, parent, durable_tree(start), fewer, picks)
         need(wrong, f"none of {tried} stops lost anything")
         return f"{len(wrong)} of {tried} stops lose"
     return recorded(program, parent, body)
@@ -337,6 +376,10 @@ def main():
                 given.picks)
     report.case("the power is cut again while a run recovers", nothing_is_lost_twice, program, given.folder,
                 max(1, given.picks // 10), max(2, given.picks // 2))
+    report.case("the power is cut behind a refused sync that left its mark, and nothing is lost",
+                nothing_is_lost_behind_a_mark, program, given.folder, given.picks)
+    report.case("without the mark of a refused sync a loss is found", a_loss_is_found_without_it, program,
+                given.folder, min(max(given.picks, 4), 20))
     for kind, text in (("log", "the log"), ("store", "the store's folder"), ("part", "the file put aside"),
                        ("out", "the outbox's folder")):
         report.case(f"without the syncs of {text} a loss is found", a_loss_is_found, program, given.folder,

@@ -2,10 +2,8 @@
 ghost use Rattle.std.specs.Prelude.{◌≡◌, ◌⊎◌};
 
 use std::alloc::Global;
-use std::fs::{self, File, Metadata, OpenOptions};
+use std::fs::{self, File, Metadata};
 use std::io::{self, ErrorKind};
-use std::os::fd::AsRawFd;
-use std::os::unix::fs::MetadataExt;
 use std::path::AsPath;
 use std::rt::Files;
 
@@ -36,7 +34,7 @@ pub(crate) enum Entry {
 }
 
 /// Makes the folder where nothing stands under the path, and sees to it that a stop leaves it there.
-/// `Missing` where something else stands there, or where the system refuses to make or to settle it.
+/// `Missing` where something else stands there, or where the system refuses to make or to sync it.
 pub fn make_folder<'p, R: Files<File = File>>(rt: &R, path: &'p str) -> Folder<'p>
     ensures { (result ≡ Folder.Missing) ⊎ (result ≡ Folder.At path.entry) }
 {
@@ -55,7 +53,7 @@ fn make<R: Files<File = File>>(rt: &R, path: &str) -> io::Result<()> {
         }
         made => made?,
     }
-    // Also where it stood: who made it may have been killed before it was settled.
+    // Also where it stood: who made it may have been killed before it was synced.
     open_folder(rt, parent_of(path))?.sync_all()
 }
 
@@ -67,7 +65,7 @@ fn parent_of(path: &str) -> &str {
     }
 }
 
-/// Opens a folder, whose sync settles which entries stand in it.
+/// Opens a folder, whose sync makes durable which entries stand in it.
 pub(crate) fn open_folder<R: Files<File = File>>(rt: &R, path: &str) -> io::Result<File> {
     if fs::metadata(rt, path)?.is_dir() {
         File::open(rt, path)
@@ -98,49 +96,5 @@ pub(crate) fn entry_at<R: Files, P: AsPath>(rt: &R, path: P) -> io::Result<Entry
         Ok(_) => Ok(Entry::Other),
         Err(error) if error.kind() == ErrorKind::NotFound => Ok(Entry::Nothing),
         Err(error) => Err(error),
-    }
-}
-
-/// Opens the file at a path; `None` where nothing stands there. Fails where anything but a regular
-/// file does: no link is followed, and a pipe is never waited for.
-pub(crate) fn open_file<R: Files<File = File>>(
-    rt: &R,
-    path: &str,
-    how: &OpenOptions,
-) -> io::Result<Option<File>> {
-    match entry_at(rt, path)? {
-        Entry::Nothing => Ok(None),
-        Entry::File(named) => Ok(Some(open_named(rt, path, how, &named)?)),
-        Entry::Folder | Entry::Other => Err(ErrorKind::Unsupported.into()),
-    }
-}
-
-// What is open has to be what stood there: a link may have taken its place since.
-fn open_named<R: Files<File = File>>(
-    rt: &R,
-    path: &str,
-    how: &OpenOptions,
-    named: &Metadata,
-) -> io::Result<File> {
-    let file = off_the_streams(how.open(rt, path)?)?;
-    let found = file.metadata()?;
-    if found.is_file() && found.dev() == named.dev() && found.ino() == named.ino() {
-        Ok(file)
-    } else {
-        Err(ErrorKind::Unsupported.into())
-    }
-}
-
-/// Makes a file where nothing stands, open for reading and writing.
-pub(crate) fn create_file<R: Files<File = File>>(rt: &R, path: &str) -> io::Result<File> {
-    off_the_streams(File::create_new(rt, path)?)
-}
-
-// Where a standard stream was closed, what is printed must not land in a file of ours.
-fn off_the_streams(file: File) -> io::Result<File> {
-    if file.as_raw_fd() <= 2 {
-        file.try_clone()
-    } else {
-        Ok(file)
     }
 }

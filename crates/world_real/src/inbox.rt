@@ -5,13 +5,13 @@ ghost use Rattle.world_io.specs.Inbox.{IsAscending};
 ghost use Rattle.world_real.specs.Untold.{told_by_none};
 
 use crate::faults::{counted, is_out_of_memory};
-use crate::folder::{Entry, Folder, Place, entry_at, open_file};
+use crate::folder::{Entry, Folder, Place, entry_at};
+use crate::open_file::{OpenFile, for_reading, open_file};
 use disk_trait::Failed;
 use flowfile_record::{CONTENT_MAX, Name, NameError};
 use std::alloc::Global;
-use std::fs::{self, File, OpenOptions};
+use std::fs::{self, File};
 use std::io::{self, ErrorKind};
-use std::os::unix::fs::FileExt;
 use std::rt::Files;
 use world_io::{Inbox, WorldError};
 
@@ -20,7 +20,15 @@ use world_io::{Inbox, WorldError};
 #[derive(Drop)]
 pub struct InboxFolder<'r, R> {
     place: Place<'r, R>,
+    /// The file that `size` looked at since the last listing: to read and to remove it takes no other look.
+    seen: Option<SeenFile>,
     faults: u64,
+}
+
+#[derive(Drop)]
+pub(crate) struct SeenFile {
+    name: Name,
+    file: OpenFile,
 }
 
 impl<'r, R: Files<File = File> + Alloc + Sync> InboxFolder<'r, R> {
@@ -30,6 +38,7 @@ impl<'r, R: Files<File = File> + Alloc + Sync> InboxFolder<'r, R> {
     {
         InboxFolder {
             place: Place { rt, alloc, folder },
+            seen: None,
             faults: 0,
         }
     }
@@ -45,6 +54,7 @@ impl<'r, R: Files<File = File> + Alloc + Sync> Inbox for InboxFolder<'r, R> {
     ghost left_ascends = { λ _. told_by_none };
 
     fn list(&mut self, names: &mut Vec<Name>) -> Result<(), WorldError> {
+        self.seen = None;
         match list_names(&self.place, names) {
             Ok(()) => Ok(()),
             Err(error) => {
@@ -55,17 +65,17 @@ impl<'r, R: Files<File = File> + Alloc + Sync> Inbox for InboxFolder<'r, R> {
     }
 
     fn size(&mut self, name: &Name) -> Result<u64, Failed> {
-        let answer = size_of(&self.place, name);
+        let answer = look_at(&self.place, &mut self.seen, name);
         counted(&mut self.faults, answer)
     }
 
     fn read(&mut self, name: &Name, into: &mut Vec<u8>) -> Result<(), WorldError> {
-        let answer = read_whole(&self.place, name, into);
+        let answer = read_whole(&self.place, &mut self.seen, name, into);
         counted_world(&mut self.faults, answer)
     }
 
     fn remove(&mut self, name: &Name) -> Result<(), Failed> {
-        let answer = remove(&self.place, name);
+        let answer = remove(&self.place, &mut self.seen, name);
         counted(&mut self.faults, answer)
     }
 }
@@ -130,40 +140,67 @@ fn follows(names: &Vec<Name>, name: &Name) -> bool
     }
 }
 
-fn size_of<R: Files>(place: &Place<'_, R>, name: &Name) -> io::Result<u64> {
-    match entry_at(place.rt, place.entry(name.text())?.as_str())? {
-        Entry::File(found) => Ok(found.len()),
-        Entry::Nothing => Err(ErrorKind::NotFound.into()),
-        Entry::Folder | Entry::Other => Err(ErrorKind::Unsupported.into()),
+/// Opens a file, and answers its size.
+fn look_at<R: Files<File = File>>(
+    place: &Place<'_, R>,
+    seen: &mut Option<SeenFile>,
+    name: &Name,
+) -> io::Result<u64> {
+    *seen = None;
+    let mut file = open_at(place, name)?;
+    let size = file.size()?;
+    keep(seen, name, file);
+    Ok(size)
+}
+
+fn open_at<R: Files<File = File>>(place: &Place<'_, R>, name: &Name) -> io::Result<OpenFile> {
+    let path = place.entry(name.text())?;
+    match open_file(place.rt, path.as_str(), &for_reading())? {
+        Some(file) => Ok(file),
+        None => Err(ErrorKind::NotFound.into()),
     }
+}
+
+// With no memory for the name the file is closed, and opened again where it is needed.
+fn keep(seen: &mut Option<SeenFile>, name: &Name, file: OpenFile) {
+    if let Ok(name) = name.clone() {
+        *seen = Some(SeenFile { name, file });
+    }
+}
+
+/// Takes the file out where it was looked at last.
+fn take_seen(seen: &mut Option<SeenFile>, name: &Name) -> Option<OpenFile> {
+    let SeenFile { name: last, file } = seen.take()?;
+    if last == *name { Some(file) } else { None }
 }
 
 fn read_whole<R: Files<File = File>>(
     place: &Place<'_, R>,
+    seen: &mut Option<SeenFile>,
     name: &Name,
     into: &mut Vec<u8>,
 ) -> io::Result<()>
     requires { into.old.items ≡ [] }
     ensures { OnOk result (length into.new.items ≤ CONTENT_MAX) }
 {
-    let path = place.entry(name.text())?;
-    let mut how = OpenOptions::new();
-    how.read(true);
-    let Some(file) = open_file(place.rt, path.as_str(), &how)? else {
-        return Err(ErrorKind::NotFound.into());
+    let mut file = match take_seen(seen, name) {
+        Some(file) => file,
+        None => open_at(place, name)?,
     };
-    let size = file.metadata()?.len();
+    let size = file.size()?;
     if size > CONTENT_MAX {
         return Err(ErrorKind::FileTooLarge.into());
     }
     into.resize(size as usize, 0)?;
-    file.read_exact_at(into.as_mut_slice(), 0)?;
-    at_the_end(&file, size)
+    file.read(0, into.as_mut_slice())?;
+    ends_at(&file, size)?;
+    keep(seen, name, file);
+    Ok(())
 }
 
-// A file that grew since it was measured is still being written.
-fn at_the_end(file: &File, size: u64) -> io::Result<()> {
-    match file.read_exact_at(&mut [0], size) {
+// A file that grew since it was looked at is still being written.
+fn ends_at(file: &OpenFile, size: u64) -> io::Result<()> {
+    match file.read(size, &mut [0]) {
         Ok(()) => Err(ErrorKind::ResourceBusy.into()),
         Err(error) if error.kind() == ErrorKind::UnexpectedEof => Ok(()),
         Err(error) => Err(error),
@@ -172,8 +209,15 @@ fn at_the_end(file: &File, size: u64) -> io::Result<()> {
 
 // The folder isn't synced, which would cost a sync for each file. A removal that a stop takes back
 // makes the file be taken in a second time, which is allowed: it is never lost.
-fn remove<R: Files>(place: &Place<'_, R>, name: &Name) -> io::Result<()> {
+fn remove<R: Files>(
+    place: &Place<'_, R>,
+    seen: &mut Option<SeenFile>,
+    name: &Name,
+) -> io::Result<()> {
     let path = place.entry(name.text())?;
+    if take_seen(seen, name).is_some() {
+        return fs::remove_file(place.rt, path.as_str());
+    }
     match entry_at(place.rt, path.as_str())? {
         Entry::File(_) => fs::remove_file(place.rt, path.as_str()),
         Entry::Nothing => Err(ErrorKind::NotFound.into()),

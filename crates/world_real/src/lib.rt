@@ -1,18 +1,24 @@
 //! The devices of a machine: folders, a file, standard output and the clock.
 //!
 //! No clause can say what a folder holds, so these tell nothing of contents. They count their faults,
-//! settle what they say is settled, and retry nothing.
+//! and sync what they say is durable.
 #![tactic(auto)]
 
 mod clock;
 mod faults;
 mod folder;
 mod inbox;
+mod lock;
 mod numbered;
+mod open_file;
 mod open_files;
 mod outbox;
+mod pending;
+mod renew;
+mod standing;
 mod store;
 mod stream;
+mod sync;
 #[cfg(test)]
 mod tests;
 

@@ -1,6 +1,8 @@
 //! Entries that are named by a number.
 ghost use Rattle.std.specs.Prelude.{◌≡◌, ℕ, ◌<◌, ◌^◌, IfOk, IfSome, Some, string_bytes};
 ghost use Rattle.std.specs.Fmt.{decimal};
+ghost use Rattle.disk_trait.specs.declared.file_name.FileKind.{FileKind as TheKind};
+ghost use Rattle.disk_trait.specs.declared.file_name.FileName.{FileName as TheName};
 ghost use Rattle.world_real.specs.StoreName.{kind_text, name_text};
 
 use disk_trait::{FileKind, FileName};
@@ -17,7 +19,8 @@ pub(crate) fn text_of(alloc: Global, name: FileName) -> Result<String, AllocErro
 
 /// The file that an entry is; `None` for any other entry.
 pub(crate) fn store_name(text: &str) -> Option<FileName>
-    ensures { IfSome result (λ name. text.now ≡ name_text name) }
+    ensures named { IfSome result (λ name. text.now ≡ name_text name) }
+    ensures read { (name : TheName) → name.number < 2 ^ 64 → text.now ≡ name_text name → result ≡ Some name }
 {
     let (kind, digits) = text.split_once('-')?;
     Some(FileName {
@@ -39,7 +42,8 @@ fn text_of_kind(kind: FileKind) -> &'static str
 }
 
 fn read_kind(text: &str) -> Option<FileKind>
-    ensures { IfSome result (λ kind. text.now ≡ kind_text kind) }
+    ensures named { IfSome result (λ kind. text.now ≡ kind_text kind) }
+    ensures read { (kind : TheKind) → text.now ≡ kind_text kind → result ≡ Some kind }
 {
     match text {
         "log" => Some(FileKind::Log),
@@ -53,7 +57,8 @@ fn read_kind(text: &str) -> Option<FileKind>
 
 /// A number below 2^64 in decimal, with no sign and no zero in front.
 pub(crate) fn read_number(digits: &str) -> Option<u64>
-    ensures { IfSome result (λ number. digits.now ≡ decimal number) }
+    ensures written { IfSome result (λ number. digits.now ≡ decimal number) }
+    ensures read { (number : ℕ) → number < 2 ^ 64 → digits.now ≡ decimal number → result ≡ Some number }
 {
     if digits == "0" {
         return Some(0);

@@ -3,13 +3,14 @@ ghost use Rattle.std.specs.Prelude.{◌≡◌, false, None};
 ghost use Rattle.world_real.specs.Untold.{told_by_none};
 
 use crate::faults::counted;
-use crate::folder::{Entry, Folder, Place, create_file, entry_at, open_folder};
+use crate::folder::{Entry, Folder, Place, entry_at, open_folder};
 use crate::numbered::{is_no_text, read_number};
+use crate::open_file::create_file;
 use disk_trait::Failed;
 use flowfile_record::Name;
 use std::alloc::Global;
 use std::fs::{self, File};
-use std::io::{self, ErrorKind, Write};
+use std::io::{self, ErrorKind};
 use std::rt::Files;
 use world_io::Outbox;
 
@@ -18,10 +19,10 @@ const ASIDE: &str = ".flow-aside-";
 
 /// A folder that files are put into.
 ///
-/// A put that answered Ok is settled, and no reader sees a part of it: it is written in a folder of its
-/// own, settled, and given its name. That folder is `.flow-aside-N` in the outbox, N being the least
+/// A put that answered Ok is durable, and no reader sees a part of it: it is written in a folder of its
+/// own, synced, and given its name. That folder is `.flow-aside-N` in the outbox, N being the least
 /// number where nothing or a folder stands. Whatever folder stands under such a name is what a stop
-/// left, and is removed with all that it holds.
+/// left: the first `put` or `holds` removes it with all that it holds.
 #[derive(Drop)]
 pub struct OutboxFolder<'r, R> {
     place: Place<'r, R>,
@@ -51,7 +52,7 @@ impl<'r, R: Files<File = File> + Alloc + Sync> Outbox for OutboxFolder<'r, R> {
     ghost faults = { λ outbox. outbox.faults };
 
     fn holds(&mut self, name: &Name) -> Result<bool, Failed> {
-        let answer = holds(&self.place, name);
+        let answer = holds(&self.place, &mut self.is_swept, name);
         counted(&mut self.faults, answer)
     }
 
@@ -61,7 +62,12 @@ impl<'r, R: Files<File = File> + Alloc + Sync> Outbox for OutboxFolder<'r, R> {
     }
 }
 
-fn holds<R: Files>(place: &Place<'_, R>, name: &Name) -> io::Result<bool> {
+fn holds<R: Files<File = File> + Alloc>(
+    place: &Place<'_, R>,
+    is_swept: &mut bool,
+    name: &Name,
+) -> io::Result<bool> {
+    sweep_once(place, is_swept)?;
     match entry_at(place.rt, place.entry(name.text())?.as_str())? {
         Entry::File(_) | Entry::Other => Ok(true),
         Entry::Folder => Ok(false),
@@ -86,10 +92,7 @@ fn put<R: Files<File = File> + Alloc>(
     name: &str,
     bytes: &[u8],
 ) -> io::Result<()> {
-    if !*is_swept {
-        sweep(place)?;
-        *is_swept = true;
-    }
+    sweep_once(place, is_swept)?;
     let path = place.entry(name)?;
     if let Entry::Folder = entry_at(place.rt, path.as_str())? {
         return Err(ErrorKind::IsADirectory.into());
@@ -104,6 +107,17 @@ fn put<R: Files<File = File> + Alloc>(
         *is_swept = true;
     }
     answer
+}
+
+fn sweep_once<R: Files<File = File> + Alloc>(
+    place: &Place<'_, R>,
+    is_swept: &mut bool,
+) -> io::Result<()> {
+    if !*is_swept {
+        sweep(place)?;
+        *is_swept = true;
+    }
+    Ok(())
 }
 
 /// Removes what earlier puts left aside.
@@ -147,11 +161,15 @@ fn pick_aside<R: Files + Alloc>(place: &Place<'_, R>, name: &str) -> io::Result<
     Err(ErrorKind::AlreadyExists.into())
 }
 
+/// Whether nothing stands there, once a folder is removed.
 fn is_free<R: Files + Alloc>(rt: &R, path: &str) -> io::Result<bool> {
-    remove_folder(rt, path)?;
     match entry_at(rt, path)? {
         Entry::Nothing => Ok(true),
-        Entry::File(_) | Entry::Folder | Entry::Other => Ok(false),
+        Entry::Folder => {
+            fs::remove_dir_all(rt, path)?;
+            Ok(true)
+        }
+        Entry::File(_) | Entry::Other => Ok(false),
     }
 }
 
@@ -163,12 +181,12 @@ fn put_through<R: Files<File = File>>(
 ) -> io::Result<()> {
     fs::create_dir(place.rt, aside)?;
     let part = format!(in place.alloc; "{aside}/part")?;
-    let mut file = create_file(place.rt, part.as_str())?;
-    file.write_all(bytes)?;
-    file.sync_all()?;
-    drop(file);
+    let mut opened = create_file(place.rt, part.as_str())?;
+    opened.write(0, bytes)?;
+    opened.file.sync_all()?;
+    drop(opened);
     fs::rename(place.rt, part.as_str(), path)?;
     fs::remove_dir(place.rt, aside)?;
-    // Last, so that it settles both the name and the end of what stood aside.
+    // Last, so that both the name and the end of what stood aside are durable.
     open_folder(place.rt, place.path()?)?.sync_all()
 }

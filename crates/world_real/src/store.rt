@@ -5,24 +5,24 @@ ghost use Rattle.disk_trait.specs.Images.{next_moment};
 ghost use Rattle.world_real.specs.Untold.{told_by_none, left_by_none};
 
 use crate::faults::{counted, is_out_of_memory};
-use crate::folder::{Entry, Folder, Place, create_file, entry_at, open_file, open_folder};
-use crate::numbered::{is_no_text, store_name, text_of};
-use crate::open_files::{OpenFiles, Unsettled};
+use crate::folder::{Folder, Place};
+use crate::lock::Lock;
+use crate::open_file::{OpenFile, create_file};
+use crate::open_files::OpenFiles;
+use crate::pending::Pending;
+use crate::standing::{names_in, path_of, standing_size, take_file};
+use crate::sync::sync_pending;
 use disk_trait::{Disk, DiskError, Failed, FileKind, FileName};
 use std::alloc::Global;
-use std::fs::{self, File, OpenOptions};
+use std::fs::{self, File};
 use std::io::{self, ErrorKind};
-use std::mem;
-use std::os::unix::fs::{FileExt, MetadataExt};
 use std::rt::Files;
-
-/// The name of the file that the one process which has the store holds a lock on.
-const LOCK: &str = "lock";
 
 /// The files of a store in a folder, each under its kind, a dash and its number, as `log-1`.
 ///
 /// Other entries don't count. One process has a store at a time: a second one has each of its calls
-/// fail, and touches nothing. After a sync that the system refused each later one fails too.
+/// fail, and touches nothing. After a sync that the system refused each later one fails too, and the
+/// first one of the next process writes all files anew.
 #[derive(Drop)]
 pub struct StoreFolder<'r, R> {
     place: Place<'r, R>,
@@ -34,30 +34,8 @@ pub struct StoreFolder<'r, R> {
 pub(crate) struct StoreFiles {
     lock: Lock,
     open: OpenFiles,
-    unsettled: Unsettled,
+    pending: Pending,
     moment: u64,
-}
-
-#[derive(Drop)]
-enum Lock {
-    Untried,
-    Held(File),
-    Refused,
-}
-
-/// Why a file wasn't settled.
-#[derive(Drop)]
-enum Unsynced {
-    /// The system wasn't asked to.
-    Untried(io::Error),
-    /// The system refused, and may have dropped what was written.
-    Lost(io::Error),
-}
-
-impl From<io::Error> for Unsynced {
-    fn from(error: io::Error) -> Unsynced {
-        Unsynced::Untried(error)
-    }
 }
 
 impl<'r, R: Files<File = File> + Alloc + Sync> StoreFolder<'r, R> {
@@ -72,7 +50,7 @@ impl<'r, R: Files<File = File> + Alloc + Sync> StoreFolder<'r, R> {
             files: StoreFiles {
                 lock: Lock::Untried,
                 open: OpenFiles::new(alloc),
-                unsettled: Unsettled::Everything,
+                pending: Pending::Everything,
                 moment: 0,
             },
             faults: 0,
@@ -129,92 +107,13 @@ impl<'r, R: Files<File = File> + Alloc + Sync> Disk for StoreFolder<'r, R> {
     }
 
     fn sync(&mut self) -> Result<(), Failed> {
-        let answer = settle(&self.place, &mut self.files);
+        let answer = sync_files(&self.place, &mut self.files);
         counted(&mut self.faults, answer)
     }
 
     fn moment(&self) -> u64 {
         self.files.moment
     }
-}
-
-/// Takes the lock at the first call. A process that was refused once stays without it.
-fn hold_lock<R: Files<File = File>>(place: &Place<'_, R>, lock: &mut Lock) -> io::Result<()> {
-    match lock {
-        Lock::Held(_) => return Ok(()),
-        Lock::Refused => return Err(ErrorKind::WouldBlock.into()),
-        Lock::Untried => {}
-    }
-    match take_lock(place) {
-        Ok(file) => {
-            *lock = Lock::Held(file);
-            Ok(())
-        }
-        Err(error) => {
-            if !is_out_of_memory(&error) {
-                *lock = Lock::Refused;
-            }
-            Err(error)
-        }
-    }
-}
-
-fn take_lock<R: Files<File = File>>(place: &Place<'_, R>) -> io::Result<File> {
-    let path = place.entry(LOCK)?;
-    let file = match open_file(place.rt, path.as_str(), &both_ways())? {
-        Some(file) => file,
-        None => create_file(place.rt, path.as_str())?,
-    };
-    file.try_lock()?;
-    // A lock on a file that lost its name would keep nobody out.
-    let (found, named) = (
-        file.metadata()?,
-        fs::symlink_metadata(place.rt, path.as_str())?,
-    );
-    if found.dev() != named.dev() || found.ino() != named.ino() {
-        return Err(ErrorKind::WouldBlock.into());
-    }
-    Ok(file)
-}
-
-fn both_ways() -> OpenOptions {
-    let mut how = OpenOptions::new();
-    how.read(true).write(true);
-    how
-}
-
-fn path_of<R>(place: &Place<'_, R>, name: FileName) -> io::Result<String> {
-    let text = text_of(place.alloc, name)?;
-    place.entry(text.as_str())
-}
-
-/// The file, taken out of the open ones or opened; `None` where it is absent.
-fn take_file<R: Files<File = File>>(
-    place: &Place<'_, R>,
-    open: &mut OpenFiles,
-    name: FileName,
-) -> io::Result<Option<File>> {
-    match open.take(name) {
-        Some(file) => Ok(Some(file)),
-        None => open_file(place.rt, path_of(place, name)?.as_str(), &both_ways()),
-    }
-}
-
-/// Each file of the store that stands in the folder, empty ones too.
-fn names_in<R: Files<File = File> + Alloc>(place: &Place<'_, R>) -> io::Result<Vec<FileName>> {
-    let mut names = Vec::new(place.alloc);
-    for entry in fs::read_dir(&place.rt, place.path()?)? {
-        match entry {
-            Ok(entry) => {
-                if let Some(name) = store_name(entry.file_name()) {
-                    names.push(name)?;
-                }
-            }
-            Err(error) if is_no_text(&error) => {}
-            Err(error) => return Err(error),
-        }
-    }
-    Ok(names)
 }
 
 fn list_numbers<R: Files<File = File> + Alloc>(
@@ -226,23 +125,41 @@ fn list_numbers<R: Files<File = File> + Alloc>(
     ensures ascending { OnOk result (IsStrictlyIncreasing list.new.items) }
     ensures moment { files.new.moment ≡ files.old.moment }
 {
-    hold_lock(place, &mut files.lock)?;
-    for name in names_in(place)? {
-        if name.kind == kind && stored_size(place, name)? > 0 {
-            list.push(name.number)?;
-        }
-    }
+    files.lock.hold(place)?;
+    push_numbers(place, &mut files.open, &files.pending, kind, list)?;
     list.sort_unstable();
     list.dedup();
     Ok(())
 }
 
-fn stored_size<R: Files<File = File>>(place: &Place<'_, R>, name: FileName) -> io::Result<u64> {
-    match entry_at(place.rt, path_of(place, name)?.as_str())? {
-        Entry::Nothing => Ok(0),
-        Entry::File(found) => Ok(found.len()),
-        Entry::Folder | Entry::Other => Err(ErrorKind::Unsupported.into()),
+fn push_numbers<R: Files<File = File> + Alloc>(
+    place: &Place<'_, R>,
+    open: &mut OpenFiles,
+    pending: &Pending,
+    kind: FileKind,
+    list: &mut Vec<u64>,
+) -> io::Result<()> {
+    for name in names_in(place)? {
+        if name.kind == kind && stored_size(place, open, pending, name)? > 0 {
+            list.push(name.number)?;
+        }
     }
+    Ok(())
+}
+
+/// The size of a file; 0 where it is absent.
+fn stored_size<R: Files<File = File>>(
+    place: &Place<'_, R>,
+    open: &mut OpenFiles,
+    pending: &Pending,
+    name: FileName,
+) -> io::Result<u64> {
+    let Some(mut file) = open.take(name) else {
+        return standing_size(place, name);
+    };
+    let answer = file.size();
+    open.put(name, file, pending);
+    answer
 }
 
 fn size_of<R: Files<File = File>>(
@@ -252,8 +169,8 @@ fn size_of<R: Files<File = File>>(
 ) -> io::Result<u64>
     ensures moment { files.new.moment ≡ files.old.moment }
 {
-    hold_lock(place, &mut files.lock)?;
-    stored_size(place, name)
+    files.lock.hold(place)?;
+    stored_size(place, &mut files.open, &files.pending, name)
 }
 
 fn read_at<R: Files<File = File>>(
@@ -265,18 +182,18 @@ fn read_at<R: Files<File = File>>(
 ) -> io::Result<()>
     ensures moment { files.new.moment ≡ files.old.moment }
 {
-    hold_lock(place, &mut files.lock)?;
-    let Some(file) = take_file(place, &mut files.open, name)? else {
+    files.lock.hold(place)?;
+    let Some(mut file) = take_file(place, &mut files.open, name)? else {
         return is_within(into.is_empty() && at == 0);
     };
-    let answer = read_from(&file, at, into);
-    files.open.put(name, file, &files.unsettled);
+    let answer = read_from(&mut file, at, into);
+    files.open.put(name, file, &files.pending);
     answer
 }
 
-fn read_from(file: &File, at: u64, into: &mut [u8]) -> io::Result<()> {
-    is_within(at <= file.metadata()?.len())?;
-    file.read_exact_at(into, at)
+fn read_from(file: &mut OpenFile, at: u64, into: &mut [u8]) -> io::Result<()> {
+    is_within(at <= file.size()?)?;
+    file.read(at, into)
 }
 
 // What the caller of a disk owes, and what this one can't rely on.
@@ -317,36 +234,36 @@ fn write_at<R: Files<File = File>>(
 {
     count_moment(&mut files.moment)?;
     is_within(at.checked_add(bytes.len() as u64).is_some())?;
-    hold_lock(place, &mut files.lock)?;
-    let file = match take_file(place, &mut files.open, name)? {
+    files.lock.hold(place)?;
+    let mut file = match take_file(place, &mut files.open, name)? {
         Some(file) => file,
         None => {
             is_within(at == 0)?;
             if bytes.is_empty() {
                 return Ok(());
             }
-            files.unsettled.touch_entries();
+            files.pending.touch_entries();
             create_file(place.rt, path_of(place, name)?.as_str())?
         }
     };
-    let answer = write_into(&file, name, at, bytes, &mut files.unsettled);
-    files.open.put(name, file, &files.unsettled);
+    let answer = write_into(&mut file, name, at, bytes, &mut files.pending);
+    files.open.put(name, file, &files.pending);
     answer
 }
 
 fn write_into(
-    file: &File,
+    file: &mut OpenFile,
     name: FileName,
     at: u64,
     bytes: &[u8],
-    unsettled: &mut Unsettled,
+    pending: &mut Pending,
 ) -> io::Result<()> {
-    is_within(at <= file.metadata()?.len())?;
+    is_within(at <= file.size()?)?;
     if bytes.is_empty() {
         return Ok(());
     }
-    unsettled.touch(name)?;
-    file.write_all_at(bytes, at)
+    pending.touch(name)?;
+    file.write(at, bytes)
 }
 
 fn cut_to<R: Files<File = File>>(
@@ -360,33 +277,38 @@ fn cut_to<R: Files<File = File>>(
     ensures last { files.old.moment ≡ 2 ^ 64 - 1 → IsErr result }
 {
     count_moment(&mut files.moment)?;
-    hold_lock(place, &mut files.lock)?;
-    let Some(file) = take_file(place, &mut files.open, name)? else {
+    files.lock.hold(place)?;
+    let Some(mut file) = take_file(place, &mut files.open, name)? else {
         return is_within(size == 0);
     };
     if size == 0 {
         drop(file);
-        files.unsettled.touch_entries();
+        files.pending.touch_entries();
         fs::remove_file(place.rt, path_of(place, name)?.as_str())?;
-        files.unsettled.forget(name);
+        files.pending.forget(name);
         return Ok(());
     }
-    let answer = shorten(&file, name, size, &mut files.unsettled);
-    files.open.put(name, file, &files.unsettled);
+    let answer = shorten(&mut file, name, size, &mut files.pending);
+    files.open.put(name, file, &files.pending);
     answer
 }
 
-fn shorten(file: &File, name: FileName, size: u64, unsettled: &mut Unsettled) -> io::Result<()> {
-    let before = file.metadata()?.len();
+fn shorten(
+    file: &mut OpenFile,
+    name: FileName,
+    size: u64,
+    pending: &mut Pending,
+) -> io::Result<()> {
+    let before = file.size()?;
     is_within(size <= before)?;
     if size == before {
         return Ok(());
     }
-    unsettled.touch(name)?;
-    file.set_len(size)
+    pending.touch(name)?;
+    file.cut(size)
 }
 
-fn settle<R: Files<File = File> + Alloc>(
+fn sync_files<R: Files<File = File> + Alloc>(
     place: &Place<'_, R>,
     files: &mut StoreFiles,
 ) -> io::Result<()>
@@ -395,67 +317,6 @@ fn settle<R: Files<File = File> + Alloc>(
     ensures last { files.old.moment ≡ 2 ^ 64 - 1 → IsErr result }
 {
     count_moment(&mut files.moment)?;
-    hold_lock(place, &mut files.lock)?;
-    let unsettled = mem::replace(&mut files.unsettled, Unsettled::Lost);
-    match settle_all(place, &mut files.open, &unsettled) {
-        Ok(()) => {
-            files.unsettled = Unsettled::nothing(place.alloc);
-            Ok(())
-        }
-        Err(Unsynced::Untried(error)) => {
-            files.unsettled = unsettled;
-            Err(error)
-        }
-        Err(Unsynced::Lost(error)) => Err(error),
-    }
-}
-
-fn settle_all<R: Files<File = File> + Alloc>(
-    place: &Place<'_, R>,
-    open: &mut OpenFiles,
-    unsettled: &Unsettled,
-) -> Result<(), Unsynced> {
-    let entries = match unsettled {
-        Unsettled::Everything => {
-            settle_standing(place, open, unsettled)?;
-            true
-        }
-        Unsettled::Touched { files, entries } => {
-            for name in files {
-                settle_file(place, open, *name, unsettled)?;
-            }
-            *entries
-        }
-        Unsettled::Lost => return Err(Unsynced::Lost(ErrorKind::Other.into())),
-    };
-    if entries {
-        let folder = open_folder(place.rt, place.path()?)?;
-        folder.sync_all().map_err(Unsynced::Lost)?;
-    }
-    Ok(())
-}
-
-fn settle_standing<R: Files<File = File> + Alloc>(
-    place: &Place<'_, R>,
-    open: &mut OpenFiles,
-    unsettled: &Unsettled,
-) -> Result<(), Unsynced> {
-    for name in names_in(place)? {
-        settle_file(place, open, name, unsettled)?;
-    }
-    Ok(())
-}
-
-fn settle_file<R: Files<File = File>>(
-    place: &Place<'_, R>,
-    open: &mut OpenFiles,
-    name: FileName,
-    unsettled: &Unsettled,
-) -> Result<(), Unsynced> {
-    let Some(file) = take_file(place, open, name)? else {
-        return Err(Unsynced::Untried(ErrorKind::NotFound.into()));
-    };
-    file.sync_data().map_err(Unsynced::Lost)?;
-    open.put(name, file, unsettled);
-    Ok(())
+    files.lock.hold(place)?;
+    sync_pending(place, &files.lock, &mut files.open, &mut files.pending)
 }
