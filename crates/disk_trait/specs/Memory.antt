@@ -16,7 +16,13 @@ pub record FileState : Type 0 where
 
 -- right after a sync
 unfoldable pub durable : List ℕ → FileState
-durable bytes = record { held = bytes; synced = bytes; least = length bytes; greatest = length bytes; pending = λ _. false }
+durable bytes = record {
+  held = bytes;
+  synced = bytes;
+  least = length bytes;
+  greatest = length bytes;
+  pending = λ _. false;
+}
 
 -- after a call that made the file this and pending these places
 unfoldable pub changed : List ℕ → (ℕ → Bool) → FileState → FileState
@@ -36,7 +42,8 @@ same_name = names.ghosts.eq
 unfoldable pub after_call : FileName → DiskCall → FileState → FileState
 after_call file (Write name at bytes) state =
     if same_name name file
-    then changed (take at state.held ++ bytes ++ drop (at + length bytes) state.held) (λ i. nat_le at i && nat_lt i (at + length bytes)) state
+    then changed (take at state.held ++ bytes ++ drop (at + length bytes) state.held)
+    (λ i. nat_le at i && nat_lt i (at + length bytes)) state
     else state
 after_call file (Cut name size) state =
     if same_name name file then changed (take size state.held) (λ i. nat_le size i) state else state

@@ -35,7 +35,8 @@ fn touch_all(marks: &mut [bool], name: FileName, calls: &[DiskCall])
 }
 
 fn touch(marks: &mut [bool], name: FileName, call: &DiskCall)
-    ensures { (i : ℕ) → i < length marks.old → slice_index_or marks.new i false ≡ (touches name call.now i || slice_index_or marks.old i false) }
+    ensures { (i : ℕ) → i < length marks.old → slice_index_or marks.new i false
+        ≡ (touches name call.now i || slice_index_or marks.old i false) }
 {
     match call {
         DiskCall::Write { file, at, bytes } => {
@@ -54,7 +55,8 @@ fn touch(marks: &mut [bool], name: FileName, call: &DiskCall)
 }
 
 fn mark(marks: &mut [bool], from: usize, to: usize)
-    ensures marked { (i : ℕ) → i < length marks.old → slice_index_or marks.new i false ≡ ((nat_le from i && nat_lt i to) || slice_index_or marks.old i false) }
+    ensures marked { (i : ℕ) → i < length marks.old → slice_index_or marks.new i false
+        ≡ ((nat_le from i && nat_lt i to) || slice_index_or marks.old i false) }
     ensures short { length marks.old < 2 ^ 64 }
 {
     let to = to.min(marks.len());

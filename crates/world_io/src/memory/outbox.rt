@@ -96,7 +96,8 @@ impl Outbox for MemoryOutbox {
 // Puts a file in place of the one of its name, or behind the others.
 fn put_file(files: &mut Vec<(Name, Vec<u8>)>, name: &Name, bytes: &[u8]) -> Result<(), AllocError>
     requires { IsDistinct bytes_eq (names_of files.old.items) }
-    ensures put { OnOk result (bytes_of (map file_of files.new.items) ≡ with_file (bytes_of (map file_of files.old.items)) name.now bytes.now) }
+    ensures put { OnOk result (bytes_of (map file_of files.new.items)
+        ≡ with_file (bytes_of (map file_of files.old.items)) name.now bytes.now) }
     ensures once { IsDistinct bytes_eq (names_of files.new.items) }
     ensures err { OnErr result (files.new.items ≡ files.old.items) }
 {
