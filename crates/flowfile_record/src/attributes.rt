@@ -9,7 +9,8 @@ ghost use Rattle.std.specs.FinMap as map;
 ghost use Rattle.std.specs.FinMap.{put, insert, is_sorted};
 ghost use Rattle.flowfile_record.specs.Attributes.{encoded_size, pair_size, has_key_length, is_uuid, IsWithinLimits, IsPutAnswer, put_answer, after_put, shared};
 ghost use Rattle.flowfile_record.specs.Outcome.{same_attributes};
-ghost use Rattle.flowfile_record.specs.HeldPairs.{key_and_value, IsPlaceOf, IsGapFor};
+ghost use Rattle.flowfile_record.specs.HeldPairs.{key_and_value};
+ghost use Rattle.flowfile_record.specs.Places.{IsAt, IsGap};
 ghost use Rattle.flowfile_record.specs.OptionalText.{same_text};
 
 use crate::Text;
@@ -255,8 +256,8 @@ fn size_of_all(pairs: &[Pair]) -> u64
 // Where the pair of a key stands, or where it would.
 fn place_of(pairs: &[Pair], key: &str) -> Result<usize, usize>
     requires { IsTrue (is_sorted (slice_cmp nat_cmp) (each key_and_value pairs.now)) }
-    ensures found { IfOk result (IsPlaceOf (each key_and_value pairs.now) key.now) }
-    ensures absent { IfErr result (IsGapFor (each key_and_value pairs.now) key.now) }
+    ensures found { IfOk result (IsAt (slice_cmp nat_cmp) (each key_and_value pairs.now) key.now) }
+    ensures absent { IfErr result (IsGap (slice_cmp nat_cmp) (each key_and_value pairs.now) key.now) }
 {
     pairs.binary_search_by(
         |pair: &Pair| -> Ordering
@@ -270,8 +271,8 @@ fn size_with(pairs: &[Pair], size: u64, place: Result<usize, usize>, key: &str, 
     requires size_is { size ≡ sum_by pair_size (each key_and_value pairs.now) + COUNT_SIZE }
     requires size_within { size ≤ ATTRIBUTES_MAX }
     requires key_within { length key.now ≤ KEY_MAX }
-    requires found { IfOk place (IsPlaceOf (each key_and_value pairs.now) key.now) }
-    requires absent { IfErr place (IsGapFor (each key_and_value pairs.now) key.now) }
+    requires found { IfOk place (IsAt (slice_cmp nat_cmp) (each key_and_value pairs.now) key.now) }
+    requires absent { IfErr place (IsGap (slice_cmp nat_cmp) (each key_and_value pairs.now) key.now) }
     ensures { result ≡ sum_by pair_size (put (slice_cmp nat_cmp) key.now value.now (each key_and_value pairs.now)) + COUNT_SIZE }
 {
     match place {
@@ -287,8 +288,8 @@ fn store(
     key: &str,
     value: &str,
 ) -> Result<(), AllocError>
-    requires found { IfOk place (IsPlaceOf (each key_and_value pairs.old.items) key.now) }
-    requires absent { IfErr place (IsGapFor (each key_and_value pairs.old.items) key.now) }
+    requires found { IfOk place (IsAt (slice_cmp nat_cmp) (each key_and_value pairs.old.items) key.now) }
+    requires absent { IfErr place (IsGap (slice_cmp nat_cmp) (each key_and_value pairs.old.items) key.now) }
     ensures { each key_and_value pairs.new.items ≡ (if is_ok result then put (slice_cmp nat_cmp) key.now value.now (each key_and_value pairs.old.items) else each key_and_value pairs.old.items) }
 {
     let alloc = *pairs.allocator();
