@@ -33,7 +33,7 @@ pub fn read_block_at<D: Disk>(
     requires size { IsTrue D.tells → place.size ≡ length (D.held disk.old place.file) }
     // The block of the answer stands in the file.
     ensures found { IfOk result (λ block. IsTrue D.tells → reading_of (drop place.offset (D.held disk.old place.file)) ≡ Whole block.kind (slice_range buffer.new.items block.start block.end)) }
-    ensures within { IfOk result (λ block. (block.start ≡ HEADER_SIZE) × (block.start ≤ block.end) × (block.end + DIGEST_SIZE ≡ block.next) × (block.next ≡ length buffer.new.items) × (place.offset + block.next ≤ place.size)) }
+    ensures within { IfOk result (λ block. (block.start ≡ HEADER_SIZE) × (block.start ≤ block.end) × (block.end + DIGEST_SIZE ≡ block.next) × (block.next ≤ length buffer.new.items) × (place.offset + block.next ≤ place.size)) }
     // What is damaged is told as it is.
     ensures damaged { (damage : TheDamage) → IsErrOf result (BlockError.Damaged damage) → IsTrue D.tells → damage_in place.file place.at (reading_of (drop place.offset (D.held disk.old place.file))) ≡ Some damage }
     // Memory is taken only for a block that its header lets stand there whole.
