@@ -10,7 +10,9 @@ ghost use Rattle.block_file.specs.Damage.{damage_by, damage_in};
 use crate::BlockError;
 use disk_trait::{Damage, Disk, FileName};
 use flowfile_record::DIGEST_SIZE;
-use record_codec::{BLOCK_OVERHEAD, Block, BlockEnd, HEADER_SIZE, PAYLOAD_MAX, read_block, size_by_header};
+use record_codec::{
+    BLOCK_OVERHEAD, Block, BlockEnd, HEADER_SIZE, PAYLOAD_MAX, read_block, size_by_header,
+};
 
 /// Where a block stands: an offset of a file of this size. Damage is told at the offset `at`, which in a log is that of
 /// the block's gate.

@@ -3,8 +3,7 @@ use Rattle.std.specs.Prelude.{slice_range}
 use Rattle.disk_trait.specs.Files.{Files}
 use Rattle.record_codec.specs.Block.{Whole, reading_of, answer_at}
 use Rattle.record_codec.proofs.Heads.{same_reading}
-use Rattle.block_file.specs.Damage.{damage_in}
-use Rattle.block_file.proofs.Refusals.{none, some, found_start, read_refused}
+use Rattle.block_file.proofs.Refusals.{found_start, read_refused}
 use Rattle.block_file.proofs.read.read_block_at.Goals as goal
 
 pub returns-in-Ok-clause-found : goal.returns-in-Ok-clause-found
@@ -23,8 +22,7 @@ returns-in-Ok-clause-within g c =
     let block = c.in-Ok.block in
     let bytes = c.as_slice.result.now in
     let within = c.in-Ok.ensures.within in
-    let start = found_start block (reading_of bytes) block.kind (slice_range bytes block.start block.end) c.in-Ok.ensures.read c.in-Ok.ensures.whole in
-    (
+    let start = found_start block (reading_of bytes) block.kind (slice_range bytes block.start block.end) c.in-Ok.ensures.read c.in-Ok.ensures.whole in (
       start,
       within.0,
       within.1,

@@ -2,9 +2,8 @@ use Rattle.std.proofs.Common.{◌≡◌, ◌-◌, length, take, drop, Some, sym,
 use Rattle.std.specs.Int.{w32, from_be_bytes}
 use Rattle.std.proofs.lemmas.List.{take-take}
 use Rattle.disk_trait.specs.declared.damage.Damage.TheVariants.{Short}
-use Rattle.record_codec.specs.Block.{sized, reading_of}
+use Rattle.record_codec.specs.Block.{sized}
 use Rattle.record_codec.specs.declared.block.TheConstants.{HEADER_SIZE}
-use Rattle.block_file.specs.Damage.{damage_in}
 use Rattle.block_file.proofs.Refusals.{header_cut, header_refused}
 use Rattle.block_file.proofs.read.size_at.Goals as goal
 
