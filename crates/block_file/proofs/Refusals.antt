@@ -1,9 +1,8 @@
 -- Why a block isn't read: by its header, and by its bytes.
-use Rattle.std.proofs.Common.{◌≡◌, ℕ, ◌+◌, ◌<◌, ◌≤◌, ltb, cond, Bool, true, false, List, length, take, Option, None, Some, refl, sym, ap, ◌∙◌, arith}
+use Rattle.std.proofs.Common.{◌≡◌, ℕ, ◌+◌, ◌<◌, ◌≤◌, ltb, cond, Bool, true, false, List, length, take, Some, refl, sym, ap, ◌∙◌, arith}
 use Rattle.std.specs.Prelude.{Result, Ok, Err}
 use Rattle.std.specs.Int.{w32, from_be_bytes}
 use Rattle.std.proofs.lemmas.Bool.{ltb-true, ltb-false}
-use Rattle.disk_trait.specs.declared.damage.Damage.{Damage}
 use Rattle.disk_trait.specs.declared.file_name.FileName.{FileName}
 use Rattle.record_codec.specs.Block.{Reading, Whole, Cut, Long, Differs, reading_of, sized, answer_at}
 use Rattle.record_codec.specs.Head.{IsWholeHead}
@@ -60,10 +59,10 @@ passes bytes size n false false is l c e =
 pub header_passed : (bytes : List ℕ) (n : ℕ) → passed n ≡ sized (from_be_bytes w32 (take 4 bytes)) (length bytes) → IsWholeHead n bytes
 header_passed bytes n e = let size = from_be_bytes w32 (take 4 bytes) in passes bytes size n (ltb PAYLOAD_MAX size) (ltb (length bytes) (size + BLOCK_OVERHEAD)) refl refl refl (sym e)
 
-abbrev Answer : Type 0
+abbrev pub Answer : Type 0
 Answer = Result Block BlockEnd
 
-abbrev none : BlockEnd → Answer
+abbrev pub none : BlockEnd → Answer
 none end = Err end
 
 -- what a reading refuses
@@ -75,3 +74,13 @@ read_refused file at (Long size) end e =
     let same : TooLong size ≡ end = cc in ap (λ (x : BlockEnd). Some (damage_by file at x)) same
 read_refused file at (Differs stored found) end e =
     let same : Digest stored found ≡ end = cc in ap (λ (x : BlockEnd). Some (damage_by file at x)) same
+
+abbrev pub some : Block → Answer
+some block = Ok block
+
+-- where the payload of a block that was read begins
+pub found_start : (block : Block) (reading : Reading) (kind : ℕ) (payload : List ℕ) → some block ≡ answer_at 0 reading → reading ≡ Whole kind payload → block.start ≡ HEADER_SIZE
+found_start block reading kind payload e is =
+    let found : some block ≡ answer_at 0 (Whole kind payload) = e ∙ ap (answer_at 0) is in
+    let same : block ≡ record { kind = kind; start = HEADER_SIZE; end = HEADER_SIZE + length payload; next = BLOCK_OVERHEAD + length payload } = cc in
+    ap (λ (b : Block). b.start) same

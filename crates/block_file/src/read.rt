@@ -10,7 +10,9 @@ ghost use Rattle.block_file.specs.Damage.{damage_by, damage_in};
 use crate::BlockError;
 use disk_trait::{Damage, Disk, FileName};
 use flowfile_record::DIGEST_SIZE;
-use record_codec::{BLOCK_OVERHEAD, Block, BlockEnd, HEADER_SIZE, PAYLOAD_MAX, read_block, size_by_header};
+use record_codec::{
+    BLOCK_OVERHEAD, Block, BlockEnd, HEADER_SIZE, PAYLOAD_MAX, read_block, size_by_header,
+};
 
 /// Where a block stands: an offset of a file of this size. Damage is told at the offset `at`, which in a log is that of
 /// the block's gate.
@@ -33,7 +35,7 @@ pub fn read_block_at<D: Disk>(
     requires size { IsTrue D.tells → place.size ≡ length (D.held disk.old place.file) }
     // The block of the answer stands in the file.
     ensures found { IfOk result (λ block. IsTrue D.tells → reading_of (drop place.offset (D.held disk.old place.file)) ≡ Whole block.kind (slice_range buffer.new.items block.start block.end)) }
-    ensures within { IfOk result (λ block. (block.start ≡ HEADER_SIZE) × (block.start ≤ block.end) × (block.end + DIGEST_SIZE ≡ block.next) × (block.next ≡ length buffer.new.items) × (place.offset + block.next ≤ place.size)) }
+    ensures within { IfOk result (λ block. (block.start ≡ HEADER_SIZE) × (block.start ≤ block.end) × (block.end + DIGEST_SIZE ≡ block.next) × (block.next ≤ length buffer.new.items) × (place.offset + block.next ≤ place.size)) }
     // What is damaged is told as it is.
     ensures damaged { (damage : TheDamage) → IsErrOf result (BlockError.Damaged damage) → IsTrue D.tells → damage_in place.file place.at (reading_of (drop place.offset (D.held disk.old place.file))) ≡ Some damage }
     // Memory is taken only for a block that its header lets stand there whole.

@@ -3,9 +3,9 @@ use Rattle.std.proofs.Common.{◌≡◌, ◌≢◌, ℕ, ◌^◌, ◌<◌, ◌==
 use Rattle.std.specs.Int.{w16, w64, to_be_bytes}
 use Rattle.std.proofs.lemmas.Bool.{eqb-true, eqb-false, ne_eqb}
 use Rattle.flowfile_record.specs.Field.{IsBytes, Takes, IsField}
-use Rattle.flowfile_record.specs.Reading.{Reading, ◌>>=◌, ◌then◌, made, byte_at, uint_at, number_at, numbers_at, listed_at}
+use Rattle.flowfile_record.specs.Reading.{Reading, ◌>>=◌, ◌then◌, made, uint_at, number_at, numbers_at, listed_at}
 use Rattle.flowfile_record.specs.Encoding.{byte, listed, numbers, IsNumber, AreListed, AreNumbers}
-use Rattle.flowfile_record.proofs.FieldLaws.{bind_ok, ok_is, Takes-then, pair_is, made_is, made_from, such_is, byte_is, u16_is, u64_is, number_is, numbers_is, listed_is}
+use Rattle.flowfile_record.proofs.FieldLaws.{bind_ok, ok_is, Takes-then, pair_is, made_is, made_from, such_is, u16_is, u64_is, number_is, numbers_is, listed_is}
 use Rattle.record_codec.specs.ActiveFile.{active_file, active_file_at, IsActiveFile}
 use Rattle.record_codec.specs.EntryReading.{begin_at, count_at, generator_at, session_at, expire_at, swap_out_at, swap_in_at, entry_at}
 use Rattle.record_codec.specs.EntryEncoding.{generator, counters, session, expire, swap_out, entry, IsPlace, IsMoment, IsGenerator, IsSession, IsExpire, IsSwapOut, IsEntryOf}

@@ -1,5 +1,5 @@
 -- How a log is read, gate by gate.
-use Rattle.std.proofs.Common.{◌≡◌, ◌≢◌, ℕ, zero, suc, ◌+◌, ◌-◌, ◌<◌, ◌≤◌, ◌==◌, ◌&&◌, eqb, ltb, cond, Bool, true, false, List, [], ◌∷◌, ◌++◌, length, length-append, take, drop, get_or, refl, sym, ap, subst, ◌∙◌, append_assoc, arith}
+use Rattle.std.proofs.Common.{◌≡◌, ◌≢◌, ℕ, zero, suc, ◌+◌, ◌<◌, ◌≤◌, ◌==◌, ◌&&◌, ltb, cond, Bool, true, false, List, [], ◌∷◌, ◌++◌, length, length-append, take, drop, get_or, refl, sym, ap, subst, ◌∙◌, arith}
 use Rattle.std.specs.Prelude.{Result, Ok, Err}
 use Rattle.std.proofs.lemmas.Bool.{and_parts, eqb-true, ltb-true}
 use Rattle.std.proofs.lemmas.Bool.Decides.{nat_tests}
@@ -9,7 +9,7 @@ use Rattle.flowfile_record.proofs.FieldLaws.{whole_again}
 use Rattle.record_codec.specs.Block.{Reading, Whole, Cut, Long, Differs, block, reading_of}
 use Rattle.record_codec.specs.EntryEncoding.{entry, kind_of, IsEntry, IsEntryOf}
 use Rattle.record_codec.specs.EntryReading.{entry_at}
-use Rattle.record_codec.specs.LogEntries.{Cause, Form, LogRead, LogDamage, ended, after, told, entry_in, behind_gate, log_from, log_of, IsFirstDamage, one_more}
+use Rattle.record_codec.specs.LogEntries.{Cause, LogRead, LogDamage, ended, after, told, entry_in, behind_gate, log_from, log_of, IsFirstDamage, one_more}
 use Rattle.record_codec.specs.declared.block.TheConstants.{PAYLOAD_MAX, BLOCK_OVERHEAD}
 use Rattle.record_codec.specs.declared.entry.LogEntry.{LogEntry}
 use Rattle.record_codec.specs.declared.log.TheConstants.{OPEN_GATE, CLOSED_GATE}

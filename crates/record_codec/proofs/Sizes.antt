@@ -1,5 +1,5 @@
 -- How many bytes encodings have.
-use Rattle.std.proofs.Common.{◌≡◌, ℕ, ◌+◌, ◌*◌, ◌<◌, ◌≤◌, ◌^◌, suc, List, [], ◌∷◌, ◌++◌, length, sum_by, length-append, Option, Some, None, refl, sym, ap, ◌∙◌, arith}
+use Rattle.std.proofs.Common.{◌≡◌, ℕ, ◌+◌, ◌*◌, ◌≤◌, ◌^◌, suc, List, [], ◌∷◌, ◌++◌, length, sum_by, length-append, Option, Some, None, refl, ap, ◌∙◌, arith}
 use Rattle.std.specs.Prelude.{All, map}
 use Rattle.std.specs.List.{flat_map}
 use Rattle.std.specs.Int.{w16, w32, w64, to_be_bytes}
@@ -165,16 +165,23 @@ pub placeless_entry_size : (e : LogEntry) → length (entry (placeless_entry e))
 unfolding entry
 placeless_entry_size (Begin log) = refl
 placeless_entry_size (Session s) =
-    omega (arith, session_size s, session_size (record {
-      processor = s.processor;
-      moment = s.moment;
-      gone = s.gone;
-      placed = map placeless_active s.placed;
-      next_number = s.next_number;
-      next_arrival = s.next_arrival;
-      last_event = s.last_event;
-      generator = s.generator;
-    }), listed_size s.placed, listed_size (map placeless_active s.placed), placed_sizes s.placed)
+    omega (
+      arith,
+      session_size s,
+      session_size (record {
+        processor = s.processor;
+        moment = s.moment;
+        gone = s.gone;
+        placed = map placeless_active s.placed;
+        next_number = s.next_number;
+        next_arrival = s.next_arrival;
+        last_event = s.last_event;
+        generator = s.generator;
+      }),
+      listed_size s.placed,
+      listed_size (map placeless_active s.placed),
+      placed_sizes s.placed,
+    )
 placeless_entry_size (Expire e) = refl
 placeless_entry_size (SwapOut s) = refl
 placeless_entry_size (SwapIn connection batch) = refl

@@ -1,5 +1,5 @@
 -- The version of the format: what is read is encoded so, and what is encoded so is read again.
-use Rattle.std.proofs.Common.{◌≡◌, ℕ, ◌^◌, ◌<◌, ◌==◌, IsTrue}
+use Rattle.std.proofs.Common.{ℕ, ◌^◌, ◌<◌, ◌==◌, IsTrue}
 use Rattle.flowfile_record.specs.Field.{IsField}
 use Rattle.flowfile_record.specs.Reading.{byte_at}
 use Rattle.flowfile_record.specs.Encoding.{byte}

@@ -1,9 +1,8 @@
 -- Values without where their contents stand.
-use Rattle.std.specs.Prelude.{List, map}
+use Rattle.std.specs.Prelude.{map}
 use Rattle.flowfile_record.specs.declared.flow_file.FlowFile.{FlowFile}
 use Rattle.flowfile_record.specs.declared.stored.ActiveFile.{ActiveFile}
 use Rattle.record_codec.specs.ActiveFile.{active}
-use Rattle.record_codec.specs.declared.entry.SessionEntry.{SessionEntry}
 use Rattle.record_codec.specs.declared.entry.LogEntry.{LogEntry}
 use Rattle.record_codec.specs.declared.entry.LogEntry.TheVariants.{Begin, Session, Expire, SwapOut, SwapIn}
 

@@ -23,7 +23,11 @@ pub fn active_file_size(file: &FlowFile) -> u64
 
 /// Appends the one encoding of a flow file that is active in this connection. It fails only where there is less room
 /// than `active_file_size` tells, and then the bytes stay.
-pub fn write_active_file(out: &mut Vec<u8>, connection: u16, file: &FlowFile) -> Result<(), AllocError>
+pub fn write_active_file(
+    out: &mut Vec<u8>,
+    connection: u16,
+    file: &FlowFile,
+) -> Result<(), AllocError>
     requires { IsFlowFile file.now }
     ensures ok { OnOk result (out.new.items ≡ out.old.items ++ active_file (active connection file.now)) }
     ensures err { OnErr result (out.new.items ≡ out.old.items) }

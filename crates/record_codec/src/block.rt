@@ -38,11 +38,19 @@ pub struct Block {
 pub enum BlockEnd {
     /// A header needs `HEADER_SIZE` bytes, and a block as many as its header says.
     #[error("a block needs {need} bytes and there are {have}")]
-    Short { need: u64, have: u64 },
+    Short {
+        need: u64,
+        have: u64,
+    },
     #[error("a block names a payload of {length} bytes")]
-    TooLong { length: u64 },
+    TooLong {
+        length: u64,
+    },
     #[error("a block's digest differs from the stored one")]
-    Digest { stored: [u8; DIGEST_SIZE], found: [u8; DIGEST_SIZE] },
+    Digest {
+        stored: [u8; DIGEST_SIZE],
+        found: [u8; DIGEST_SIZE],
+    },
 }
 
 /// How many bytes a block has whose payload has this length.
@@ -60,9 +68,7 @@ pub fn size_by_header(header: &[u8], have: u64) -> Result<u64, BlockEnd>
     requires { length header.now ≡ HEADER_SIZE }
     ensures { result ≡ sized (from_be_bytes w32 (take 4 header.now)) have }
 {
-    let length = u64::from(u32::from_be_bytes([
-        header[0], header[1], header[2], header[3],
-    ]));
+    let length = u64::from(u32::from_be_bytes([header[0], header[1], header[2], header[3]]));
     if length > PAYLOAD_MAX {
         return Err(BlockEnd::TooLong { length });
     }

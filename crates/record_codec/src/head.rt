@@ -10,14 +10,14 @@ ghost use Rattle.record_codec.specs.Texts.{texts, AreTexts};
 ghost use Rattle.record_codec.specs.StoreHead as encoding;
 ghost use Rattle.record_codec.specs.StoreHeadReading.{store_at, head_at, head_front_at};
 
+use crate::FORMAT_VERSION;
 use crate::put::{put, put_numbers, put_u8, put_u64};
 use crate::texts::{put_texts, read_texts, texts_size};
 use crate::version::read_version;
-use crate::FORMAT_VERSION;
-use flowfile_record::fields::{FieldError, Unread, read_digest, read_number, read_numbers, read_u64};
-use flowfile_record::{
-    CodecError, DIGEST_SIZE, Numbers, STORE_LIMIT, Stored, Text, TextList,
+use flowfile_record::fields::{
+    FieldError, Unread, read_digest, read_number, read_numbers, read_u64,
 };
+use flowfile_record::{CodecError, DIGEST_SIZE, Numbers, STORE_LIMIT, Stored, Text, TextList};
 use std::alloc::{AllocError, Global};
 
 /// What a store keeps beside its flow files: its id, the digest of its flow's text, the flow's connections, how many
@@ -55,8 +55,20 @@ pub fn write_head(out: &mut Vec<u8>, head: &Head) -> Result<(), AllocError>
     ensures capacity { vec_capacity out.old ≤ vec_capacity out.new }
 {
     out.reserve(head_size(head) as usize)?;
-    put_lists(out, head.store, &head.flow, head.connections.as_slice(), head.counts.as_slice());
-    put_counters(out, head.next_number, head.next_arrival, head.last_event, head.next_batch);
+    put_lists(
+        out,
+        head.store,
+        &head.flow,
+        head.connections.as_slice(),
+        head.counts.as_slice(),
+    );
+    put_counters(
+        out,
+        head.next_number,
+        head.next_arrival,
+        head.last_event,
+        head.next_batch,
+    );
     Ok(())
 }
 
@@ -78,8 +90,20 @@ pub fn write_head_of(out: &mut Vec<u8>, stored: &Stored) -> Result<(), AllocErro
     ensures capacity { vec_capacity out.old ≤ vec_capacity out.new }
 {
     out.reserve(head_size_of(stored) as usize)?;
-    put_lists(out, stored.store, &stored.flow, stored.connections.as_slice(), stored.counts.as_slice());
-    put_counters(out, stored.next_number, stored.next_arrival, stored.last_event, stored.next_batch);
+    put_lists(
+        out,
+        stored.store,
+        &stored.flow,
+        stored.connections.as_slice(),
+        stored.counts.as_slice(),
+    );
+    put_counters(
+        out,
+        stored.next_number,
+        stored.next_arrival,
+        stored.last_event,
+        stored.next_batch,
+    );
     Ok(())
 }
 
@@ -179,7 +203,13 @@ fn size_of(connections: &[Text], counts: &[u64]) -> u64
 }
 
 // The fields up to the counts of generated files.
-fn put_lists(out: &mut Vec<u8>, store: u64, flow: &[u8; DIGEST_SIZE], connections: &[Text], counts: &[u64])
+fn put_lists(
+    out: &mut Vec<u8>,
+    store: u64,
+    flow: &[u8; DIGEST_SIZE],
+    connections: &[Text],
+    counts: &[u64],
+)
     requires flow { IsDigest flow.now }
     requires connections { AreTexts connections.now }
     requires counts { length counts.now < 2 ^ 32 }
@@ -196,7 +226,13 @@ fn put_lists(out: &mut Vec<u8>, store: u64, flow: &[u8; DIGEST_SIZE], connection
 }
 
 // The fields behind the counts of generated files.
-fn put_counters(out: &mut Vec<u8>, next_number: u64, next_arrival: u64, last_event: u64, next_batch: u64)
+fn put_counters(
+    out: &mut Vec<u8>,
+    next_number: u64,
+    next_arrival: u64,
+    last_event: u64,
+    next_batch: u64,
+)
     requires { vec_len out.old + 32 ≤ vec_capacity out.old }
     ensures items { out.new.items ≡ out.old.items ++ (to_be_bytes w64 next_number ++ to_be_bytes w64 next_arrival ++ to_be_bytes w64 last_event ++ to_be_bytes w64 next_batch) }
     ensures capacity { vec_capacity out.old ≤ vec_capacity out.new }

@@ -11,6 +11,7 @@ mod content;
 mod entry;
 mod flow_file;
 mod head;
+mod law;
 mod log;
 mod put;
 mod snapshot;
@@ -34,6 +35,7 @@ pub use flowfile_record::CodecError;
 pub use head::{
     Head, head_size, head_size_of, heads_have_one_encoding, read_head, write_head, write_head_of,
 };
+pub use law::numbers_of_the_format;
 pub use log::{
     CLOSED_GATE, OPEN_GATE, an_open_gate_adds_an_entry, last_gates_end_a_log,
     the_first_damage_is_told,

@@ -7,10 +7,10 @@ ghost use Rattle.record_codec.specs.EntryReading.{begin_at, count_at, generator_
 use crate::active_file::read_fields as read_active_fields;
 use crate::entry::{ExpireEntry, LogEntry, NO_GENERATOR, SessionEntry, SwapOutEntry};
 use crate::version::read_version;
-use flowfile_record::{ActiveFile, CodecError, Counted, Sequence};
 use flowfile_record::fields::{
     FieldError, Unread, read_number, read_numbers, read_u16, read_u32, read_u64,
 };
+use flowfile_record::{ActiveFile, CodecError, Counted, Sequence};
 use std::alloc::Global;
 
 pub(crate) fn read_answer(alloc: Global, kind: u8, bytes: &[u8]) -> Result<LogEntry, CodecError>
@@ -98,7 +98,10 @@ fn read_session(alloc: Global, bytes: &[u8]) -> Result<(SessionEntry, &[u8]), Fi
 }
 
 #[tactic(auto, unfolding(flowfile_record::specs::Reading::listed_at))]
-fn read_placed_list(alloc: Global, bytes: &[u8]) -> Result<(Sequence<ActiveFile>, &[u8]), FieldError>
+fn read_placed_list(
+    alloc: Global,
+    bytes: &[u8],
+) -> Result<(Sequence<ActiveFile>, &[u8]), FieldError>
     ensures { Gives (λ x. (x.0, x.1.now)) result (listed_at active_file_at bytes.now) }
 {
     let (count, rest) = read_u32(bytes)?;

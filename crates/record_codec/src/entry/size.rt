@@ -35,7 +35,9 @@ fn session_size(session: &SessionEntry) -> u64
     requires { IsSession session.now }
     ensures { result ≡ length (encoding.session session.now) }
 {
-    10 + COUNTERS_SIZE + numbers_size(session.gone.as_slice()) + placed_size(session.placed.as_slice())
+    10 + COUNTERS_SIZE
+        + numbers_size(session.gone.as_slice())
+        + placed_size(session.placed.as_slice())
 }
 
 #[tactic(auto, using(crate::proofs::Sizes::expire_size))]

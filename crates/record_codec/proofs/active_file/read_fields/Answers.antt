@@ -1,9 +1,9 @@
 use Rattle.std.proofs.Common.{◌≡◌, ap, Err}
 use Rattle.std.proofs.lemmas.Result.{err_from_is_err_and}
-use Rattle.std.specs.Int.{w16, w32, w64}
-use Rattle.flowfile_record.specs.Reading.{◌then◌, uint_at, number_at, raw_at, text_at, listed_at}
+use Rattle.std.specs.Int.{w16}
+use Rattle.flowfile_record.specs.Reading.{uint_at}
 use Rattle.flowfile_record.specs.declared.fields.fault.FieldError.TheVariants.{Memory}
-use Rattle.record_codec.proofs.Fronts.{then_ok, first_counts, list_counts}
+use Rattle.record_codec.proofs.Fronts.{then_ok}
 use Rattle.record_codec.specs.FileReading.{file_front_at}
 use Rattle.record_codec.proofs.active_file.read_fields.Goals as goal
 

@@ -1,6 +1,5 @@
 use Rattle.std.proofs.Common.{length, ap, arith}
 use Rattle.flowfile_record.specs.Encoding.{numbers}
-use Rattle.record_codec.specs.StoreHead.{head_of}
 use Rattle.record_codec.specs.Texts.{texts}
 use Rattle.record_codec.proofs.Sizes.{head_size}
 use Rattle.record_codec.proofs.head.head_size.Goals as goal

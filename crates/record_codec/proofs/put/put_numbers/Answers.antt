@@ -1,4 +1,4 @@
-use Rattle.std.proofs.Common.{◌≡◌, ◌++◌, length, length-append, arith}
+use Rattle.std.proofs.Common.{length, length-append, arith}
 use Rattle.std.specs.List.{flat_map}
 use Rattle.std.specs.Int.{w32, w64, to_be_bytes}
 use Rattle.record_codec.proofs.Parts.{parts_within, put_more, length_more}

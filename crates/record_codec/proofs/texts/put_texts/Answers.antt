@@ -1,4 +1,4 @@
-use Rattle.std.proofs.Common.{◌++◌, length, length-append, ap, arith}
+use Rattle.std.proofs.Common.{length, length-append, ap, arith}
 use Rattle.std.specs.List.{flat_map}
 use Rattle.std.specs.Int.{w16, w32, to_be_bytes}
 use Rattle.flowfile_record.specs.Encoding.{text}

@@ -1,9 +1,9 @@
 use Rattle.std.proofs.Common.{◌≡◌, ap, Err}
 use Rattle.std.proofs.lemmas.Result.{err_from_is_err_and}
-use Rattle.std.specs.Int.{w16, w32, w64}
-use Rattle.flowfile_record.specs.Reading.{◌then◌, uint_at, number_at, raw_at, text_at, listed_at}
+use Rattle.std.specs.Int.{w16, w32}
+use Rattle.flowfile_record.specs.Reading.{◌then◌, uint_at, number_at}
 use Rattle.flowfile_record.specs.declared.fields.fault.FieldError.TheVariants.{Memory}
-use Rattle.record_codec.proofs.Fronts.{then_ok, first_counts, list_counts}
+use Rattle.record_codec.proofs.Fronts.{then_ok, first_counts}
 use Rattle.record_codec.proofs.entry.read.read_swap_out.Goals as goal
 
 pub returns-in_err-numbers-clause-memory : goal.returns-in_err-numbers-clause-memory
