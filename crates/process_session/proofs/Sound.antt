@@ -21,7 +21,7 @@ use Rattle.flowfile_record.specs.declared.worked.Origin.{Origin}
 use Rattle.flowfile_record.specs.declared.worked.Origin.TheVariants.{Taken as FromQueue, Part, Cloned, Joined}
 use Rattle.process_session.specs.declared.file.File.{File}
 use Rattle.process_session.specs.Bench.{Bench, IsBodyOf, attributes_at, body_at, file_size, attribute_size, made_size, named_size, origin_at}
-use Rattle.process_session.specs.Changes.{change_at, made_file, with_attributes, with_changed, with_content, with_end, with_handed, with_made, with_penalty, with_route, with_clone, with_part, with_range, is_whole, part_of}
+use Rattle.process_session.specs.Changes.{attributed_file, change_at, made_file, with_attributes, with_changed, with_content, with_end, with_handed, with_made, with_penalty, with_route, with_clone, with_part, with_range, is_whole, part_of, written_file}
 use Rattle.process_session.specs.Reasons.{no_room_for, past_limits, session_full}
 use Rattle.process_session.specs.Sound.{IsHeld, IsSound, MayCome, MayEnd, MayInherit}
 use Rattle.process_session.proofs.Changing.{change_at-there, length-change_at, origins-change_at, sum_by-change_at, sum_by-set_there, All-change_at}
@@ -69,9 +69,6 @@ sound-penalised bench counted place sound =
 pub taken_there : (bench : Bench) (place : ℕ) (file : File) → slice_get bench.files place ≡ Some file → is_made (origin_at bench place) ≡ false → is_made file.origin ≡ false
 taken_there bench place file is taken = sym (ap (λ o. is_made (option_map_or (λ (f : File). f.origin) o (FromQueue place))) is) ∙ taken
 
-abbrev written_file : List ℕ → File → File
-written_file bytes file = record file { body = New bytes; written = true }
-
 -- a content of its own
 pub sound-content : (bench : Bench) (counted place : ℕ) (bytes : List ℕ) (size : ℕ) → length bytes ≤ CONTENT_MAX → bench.handed + size ≤ WRITTEN_MAX → IsSound bench counted → IsSound (with_content bench place bytes size) counted
 sound-content bench counted place bytes size fits room sound =
@@ -85,10 +82,6 @@ limits-same files files' attributes attributes' handed p q = ap (λ n. past_limi
 pub full-content : (bench : Bench) (place : ℕ) (bytes : List ℕ) (size : ℕ) → session_full (with_content bench place bytes size) ≡ past_limits (length bench.files) (attribute_size bench) (bench.handed + size)
 full-content bench place bytes size =
     limits-same _ _ _ _ (bench.handed + size) (length-change_at (written_file bytes) place bench.files) (sum_by-change_at file_size (written_file bytes) (λ file. refl) place bench.files)
-
--- other attributes
-abbrev attributed_file : AttributeMap → File → File
-attributed_file attributes file = record file { attributes = attributes }
 
 file_at : (files : List File) (place : ℕ) → place < length files → (file : File) × (slice_get files place ≡ Some file)
 file_at [] place within = absurd (omega arith)

@@ -29,8 +29,15 @@ source_of taken = record { uuid = taken.uuid; size = taken.size; bytes = taken.b
 -- a taken file as the session begins
 abbrev pub taken_file : ℕ → Taken → File
 taken_file place taken =
-    record { origin = FromQueue place; attributes = taken.attributes; body = Whole place; «end» = None;
-        written = false; penalised = false; routed = None }
+    record {
+      origin = FromQueue place;
+      attributes = taken.attributes;
+      body = Whole place;
+      «end» = None;
+      written = false;
+      penalised = false;
+      routed = None;
+    }
 
 abbrev pub taken_files : ℕ → List Taken → List File
 taken_files place [] = []
@@ -39,8 +46,13 @@ taken_files place (taken ∷ more) = taken_file place taken ∷ taken_files (pla
 -- the bench as the session begins
 abbrev pub bench_of : ℕ → List Taken → Bench
 bench_of relationships taken =
-    record { relationships = relationships; sources = map source_of taken; files = taken_files 0 taken; sent = None;
-        handed = 0 }
+    record {
+      relationships = relationships;
+      sources = map source_of taken;
+      files = taken_files 0 taken;
+      sent = None;
+      handed = 0;
+    }
 
 -- what a taken file's content was, where the session was given it
 abbrev pub taken_bytes : List Source → ℕ → Option (List ℕ)

@@ -35,8 +35,15 @@ with_route bench place relationship = with_changed bench place (λ file. record 
 abbrev pub with_sent : Bench → ℕ → List ℕ → Bench
 with_sent bench place name = record bench { sent = Some (record { place = place; name = name }) }
 
+-- a file with other attributes, and one with a content of its own
+abbrev pub attributed_file : AttributeMap → File → File
+attributed_file attributes file = record file { attributes = attributes }
+
+abbrev pub written_file : List ℕ → File → File
+written_file bytes file = record file { body = New bytes; written = true }
+
 abbrev pub with_attributes : Bench → ℕ → AttributeMap → Bench
-with_attributes bench place attributes = with_changed bench place (λ file. record file { attributes = attributes })
+with_attributes bench place attributes = with_changed bench place (attributed_file attributes)
 
 -- `uuid` can't be set
 abbrev pub put_in : AttributeMap → List ℕ → List ℕ → AttributeMap
@@ -51,8 +58,7 @@ with_removed bench place key = with_attributes bench place (remove (attributes_a
 
 -- a content of its own, by a write of so many bytes
 abbrev pub with_content : Bench → ℕ → List ℕ → ℕ → Bench
-with_content bench place bytes size =
-    with_handed (with_changed bench place (λ file. record file { body = New bytes; written = true })) size
+with_content bench place bytes size = with_handed (with_changed bench place (written_file bytes)) size
 
 abbrev pub with_written : Bench → ℕ → List ℕ → Bench
 with_written bench place bytes = with_content bench place bytes (length bytes)
@@ -63,8 +69,15 @@ with_appended bench place bytes = with_content bench place (unwrap_or (bytes_of 
 -- a file that the session makes
 abbrev pub made_file : Origin → AttributeMap → Body → File
 made_file origin attributes body =
-    record { origin = origin; attributes = attributes; body = body; «end» = None; written = false; penalised = false;
-        routed = None }
+    record {
+      origin = origin;
+      attributes = attributes;
+      body = body;
+      «end» = None;
+      written = false;
+      penalised = false;
+      routed = None;
+    }
 
 -- one more file, at the end
 abbrev pub with_made : Bench → Origin → AttributeMap → Body → Bench

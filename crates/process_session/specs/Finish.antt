@@ -61,8 +61,15 @@ origin_in stand origin = origin
 -- a file with another origin
 abbrev pub worked_with : Origin → File → Worked
 worked_with origin file =
-    record { origin = origin; attributes = file.attributes; body = file.body; «end» = unwrap_or file.«end» Removed;
-        written = file.written; penalised = file.penalised; routed = file.routed }
+    record {
+      origin = origin;
+      attributes = file.attributes;
+      body = file.body;
+      «end» = unwrap_or file.«end» Removed;
+      written = file.written;
+      penalised = file.penalised;
+      routed = file.routed;
+    }
 
 abbrev pub worked_of : List (List ℕ) → File → Worked
 worked_of stand file = worked_with (origin_in stand file.origin) file

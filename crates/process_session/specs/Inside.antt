@@ -5,8 +5,13 @@ use Rattle.process_session.specs.Sound.{IsSound}
 
 abbrev pub bench_in : Inside → Bench
 bench_in session =
-    record { relationships = session.relationships; sources = session.sources.items; files = session.files.items;
-        sent = session.sent; handed = session.handed }
+    record {
+      relationships = session.relationships;
+      sources = session.sources.items;
+      files = session.files.items;
+      sent = session.sent;
+      handed = session.handed;
+    }
 
 abbrev pub IsSoundInside : Inside → Type 0
 IsSoundInside session = IsSound (bench_in session) session.counted

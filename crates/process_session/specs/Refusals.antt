@@ -35,26 +35,26 @@ abbrev pub refusal_of_put : Bench → ℕ → List ℕ → List ℕ → Refusal
 refusal_of_put bench place key value =
     let attributes = insert (attributes_at bench place) key value in
     let of_key = if is_uuid key then [] else bad_key key ∷
-        attributes_too_large (named_size (origin_at bench place) attributes) ∷
-        session_full (with_put bench place key value) ∷ [] in
+    attributes_too_large (named_size (origin_at bench place) attributes) ∷
+    session_full (with_put bench place key value) ∷ [] in
     first_refusal (unknown_file bench place ∷ already_ended bench place ∷ of_key)
 
 abbrev pub refusal_of_remove_attribute : Bench → ℕ → List ℕ → Refusal
 refusal_of_remove_attribute bench place key =
     let attributes = remove (attributes_at bench place) key in
     first_refusal (unknown_file bench place ∷ already_ended bench place ∷
-        attributes_too_large (named_size (origin_at bench place) attributes) ∷ [])
+    attributes_too_large (named_size (origin_at bench place) attributes) ∷ [])
 
 abbrev pub refusal_of_write : Bench → ℕ → List ℕ → Refusal
 refusal_of_write bench place bytes =
     first_refusal (unknown_file bench place ∷ already_ended bench place ∷ content_too_large (length bytes) ∷
-        session_full (with_written bench place bytes) ∷ [])
+    session_full (with_written bench place bytes) ∷ [])
 
 abbrev pub refusal_of_append : Bench → ℕ → List ℕ → Refusal
 refusal_of_append bench place bytes =
     first_refusal (unknown_file bench place ∷ already_ended bench place ∷ no_bytes bench place ∷
-        content_too_large (content_size bench place + length bytes) ∷
-        session_full (with_appended bench place bytes) ∷ [])
+    content_too_large (content_size bench place + length bytes) ∷
+    session_full (with_appended bench place bytes) ∷ [])
 
 abbrev pub refusal_of_create : Bench → Refusal
 refusal_of_create bench = first_refusal (session_full (with_created bench) ∷ [])
@@ -66,7 +66,7 @@ refusal_of_receive bench bytes =
 abbrev pub refusal_of_create_from : Bench → ℕ → Refusal
 refusal_of_create_from bench parent =
     first_refusal (unknown_file bench parent ∷ already_ended bench parent ∷
-        attributes_too_large (made_size (attributes_at bench parent)) ∷ session_full (with_child bench parent) ∷ [])
+    attributes_too_large (made_size (attributes_at bench parent)) ∷ session_full (with_child bench parent) ∷ [])
 
 -- the first of several files that is unknown, and the first that has ended
 abbrev pub unknown_files : Bench → List ℕ → Refusal
@@ -84,19 +84,19 @@ refusal_of_parents bench parents = first_refusal (unknown_files bench parents �
 abbrev pub refusal_of_create_joined : Bench → List ℕ → Refusal
 refusal_of_create_joined bench parents =
     first_refusal (unknown_files bench parents ∷ ended_files bench parents ∷
-        attributes_too_large (made_size (common_attributes bench parents)) ∷
-        session_full (with_joined bench parents) ∷ [])
+    attributes_too_large (made_size (common_attributes bench parents)) ∷
+    session_full (with_joined bench parents) ∷ [])
 
 abbrev pub refusal_of_clone : Bench → ℕ → Refusal
 refusal_of_clone bench of =
     first_refusal (unknown_file bench of ∷ already_ended bench of ∷
-        attributes_too_large (made_size (attributes_at bench of)) ∷ session_full (with_clone bench of) ∷ [])
+    attributes_too_large (made_size (attributes_at bench of)) ∷ session_full (with_clone bench of) ∷ [])
 
 abbrev pub refusal_of_clone_range : Bench → ℕ → ℕ → ℕ → Refusal
 refusal_of_clone_range bench of offset size =
     first_refusal (unknown_file bench of ∷ already_ended bench of ∷ range_outside bench of offset size ∷
-        attributes_too_large (made_size (attributes_at bench of)) ∷
-        session_full (with_range bench of offset size) ∷ [])
+    attributes_too_large (made_size (attributes_at bench of)) ∷
+    session_full (with_range bench of offset size) ∷ [])
 
 abbrev pub refusal_of_finish : Bench → Refusal
 refusal_of_finish bench = first_refusal (not_accounted bench ∷ [])

@@ -11,5 +11,7 @@ mod session;
 
 pub use error::{Full, SessionError};
 pub use file::{Source, SourceList, Taken, TakenList};
-pub use flowfile_record::{FILENAME_SIZE, FILES_MAX, SESSION_ATTRIBUTES_MAX, TAKEN_MAX, WRITTEN_MAX};
+pub use flowfile_record::{
+    FILENAME_SIZE, FILES_MAX, SESSION_ATTRIBUTES_MAX, TAKEN_MAX, WRITTEN_MAX,
+};
 pub use session::Session;

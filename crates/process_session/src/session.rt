@@ -78,10 +78,8 @@ impl Session {
 
     /// The attributes of the file at a place, as they are now.
     pub fn attributes(&self, place: u32) -> Option<&Attributes>
-        ensures {
-            option_map (λ attributes. attributes.now) result
-                ≡ option_map (λ file. file.attributes) (slice_get self.now.files place)
-        }
+        ensures { option_map (λ attributes. attributes.now) result
+            ≡ option_map (λ file. file.attributes) (slice_get self.now.files place) }
     {
         let file = self.files.get(place as usize)?;
         Some(&file.attributes)
@@ -89,10 +87,8 @@ impl Session {
 
     /// The uuid of a taken file.
     pub fn uuid(&self, place: u32) -> Option<&str>
-        ensures {
-            option_map (λ uuid. uuid.now) result
-                ≡ option_map (λ source. source.uuid) (slice_get self.now.sources place)
-        }
+        ensures { option_map (λ uuid. uuid.now) result
+            ≡ option_map (λ source. source.uuid) (slice_get self.now.sources place) }
     {
         let source = self.sources.get(place as usize)?;
         Some(source.uuid.as_str())

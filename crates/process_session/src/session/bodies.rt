@@ -44,11 +44,7 @@ pub(super) fn body_size(sources: &[Source], body: &Body) -> u64
 }
 
 /// The same body. Only bytes of its own are copied.
-pub(super) fn copy_body(
-    alloc: Global,
-    sources: &[Source],
-    body: &Body,
-) -> Result<Body, AllocError>
+pub(super) fn copy_body(alloc: Global, sources: &[Source], body: &Body) -> Result<Body, AllocError>
     requires { IsBodyOf sources.now body.now }
     ensures copy { IfOk result (λ copy. copy ≡ body.now) }
     ensures inside { IfOk result (IsBodyOf sources.now) }

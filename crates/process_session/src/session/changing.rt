@@ -4,7 +4,7 @@ ghost use Rattle.std.specs.Result.{result_err};
 ghost use Rattle.std.specs.FinMap.{contains_key, insert, remove};
 ghost use Rattle.flowfile_record.specs.Attributes.{IsWithinLimits, encoded_size, has_key_length, is_uuid};
 ghost use Rattle.process_session.specs.Bench.{HasItsSize, IsBodyOf, attribute_size, attributes_at, attributes_in, body_bytes, bytes_in};
-ghost use Rattle.process_session.specs.Changes.{with_written, with_appended, with_put, with_removed, change_at};
+ghost use Rattle.process_session.specs.Changes.{attributed_file, written_file, with_written, with_appended, with_put, with_removed, change_at};
 ghost use Rattle.process_session.specs.Refusals.{refusal_of_write, refusal_of_append, refusal_of_put, refusal_of_remove_attribute};
 ghost use Rattle.process_session.specs.Reasons.{IsRefusal, already_ended, content_too_large, first_refusal, past_limits, unknown_file};
 
@@ -32,11 +32,10 @@ impl Session {
     /// Whether a content of so many bytes may be written.
     #[tactic(auto, using(crate::proofs::Refusing::steps))]
     fn check_write(&self, place: u32, size: u64) -> Result<(), SessionError>
-        ensures refusal {
-            result_err result ≡ first_refusal (unknown_file self.now place ∷ already_ended self.now place ∷
-                content_too_large size ∷
-                past_limits (length self.now.files) (attribute_size self.now) (self.now.handed + size) ∷ [])
-        }
+        ensures refusal { result_err result ≡ first_refusal (unknown_file self.now place ∷
+            already_ended self.now place ∷
+            content_too_large size ∷
+            past_limits (length self.now.files) (attribute_size self.now) (self.now.handed + size) ∷ []) }
         ensures there { OnOk result (place < length self.now.files) }
         ensures handed { OnOk result (self.now.handed + size ≤ WRITTEN_MAX) }
         ensures fits { OnOk result (size ≤ CONTENT_MAX) }
@@ -92,9 +91,7 @@ impl Session {
     #[tactic(auto, using(crate::proofs::Refusing::refusals))]
     pub fn remove_attribute(&mut self, place: u32, key: &str) -> Result<bool, SessionError>
         ensures refusal { result_err result ≡ refusal_of_remove_attribute self.old place key.now }
-        ensures was_there {
-            IfOk result (λ was_there. was_there ≡ contains_key (attributes_at self.old place) key.now)
-        }
+        ensures was_there { IfOk result (λ was_there. was_there ≡ contains_key (attributes_at self.old place) key.now) }
         ensures after { self.new ≡ (if is_ok result then with_removed self.old place key.now else self.old) }
     {
         self.check_known(place)?;
@@ -111,10 +108,7 @@ impl Session {
 
 fn write_file(files: &mut Vec<File>, place: u32, bytes: Bytes)
     requires { place < length files.old.items }
-    ensures {
-        files.new.items ≡ change_at (λ file. record file { body = Body.New bytes;
-            written = true }) place files.old.items
-    }
+    ensures { files.new.items ≡ change_at (written_file bytes) place files.old.items }
 {
     let file = &mut files[place as usize];
     file.body = Body::New(bytes);
@@ -132,11 +126,8 @@ fn append_file(
     requires there { place < length files.old.items }
     requires whole { All (λ source. HasItsSize source.bytes source.size) sources.now }
     requires inside { All (λ file. IsBodyOf sources.now file.body) files.old.items }
-    ensures ok {
-        OnOk result (files.new.items
-            ≡ change_at (λ file. record file { body = Body.New (unwrap_or
-            (bytes_in sources.now files.old.items place) [] ++ more.now); written = true }) place files.old.items)
-    }
+    ensures ok { OnOk result (files.new.items ≡ change_at
+        (written_file (unwrap_or (bytes_in sources.now files.old.items place) [] ++ more.now)) place files.old.items) }
     ensures err { OnErr result (files.new.items ≡ files.old.items) }
 {
     let file = &mut files[place as usize];
@@ -165,20 +156,12 @@ fn extend_body(
     Ok(())
 }
 
-fn put_in_file(
-    files: &mut Vec<File>,
-    place: u32,
-    key: &str,
-    value: &str,
-) -> Result<(), AllocError>
+fn put_in_file(files: &mut Vec<File>, place: u32, key: &str, value: &str) -> Result<(), AllocError>
     requires there { place < length files.old.items }
     requires key { IsTrue (has_key_length key.now && not (is_uuid key.now)) }
     requires size { encoded_size (insert (attributes_in files.old.items place) key.now value.now) ≤ ATTRIBUTES_MAX }
-    ensures ok {
-        OnOk result (files.new.items
-            ≡ change_at (λ file. record file { attributes = insert
-            (attributes_in files.old.items place) key.now value.now }) place files.old.items)
-    }
+    ensures ok { OnOk result (files.new.items ≡ change_at
+        (attributed_file (insert (attributes_in files.old.items place) key.now value.now)) place files.old.items) }
     ensures limits { OnOk result (IsWithinLimits (insert (attributes_in files.old.items place) key.now value.now)) }
     ensures err { OnErr result (files.new.items ≡ files.old.items) }
 {
@@ -204,10 +187,8 @@ fn remove_from_file(files: &mut Vec<File>, place: u32, key: &str) -> bool
     requires { place < length files.old.items }
     ensures was_there { result ≡ contains_key (attributes_in files.old.items place) key.now }
     ensures limits { IsWithinLimits (remove (attributes_in files.old.items place) key.now) }
-    ensures after {
-        files.new.items ≡ change_at (λ file. record file { attributes = remove
-            (attributes_in files.old.items place) key.now }) place files.old.items
-    }
+    ensures after { files.new.items ≡ change_at
+        (attributed_file (remove (attributes_in files.old.items place) key.now)) place files.old.items }
 {
     let file = &mut files[place as usize];
     remove_from(&mut file.attributes, key)

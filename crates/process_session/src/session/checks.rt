@@ -87,10 +87,8 @@ impl Session {
     pub(super) fn check_attribute_room(&self, old: u64, new: u64) -> Result<(), SessionError>
         requires old { old ≤ attribute_size self.now }
         requires new { new ≤ ATTRIBUTES_MAX }
-        ensures refusal {
-            result_err result ≡ past_limits (length self.now.files)
-                (attribute_size self.now - old + new) self.now.handed
-        }
+        ensures refusal { result_err result ≡ past_limits (length self.now.files)
+            (attribute_size self.now - old + new) self.now.handed }
         ensures attributes { OnOk result (attribute_size self.now - old + new ≤ SESSION_ATTRIBUTES_MAX) }
     {
         check_room(
@@ -103,9 +101,8 @@ impl Session {
     /// Whether so many more bytes may be written.
     pub(super) fn check_written(&self, size: u64) -> Result<(), SessionError>
         requires { size ≤ CONTENT_MAX }
-        ensures refusal {
-            result_err result ≡ past_limits (length self.now.files) (attribute_size self.now) (self.now.handed + size)
-        }
+        ensures refusal { result_err result ≡ past_limits (length self.now.files) (attribute_size self.now)
+            (self.now.handed + size) }
         ensures handed { OnOk result (self.now.handed + size ≤ WRITTEN_MAX) }
     {
         check_room(self.files.len() as u64, self.counted, self.handed + size)

@@ -52,9 +52,7 @@ impl Session {
     #[tactic(auto, using(crate::proofs::Refusing::steps))]
     pub fn transfer(&mut self, place: u32, relationship: u16) -> Result<(), SessionError>
         ensures refusal { result_err result ≡ refusal_of_transfer self.old place relationship }
-        ensures after {
-            self.new ≡ (if is_ok result then with_end self.old place (End.To relationship) else self.old)
-        }
+        ensures after { self.new ≡ (if is_ok result then with_end self.old place (End.To relationship) else self.old) }
     {
         self.check_known(place)?;
         self.check_open(place)?;
@@ -107,9 +105,7 @@ fn penalize_file(files: &mut Vec<File>, place: u32)
 
 fn route_file(files: &mut Vec<File>, place: u32, relationship: u16)
     requires { place < length files.old.items }
-    ensures {
-        files.new.items ≡ change_at (λ file. record file { routed = Some relationship }) place files.old.items
-    }
+    ensures { files.new.items ≡ change_at (λ file. record file { routed = Some relationship }) place files.old.items }
 {
     let file = &mut files[place as usize];
     file.routed = Some(relationship);

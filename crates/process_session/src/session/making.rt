@@ -63,10 +63,8 @@ impl Session {
     pub fn create_joined(&mut self, parents: &[u32]) -> Result<u32, SessionError>
         requires some { 0 < length parents.now }
         requires distinct { IsDistinct (λ a b. a == b) parents.now }
-        ensures refusal {
-            IsRefusalBehind (refusal_of_parents self.old parents.now) result
-                (refusal_of_create_joined self.old parents.now)
-        }
+        ensures refusal { IsRefusalBehind (refusal_of_parents self.old parents.now) result
+            (refusal_of_create_joined self.old parents.now) }
         ensures place { IfOk result (λ place. place ≡ length self.old.files) }
         ensures after { self.new ≡ (if is_ok result then with_joined self.old parents.now else self.old) }
     {
@@ -106,11 +104,9 @@ impl Session {
     /// Whether a file can be made from another, with its attributes.
     #[tactic(auto, using(crate::proofs::Refusing::steps))]
     fn check_child(&self, of: u32) -> Result<(), SessionError>
-        ensures refusal {
-            result_err result ≡ first_refusal (unknown_file self.now of ∷ already_ended self.now of ∷
-                attributes_too_large (made_size (attributes_at self.now of)) ∷
-                no_room_for self.now (encoded_size (attributes_at self.now of)) 0 ∷ [])
-        }
+        ensures refusal { result_err result ≡ first_refusal (unknown_file self.now of ∷ already_ended self.now of ∷
+            attributes_too_large (made_size (attributes_at self.now of)) ∷
+            no_room_for self.now (encoded_size (attributes_at self.now of)) 0 ∷ []) }
         ensures may { OnOk result (MayInherit self.now of) }
     {
         self.check_known(of)?;
@@ -123,12 +119,10 @@ impl Session {
     /// Whether a file can be made from a part of another, with its attributes.
     #[tactic(auto, using(crate::proofs::Refusing::steps))]
     fn check_part(&self, of: u32, offset: u64, size: u64) -> Result<(), SessionError>
-        ensures refusal {
-            result_err result ≡ first_refusal (unknown_file self.now of ∷ already_ended self.now of ∷
-                range_outside self.now of offset size ∷
-                attributes_too_large (made_size (attributes_at self.now of)) ∷
-                no_room_for self.now (encoded_size (attributes_at self.now of)) 0 ∷ [])
-        }
+        ensures refusal { result_err result ≡ first_refusal (unknown_file self.now of ∷ already_ended self.now of ∷
+            range_outside self.now of offset size ∷
+            attributes_too_large (made_size (attributes_at self.now of)) ∷
+            no_room_for self.now (encoded_size (attributes_at self.now of)) 0 ∷ []) }
         ensures may { OnOk result (MayInherit self.now of) }
         ensures inside { OnOk result (offset + size ≤ content_size self.now of) }
     {
@@ -154,10 +148,8 @@ impl Session {
         requires { parent < length self.now.files }
         ensures refusal { result_err result ≡ no_room_for self.now (encoded_size (attributes_at self.now parent)) 0 }
         ensures files { OnOk result (length self.now.files + 1 ≤ FILES_MAX) }
-        ensures summed {
-            OnOk result (attribute_size self.now + encoded_size
-                (attributes_at self.now parent) ≤ SESSION_ATTRIBUTES_MAX)
-        }
+        ensures summed { OnOk result (attribute_size self.now + encoded_size
+            (attributes_at self.now parent) ≤ SESSION_ATTRIBUTES_MAX) }
         ensures room { OnOk result (self.now.handed + 0 ≤ WRITTEN_MAX) }
     {
         self.check_one_more(self.size_at(parent), 0)
@@ -303,21 +295,15 @@ impl Session {
     fn add_empty(&mut self, origin: Origin, attributes: Attributes) -> Result<u32, AllocError>
         requires { MayCome self.old origin attributes (Body.New []) 0 }
         ensures place { IfOk result (λ place. place ≡ length self.old.files) }
-        ensures after {
-            self.new ≡ (if is_ok result then with_made self.old origin attributes (Body.New []) else self.old)
-        }
+        ensures after { self.new ≡ (if is_ok result then with_made self.old origin attributes (Body.New [])
+            else self.old) }
     {
         let bytes = Bytes::new(self.alloc);
         self.add(origin, attributes, Body::New(bytes))
     }
 
     /// One more file, at the end.
-    fn add(
-        &mut self,
-        origin: Origin,
-        attributes: Attributes,
-        body: Body,
-    ) -> Result<u32, AllocError>
+    fn add(&mut self, origin: Origin, attributes: Attributes, body: Body) -> Result<u32, AllocError>
         requires { MayCome self.old origin attributes body 0 }
         ensures place { IfOk result (λ place. place ≡ length self.old.files) }
         ensures after { self.new ≡ (if is_ok result then with_made self.old origin attributes body else self.old) }
@@ -336,10 +322,8 @@ impl Session {
     ) -> Result<u32, AllocError>
         requires { MayCome self.old origin attributes body handed }
         ensures place { IfOk result (λ place. place ≡ length self.old.files) }
-        ensures after {
-            self.new ≡ (if is_ok result then with_handed (with_made self.old origin attributes body) handed
-                else self.old)
-        }
+        ensures after { self.new ≡ (if is_ok result then with_handed (with_made self.old origin attributes body) handed
+            else self.old) }
     {
         let place = self.files.len() as u32;
         let size = attributes.size();

@@ -46,10 +46,8 @@ impl Session {
     /// What a `filename` takes that the file is given later, with a value under a key.
     pub(super) fn filename_with(&self, place: u32, key: &str) -> u64
         requires { place < length self.now.files }
-        ensures size {
-            (value : List ℕ) → result
-                ≡ filename_to_come (origin_at self.now place) (insert (attributes_at self.now place) key.now value)
-        }
+        ensures size { (value : List ℕ) → result
+            ≡ filename_to_come (origin_at self.now place) (insert (attributes_at self.now place) key.now value) }
         ensures small { result ≤ FILENAME_SIZE }
     {
         let file = &self.files[place as usize];
@@ -63,9 +61,8 @@ impl Session {
     /// What a `filename` takes that the file is given later, without a key.
     pub(super) fn filename_without(&self, place: u32, key: &str) -> u64
         requires { place < length self.now.files }
-        ensures size {
-            result ≡ filename_to_come (origin_at self.now place) (remove (attributes_at self.now place) key.now)
-        }
+        ensures size { result ≡ filename_to_come (origin_at self.now place) (remove
+            (attributes_at self.now place) key.now) }
         ensures small { result ≤ FILENAME_SIZE }
     {
         let file = &self.files[place as usize];
@@ -118,9 +115,7 @@ fn encoded_without(attributes: &Attributes, key: &str) -> u64
 }
 
 fn lacks_filename_with(attributes: &Attributes, key: &str) -> bool
-    ensures {
-        (value : List ℕ) → result ≡ not (contains_key (insert attributes.now key.now value) (codes "filename"))
-    }
+    ensures { (value : List ℕ) → result ≡ not (contains_key (insert attributes.now key.now value) (codes "filename")) }
 {
     key != FILENAME && attributes.get(FILENAME).is_none()
 }

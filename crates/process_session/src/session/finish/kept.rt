@@ -17,10 +17,8 @@ pub(super) fn kept_files(
 ) -> Vec<Worked>
     requires empty { room.items ≡ [] }
     requires room { length origins.items ≤ vec_capacity room }
-    ensures {
-        (stand : List (List ℕ)) → origins.items ≡ kept_origins stand files.items
-            → result.items ≡ kept_files stand files.items
-    }
+    ensures { (stand : List (List ℕ)) → origins.items ≡ kept_origins stand files.items
+        → result.items ≡ kept_files stand files.items }
 {
     let mut files = files;
     let mut origins = origins;
@@ -35,10 +33,8 @@ pub(super) fn kept_files(
 fn keep(kept: &mut Vec<Worked>, origins: &mut VecDeque<Origin>, file: File)
     requires room { vec_len kept.old + length origins.old.items ≤ vec_capacity kept.old }
     ensures room { vec_len kept.new + length origins.new.items ≤ vec_capacity kept.new }
-    ensures kept {
-        (stand : List (List ℕ)) (more : List Held) → origins.old.items ≡ kept_origins stand (file ∷ more)
-            → Keeps file kept.old.items kept.new.items origins.old.items origins.new.items stand more
-    }
+    ensures kept { (stand : List (List ℕ)) (more : List Held) → origins.old.items ≡ kept_origins stand (file ∷ more)
+        → Keeps file kept.old.items kept.new.items origins.old.items origins.new.items stand more }
 {
     if is_left_out(&file) {
         return;

@@ -57,11 +57,9 @@ fn add_origin(
 ) -> Result<(), AllocError>
     requires below { AreMarkedBelow met.old round }
     requires inside { All (IsInside (length met.old)) stands.now }
-    ensures origins {
-        OnOk result ((more : List Held)
-            → origins.new.items ++ kept_origins (map places_of stands.now) more
-            ≡ origins.old.items ++ kept_origins (map places_of stands.now) (file.now ∷ more))
-    }
+    ensures origins { OnOk result ((more : List Held)
+        → origins.new.items ++ kept_origins (map places_of stands.now) more
+        ≡ origins.old.items ++ kept_origins (map places_of stands.now) (file.now ∷ more)) }
     ensures upto { OnOk result (AreMarkedUpto met.new round) }
 {
     if is_left_out(file) {

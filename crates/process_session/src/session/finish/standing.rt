@@ -110,9 +110,7 @@ pub(super) fn standing_for_parents(
 ) -> Result<Vec<u32>, AllocError>
     requires below { AreMarkedBelow met.old round }
     requires inside { All (IsInside (length met.old)) stands.now }
-    ensures left {
-        IfOk result (λ left. left.items ≡ standing_for (map places_of stands.now) (parents_of origin.now))
-    }
+    ensures left { IfOk result (λ left. left.items ≡ standing_for (map places_of stands.now) (parents_of origin.now)) }
     ensures inside { IfOk result (λ left. All (λ place. place < length met.new) left.items) }
     ensures upto { OnOk result (AreMarkedUpto met.new round) }
 {
@@ -131,10 +129,8 @@ fn add_parents_of(
     requires marked { IsMarked met.old round left.old.items }
     requires inside { All (IsInside (length met.old)) stands.now }
     ensures marked { OnOk result (IsMarked met.new round left.new.items) }
-    ensures left {
-        OnOk result (left.new.items
-            ≡ with_each left.old.items (flat_map (stand_at (map places_of stands.now)) (parents_of origin.now)))
-    }
+    ensures left { OnOk result (left.new.items
+        ≡ with_each left.old.items (flat_map (stand_at (map places_of stands.now)) (parents_of origin.now))) }
 {
     match origin {
         Origin::Forked(parent) | Origin::Part(parent) | Origin::Cloned(parent) => {
@@ -155,10 +151,8 @@ fn add_parents(
     requires marked { IsMarked met.old round left.old.items }
     requires inside { All (IsInside (length met.old)) stands.now }
     ensures marked { OnOk result (IsMarked met.new round left.new.items) }
-    ensures left {
-        OnOk result (left.new.items
-            ≡ with_each left.old.items (flat_map (stand_at (map places_of stands.now)) parents.now))
-    }
+    ensures left { OnOk result (left.new.items
+        ≡ with_each left.old.items (flat_map (stand_at (map places_of stands.now)) parents.now)) }
 {
     for parent in parents {
         add_standing(left, met, round, stands, *parent as usize)?;
@@ -176,9 +170,8 @@ fn add_standing(
     requires marked { IsMarked met.old round left.old.items }
     requires inside { All (IsInside (length met.old)) stands.now }
     ensures marked { OnOk result (IsMarked met.new round left.new.items) }
-    ensures left {
-        OnOk result (left.new.items ≡ with_each left.old.items (stand_at (map places_of stands.now) parent))
-    }
+    ensures left { OnOk result (left.new.items ≡ with_each left.old.items (stand_at
+        (map places_of stands.now) parent)) }
 {
     match stands.get(parent) {
         Some(stand) => add_each(left, met, round, stand.places()),
