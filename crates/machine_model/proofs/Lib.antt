@@ -6,6 +6,7 @@ pub mod BatchPlaces
 pub mod Batches
 pub mod Crosses
 pub mod Drafted
+pub mod DueSteps
 pub mod EventRows
 pub mod EventsTell
 pub mod GivenIn
@@ -13,6 +14,7 @@ pub mod GoesOn
 pub mod Keyed
 pub mod KinSets
 pub mod Kinships
+pub mod Numbered
 pub mod Numbers
 pub mod OnlyLineage
 pub mod OnlyOrder

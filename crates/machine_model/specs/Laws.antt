@@ -1,6 +1,6 @@
 -- What holds of the machine: of the order of queues, of outcomes, of numbers, of events and of replays.
-use Rattle.std.specs.Prelude.{map, ◌≡◌, ◌≢◌, ◌⊎◌, ℕ, ◌^◌, ◌<◌, ◌≤◌, true, false, List, [], ◌∷◌, ◌++◌, All, Contains, MatchOption, IfSome, not, filter, option_and_then, slice_get, slice_index, length, Option, Some}
-use Rattle.std.specs.List.{AllPairs, flat_map}
+use Rattle.std.specs.Prelude.{map, ◌≡◌, ◌≢◌, ◌⊎◌, ℕ, ◌^◌, ◌<◌, ◌≤◌, true, false, List, [], ◌∷◌, ◌++◌, All, Contains, MatchOption, IfSome, IsSome, not, filter, option_and_then, slice_get, slice_index, length, Option, Some}
+use Rattle.std.specs.List.{AllPairs, enumerate_from, flat_map}
 use Rattle.std.specs.Option.{option_map_or}
 use Rattle.std.specs.List.Sorted.{IsPermutation}
 use Rattle.flowfile_record.specs.Attributes.{IsWithinLimits}
@@ -10,11 +10,15 @@ use Rattle.flowfile_record.specs.declared.TheConstants.{CONTENT_MAX}
 use Rattle.flowfile_record.specs.declared.event.Event.{Event}
 use Rattle.flowfile_record.specs.declared.worked.Outcome.{Outcome}
 use Rattle.prioritizer.specs.declared.prioritizer.Prioritizer.{Prioritizer}
+use Rattle.machine_model.specs.declared.flow.Connection.{Connection}
 use Rattle.machine_model.specs.declared.flow.Flow.{Flow}
 use Rattle.machine_model.specs.declared.flow.QueueLimits.{QueueLimits}
 use Rattle.machine_model.specs.declared.given.Given.{Given}
 use Rattle.machine_model.specs.declared.journal.Step.{Step}
+use Rattle.machine_model.specs.declared.journal.Step.TheVariants.{Expire, SwapOut, SwapIn}
 use Rattle.machine_model.specs.declared.journal.Step.TheVariants as entry
+use Rattle.machine_model.specs.Due.{due_expiry, due_swap_out, due_swap_in}
+use Rattle.machine_model.specs.Files.{queues_of}
 use Rattle.machine_model.specs.declared.kind.Kind.{Kind}
 use Rattle.machine_model.specs.declared.kind.Kind.TheVariants.{GetFile, GenerateFlowFile}
 use Rattle.machine_model.specs.declared.kind.TakeRule.{TakeRule}
@@ -28,7 +32,7 @@ use Rattle.machine_model.specs.Placing.{EndedSession}
 use Rattle.machine_model.specs.Settling.{settle}
 use Rattle.machine_model.specs.View.{FileView}
 use Rattle.machine_model.specs.Valid.{files_of_all, IsWellNumbered, AreEventsInRow, EventsTellKin, IsValid, new_state}
-use Rattle.machine_model.specs.Stepping.{step, replay}
+use Rattle.machine_model.specs.Stepping.{has_all, source_of, step, replay}
 
 -- ---- the order of a queue
 
@@ -223,6 +227,27 @@ StepsLoseNames = (flow : Flow) (machine : Machine) (one : Step) → IfSome (step
 abbrev pub ReplaysLoseNames : Type 0
 ReplaysLoseNames = (flow : Flow) (machine : Machine) (steps : List Step) →
     IfSome (replay flow machine steps) (λ after. LosesNames (names_taken flow steps) machine.world after.world)
+
+-- ---- what a session takes
+
+-- of the connections that end at a processor one alone has a file of some active, and so all
+abbrev pub OneConnectionHas : Type 0
+OneConnectionHas = (flow : Flow) (state : State) (processor number : ℕ) (numbers : List ℕ) (source : ℕ × Connection) → IsValid flow state
+    → Contains (enumerate_from 0 flow.connections) source → has_all state processor (number ∷ numbers) source ≡ true → source_of flow state processor (number ∷ numbers) ≡ Some source
+
+-- ---- what is due has a step
+
+abbrev pub DueExpiriesHaveSteps : Type 0
+DueExpiriesHaveSteps = (flow : Flow) (machine : Machine) (moment : ℕ) → IsValid flow machine.state →
+    IfSome (due_expiry flow (queues_of machine.state) moment) (λ due. IsSome (step flow machine (Expire due.0 due.1 moment)))
+
+-- as the next batch
+abbrev pub DueSwapOutsHaveSteps : Type 0
+DueSwapOutsHaveSteps = (flow : Flow) (machine : Machine) → IsValid flow machine.state →
+    IfSome (due_swap_out flow (queues_of machine.state)) (λ due. IsSome (step flow machine (SwapOut due.0 due.1 machine.state.next_batch)))
+
+abbrev pub DueSwapInsHaveSteps : Type 0
+DueSwapInsHaveSteps = (flow : Flow) (machine : Machine) → IfSome (due_swap_in flow (queues_of machine.state)) (λ due. IsSome (step flow machine (SwapIn due.0 due.1)))
 
 -- ---- lineages
 
