@@ -5,7 +5,7 @@ use Rattle.std.specs.List.{flat_map}
 use Rattle.std.proofs.lemmas.Bool.{le-leb, lt-ltb, leb-true, ltb-true, and_parts, and_from}
 use Rattle.std.proofs.lemmas.List.Elements.{All-nil, All-cons, All-head, All-tail}
 use Rattle.machine_model.specs.State.{QueuedFile}
-use Rattle.machine_model.specs.Laws.{HasBatchBelow}
+use Rattle.machine_model.specs.Valid.{HasBatchBelow}
 use Rattle.machine_model.specs.Placing.{SettledFile, Destination, Queues, Returns, Drops, Leaves}
 use Rattle.machine_model.specs.Settling.{Newcomer, staying_as}
 use Rattle.machine_model.proofs.Settled.{placed, stayed, queues_after, after-le, IsSteady}

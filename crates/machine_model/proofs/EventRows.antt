@@ -6,7 +6,8 @@ use Rattle.machine_model.specs.State.{State}
 use Rattle.std.specs.Prelude.{map}
 use Rattle.machine_model.specs.Events.{ascending, drafts}
 use Rattle.machine_model.specs.Files.{queue_at}
-use Rattle.machine_model.specs.Laws.{AreEventsInRow, AddsEvents, SettlingNumbersEvents, StepsNumberEvents, ReplaysNumberEvents, ReplaysAddEvents}
+use Rattle.machine_model.specs.Laws.{AddsEvents, SettlingNumbersEvents, StepsNumberEvents, ReplaysNumberEvents, ReplaysAddEvents}
+use Rattle.machine_model.specs.Valid.{AreEventsInRow}
 use Rattle.machine_model.specs.Stepping.{expired, expiry_of, files_of}
 use Rattle.machine_model.proofs.Drafted.{IsDraft, session-drafts, row_goes_on}
 use Rattle.machine_model.proofs.Options.{if_when}
@@ -16,9 +17,9 @@ use Rattle.machine_model.proofs.Tally.{each-map}
 pub settle-numbers : SettlingNumbersEvents
 settle-numbers session outcome before = row_goes_on session.state.events (drafts session outcome) (session-drafts session outcome) before
 
-row-kept : IsKept AreEventsInRow
+pub row-kept : IsKept AreEventsInRow
 row-kept = record {
-  settling = λ session outcome taken is_outcome before. settle-numbers session outcome before;
+  settling = λ session outcome taken next ends before. settle-numbers session outcome before;
   expiry = λ state place numbers moment connection before.
       let files = files_of (queue_at state place) (ascending numbers) in
       if_when _ (expired state place connection numbers moment) AreEventsInRow (λ _.
@@ -40,7 +41,7 @@ more_events old events new (more, is) = (more ++ new, ap (λ xs. xs ++ new) is �
 
 adds-kept : (before : State) → IsKept (AddsEvents before)
 adds-kept before = record {
-  settling = λ session outcome taken is_outcome h. more_events before.events session.state.events _ h;
+  settling = λ session outcome taken next ends h. more_events before.events session.state.events _ h;
   expiry = λ state place numbers moment connection h.
       if_when _ (expired state place connection numbers moment) (AddsEvents before) (λ _. more_events before.events state.events _ h);
   swap_out = λ state place numbers batch connection h. if_when _ _ (AddsEvents before) (λ _. h);

@@ -11,7 +11,8 @@ use Rattle.flowfile_record.specs.declared.worked.Worked.{Worked}
 use Rattle.machine_model.specs.State.{QueuedFile, Kin}
 use Rattle.machine_model.specs.Events.{Draft, ascending, drafts, numbered_from}
 use Rattle.machine_model.specs.Files.{queue_at}
-use Rattle.machine_model.specs.Laws.{EventsTellKin, SettlingTellsKin, StepsTellKin, ReplaysTellKin}
+use Rattle.machine_model.specs.Laws.{SettlingTellsKin, StepsTellKin, ReplaysTellKin}
+use Rattle.machine_model.specs.Valid.{EventsTellKin}
 use Rattle.machine_model.specs.Placing.{EndedSession, SettledFile, settled_file, settled_files, settlement_clones, numbers_from, next_behind, entered_by, entered_in}
 use Rattle.machine_model.specs.Settling.{kin_of_files}
 use Rattle.machine_model.specs.Stepping.{expired, expiry_of, files_of}
@@ -85,9 +86,9 @@ none_told : (events : List Event) (k : ℕ) (ds : List Draft) (kin : Kin) → Ea
 none_told events k ds kin honest none before =
     before ∙ ap from_list (sym (kin_of_joined events k ds honest ∙ ap (λ xs. kin_of_all events ++ xs) none ∙ append-nil (kin_of_all events)))
 
-kin-kept : IsKept EventsTellKin
+pub kin-kept : IsKept EventsTellKin
 kin-kept = record {
-  settling = λ session outcome taken is_outcome before. settle-tells session outcome is_outcome before;
+  settling = λ session outcome taken next ends before. settle-tells session outcome ends before;
   expiry = λ state place numbers moment connection before.
       let files = files_of (queue_at state place) (ascending numbers) in
       if_when _ (expired state place connection numbers moment) EventsTellKin (λ _.

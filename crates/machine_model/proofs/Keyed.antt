@@ -4,16 +4,18 @@ use Rattle.std.specs.Prelude.{◌==◌, All, Contains}
 use Rattle.std.specs.List.{AllPairs}
 use Rattle.std.proofs.lemmas.Bool.{cases_eq, cases_lt, ne_eqb, eq-eqb, cases_order}
 use Rattle.std.proofs.lemmas.List.{get_or_default}
-use Rattle.std.proofs.lemmas.List.Elements.{All-nil, All-cons, All-head, All-tail}
+use Rattle.std.proofs.lemmas.List.Elements.{All-nil, All-cons, All-head, All-tail, All-weaker}
 use Rattle.std.proofs.lemmas.List.Kept.{AllPairs-cons}
 use Rattle.machine_model.specs.State.{QueuedFile}
-use Rattle.machine_model.specs.Laws.{AreNumbered}
+use Rattle.machine_model.specs.Valid.{AreNumbered}
 use Rattle.machine_model.proofs.Tally.{many, at_most}
 use Rattle.machine_model.proofs.Ordered.{pairs_head, pairs_tail, pairs_nil}
 
 pub record Counted {X : Type 0} (key : X → ℕ) (next : ℕ) (xs : List X) : Type 0 where
+  pub first : 1 ≤ next
   pub once : (n : ℕ) → many key n xs ≤ 1
   pub none : (n : ℕ) → next ≤ n → many key n xs ≡ 0
+  pub some : many key 0 xs ≡ 0
 
 none_from_below : {X : Type 0} (key : X → ℕ) (next : ℕ) (xs : List X) → All (λ x. key x < next) xs → (n : ℕ) → next ≤ n → many key n xs ≡ 0
 none_from_below key next [] h n le = refl
@@ -38,15 +40,29 @@ once_from_differ {X} key (x ∷ xs) h n =
       | inr ne ↦ let no : (key x == n) ≡ false = ne_eqb (key x) n ne in rw no (omega (arith, once_from_differ key xs (pairs_tail R x xs h) n))
     ]
 
-below_from_none : {X : Type 0} (key : X → ℕ) (next : ℕ) (xs : List X) → ((n : ℕ) → next ≤ n → many key n xs ≡ 0) → All (λ x. key x < next) xs
-below_from_none key next [] h = All-nil (λ x. key x < next)
-below_from_none key next (x ∷ xs) h =
-    All-cons (λ y. key y < next) x xs
-    (elim (cases_lt (key x) next) [
+zero_from_some : {X : Type 0} (key : X → ℕ) (xs : List X) → All (λ x. 1 ≤ key x) xs → many key 0 xs ≡ 0
+zero_from_some key [] h = refl
+zero_from_some key (x ∷ xs) h =
+    let here : 1 ≤ key x = All-head (λ y. 1 ≤ key y) x xs h in
+    let no : (key x == 0) ≡ false = ne_eqb (key x) 0 (λ e. omega arith) in
+    rw no (omega (arith, zero_from_some key xs (All-tail (λ y. 1 ≤ key y) x xs h)))
+
+within_from_none : {X : Type 0} (key : X → ℕ) (next : ℕ) (xs : List X) → ((n : ℕ) → next ≤ n → many key n xs ≡ 0) → many key 0 xs ≡ 0 → All (λ x. (1 ≤ key x) × (key x < next)) xs
+within_from_none key next [] h k = All-nil (λ x. (1 ≤ key x) × (key x < next))
+within_from_none key next (x ∷ xs) h k =
+    All-cons (λ y. (1 ≤ key y) × (key y < next)) x xs (some, below) (within_from_none key next xs (λ n le. omega (arith, h n le)) (omega arith))
+  where
+    below : key x < next
+    below = elim (cases_lt (key x) next) [
       | inl lt ↦ lt
       | inr ge ↦ let yes : (key x == key x) ≡ true = eq-eqb (key x) (key x) refl in absurd (omega (arith, rw yes at (h (key x) ge)))
-    ])
-    (below_from_none key next xs (λ n le. omega (arith, h n le)))
+    ]
+
+    some : 1 ≤ key x
+    some = elim (cases_eq (key x) 0) [
+      | inl e ↦ let yes : (key x == 0) ≡ true = eq-eqb (key x) 0 e in absurd (omega (arith, rw yes at k))
+      | inr ne ↦ elim (cases_lt 0 (key x)) [ inl lt ↦ omega arith | inr ge ↦ absurd (ne (omega arith)) ]
+    ]
 
 apart_from_none : {X : Type 0} (key : X → ℕ) (m : ℕ) (xs : List X) → many key m xs ≡ 0 → All (λ x. m ≢ key x) xs
 apart_from_none key m [] h = All-nil (λ x. m ≢ key x)
@@ -64,10 +80,15 @@ differ_from_once {X} key (x ∷ xs) h =
     (differ_from_once key xs (λ n. omega (arith, h n)))
 
 pub counted : (key : QueuedFile → ℕ) (next : ℕ) (files : List QueuedFile) → AreNumbered key next files → Counted key next files
-counted key next files h = record { once = once_from_differ key files h.differ; none = none_from_below key next files h.below }
+counted key next files h = record {
+  first = h.first;
+  once = once_from_differ key files h.differ;
+  none = none_from_below key next files (All-weaker (λ file. (1 ≤ key file) × (key file < next)) (λ file. key file < next) (λ file is. is.1) files h.within);
+  some = zero_from_some key files (All-weaker (λ file. (1 ≤ key file) × (key file < next)) (λ file. 1 ≤ key file) (λ file is. is.0) files h.within);
+}
 
 pub numbered : (key : QueuedFile → ℕ) (next : ℕ) (files : List QueuedFile) → Counted key next files → AreNumbered key next files
-numbered key next files h = record { differ = differ_from_once key files h.once; below = below_from_none key next files h.none }
+numbered key next files h = record { first = h.first; differ = differ_from_once key files h.once; within = within_from_none key next files h.none h.some }
 
 -- two elements of one list that have one key are one
 pub same_key : {X : Type 0} (key : X → ℕ) (xs : List X) (a b : X) → AllPairs (λ one other. key one ≢ key other) xs → Contains xs a → Contains xs b → key a ≡ key b → a ≡ b

@@ -2,14 +2,19 @@ pub mod Acted
 pub mod ActedWhole
 pub mod Among
 pub mod Ancestry
+pub mod BatchPlaces
 pub mod Batches
 pub mod Crosses
 pub mod Drafted
+pub mod DueSteps
 pub mod EventRows
 pub mod EventsTell
+pub mod GivenIn
+pub mod GoesOn
 pub mod Keyed
 pub mod KinSets
 pub mod Kinships
+pub mod Numbered
 pub mod Numbers
 pub mod OnlyLineage
 pub mod OnlyOrder
@@ -18,6 +23,7 @@ pub mod Ordered
 pub mod Outcomes
 pub mod Places
 pub mod Preserved
+pub mod QueueOrder
 pub mod Replayed
 pub mod Settled
 pub mod SettledNumbers
@@ -25,3 +31,4 @@ pub mod SettlingKeeps
 pub mod Stepped
 pub mod Tally
 pub mod Took
+pub mod Validity

@@ -69,6 +69,7 @@ numbers_are taken next place (file ∷ files) (turn, parents, rest) =
 pub record AreFilesBelow (next : ℕ) (files : List SettledFile) : Type 0 where
   pub once : (n : ℕ) → many (λ (file : SettledFile). file.number) n files ≤ 1
   pub none : (n : ℕ) → next ≤ n → many (λ (file : SettledFile). file.number) n files ≡ 0
+  pub some : many (λ (file : SettledFile). file.number) 0 files ≡ 0
 
 finished-le : (session : EndedSession) (files : List Worked) (n : ℕ) → many (λ (file : SettledFile). file.number) n (settled_files session files)
     ≤ many (λ (m : ℕ). m) n (numbers_from session.state.next_number (map (λ file. file.number) session.taken) files)
@@ -90,6 +91,7 @@ finished-below session files outcome taken = record {
     | inr ge ↦ omega (arith, each n, taken.none n ge, run_once next (count_made files) n)
   ];
   none = λ n le. omega (arith, each n, taken.none n (omega arith), run_past next (count_made files) n le);
+  some = omega (arith, each 0, taken.some, run_below next (count_made files) 0 taken.first);
 }
   where
     next : ℕ

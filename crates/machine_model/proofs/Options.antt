@@ -1,5 +1,6 @@
 -- What holds of the value in an `Option`, if there is one.
-use Rattle.std.proofs.Common.{◌≡◌, Bool, true, false, cond, refl, subst}
+use Rattle.std.proofs.Common.{◌≡◌, Bool, true, false, cond, refl, sym, subst}
+use Rattle.std.proofs.lemmas.Bool.{true≢false}
 use Rattle.std.specs.Prelude.{Option, Some, None, IfSome, option_map, option_and_then}
 
 pub if_and_then : {A B : Type 0} (f : A → Option B) (o : Option A) (P : B → Type 0) → ((x : A) → o ≡ Some x → IfSome (f x) P) → IfSome (option_and_then f o) P
@@ -14,6 +15,14 @@ pub if_when : {A : Type 0} (b : Bool) (x : A) (P : A → Type 0) → (b ≡ true
 if_when true x P h = h refl
 if_when false x P h = tt
 
+pub when_passes : {A : Type 0} (b : Bool) (x : A) (P : A → Type 0) → b ≡ true → IfSome (cond b (Some x) None) P → P x
+when_passes true x P h is = is
+when_passes false x P h is = absurd (true≢false (sym h))
+
 pub if_at : {A : Type 0} (o : Option A) (x : A) (P : A → Type 0) → o ≡ Some x → IfSome o P → P x
 if_at None x P is h = cc
 if_at (Some y) x P is h = let same : y ≡ x = cc in subst P same h
+
+pub if_weaker : {A : Type 0} (o : Option A) (P Q : A → Type 0) → ((x : A) → P x → Q x) → IfSome o P → IfSome o Q
+if_weaker None P Q each h = tt
+if_weaker (Some x) P Q each h = each x h

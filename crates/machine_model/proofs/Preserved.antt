@@ -18,12 +18,14 @@ use Rattle.machine_model.specs.Placing.{EndedSession}
 use Rattle.machine_model.specs.Settling.{settle}
 use Rattle.machine_model.specs.Stepping.{step, replay, session_step, session_of, session_after, after_session, taken_files, given_at, given_in, as_taken, expire_step, swap_out_step, swap_in_step, same_world}
 use Rattle.machine_model.proofs.Acted.{act-ends}
+use Rattle.machine_model.proofs.GivenIn.{IsNextIndex, given-index}
 use Rattle.machine_model.proofs.Options.{if_and_then, if_map, if_at}
 use Rattle.machine_model.proofs.Took.{Took, taken-took}
 
 -- a fact of states that the settlement of each session and the queues' own steps keep
 pub record IsKept (P : State → Type 0) : Type 0 where
-  pub settling : (session : EndedSession) (outcome : Outcome) → HasTaken session → EndsAllInTurn (length session.taken) outcome → P session.state → P (settle session outcome)
+  pub settling : (session : EndedSession) (outcome : Outcome) → HasTaken session
+      → IsNextIndex session.processor.kind session.place session.state.counts session.given.index → EndsAllInTurn (length session.taken) outcome → P session.state → P (settle session outcome)
   pub expiry : (state : State) (place : ℕ) (numbers : List ℕ) (moment : ℕ) (connection : Connection) → P state → IfSome (expire_step state place numbers moment connection) P
   pub swap_out : (state : State) (place : ℕ) (numbers : List ℕ) (batch : ℕ) (connection : Connection) → P state → IfSome (swap_out_step state place numbers batch connection) P
   pub swap_in : (state : State) (place batch : ℕ) (connection : Connection) → P state → IfSome (swap_in_step state place batch connection) P
@@ -44,8 +46,10 @@ session-kept P kept flow machine place numbers moment given processor before =
     if_and_then (λ given. after_session machine (session_of flow machine place processor taken given))
     (option_and_then (given_in processor.kind place machine.state machine.world taken) (given_at moment given)) (λ after. P after.state) (λ found found_is.
     let session = session_of flow machine place processor taken found in
+    let next = if_at (option_and_then (given_in processor.kind place machine.state machine.world taken) (given_at moment given)) found
+    (λ found. IsNextIndex processor.kind place machine.state.counts found.index) found_is (given-index processor.kind place machine.state machine.world taken moment given) in
     if_map (session_after machine session) (act processor.kind seen found) (λ after. P after.state) (λ outcome outcome_is.
-    kept.settling session outcome (record { differ = took.differ; there = took.there })
+    kept.settling session outcome (record { differ = took.differ; there = took.there }) next
     (outcome_of taken seen outcome same (if_at (act processor.kind seen found) outcome (EndsAllInTurn (length seen)) outcome_is (act-ends processor.kind seen found (rw same took.many_enough)))) before)))
 
 in_same_world : (P : State → Type 0) (machine : Machine) (state : Option State) → IfSome state P → IfSome (same_world machine.world state) (λ after. P after.state)

@@ -109,6 +109,8 @@ arrivals-after files coming arrival queues steady before = record {
     | inr ge ↦ omega (arith, sum n, before.none n ge, run_once arrival (length coming) n)
   ];
   none = λ n le. omega (arith, sum n, before.none n (omega arith), run_past arrival (length coming) n le);
+  first = omega (arith, before.first);
+  some = omega (arith, sum 0, before.some, run_below arrival (length coming) 0 before.first);
 }
   where
     sum : (n : ℕ) → many (λ (file : QueuedFile). file.arrival) n (flat_map (λ queue. queue) (queues_after files coming arrival queues))

@@ -152,6 +152,8 @@ numbers-after files clones arrival first next last queues le worked cloned befor
     | inr ge ↦ omega (arith, sum n, none_stays files n old (before.none n (omega arith)), none_comes n files (worked.none n ge), (cloned n).0)
   ];
   none = λ n ge. omega (arith, sum n, none_stays files n old (before.none n (omega arith)), none_comes n files (worked.none n (omega arith)), (cloned n).2 ge);
+  first = omega (arith, before.first);
+  some = omega (arith, sum 0, none_stays files 0 old before.some, none_comes 0 files worked.some, (cloned 0).1 (omega (arith, before.first)));
 }
   where
     old : List QueuedFile

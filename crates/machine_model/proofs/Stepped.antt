@@ -6,7 +6,8 @@ use Rattle.std.proofs.lemmas.Bool.{and_parts, eqb-true}
 use Rattle.machine_model.specs.declared.flow.Connection.{Connection}
 use Rattle.machine_model.specs.State.{QueuedFile, State}
 use Rattle.machine_model.specs.Files.{queue_at, is_number_among, is_in_batch}
-use Rattle.machine_model.specs.Laws.{AreNumbered, IsWellNumbered, StepsKeepNumbers, ReplaysKeepNumbers}
+use Rattle.machine_model.specs.Laws.{StepsKeepNumbers, ReplaysKeepNumbers}
+use Rattle.machine_model.specs.Valid.{AreNumbered, IsWellNumbered}
 use Rattle.machine_model.specs.Stepping.{expire_step, expired, without_files, swap_out_step, swapped_out, swap_in_step, swapped_in}
 use Rattle.machine_model.proofs.Batches.{astray, astray_batch, rebatched, changed-le, either-le, next-within}
 use Rattle.machine_model.proofs.Keyed.{Counted, counted, numbered}
@@ -25,6 +26,8 @@ requeued key next queues place queue lighter before =
     numbered key next (flat_map (λ queue. queue) (slice_set queues place queue)) (record {
       once = λ n. omega (arith, fewer n, counts.once n);
       none = λ n le. omega (arith, fewer n, counts.none n le);
+      first = counts.first;
+      some = omega (arith, fewer 0, counts.some);
     })
   where
     counts : Counted key next (flat_map (λ queue. queue) queues)
@@ -90,9 +93,9 @@ swap_in-keeps state place batch connection before =
 
 -- ---- all steps
 
-well-numbered-kept : IsKept IsWellNumbered
+pub well-numbered-kept : IsKept IsWellNumbered
 well-numbered-kept = record {
-  settling = λ session outcome taken is_outcome before. settle-keeps session outcome before taken is_outcome;
+  settling = λ session outcome taken next ends before. settle-keeps session outcome before taken ends;
   expiry = expire-keeps;
   swap_out = swap_out-keeps;
   swap_in = swap_in-keeps;

@@ -13,7 +13,8 @@ use Rattle.machine_model.specs.declared.kind.TakeRule.TheVariants.{Source, One, 
 use Rattle.machine_model.specs.State.{QueuedFile, State}
 use Rattle.machine_model.specs.Files.{queue_at, are_distinct, is_number_among, view_of}
 use Rattle.machine_model.specs.View.{FileView}
-use Rattle.machine_model.specs.Laws.{MayTake, files_of_all}
+use Rattle.machine_model.specs.Laws.{MayTake}
+use Rattle.machine_model.specs.Valid.{files_of_all}
 use Rattle.machine_model.specs.Stepping.{source_of, may_be_taken, admits, is_in_turn, files_of, taken_from, taken_files}
 use Rattle.machine_model.proofs.Keyed.{differ_from_once}
 use Rattle.machine_model.proofs.Options.{if_and_then, if_when}

@@ -1,33 +1,38 @@
 -- What holds of the machine: of the order of queues, of outcomes, of numbers, of events and of replays.
-use Rattle.std.specs.Prelude.{map, ◌≡◌, ◌≢◌, ◌⊎◌, ℕ, ◌^◌, ◌<◌, ◌≤◌, true, false, List, [], ◌∷◌, ◌++◌, All, Contains, MatchOption, IfSome, option_and_then, length, Some}
-use Rattle.std.specs.FinSet.{from_list}
-use Rattle.std.specs.List.{range_with_len, AllPairs, flat_map}
+use Rattle.std.specs.Prelude.{map, ◌≡◌, ◌≢◌, ◌⊎◌, ℕ, ◌^◌, ◌<◌, ◌≤◌, true, false, List, [], ◌∷◌, ◌++◌, All, Contains, MatchOption, IfSome, IsSome, not, filter, option_and_then, slice_get, slice_index, length, Option, Some}
+use Rattle.std.specs.List.{AllPairs, enumerate_from, flat_map}
+use Rattle.std.specs.Option.{option_map_or}
 use Rattle.std.specs.List.Sorted.{IsPermutation}
 use Rattle.flowfile_record.specs.Attributes.{IsWithinLimits}
-use Rattle.flowfile_record.specs.Kin.{kin_of_all}
 use Rattle.flowfile_record.specs.Name.{IsName}
 use Rattle.flowfile_record.specs.Outcome.{AreInTurn, IsOutcome}
 use Rattle.flowfile_record.specs.declared.TheConstants.{CONTENT_MAX}
 use Rattle.flowfile_record.specs.declared.event.Event.{Event}
 use Rattle.flowfile_record.specs.declared.worked.Outcome.{Outcome}
 use Rattle.prioritizer.specs.declared.prioritizer.Prioritizer.{Prioritizer}
+use Rattle.machine_model.specs.declared.flow.Connection.{Connection}
 use Rattle.machine_model.specs.declared.flow.Flow.{Flow}
 use Rattle.machine_model.specs.declared.flow.QueueLimits.{QueueLimits}
 use Rattle.machine_model.specs.declared.given.Given.{Given}
 use Rattle.machine_model.specs.declared.journal.Step.{Step}
+use Rattle.machine_model.specs.declared.journal.Step.TheVariants.{Expire, SwapOut, SwapIn}
+use Rattle.machine_model.specs.declared.journal.Step.TheVariants as entry
+use Rattle.machine_model.specs.Due.{due_expiry, due_swap_out, due_swap_in}
+use Rattle.machine_model.specs.Files.{queues_of}
 use Rattle.machine_model.specs.declared.kind.Kind.{Kind}
-use Rattle.machine_model.specs.declared.kind.Kind.TheVariants.{GenerateFlowFile}
+use Rattle.machine_model.specs.declared.kind.Kind.TheVariants.{GetFile, GenerateFlowFile}
 use Rattle.machine_model.specs.declared.kind.TakeRule.{TakeRule}
 use Rattle.machine_model.specs.declared.kind.TakeRule.TheVariants.{Source, One, Bin, Defragment}
-use Rattle.machine_model.specs.State.{QueuedFile, State, Machine}
+use Rattle.machine_model.specs.State.{QueuedFile, State, World, Machine}
 use Rattle.machine_model.specs.Acting.{TakenFile, act, generated_text}
-use Rattle.machine_model.specs.Kinds.{take_rule_of, relationships_of}
+use Rattle.machine_model.specs.Kinds.{take_rule_of, relationships_of, is_among}
 use Rattle.machine_model.specs.Lineage.{Lineage, IsLineage}
 use Rattle.machine_model.specs.Order.{goes_before, in_order, is_eligible, best}
 use Rattle.machine_model.specs.Placing.{EndedSession}
 use Rattle.machine_model.specs.Settling.{settle}
 use Rattle.machine_model.specs.View.{FileView}
-use Rattle.machine_model.specs.Stepping.{step, replay}
+use Rattle.machine_model.specs.Valid.{files_of_all, IsWellNumbered, AreEventsInRow, EventsTellKin, IsValid, new_state}
+use Rattle.machine_model.specs.Stepping.{has_all, source_of, step, replay}
 
 -- ---- the order of a queue
 
@@ -123,25 +128,6 @@ ActsGiveOutcomes = (kind : Kind) (taken : List TakenFile) (given : Given) → Ma
 
 -- ---- numbers and arrivals
 
-abbrev pub files_of_all : State → List QueuedFile
-files_of_all state = flat_map (λ queue. queue) state.queues
-
--- no two files have one number, and none has the next one or a higher
-pub record AreNumbered (number : QueuedFile → ℕ) (next : ℕ) (files : List QueuedFile) : Type 0 where
-  pub differ : AllPairs (λ one other. number one ≢ number other) files
-  pub below : All (λ file. number file < next) files
-
--- a batch, if the file is swapped out, is 1 or higher, and lower than the next one
-abbrev pub HasBatchBelow : (next : ℕ) → QueuedFile → Type 0
-HasBatchBelow next file = IfSome file.batch (λ batch. (1 ≤ batch) × (batch < next))
-
--- what holds of the numbers, the arrivals and the batches of all files in the queues
-pub record IsWellNumbered (state : State) : Type 0 where
-  pub numbers : AreNumbered (λ file. file.number) state.next_number (files_of_all state)
-  pub arrivals : AreNumbered (λ file. file.arrival) state.next_arrival (files_of_all state)
-  pub first_batch : 1 ≤ state.next_batch
-  pub batches : All (HasBatchBelow state.next_batch) (files_of_all state)
-
 -- the files that a session took are files of the queues, each another one
 pub record HasTaken (session : EndedSession) : Type 0 where
   pub differ : AllPairs (λ (one other : QueuedFile). one.number ≢ other.number) session.taken
@@ -159,10 +145,6 @@ ReplaysKeepNumbers = (flow : Flow) (machine : Machine) (steps : List Step) → I
     IfSome (replay flow machine steps) (λ after. IsWellNumbered after.state)
 
 -- ---- events
-
--- the events are numbered 1, 2, 3 and so on
-abbrev pub AreEventsInRow : State → Type 0
-AreEventsInRow state = map (λ event. event.number) state.events ≡ range_with_len 1 (length state.events)
 
 abbrev pub SettlingNumbersEvents : Type 0
 SettlingNumbersEvents = (session : EndedSession) (outcome : Outcome) → AreEventsInRow session.state → AreEventsInRow (settle session outcome)
@@ -183,10 +165,6 @@ ReplaysAddEvents = (flow : Flow) (machine : Machine) (steps : List Step) → IfS
 
 -- ---- kin
 
--- the kin is the set of what the events name
-abbrev pub EventsTellKin : State → Type 0
-EventsTellKin state = state.kin ≡ from_list (kin_of_all state.events)
-
 abbrev pub SettlingTellsKin : Type 0
 SettlingTellsKin = (session : EndedSession) (outcome : Outcome) → EndsAllInTurn (length session.taken) outcome → EventsTellKin session.state → EventsTellKin (settle session outcome)
 
@@ -196,6 +174,80 @@ StepsTellKin = (flow : Flow) (machine : Machine) (one : Step) → EventsTellKin 
 abbrev pub ReplaysTellKin : Type 0
 ReplaysTellKin = (flow : Flow) (machine : Machine) (steps : List Step) → EventsTellKin machine.state →
     IfSome (replay flow machine steps) (λ after. EventsTellKin after.state)
+
+-- ---- valid states
+
+abbrev pub NewStatesAreValid : Type 0
+NewStatesAreValid = (flow : Flow) (lot : ℕ) → IsValid flow (new_state flow lot)
+
+abbrev pub StepsStayValid : Type 0
+StepsStayValid = (flow : Flow) (machine : Machine) (one : Step) → IsValid flow machine.state → IfSome (step flow machine one) (λ after. IsValid flow after.state)
+
+abbrev pub ReplaysStayValid : Type 0
+ReplaysStayValid = (flow : Flow) (machine : Machine) (steps : List Step) → IsValid flow machine.state →
+    IfSome (replay flow machine steps) (λ after. IsValid flow after.state)
+
+-- ---- what goes on, and what stays
+
+-- no counter is lower, and the store is the same
+pub record GoesOn (before after : State) : Type 0 where
+  pub store : after.store ≡ before.store
+  pub next_number : before.next_number ≤ after.next_number
+  pub next_arrival : before.next_arrival ≤ after.next_arrival
+  pub next_batch : before.next_batch ≤ after.next_batch
+  pub counts : (place : ℕ) → slice_index before.counts place ≤ slice_index after.counts place
+
+abbrev pub StepsGoOn : Type 0
+StepsGoOn = (flow : Flow) (machine : Machine) (one : Step) → IfSome (step flow machine one) (λ after. GoesOn machine.state after.state)
+
+abbrev pub ReplaysGoOn : Type 0
+ReplaysGoOn = (flow : Flow) (machine : Machine) (steps : List Step) → IfSome (replay flow machine steps) (λ after. GoesOn machine.state after.state)
+
+-- the name of the inbox's file that a session received
+abbrev pub received_name : Kind → Option (List ℕ) → List (List ℕ)
+received_name (GetFile filter) (Some name) = name ∷ []
+received_name _ _ = []
+
+abbrev pub names_of_step : Flow → Step → List (List ℕ)
+names_of_step flow (entry.Session processor numbers moment given) = option_map_or (λ found. received_name found.kind given.file) (slice_get flow.processors processor) []
+names_of_step flow _ = []
+
+-- the names that the sessions of GetFile took
+abbrev pub names_taken : Flow → List Step → List (List ℕ)
+names_taken flow steps = flat_map (names_of_step flow) steps
+
+-- the inbox is the same, and of the names that were left those are gone that were taken
+pub record LosesNames (taken : List (List ℕ)) (before after : World) : Type 0 where
+  pub inbox : after.inbox ≡ before.inbox
+  pub left : after.left ≡ filter (λ name. not (is_among name taken)) before.left
+
+abbrev pub StepsLoseNames : Type 0
+StepsLoseNames = (flow : Flow) (machine : Machine) (one : Step) → IfSome (step flow machine one) (λ after. LosesNames (names_of_step flow one) machine.world after.world)
+
+abbrev pub ReplaysLoseNames : Type 0
+ReplaysLoseNames = (flow : Flow) (machine : Machine) (steps : List Step) →
+    IfSome (replay flow machine steps) (λ after. LosesNames (names_taken flow steps) machine.world after.world)
+
+-- ---- what a session takes
+
+-- of the connections that end at a processor one alone has a file of some active, and so all
+abbrev pub OneConnectionHas : Type 0
+OneConnectionHas = (flow : Flow) (state : State) (processor number : ℕ) (numbers : List ℕ) (source : ℕ × Connection) → IsValid flow state
+    → Contains (enumerate_from 0 flow.connections) source → has_all state processor (number ∷ numbers) source ≡ true → source_of flow state processor (number ∷ numbers) ≡ Some source
+
+-- ---- what is due has a step
+
+abbrev pub DueExpiriesHaveSteps : Type 0
+DueExpiriesHaveSteps = (flow : Flow) (machine : Machine) (moment : ℕ) → IsValid flow machine.state →
+    IfSome (due_expiry flow (queues_of machine.state) moment) (λ due. IsSome (step flow machine (Expire due.0 due.1 moment)))
+
+-- as the next batch
+abbrev pub DueSwapOutsHaveSteps : Type 0
+DueSwapOutsHaveSteps = (flow : Flow) (machine : Machine) → IsValid flow machine.state →
+    IfSome (due_swap_out flow (queues_of machine.state)) (λ due. IsSome (step flow machine (SwapOut due.0 due.1 machine.state.next_batch)))
+
+abbrev pub DueSwapInsHaveSteps : Type 0
+DueSwapInsHaveSteps = (flow : Flow) (machine : Machine) → IfSome (due_swap_in flow (queues_of machine.state)) (λ due. IsSome (step flow machine (SwapIn due.0 due.1)))
 
 -- ---- lineages
 

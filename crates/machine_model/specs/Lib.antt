@@ -14,4 +14,5 @@ pub mod Sound
 pub mod State
 pub mod Stepping
 pub mod Taking
+pub mod Valid
 pub mod View

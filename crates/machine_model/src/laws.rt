@@ -1,5 +1,5 @@
 //! What holds of the machine's definitions, each law as the contract of a function that does nothing.
-ghost use Rattle.machine_model.specs.Laws.{NoneGoesBeforeItself, GoingBeforeChains, ArrivalsTell, OrderKeepsFiles, OrderHolds, OrderIsOnly, BestIsBest, BestIsOnly, ReplayOfOneMore, ReplayOfJoined, ActsEndAllInTurn, ActsGiveOutcomes, SettlingKeepsNumbers, StepsKeepNumbers, ReplaysKeepNumbers, SettlingNumbersEvents, StepsNumberEvents, ReplaysNumberEvents, ReplaysAddEvents, SettlingTellsKin, StepsTellKin, ReplaysTellKin, LineageIsOnly};
+ghost use Rattle.machine_model.specs.Laws.{NoneGoesBeforeItself, GoingBeforeChains, ArrivalsTell, OrderKeepsFiles, OrderHolds, OrderIsOnly, BestIsBest, BestIsOnly, ReplayOfOneMore, ReplayOfJoined, ActsEndAllInTurn, ActsGiveOutcomes, SettlingKeepsNumbers, StepsKeepNumbers, ReplaysKeepNumbers, SettlingNumbersEvents, StepsNumberEvents, ReplaysNumberEvents, ReplaysAddEvents, SettlingTellsKin, StepsTellKin, ReplaysTellKin, NewStatesAreValid, StepsStayValid, ReplaysStayValid, StepsGoOn, ReplaysGoOn, StepsLoseNames, ReplaysLoseNames, OneConnectionHas, DueExpiriesHaveSteps, DueSwapOutsHaveSteps, DueSwapInsHaveSteps, LineageIsOnly};
 
 /// The order of a queue is a total one of files whose arrivals differ.
 pub fn order_is_total()
@@ -61,6 +61,37 @@ pub fn replays_tell_kin()
     ensures settling { SettlingTellsKin }
     ensures one_step { StepsTellKin }
     ensures replay { ReplaysTellKin }
+{}
+
+/// A new store's state is valid, and steps and replays leave a valid one behind a valid one.
+pub fn states_stay_valid()
+    ensures new { NewStatesAreValid }
+    ensures one_step { StepsStayValid }
+    ensures replay { ReplaysStayValid }
+{}
+
+/// No counter ever falls, and the store's id stays.
+pub fn counters_never_fall()
+    ensures one_step { StepsGoOn }
+    ensures replay { ReplaysGoOn }
+{}
+
+/// The inbox stays as it was, and of the names that are left just those go that sessions of GetFile take.
+pub fn names_are_lost_by_taking()
+    ensures one_step { StepsLoseNames }
+    ensures replay { ReplaysLoseNames }
+{}
+
+/// One connection alone has the files of a session.
+pub fn one_connection_has_files()
+    ensures { OneConnectionHas }
+{}
+
+/// What a queue of a valid state owes can be done: there is a step for it.
+pub fn due_has_a_step()
+    ensures expiry { DueExpiriesHaveSteps }
+    ensures swap_out { DueSwapOutsHaveSteps }
+    ensures swap_in { DueSwapInsHaveSteps }
 {}
 
 /// A file has one lineage.
