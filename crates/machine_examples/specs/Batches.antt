@@ -30,6 +30,10 @@ six = nth 1 ∷ nth 2 ∷ nth 3 ∷ nth 4 ∷ nth 5 ∷ nth 6 ∷ []
 abbrev pub LastOf : List Prioritizer → List QueuedFile → Option (List ℕ) → Type 0
 LastOf order files answer = last_batch order four (map view_of files) ≡ answer
 
+-- half of three is one, rounded down
+abbrev pub OddGoes : Type 0
+OddGoes = last_batch [] (record four { swap = 3 }) (map view_of (nth 1 ∷ nth 2 ∷ nth 3 ∷ nth 4 ∷ [])) ≡ Some (4 ∷ [])
+
 abbrev pub queued : List QueuedFile → (next_batch : ℕ) → State
 queued files next_batch = record (state_of (files ∷ []) 9 9 (0 ∷ 0 ∷ [])) { next_batch = next_batch }
 

@@ -6,7 +6,8 @@ use Rattle.expr_lang.specs.declared.syntax.Expr.{Expr}
 use Rattle.machine_model.specs.declared.flow.Flow.{Flow}
 use Rattle.machine_model.specs.declared.flow.QueueLimits.{QueueLimits}
 use Rattle.machine_model.specs.declared.kind.Conflict.TheVariants.{Replace}
-use Rattle.machine_model.specs.declared.kind.Kind.TheVariants.{GetFile, GenerateFlowFile, PutFile, UpdateAttribute}
+use Rattle.machine_model.specs.declared.kind.Kind.TheVariants.{GetFile, GenerateFlowFile, PutFile, UpdateAttribute, MergeContent}
+use Rattle.machine_model.specs.declared.kind.MergeStrategy.TheVariants.{BinPacking}
 use Rattle.machine_model.specs.declared.pattern.Pattern.{Pattern}
 use Rattle.machine_model.specs.State.{QueuedFile, State, World}
 use Rattle.machine_model.specs.Quiet.{quiet, blocked}
@@ -82,10 +83,15 @@ FoundIsWanted = (pattern : Pattern) → Finds pattern true → quiet (filtering 
 
 -- ---- a batch that can come back, or has to go, keeps a flow from being quiet, though no processor wants
 
-abbrev pub in_batch : QueuedFile
-in_batch = record (a_file 1 1) { batch = Some 1 }
+-- three files before a MergeContent that waits for five, swapped past so many
+abbrev pub binning : (swap : ℕ) → Flow
+binning swap = record (get_to_put Replace wide) {
+  processors = processor (codes "get") (GetFile None) [] ∷ processor (codes "merge") (MergeContent BinPacking 5 5) (codes "merged" ∷ codes "original" ∷ codes "failure" ∷ []) ∷ [];
+  connections = connection (codes "c1") 0 1 (record wide { swap = swap }) ∷ [];
+}
 
--- past 2 files, and all of them penalised up to 2000
-abbrev pub SwappingIsQuiet : List QueuedFile → (moment : ℕ) → Bool → Type 0
-SwappingIsQuiet files moment answer =
-    quiet (get_to_put Replace (record wide { swap = 2 })) (state_of (files ∷ []) 9 9 (0 ∷ 0 ∷ [])) nothing moment ≡ answer
+abbrev pub in_batch : QueuedFile → QueuedFile
+in_batch file = record file { batch = Some 1 }
+
+abbrev pub SwappingIsQuiet : (swap : ℕ) → List QueuedFile → Bool → Type 0
+SwappingIsQuiet swap files answer = quiet (binning swap) (state_of (files ∷ []) 9 9 (0 ∷ 0 ∷ [])) nothing 1000 ≡ answer

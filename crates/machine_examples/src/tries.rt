@@ -6,12 +6,12 @@ ghost use Rattle.machine_model.specs.declared.kind.TakeRule.TheVariants.{Source,
 ghost use Rattle.machine_model.specs.Sound.{IsSound};
 ghost use Rattle.machine_examples.specs.Small.{hi, nothing, with_a, a_file, get_to_put, wide};
 ghost use Rattle.machine_examples.specs.Acks.{AcknowledgedIs};
-ghost use Rattle.machine_examples.specs.Batches.{LastOf, six, nth, StepGives, queued, two_gone, two_batches, lower_back, BatchesAre, batch, FullWith, EligibleOf, ExpiredOf, GoesOf, ComesOf, FullOf, flying, still, waiting_penalised};
+ghost use Rattle.machine_examples.specs.Batches.{LastOf, OddGoes, six, nth, StepGives, queued, two_gone, two_batches, lower_back, BatchesAre, batch, FullWith, EligibleOf, ExpiredOf, GoesOf, ComesOf, FullOf, flying, still, waiting_penalised};
 ghost use Rattle.machine_examples.specs.Elsewhere.{SecondExpires, NotOfTheFirst, SecondSwapsOut, SecondSwapsIn, FirstsBatchIsNotSeconds, TakesOf, ExpiryIs, SwapOutIs, SwapInIs, CheckpointIs, ReclaimIs, chained, fresh, both_wait, both_swapped, three as first_three, three_more, in_batch, last_log};
 ghost use Rattle.machine_model.specs.Files.{view_of};
 ghost use Rattle.machine_model.specs.declared.journal.Step.TheVariants.{SwapOut, SwapIn};
 ghost use Rattle.machine_examples.specs.Clones.{TwoFanOut, CopiesGoByOriginals, BesideADrop, NoValueIsEmpty, FourClonesFollow, ClonesArePenalisedToo, duplicating, EachConnectionGetsOne, MadeIsNamed, NamedKeepsItsName, TakenStaysNameless};
-ghost use Rattle.machine_examples.specs.Ends.{in_batch as one_in_batch, NarrowIs, FilteredIsLeft, FoundIsWanted, SwappingIsQuiet, QuietIs, left_a, taken_a, penalised, BlockedIs, RingIsQuiet, ringed};
+ghost use Rattle.machine_examples.specs.Ends.{in_batch as swapped_out, NarrowIs, FilteredIsLeft, FoundIsWanted, SwappingIsQuiet, QuietIs, left_a, taken_a, penalised, BlockedIs, RingIsQuiet, ringed};
 ghost use Rattle.machine_examples.specs.Expiries.{ExpiredIs, OneExpires, NoneExpiresAtOnce, TwoExpire, BatchGoes, BatchMustWait, BatchComesBack, GoesAndComesBack, SwapsDueAre, late, late_in_batch};
 ghost use Rattle.machine_examples.specs.Families.{IsAncestorOf, IsNoAncestorOf, IsDescendantOf, IsNoDescendantOf, Tells, TellsNot, cloned, joined, stranger};
 ghost use Rattle.machine_examples.specs.Flows.{GeneratingIsSound, RingIsSound, IsUnsound, MarkedIsSound, ContainedIsNot, ListIs, AloneIsNotJoined, UnmarkedIsUnsound, ExactIsMarked, unconnected, terminated, into_source, doubled, tight, turned, blank, nowhere};
@@ -196,7 +196,10 @@ pub fn ends_are_told()
     ensures ring_all_full { NarrowIs (ringed (a_file 3 1 ∷ []) (a_file 1 2 ∷ []) (a_file 2 3 ∷ []) 2) (Some 0) }
     ensures filtered { FilteredIsLeft }
     ensures found { FoundIsWanted }
-    ensures swapped { SwappingIsQuiet (one_in_batch ∷ []) 1000 false }
+    ensures batch_goes { SwappingIsQuiet 2 (a_file 1 1 ∷ a_file 2 2 ∷ a_file 3 3 ∷ []) false }
+    ensures no_batch_goes { SwappingIsQuiet 3 (a_file 1 1 ∷ a_file 2 2 ∷ a_file 3 3 ∷ []) true }
+    ensures batch_comes { SwappingIsQuiet 3 (a_file 1 1 ∷ a_file 2 2 ∷ swapped_out (a_file 3 3) ∷ []) false }
+    ensures no_batch_comes { SwappingIsQuiet 2 (a_file 1 1 ∷ a_file 2 2 ∷ swapped_out (a_file 3 3) ∷ []) true }
 {}
 
 /// Which files are eligible, and in which order. A queue is full at a limit on its files or on its bytes, with swapped
@@ -320,6 +323,7 @@ pub fn batches_are_told()
     ensures last { LastOf [] six (Some (5 ∷ 6 ∷ [])) }
     ensures newest { LastOf (NewestFlowFileFirst ∷ []) six (Some (2 ∷ 1 ∷ [])) }
     ensures few { LastOf [] (nth 1 ∷ nth 2 ∷ nth 3 ∷ nth 4 ∷ nth 5 ∷ []) None }
+    ensures odd { OddGoes }
     ensures two_go { StepGives (queued six 7) (SwapOut 0 (6 ∷ 5 ∷ []) 7) (Some (queued two_gone 8)) }
     ensures one_goes_not { StepGives (queued six 7) (SwapOut 0 (6 ∷ []) 7) None }
     ensures views { BatchesAre two_batches (batch 2 2 4 ∷ batch 3 3 6 ∷ []) }

@@ -8,6 +8,7 @@ returns c = record {
   last = refl;
   newest = refl;
   few = refl;
+  odd = refl;
   two_go = refl;
   one_goes_not = refl;
   views = refl;

@@ -1,7 +1,9 @@
+use Rattle.prioritizer.specs.Order.{order_cmp}
 use Rattle.std.proofs.Common.{refl}
 use Rattle.machine_examples.proofs.tries.ends_are_told.Goals as goal
 
 pub returns : goal.returns
+unfolding order_cmp
 returns c = record {
   empty = refl;
   left = refl;
@@ -19,5 +21,8 @@ returns c = record {
   ring_all_full = λ text. refl;
   filtered = λ pattern none. (rw none refl, rw none refl);
   found = λ pattern some. rw some refl;
-  swapped = refl;
+  batch_goes = refl;
+  no_batch_goes = refl;
+  batch_comes = refl;
+  no_batch_comes = refl;
 }
