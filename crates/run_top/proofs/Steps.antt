@@ -6,8 +6,7 @@ use Rattle.std.specs.Prelude.{Option, None, Some, Ok, nat_le, if◌then◌else�
 use Rattle.disk_trait.specs.Files.{Files}
 use Rattle.disk_trait.specs.Images.{Since}
 use Rattle.disk_trait.specs.declared.damage.Damage.{Damage}
-use Rattle.flowfile_record.specs.NamedFile.{NamedFile, bytes_of, without}
-use Rattle.flowfile_record.specs.NamedFile.{with_file}
+use Rattle.flowfile_record.specs.NamedFile.{NamedFile, bytes_of, without, with_file}
 use Rattle.flowfile_record.specs.declared.TheConstants.{CONTENT_MAX}
 use Rattle.store_core.specs.Entry.{queued}
 use Rattle.store_core.specs.State.{stands_for}

@@ -2,8 +2,7 @@
 -- no device.
 use Rattle.std.specs.Prelude.{◌≡◌, ◌⊎◌, ℕ, ◌+◌, ◌≤◌, nat_le, Bool, false, List, [], ◌∷◌, ◌++◌, length, Option, None, Some, IsSome, MatchOption, if◌then◌else◌}
 use Rattle.std.specs.List.{AllByRecursion}
-use Rattle.flowfile_record.specs.NamedFile.{NamedFile, bytes_of, without}
-use Rattle.flowfile_record.specs.NamedFile.{with_file}
+use Rattle.flowfile_record.specs.NamedFile.{NamedFile, bytes_of, without, with_file}
 use Rattle.flowfile_record.specs.declared.TheConstants.{CONTENT_MAX}
 use Rattle.store_core.specs.Entry.{queued}
 use Rattle.store_core.specs.declared.queued.Queued.{Queued}
