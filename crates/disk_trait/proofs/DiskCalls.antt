@@ -11,7 +11,7 @@ use Rattle.disk_trait.specs.declared.memory.table.FileTable.{FileTable}
 use Rattle.disk_trait.specs.MemoryCalls.{Notes, HasSameCalls}
 use Rattle.disk_trait.specs.Files.{Files, At, Overwritten, Torn, Shortened}
 use Rattle.disk_trait.specs.Images.{After, Since, IsOnly}
-use Rattle.disk_trait.specs.Memory.{FileState, settled, changed, same_name, after_call, fits, state_after, IsImage}
+use Rattle.disk_trait.specs.Memory.{FileState, durable, changed, same_name, after_call, fits, state_after, IsImage}
 use Rattle.disk_trait.specs.MemoryTable.{bytes_of, first_of, has_file}
 use Rattle.disk_trait.specs.MemoryHeld.{until_all}
 use Rattle.disk_trait.specs.MemoryPast.{Past, IsPast, file_after, left_at}
@@ -65,10 +65,10 @@ write_sound at bytes s h sound =
     let b = sound.no_longer in
     record { no_shorter = omega arith; no_longer = omega arith; same = kept }
   where
-    kept : (i : ℕ) → i < length (overwritten at bytes s.held) → (in_range at (length bytes) i || s.unsettled i) ≡ false → slice_index (overwritten at bytes s.held) i ≡ slice_index s.synced i
+    kept : (i : ℕ) → i < length (overwritten at bytes s.held) → (in_range at (length bytes) i || s.pending i) ≡ false → slice_index (overwritten at bytes s.held) i ≡ slice_index s.synced i
     kept i lt still =
         let l = length-overwritten at bytes s.held h in
-        let parts = or_parts (in_range at (length bytes) i) (s.unsettled i) still in
+        let parts = or_parts (in_range at (length bytes) i) (s.pending i) still in
         ⊎_elim
         (λ (front : i < at). overwritten-front at bytes s.held i h front ∙ sound.same i (omega arith) parts.1)
         (λ (back : at + length bytes ≤ i). overwritten-back at bytes s.held i h back ∙ sound.same i (omega arith) parts.1)
@@ -82,20 +82,20 @@ cut_sound size s sound =
     let b = sound.no_longer in
     record { no_shorter = omega arith; no_longer = omega arith; same = kept }
   where
-    kept : (i : ℕ) → i < length (take size s.held) → (leb size i || s.unsettled i) ≡ false → slice_index (take size s.held) i ≡ slice_index s.synced i
+    kept : (i : ℕ) → i < length (take size s.held) → (leb size i || s.pending i) ≡ false → slice_index (take size s.held) i ≡ slice_index s.synced i
     kept i lt still =
         let l = length-take size s.held in
-        let parts = or_parts (leb size i) (s.unsettled i) still in
+        let parts = or_parts (leb size i) (s.pending i) still in
         get_or-take size s.held i 0 (omega arith) ∙ sound.same i (omega arith) parts.1
 
-pub settled_sound : (bytes : List ℕ) → IsSound (settled bytes)
-unfolding settled
-settled_sound bytes = record { no_shorter = omega arith; no_longer = omega arith; same = λ i lt still. refl }
+pub durable_sound : (bytes : List ℕ) → IsSound (durable bytes)
+unfolding durable
+durable_sound bytes = record { no_shorter = omega arith; no_longer = omega arith; same = λ i lt still. refl }
 
 -- right after a sync a stop leaves what is held
-pub settled_only : (bytes c : List ℕ) → IsImage (settled bytes) c → c ≡ bytes
-unfolding settled
-settled_only bytes c image = ext_get_or 0 c bytes (omega (arith, image.no_shorter, image.no_longer)) (λ i lt. image.same i lt refl)
+pub durable_only : (bytes c : List ℕ) → IsImage (durable bytes) c → c ≡ bytes
+unfolding durable
+durable_only bytes c image = ext_get_or 0 c bytes (omega (arith, image.no_shorter, image.no_longer)) (λ i lt. image.same i lt refl)
 
 -- ---- a call and a file
 
@@ -117,7 +117,7 @@ module _ (name : FileName) (size : ℕ) where
   unfolding after_call
   cut_there f s there = cond-false (same_name name f) _ _ there
 
-sync_each : (f : FileName) (s : FileState) → after_call f Sync s ≡ settled s.held
+sync_each : (f : FileName) (s : FileState) → after_call f Sync s ≡ durable s.held
 unfolding after_call
 sync_each f s = refl
 
@@ -129,13 +129,24 @@ synced-changed : (held : List ℕ) (touched : ℕ → Bool) (s : FileState) → 
 unfolding changed
 synced-changed held touched s = refl
 
-pub held-settled : (bytes : List ℕ) → (settled bytes).held ≡ bytes
-unfolding settled
-held-settled bytes = refl
+pub held-durable : (bytes : List ℕ) → (durable bytes).held ≡ bytes
+unfolding durable
+held-durable bytes = refl
 
-synced-settled : (bytes : List ℕ) → (settled bytes).synced ≡ bytes
-unfolding settled
-synced-settled bytes = refl
+synced-durable : (bytes : List ℕ) → (durable bytes).synced ≡ bytes
+unfolding durable
+synced-durable bytes = refl
+
+greatest-durable : (bytes : List ℕ) → (durable bytes).greatest ≡ length bytes
+unfolding durable
+greatest-durable bytes = refl
+
+-- a name that a call can give, and one that it can't
+named_apart : (name f : FileName) → name.number < 2 ^ 64 → 2 ^ 64 ≤ f.number → same_name name f ≡ false
+named_apart name f small big = ⊎_elim
+    (λ (here : same_name name f ≡ true). absurd (omega (arith, small, big, ap (λ (g : FileName). g.number) (same_name_is name f here))))
+    (λ (there : same_name name f ≡ false). there)
+    (cases_Bool (same_name name f))
 
 -- A stop right after a call on one file leaves what one right before it might have left, after a step on
 -- that file.
@@ -187,7 +198,7 @@ shortened_kept name n left c is = (c, is, at_itself name (Shortened n) c (shorte
 
 module _ (p : Past) (u : FileTable) (name : FileName) (at : ℕ) (bytes : List ℕ) (n : ℕ) (past : IsPast p) (next : n ≡ p.now + 1) (inside : at ≤ length (bytes_of p.table name))
     (first : (f : FileName) → first_of u f ≡ first_of p.table f) (written : At name (Overwritten at bytes) (bytes_of p.table) (bytes_of u))
-    (had : (f : FileName) → has_file u f ≡ false → has_file p.table f ≡ false) (has : has_file u name ≡ true) where
+    (had : (f : FileName) → has_file u f ≡ false → has_file p.table f ≡ false) (has : has_file u name ≡ true) (small : name.number < 2 ^ 64) where
   inside_at : (f : FileName) → same_name name f ≡ true → at ≤ length (last p f).held
   inside_at f here = omega (arith, inside, ap (λ g. length (bytes_of p.table g)) (same_name_is name f here), ap length (past.made f))
 
@@ -221,8 +232,11 @@ module _ (p : Past) (u : FileTable) (name : FileName) (at : ℕ) (bytes : List �
       (λ (there : same_name name f ≡ false). subst (λ (s : FileState). (s.held ≡ []) × (s.synced ≡ [])) (sym (write_there name at bytes f (last p f) there)) (past.absent (length p.calls) f (had f none)))
       (cases_Bool (same_name name f))
 
+  ends_written : (f : FileName) → 2 ^ 64 ≤ f.number → (after_call f (Write name at bytes) (last p f)).greatest ≡ 0
+  ends_written f big = subst (λ (s : FileState). s.greatest ≡ 0) (sym (write_there name at bytes f (last p f) (named_apart name f small big))) (past.ends (length p.calls) f big)
+
   pub is_past_written : IsPast (pushed p u (Write name at bytes) n)
-  is_past_written = is_past_pushed p u (Write name at bytes) n first past (omega arith) made fits_written sound had absent
+  is_past_written = is_past_pushed p u (Write name at bytes) n first past (omega arith) made fits_written sound had absent ends_written
 
   torn_here : (f : FileName) → same_name name f ≡ true → (c : List ℕ) → IsImage (after_call f (Write name at bytes) (last p f)) c
       → IsImage (last p f) (before_write at (length bytes) (last p f) c) × Torn at (length bytes) (before_write at (length bytes) (last p f) c) c
@@ -251,7 +265,7 @@ fits_sync f s = refl
 
 module _ (p : Past) (u : FileTable) (name : FileName) (size : ℕ) (n : ℕ) (past : IsPast p) (next : n ≡ p.now + 1) (inside : size ≤ length (bytes_of p.table name))
     (first : (f : FileName) → first_of u f ≡ first_of p.table f) (cut : At name (λ old new. new ≡ take size old) (bytes_of p.table) (bytes_of u))
-    (had : (f : FileName) → has_file u f ≡ has_file p.table f) where
+    (had : (f : FileName) → has_file u f ≡ has_file p.table f) (small : name.number < 2 ^ 64) where
   inside_cut : (f : FileName) → same_name name f ≡ true → size ≤ length (last p f).held
   inside_cut f here = omega (arith, inside, ap (λ g. length (bytes_of p.table g)) (same_name_is name f here), ap length (past.made f))
 
@@ -282,8 +296,11 @@ module _ (p : Past) (u : FileTable) (name : FileName) (size : ℕ) (n : ℕ) (pa
       (λ (there : same_name name f ≡ false). subst (λ (s : FileState). (s.held ≡ []) × (s.synced ≡ [])) (sym (cut_there name size f (last p f) there)) was)
       (cases_Bool (same_name name f))
 
+  ends_cut : (f : FileName) → 2 ^ 64 ≤ f.number → (after_call f (Cut name size) (last p f)).greatest ≡ 0
+  ends_cut f big = subst (λ (s : FileState). s.greatest ≡ 0) (sym (cut_there name size f (last p f) (named_apart name f small big))) (past.ends (length p.calls) f big)
+
   pub is_past_cut : IsPast (pushed p u (Cut name size) n)
-  is_past_cut = is_past_pushed p u (Cut name size) n first past (omega arith) made_cut (fits_cut name size p) sound_cut (λ f none. sym (had f) ∙ none) absent_cut
+  is_past_cut = is_past_pushed p u (Cut name size) n first past (omega arith) made_cut (fits_cut name size p) sound_cut (λ f none. sym (had f) ∙ none) absent_cut ends_cut
 
   shortened_here : (f : FileName) → same_name name f ≡ true → (c : List ℕ) → IsImage (after_call f (Cut name size) (last p f)) c
       → IsImage (last p f) (before_cut size (last p f) c) × Shortened size (before_cut size (last p f) c) c
@@ -302,20 +319,24 @@ module _ (p : Past) (u : FileTable) (name : FileName) (size : ℕ) (n : ℕ) (pa
 -- ---- a sync
 
 module _ (p : Past) (n : ℕ) (past : IsPast p) (next : n ≡ p.now + 1) where
-  sync_now : (f : FileName) → after_call f Sync (last p f) ≡ settled (bytes_of p.table f)
-  sync_now f = sync_each f (last p f) ∙ ap settled (sym (past.made f))
+  sync_now : (f : FileName) → after_call f Sync (last p f) ≡ durable (bytes_of p.table f)
+  sync_now f = sync_each f (last p f) ∙ ap durable (sym (past.made f))
+
+  held_ends : (f : FileName) → 2 ^ 64 ≤ f.number → length (bytes_of p.table f) ≡ 0
+  held_ends f big = omega (arith, ap length (past.made f), (past.sound (length p.calls) f).no_longer, past.ends (length p.calls) f big)
 
   pub is_past_synced : IsPast (pushed p p.table Sync n)
   is_past_synced = is_past_pushed p p.table Sync n (λ f. refl) past (omega arith)
-      (λ f. sym (ap (λ (s : FileState). s.held) (sync_now f) ∙ held-settled _))
+      (λ f. sym (ap (λ (s : FileState). s.held) (sync_now f) ∙ held-durable _))
       (λ f. fits_sync f (last p f))
-      (λ f. subst (λ (s : FileState). IsSound s) (sym (sync_now f)) (settled_sound (bytes_of p.table f)))
+      (λ f. subst (λ (s : FileState). IsSound s) (sym (sync_now f)) (durable_sound (bytes_of p.table f)))
       (λ f none. none)
       (λ f none. subst (λ (s : FileState). (s.held ≡ []) × (s.synced ≡ [])) (sym (sync_now f))
-      (held-settled _ ∙ past.made f ∙ (past.absent (length p.calls) f none).0, synced-settled _ ∙ past.made f ∙ (past.absent (length p.calls) f none).0))
+      (held-durable _ ∙ past.made f ∙ (past.absent (length p.calls) f none).0, synced-durable _ ∙ past.made f ∙ (past.absent (length p.calls) f none).0))
+      (λ f big. subst (λ (s : FileState). s.greatest ≡ 0) (sym (sync_now f)) (greatest-durable _ ∙ held_ends f big))
 
   only_held : (c : Files) → ((f : FileName) → IsImage (after_call f Sync (last p f)) (c f)) → (f : FileName) → c f ≡ bytes_of p.table f
-  only_held c images f = settled_only (bytes_of p.table f) (c f) (subst (λ s. IsImage s (c f)) (sync_now f) (images f))
+  only_held c images f = durable_only (bytes_of p.table f) (c f) (subst (λ s. IsImage s (c f)) (sync_now f) (images f))
 
   held_left : (c : Files) → ((f : FileName) → c f ≡ bytes_of p.table f) → left_at p p.now c
   unfolding left_at
@@ -325,32 +346,33 @@ module _ (p : Past) (n : ℕ) (past : IsPast p) (next : n ≡ p.now + 1) where
   pub since_synced : Since (λ past. past.now) left_at p (pushed p p.table Sync n) (left_at p p.now)
   since_synced = since_pushed p p.table Sync n (λ f. refl) past next (left_at p p.now) (λ c left. left) (λ c images. held_left c (only_held c images))
 
-  pub settled_now : IsOnly (bytes_of p.table) (left_at (pushed p p.table Sync n) n)
-  settled_now c left = λ i f. only_held c (left_last p p.table Sync n (λ g. refl) c past (omega arith) left) f i
+  pub synced_now : IsOnly (bytes_of p.table) (left_at (pushed p p.table Sync n) n)
+  synced_now c left = λ i f. only_held c (left_last p p.table Sync n (λ g. refl) c past (omega arith) left) f i
 
 -- ---- a past with no calls
 
 abbrev pub begun : FileTable → Past
 begun t = record { table = t; calls = []; moments = []; now = 0 }
 
-file_begun : (t : FileTable) (m : ℕ) (f : FileName) → file_after (begun t) m f ≡ settled (first_of t f)
+file_begun : (t : FileTable) (m : ℕ) (f : FileName) → file_after (begun t) m f ≡ durable (first_of t f)
 unfolding file_after
-file_begun t m f = ap (λ calls. state_after f (settled (first_of t f)) calls) (take_all {A = DiskCall} m [] (omega arith))
+file_begun t m f = ap (λ calls. state_after f (durable (first_of t f)) calls) (take_all {A = DiskCall} m [] (omega arith))
 
-pub is_past_begun : (t : FileTable) → ((f : FileName) → bytes_of t f ≡ first_of t f) → IsPast (begun t)
-is_past_begun t same = record {
+pub is_past_begun : (t : FileTable) → ((f : FileName) → bytes_of t f ≡ first_of t f) → ((f : FileName) → 2 ^ 64 ≤ f.number → bytes_of t f ≡ []) → IsPast (begun t)
+is_past_begun t same ends = record {
   paired = refl;
   passed = All-nil (λ moment. moment ≤ 0);
-  made = λ f. same f ∙ sym (held-settled _) ∙ ap (λ (s : FileState). s.held) (sym (file_begun t 0 f));
+  made = λ f. same f ∙ sym (held-durable _) ∙ ap (λ (s : FileState). s.held) (sym (file_begun t 0 f));
   inside = λ m f lt. absurd (omega (arith, lt));
-  sound = λ m f. subst (λ (s : FileState). IsSound s) (sym (file_begun t m f)) (settled_sound (first_of t f));
+  sound = λ m f. subst (λ (s : FileState). IsSound s) (sym (file_begun t m f)) (durable_sound (first_of t f));
   absent = λ m f none. subst (λ (s : FileState). (s.held ≡ []) × (s.synced ≡ [])) (sym (file_begun t m f))
-      (let empty = sym (same f) ∙ absent_bytes t f none in (held-settled _ ∙ empty, synced-settled _ ∙ empty));
+      (let empty = sym (same f) ∙ absent_bytes t f none in (held-durable _ ∙ empty, synced-durable _ ∙ empty));
+  ends = λ m f big. subst (λ (s : FileState). s.greatest ≡ 0) (sym (file_begun t m f)) (greatest-durable _ ∙ ap length (sym (same f) ∙ ends f big));
 }
 
 pub only_begun : (t : FileTable) → ((f : FileName) → bytes_of t f ≡ first_of t f) → IsOnly (bytes_of t) (left_at (begun t) 0)
 unfolding left_at
-only_begun t same c left = λ i f. (settled_only (first_of t f) (c f) (subst (λ s. IsImage s (c f)) (file_begun t _ f) (left f)) ∙ sym (same f)) i
+only_begun t same c left = λ i f. (durable_only (first_of t f) (c f) (subst (λ s. IsImage s (c f)) (file_begun t _ f) (left f)) ∙ sym (same f)) i
 
 -- ---- the two outcomes of a call
 
@@ -377,30 +399,30 @@ unnoted_on old u done done' n Q same on =
     at_calls (λ calls moments. GoesOn old record { table = u; calls = calls; moments = moments; now = n } Q) _ _ _ _ same.calls same.moments on
 
 module _ {T E : Type 0} (t u : FileTable) (done done' : CallList) (now : ℕ) (past : IsPast (past_with t done now)) where
-  pub write_goes_on : (r : Result T E) (name : FileName) (at : ℕ) (bytes : List ℕ) → at ≤ length (bytes_of t name)
+  pub write_goes_on : (r : Result T E) (name : FileName) (at : ℕ) (bytes : List ℕ) → name.number < 2 ^ 64 → at ≤ length (bytes_of t name)
       → OnOk r (At name (Overwritten at bytes) (bytes_of t) (bytes_of u)) → OnOk r (has_file u name ≡ true) → OnOk r (Notes done done' (Write name at bytes) (now + 1))
       → OnErr r ((f : FileName) → bytes_of u f ≡ bytes_of t f) → OnErr r (HasSameCalls done done')
       → ((f : FileName) → first_of u f ≡ first_of t f) → ((f : FileName) → has_file u f ≡ false → has_file t f ≡ false)
       → GoesOn (past_with t done now) (past_with u done' (now + 1)) (After (At name (Torn at (length bytes))) (left_at (past_with t done now) now))
-  write_goes_on (Ok x) name at bytes inside written has notes held same first had = noted_on (past_with t done now) u done done' _ (now + 1) _ notes record {
-    past = is_past_written (past_with t done now) u name at bytes (now + 1) past refl inside first written had has;
-    images = since_written (past_with t done now) u name at bytes (now + 1) past refl inside first written had has;
+  write_goes_on (Ok x) name at bytes small inside written has notes held same first had = noted_on (past_with t done now) u done done' _ (now + 1) _ notes record {
+    past = is_past_written (past_with t done now) u name at bytes (now + 1) past refl inside first written had has small;
+    images = since_written (past_with t done now) u name at bytes (now + 1) past refl inside first written had has small;
   }
-  write_goes_on (Err e) name at bytes inside written has notes held same first had = unnoted_on (past_with t done now) u done done' (now + 1) _ same record {
+  write_goes_on (Err e) name at bytes small inside written has notes held same first had = unnoted_on (past_with t done now) u done done' (now + 1) _ same record {
     past = is_past_kept (past_with t done now) u (now + 1) past (omega arith) first held had;
     images = since_kept (past_with t done now) u (now + 1) past (omega arith) first _ (torn_kept name at (length bytes) (left_at (past_with t done now) now));
   }
 
-  pub cut_goes_on : (r : Result T E) (name : FileName) (size : ℕ) → size ≤ length (bytes_of t name)
+  pub cut_goes_on : (r : Result T E) (name : FileName) (size : ℕ) → name.number < 2 ^ 64 → size ≤ length (bytes_of t name)
       → OnOk r (At name (λ old new. new ≡ take size old) (bytes_of t) (bytes_of u)) → OnOk r (Notes done done' (Cut name size) (now + 1))
       → OnErr r ((f : FileName) → bytes_of u f ≡ bytes_of t f) → OnErr r (HasSameCalls done done')
       → ((f : FileName) → first_of u f ≡ first_of t f) → ((f : FileName) → has_file u f ≡ has_file t f)
       → GoesOn (past_with t done now) (past_with u done' (now + 1)) (After (At name (Shortened size)) (left_at (past_with t done now) now))
-  cut_goes_on (Ok x) name size inside cut notes held same first had = noted_on (past_with t done now) u done done' _ (now + 1) _ notes record {
-    past = is_past_cut (past_with t done now) u name size (now + 1) past refl inside first cut had;
-    images = since_cut (past_with t done now) u name size (now + 1) past refl inside first cut had;
+  cut_goes_on (Ok x) name size small inside cut notes held same first had = noted_on (past_with t done now) u done done' _ (now + 1) _ notes record {
+    past = is_past_cut (past_with t done now) u name size (now + 1) past refl inside first cut had small;
+    images = since_cut (past_with t done now) u name size (now + 1) past refl inside first cut had small;
   }
-  cut_goes_on (Err e) name size inside cut notes held same first had = unnoted_on (past_with t done now) u done done' (now + 1) _ same record {
+  cut_goes_on (Err e) name size small inside cut notes held same first had = unnoted_on (past_with t done now) u done done' (now + 1) _ same record {
     past = is_past_kept (past_with t done now) u (now + 1) past (omega arith) first held (λ f none. sym (had f) ∙ none);
     images = since_kept (past_with t done now) u (now + 1) past (omega arith) first _ (shortened_kept name size (left_at (past_with t done now) now));
   }
@@ -417,11 +439,11 @@ module _ {T E : Type 0} (t : FileTable) (done done' : CallList) (now : ℕ) (pas
     images = since_kept (past_with t done now) t (now + 1) past (omega arith) (λ f. refl) _ (λ c left. left);
   }
 
-  pub sync_settles : (r : Result T E) → OnOk r (Notes done done' Sync (now + 1)) → OnOk r (IsOnly (bytes_of t) (left_at (past_with t done' (now + 1)) (now + 1)))
-  sync_settles (Ok x) notes =
+  pub sync_makes_durable : (r : Result T E) → OnOk r (Notes done done' Sync (now + 1)) → OnOk r (IsOnly (bytes_of t) (left_at (past_with t done' (now + 1)) (now + 1)))
+  sync_makes_durable (Ok x) notes =
       at_calls (λ calls moments. IsOnly (bytes_of t) (left_at record { table = t; calls = calls; moments = moments; now = now + 1 } (now + 1))) _ _ _ _ notes.calls notes.moments
-      (settled_now (past_with t done now) (now + 1) past refl)
-  sync_settles (Err e) notes = tt
+      (synced_now (past_with t done now) (now + 1) past refl)
+  sync_makes_durable (Err e) notes = tt
 
 -- where a write is done, its range ends below 2^64
 pub write_fits : {T E : Type 0} (r : Result T E) (t u : FileTable) (name : FileName) (at : ℕ) (bytes : List ℕ) → is_err r ≡ false → at ≤ length (bytes_of t name)

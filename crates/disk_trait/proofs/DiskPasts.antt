@@ -1,5 +1,5 @@
 -- How the past of a disk in memory goes on.
-use Rattle.std.proofs.Common.{◌≡◌, ℕ, ◌+◌, ◌<◌, ◌≤◌, true, false, leb, List, [], ◌∷◌, ◌++◌, length, get_or, take, refl, sym, ◌∙◌, ap, subst, ⊎_elim, arith}
+use Rattle.std.proofs.Common.{◌≡◌, ℕ, ◌+◌, ◌^◌, ◌<◌, ◌≤◌, true, false, leb, List, [], ◌∷◌, ◌++◌, length, get_or, take, refl, sym, ◌∙◌, ap, subst, ⊎_elim, arith}
 use Rattle.std.specs.List.{count_by}
 use Rattle.std.proofs.lemmas.Bool.{cases_lt, lt-leb}
 use Rattle.std.proofs.lemmas.List.{take_all, take-append-le, length_push, get_or_append_left, get_or_push}
@@ -11,7 +11,7 @@ use Rattle.disk_trait.specs.declared.memory.call.DiskCall.TheVariants.{Sync}
 use Rattle.disk_trait.specs.declared.memory.table.FileTable.{FileTable}
 use Rattle.disk_trait.specs.Files.{Files}
 use Rattle.disk_trait.specs.Images.{Since}
-use Rattle.disk_trait.specs.Memory.{FileState, settled, after_call, fits, state_after, IsImage}
+use Rattle.disk_trait.specs.Memory.{FileState, durable, after_call, fits, state_after, IsImage}
 use Rattle.disk_trait.specs.MemoryTable.{bytes_of, first_of, has_file}
 use Rattle.disk_trait.specs.MemoryHeld.{count_all, until_all}
 use Rattle.disk_trait.specs.MemoryPast.{Past, IsPast, file_after, calls_until, file_at, left_at}
@@ -39,6 +39,7 @@ is_past_passed p n late past = record {
   inside = past.inside;
   sound = past.sound;
   absent = past.absent;
+  ends = past.ends;
 }
 
 pub left_late : (p : Past) (k j : ℕ) (c : Files) → IsPast p → p.now ≤ k → p.now ≤ j → left_at p k c → left_at p j c
@@ -49,6 +50,7 @@ pub since_passed : (p : Past) (n : ℕ) → p.now ≤ n → IsPast p → Since (
 unfolding left_at calls_until file_after
 since_passed p n late past = record {
   later = late;
+  begun = late;
   past = λ k c le left. left;
   kept = λ k c le left. left;
   each = λ k c from to left. left_late p k p.now c past from (omega arith) left;
@@ -71,25 +73,26 @@ module _ (p : Past) (u : FileTable) (call : DiskCall) (n : ℕ) (first : (f : Fi
   file_before : (m : ℕ) (f : FileName) → m ≤ length p.calls → file_after (pushed p u call n) m f ≡ file_after p m f
   unfolding file_after
   file_before m f le =
-      ap (λ bytes. state_after f (settled bytes) (take m (p.calls ++ call ∷ []))) (first f) ∙ ap (λ calls. state_after f (settled (first_of p.table f)) calls) (take-append-le m p.calls (call ∷ []) le)
+      ap (λ bytes. state_after f (durable bytes) (take m (p.calls ++ call ∷ []))) (first f) ∙ ap (λ calls. state_after f (durable (first_of p.table f)) calls) (take-append-le m p.calls (call ∷ []) le)
 
   file_last : (m : ℕ) (f : FileName) → length p.calls < m → file_after (pushed p u call n) m f ≡ after_call f call (last p f)
   unfolding file_after
   file_last m f lt =
       let all : take m (p.calls ++ call ∷ []) ≡ p.calls ++ call ∷ [] = take_all m (p.calls ++ call ∷ []) (omega (arith, length_push p.calls call)) in
       let those : take (length p.calls) p.calls ≡ p.calls = take_all (length p.calls) p.calls (omega arith) in
-      ap (λ bytes. state_after f (settled bytes) (take m (p.calls ++ call ∷ []))) (first f)
-      ∙ ap (λ calls. state_after f (settled (first_of p.table f)) calls) all
-      ∙ state_after-push f (settled (first_of p.table f)) p.calls call
-      ∙ ap (λ calls. after_call f call (state_after f (settled (first_of p.table f)) calls)) (sym those)
+      ap (λ bytes. state_after f (durable bytes) (take m (p.calls ++ call ∷ []))) (first f)
+      ∙ ap (λ calls. state_after f (durable (first_of p.table f)) calls) all
+      ∙ state_after-push f (durable (first_of p.table f)) p.calls call
+      ∙ ap (λ calls. after_call f call (state_after f (durable (first_of p.table f)) calls)) (sym those)
 
   pub is_past_pushed : IsPast p → p.now ≤ n → ((f : FileName) → bytes_of u f ≡ (after_call f call (last p f)).held)
       → ((f : FileName) → fits f call (last p f) ≡ true)
       → ((f : FileName) → IsImage (after_call f call (last p f)) (after_call f call (last p f)).held)
       → ((f : FileName) → has_file u f ≡ false → has_file p.table f ≡ false)
       → ((f : FileName) → has_file u f ≡ false → ((after_call f call (last p f)).held ≡ []) × ((after_call f call (last p f)).synced ≡ []))
+      → ((f : FileName) → 2 ^ 64 ≤ f.number → (after_call f call (last p f)).greatest ≡ 0)
       → IsPast (pushed p u call n)
-  is_past_pushed past late made fit sound had absent = record {
+  is_past_pushed past late made fit sound had absent ends = record {
     paired = length_push p.moments n ∙ ap (λ m. m + 1) past.paired ∙ sym (length_push p.calls call);
     passed = All-push (λ t. t ≤ n) p.moments n (All-weaker (λ t. t ≤ p.now) (λ t. t ≤ n) (λ t h. omega (arith, h, late)) p.moments past.passed) (omega arith);
     made = λ f. made f ∙ ap (λ (s : FileState). s.held) (sym (file_last (length (p.calls ++ call ∷ [])) f (omega (arith, length_push p.calls call))));
@@ -110,6 +113,10 @@ module _ (p : Past) (u : FileTable) (call : DiskCall) (n : ℕ) (first : (f : Fi
     absent = λ m f none. ⊎_elim
         (λ (lt : length p.calls < m). subst (λ (s : FileState). (s.held ≡ []) × (s.synced ≡ [])) (sym (file_last m f lt)) (absent f none))
         (λ (le : m ≤ length p.calls). subst (λ (s : FileState). (s.held ≡ []) × (s.synced ≡ [])) (sym (file_before m f le)) (past.absent m f (had f none)))
+        (cases_lt (length p.calls) m);
+    ends = λ m f big. ⊎_elim
+        (λ (lt : length p.calls < m). subst (λ (s : FileState). s.greatest ≡ 0) (sym (file_last m f lt)) (ends f big))
+        (λ (le : m ≤ length p.calls). subst (λ (s : FileState). s.greatest ≡ 0) (sym (file_before m f le)) (past.ends m f big))
         (cases_lt (length p.calls) m);
   }
 
@@ -144,6 +151,7 @@ module _ (p : Past) (u : FileTable) (call : DiskCall) (n : ℕ) (first : (f : Fi
       → Since (λ past. past.now) left_at p (pushed p u call n) Q
   since_pushed past next Q stays steps = record {
     later = omega arith;
+    begun = omega arith;
     past = λ k c le left. left_before k c past (omega arith) left;
     kept = λ k c le left. left_before_back k c past (omega arith) left;
     each = λ k c from to left. ⊎_elim
@@ -160,7 +168,7 @@ kept_to p u n = record { table = u; calls = p.calls; moments = p.moments; now = 
 module _ (p : Past) (u : FileTable) (n : ℕ) (past : IsPast p) (late : p.now ≤ n) (first : (f : FileName) → first_of u f ≡ first_of p.table f) where
   file_kept : (m : ℕ) (f : FileName) → file_after (kept_to p u n) m f ≡ file_after p m f
   unfolding file_after
-  file_kept m f = ap (λ bytes. state_after f (settled bytes) (take m p.calls)) (first f)
+  file_kept m f = ap (λ bytes. state_after f (durable bytes) (take m p.calls)) (first f)
 
   pub is_past_kept : ((f : FileName) → bytes_of u f ≡ bytes_of p.table f) → ((f : FileName) → has_file u f ≡ false → has_file p.table f ≡ false) → IsPast (kept_to p u n)
   is_past_kept same had = record {
@@ -170,6 +178,7 @@ module _ (p : Past) (u : FileTable) (n : ℕ) (past : IsPast p) (late : p.now �
     inside = λ m f lt. subst (λ s. fits f (get_or p.calls m Sync) s ≡ true) (sym (file_kept m f)) (past.inside m f lt);
     sound = λ m f. subst (λ (s : FileState). IsImage s s.held) (sym (file_kept m f)) (past.sound m f);
     absent = λ m f none. subst (λ (s : FileState). (s.held ≡ []) × (s.synced ≡ [])) (sym (file_kept m f)) (past.absent m f (had f none));
+    ends = λ m f big. subst (λ (s : FileState). s.greatest ≡ 0) (sym (file_kept m f)) (past.ends m f big);
   }
 
   left_kept : (k : ℕ) (c : Files) → left_at (kept_to p u n) k c → left_at p k c
@@ -183,6 +192,7 @@ module _ (p : Past) (u : FileTable) (n : ℕ) (past : IsPast p) (late : p.now �
   pub since_kept : (Q : Files → Type 0) → ((c : Files) → left_at p p.now c → Q c) → Since (λ past. past.now) left_at p (kept_to p u n) Q
   since_kept Q stays = record {
     later = late;
+    begun = late;
     past = λ k c le left. left_kept k c left;
     kept = λ k c le left. left_kept_back k c left;
     each = λ k c from to left. stays c (left_late p k p.now c past from (omega arith) (left_kept k c left));

@@ -7,76 +7,76 @@ use Rattle.std.proofs.lemmas.List.{take_all, set-get_or, drop_all, length-take-l
 use Rattle.disk_trait.specs.declared.file_name.FileName.{FileName}
 use Rattle.disk_trait.specs.declared.memory.call.DiskCall.{DiskCall}
 use Rattle.disk_trait.specs.declared.memory.call.DiskCall.TheVariants.{Write, Cut, Sync}
-use Rattle.disk_trait.specs.Memory.{FileState, settled, changed, same_name, after_call, fits, state_after}
-use Rattle.disk_trait.specs.MemoryStop.{touches, touched_by, IsSettledCount, next_draw, next_seed, drawn, seed_after}
+use Rattle.disk_trait.specs.Memory.{FileState, durable, changed, same_name, after_call, fits, state_after}
+use Rattle.disk_trait.specs.MemoryStop.{touches, touched_by, IsSyncedCount, next_draw, next_seed, drawn, seed_after}
 use Rattle.disk_trait.proofs.MemoryLists.{in_range}
 use Rattle.disk_trait.proofs.DiskPasts.{state_after-push}
 use Rattle.disk_trait.proofs.DiskCalls.{overwritten}
 
 -- ---- one call
 
-pub write_inside : (f name : FileName) (at : ℕ) (bytes held : List ℕ) (call : DiskCall) → call ≡ Write name at bytes → same_name name f ≡ true → fits f call (settled held) ≡ true → at ≤ length held
-unfolding fits settled
-write_inside f name at bytes held call is here fit = inside (subst (λ c. fits f c (settled held) ≡ true) is fit)
+pub write_inside : (f name : FileName) (at : ℕ) (bytes held : List ℕ) (call : DiskCall) → call ≡ Write name at bytes → same_name name f ≡ true → fits f call (durable held) ≡ true → at ≤ length held
+unfolding fits durable
+write_inside f name at bytes held call is here fit = inside (subst (λ c. fits f c (durable held) ≡ true) is fit)
   where
-    inside : fits f (Write name at bytes) (settled held) ≡ true → at ≤ length held
+    inside : fits f (Write name at bytes) (durable held) ≡ true → at ≤ length held
     inside fit = ⊎_elim
         (λ (other : not (same_name name f) ≡ true). absurd (false≢true (sym (not_from_true (same_name name f) here) ∙ other)))
         (λ (le : leb at (length held) ≡ true). leb-true at (length held) le)
         (or_cases (not (same_name name f)) (leb at (length held)) fit)
 
-pub held_write : (f name : FileName) (at : ℕ) (bytes held : List ℕ) (call : DiskCall) → call ≡ Write name at bytes → same_name name f ≡ true → (after_call f call (settled held)).held ≡ overwritten at bytes held
-unfolding after_call changed settled
-held_write f name at bytes held call is here = ap (λ c. (after_call f c (settled held)).held) is ∙ written
+pub held_write : (f name : FileName) (at : ℕ) (bytes held : List ℕ) (call : DiskCall) → call ≡ Write name at bytes → same_name name f ≡ true → (after_call f call (durable held)).held ≡ overwritten at bytes held
+unfolding after_call changed durable
+held_write f name at bytes held call is here = ap (λ c. (after_call f c (durable held)).held) is ∙ written
   where
-    written : (after_call f (Write name at bytes) (settled held)).held ≡ overwritten at bytes held
+    written : (after_call f (Write name at bytes) (durable held)).held ≡ overwritten at bytes held
     written = ap (λ (s : FileState). s.held) (cond-true (same_name name f) _ _ here)
 
-pub held_write_other : (f name : FileName) (at : ℕ) (bytes held : List ℕ) (call : DiskCall) → call ≡ Write name at bytes → same_name name f ≡ false → (after_call f call (settled held)).held ≡ held
-unfolding after_call changed settled
-held_write_other f name at bytes held call is other = ap (λ c. (after_call f c (settled held)).held) is ∙ kept
+pub held_write_other : (f name : FileName) (at : ℕ) (bytes held : List ℕ) (call : DiskCall) → call ≡ Write name at bytes → same_name name f ≡ false → (after_call f call (durable held)).held ≡ held
+unfolding after_call changed durable
+held_write_other f name at bytes held call is other = ap (λ c. (after_call f c (durable held)).held) is ∙ kept
   where
-    kept : (after_call f (Write name at bytes) (settled held)).held ≡ held
+    kept : (after_call f (Write name at bytes) (durable held)).held ≡ held
     kept = ap (λ (s : FileState). s.held) (cond-false (same_name name f) _ _ other)
 
-pub held_cut : (f name : FileName) (size : ℕ) (held : List ℕ) (call : DiskCall) → call ≡ Cut name size → same_name name f ≡ true → (after_call f call (settled held)).held ≡ take size held
-unfolding after_call changed settled
-held_cut f name size held call is here = ap (λ c. (after_call f c (settled held)).held) is ∙ cut
+pub held_cut : (f name : FileName) (size : ℕ) (held : List ℕ) (call : DiskCall) → call ≡ Cut name size → same_name name f ≡ true → (after_call f call (durable held)).held ≡ take size held
+unfolding after_call changed durable
+held_cut f name size held call is here = ap (λ c. (after_call f c (durable held)).held) is ∙ cut
   where
-    cut : (after_call f (Cut name size) (settled held)).held ≡ take size held
+    cut : (after_call f (Cut name size) (durable held)).held ≡ take size held
     cut = ap (λ (s : FileState). s.held) (cond-true (same_name name f) _ _ here)
 
-pub held_cut_other : (f name : FileName) (size : ℕ) (held : List ℕ) (call : DiskCall) → call ≡ Cut name size → same_name name f ≡ false → (after_call f call (settled held)).held ≡ held
-unfolding after_call changed settled
-held_cut_other f name size held call is other = ap (λ c. (after_call f c (settled held)).held) is ∙ kept
+pub held_cut_other : (f name : FileName) (size : ℕ) (held : List ℕ) (call : DiskCall) → call ≡ Cut name size → same_name name f ≡ false → (after_call f call (durable held)).held ≡ held
+unfolding after_call changed durable
+held_cut_other f name size held call is other = ap (λ c. (after_call f c (durable held)).held) is ∙ kept
   where
-    kept : (after_call f (Cut name size) (settled held)).held ≡ held
+    kept : (after_call f (Cut name size) (durable held)).held ≡ held
     kept = ap (λ (s : FileState). s.held) (cond-false (same_name name f) _ _ other)
 
-pub held_sync : (f : FileName) (held : List ℕ) (call : DiskCall) → call ≡ Sync → (after_call f call (settled held)).held ≡ held
-unfolding after_call settled
-held_sync f held call is = ap (λ c. (after_call f c (settled held)).held) is ∙ kept
+pub held_sync : (f : FileName) (held : List ℕ) (call : DiskCall) → call ≡ Sync → (after_call f call (durable held)).held ≡ held
+unfolding after_call durable
+held_sync f held call is = ap (λ c. (after_call f c (durable held)).held) is ∙ kept
   where
-    kept : (after_call f Sync (settled held)).held ≡ held
+    kept : (after_call f Sync (durable held)).held ≡ held
     kept = refl
 
 -- what a call makes of the bytes depends on the bytes alone
-held_alone : (f : FileName) (call : DiskCall) (s : FileState) → (after_call f call s).held ≡ (after_call f call (settled s.held)).held
-unfolding after_call changed settled
+held_alone : (f : FileName) (call : DiskCall) (s : FileState) → (after_call f call s).held ≡ (after_call f call (durable s.held)).held
+unfolding after_call changed durable
 held_alone f (Write name at bytes) s = by_name (same_name name f)
   where
-    by_name : (b : Bool) → (cond b (changed (overwritten at bytes s.held) (in_range at (length bytes)) s) s).held ≡ (cond b (changed (overwritten at bytes s.held) (in_range at (length bytes)) (settled s.held)) (settled s.held)).held
+    by_name : (b : Bool) → (cond b (changed (overwritten at bytes s.held) (in_range at (length bytes)) s) s).held ≡ (cond b (changed (overwritten at bytes s.held) (in_range at (length bytes)) (durable s.held)) (durable s.held)).held
     by_name true = refl
     by_name false = refl
 held_alone f (Cut name size) s = by_name (same_name name f)
   where
-    by_name : (b : Bool) → (cond b (changed (take size s.held) (λ i. leb size i) s) s).held ≡ (cond b (changed (take size s.held) (λ i. leb size i) (settled s.held)) (settled s.held)).held
+    by_name : (b : Bool) → (cond b (changed (take size s.held) (λ i. leb size i) s) s).held ≡ (cond b (changed (take size s.held) (λ i. leb size i) (durable s.held)) (durable s.held)).held
     by_name true = refl
     by_name false = refl
 held_alone f Sync s = refl
 
-fits_alone : (f : FileName) (call : DiskCall) (s : FileState) → fits f call s ≡ fits f call (settled s.held)
-unfolding fits settled
+fits_alone : (f : FileName) (call : DiskCall) (s : FileState) → fits f call s ≡ fits f call (durable s.held)
+unfolding fits durable
 fits_alone f (Write name at bytes) s = refl
 fits_alone f (Cut name size) s = refl
 fits_alone f Sync s = refl
@@ -84,16 +84,16 @@ fits_alone f Sync s = refl
 -- ---- a walk over the calls
 
 pub walk_fits : (f : FileName) (first : List ℕ) (calls : List DiskCall) (i : ℕ) (call : DiskCall) (bytes : List ℕ) → i < length calls → call ≡ get_or calls i call
-    → bytes ≡ (state_after f (settled first) (take i calls)).held → fits f (get_or calls i Sync) (state_after f (settled first) (take i calls)) ≡ true → fits f call (settled bytes) ≡ true
+    → bytes ≡ (state_after f (durable first) (take i calls)).held → fits f (get_or calls i Sync) (state_after f (durable first) (take i calls)) ≡ true → fits f call (durable bytes) ≡ true
 walk_fits f first calls i call bytes lt is same fit =
     let here : call ≡ get_or calls i Sync = is ∙ get_or_default calls i call Sync lt in
-    ap (λ b. fits f call (settled b)) same ∙ sym (fits_alone f call (state_after f (settled first) (take i calls))) ∙ ap (λ c. fits f c (state_after f (settled first) (take i calls))) here ∙ fit
+    ap (λ b. fits f call (durable b)) same ∙ sym (fits_alone f call (state_after f (durable first) (take i calls))) ∙ ap (λ c. fits f c (state_after f (durable first) (take i calls))) here ∙ fit
 
 pub walk_held : (f : FileName) (first : List ℕ) (calls : List DiskCall) (i : ℕ) (call : DiskCall) (bytes new : List ℕ) → i < length calls → call ≡ get_or calls i call
-    → bytes ≡ (state_after f (settled first) (take i calls)).held → new ≡ (after_call f call (settled bytes)).held → new ≡ (state_after f (settled first) (take (i + 1) calls)).held
+    → bytes ≡ (state_after f (durable first) (take i calls)).held → new ≡ (after_call f call (durable bytes)).held → new ≡ (state_after f (durable first) (take (i + 1) calls)).held
 walk_held f first calls i call bytes new lt is same made =
-    made ∙ ap (λ b. (after_call f call (settled b)).held) same ∙ sym (held_alone f call (state_after f (settled first) (take i calls)))
-    ∙ ap (λ (s : FileState). s.held) (sym (ap (state_after f (settled first)) (take_more calls i call lt ∙ ap (λ c. take i calls ++ c ∷ []) (sym is)) ∙ state_after-push f (settled first) (take i calls) call))
+    made ∙ ap (λ b. (after_call f call (durable b)).held) same ∙ sym (held_alone f call (state_after f (durable first) (take i calls)))
+    ∙ ap (λ (s : FileState). s.held) (sym (ap (state_after f (durable first)) (take_more calls i call lt ∙ ap (λ c. take i calls ++ c ∷ []) (sym is)) ∙ state_after-push f (durable first) (take i calls) call))
 
 -- ---- the last sync
 
@@ -114,16 +114,16 @@ touched_by-nil : (f : FileName) (i : ℕ) → touched_by f [] i ≡ false
 unfolding touched_by
 touched_by-nil f i = refl
 
-pub settled_none : IsSettledCount [] 0
-unfolding settled
-settled_none = record { synced = λ f first. refl; unsettled = λ f first i. sym (touched_by-nil f i) }
+pub counted_none : IsSyncedCount [] 0
+unfolding durable
+counted_none = record { synced = λ f first. refl; pending = λ f first i. sym (touched_by-nil f i) }
 
-pub settled_sync : (calls : List DiskCall) (n : ℕ) → n ≡ length calls + 1 → IsSettledCount (calls ++ Sync ∷ []) n
-unfolding after_call settled
-settled_sync calls n is = record {
-  synced = λ f first. ap (λ (s : FileState). s.synced) (state_after-push f (settled first) calls Sync) ∙ synced_now f (state_after f (settled first) calls)
-      ∙ sym (ap (λ (s : FileState). s.held) (ap (state_after f (settled first)) (take_all n (calls ++ Sync ∷ []) short) ∙ state_after-push f (settled first) calls Sync));
-  unsettled = λ f first i. ap (λ (s : FileState). s.unsettled i) (state_after-push f (settled first) calls Sync) ∙ nothing f (state_after f (settled first) calls) i
+pub counted_sync : (calls : List DiskCall) (n : ℕ) → n ≡ length calls + 1 → IsSyncedCount (calls ++ Sync ∷ []) n
+unfolding after_call durable
+counted_sync calls n is = record {
+  synced = λ f first. ap (λ (s : FileState). s.synced) (state_after-push f (durable first) calls Sync) ∙ synced_now f (state_after f (durable first) calls)
+      ∙ sym (ap (λ (s : FileState). s.held) (ap (state_after f (durable first)) (take_all n (calls ++ Sync ∷ []) short) ∙ state_after-push f (durable first) calls Sync));
+  pending = λ f first i. ap (λ (s : FileState). s.pending i) (state_after-push f (durable first) calls Sync) ∙ nothing f (state_after f (durable first) calls) i
       ∙ sym (ap (λ cs. touched_by f cs i) (drop_all n (calls ++ Sync ∷ []) short) ∙ touched_by-nil f i);
 }
   where
@@ -133,7 +133,7 @@ settled_sync calls n is = record {
     synced_now : (f : FileName) (s : FileState) → (after_call f Sync s).synced ≡ (after_call f Sync s).held
     synced_now f s = refl
 
-    nothing : (f : FileName) (s : FileState) (i : ℕ) → (after_call f Sync s).unsettled i ≡ false
+    nothing : (f : FileName) (s : FileState) (i : ℕ) → (after_call f Sync s).pending i ≡ false
     nothing f s i = refl
 
 -- a call that is no sync
@@ -154,26 +154,26 @@ synced_change f (Cut name size) s change = by_name (same_name name f)
     by_name false = refl
 synced_change f Sync s change = absurd (change refl)
 
-unsettled_change : (f : FileName) (call : DiskCall) (s : FileState) (i : ℕ) → IsChange call → (after_call f call s).unsettled i ≡ (touches f call i || s.unsettled i)
+pending_change : (f : FileName) (call : DiskCall) (s : FileState) (i : ℕ) → IsChange call → (after_call f call s).pending i ≡ (touches f call i || s.pending i)
 unfolding after_call changed touches
-unsettled_change f (Write name at bytes) s i change = by_name (same_name name f)
+pending_change f (Write name at bytes) s i change = by_name (same_name name f)
   where
-    by_name : (b : Bool) → (cond b (changed (overwritten at bytes s.held) (in_range at (length bytes)) s) s).unsettled i ≡ ((b && in_range at (length bytes) i) || s.unsettled i)
+    by_name : (b : Bool) → (cond b (changed (overwritten at bytes s.held) (in_range at (length bytes)) s) s).pending i ≡ ((b && in_range at (length bytes) i) || s.pending i)
     by_name true = refl
     by_name false = refl
-unsettled_change f (Cut name size) s i change = by_name (same_name name f)
+pending_change f (Cut name size) s i change = by_name (same_name name f)
   where
-    by_name : (b : Bool) → (cond b (changed (take size s.held) (λ i. leb size i) s) s).unsettled i ≡ ((b && leb size i) || s.unsettled i)
+    by_name : (b : Bool) → (cond b (changed (take size s.held) (λ i. leb size i) s) s).pending i ≡ ((b && leb size i) || s.pending i)
     by_name true = refl
     by_name false = refl
-unsettled_change f Sync s i change = absurd (change refl)
+pending_change f Sync s i change = absurd (change refl)
 
-pub settled_change : (calls : List DiskCall) (call : DiskCall) (n : ℕ) → IsChange call → n ≤ length calls → IsSettledCount calls n → IsSettledCount (calls ++ call ∷ []) n
-settled_change calls call n change le so_far = record {
-  synced = λ f first. ap (λ (s : FileState). s.synced) (state_after-push f (settled first) calls call) ∙ synced_change f call (state_after f (settled first) calls) change
-      ∙ so_far.synced f first ∙ ap (λ cs. (state_after f (settled first) cs).held) (sym (take-append-le n calls (call ∷ []) le));
-  unsettled = λ f first i. ap (λ (s : FileState). s.unsettled i) (state_after-push f (settled first) calls call) ∙ unsettled_change f call (state_after f (settled first) calls) i change
-      ∙ ap (λ b. touches f call i || b) (so_far.unsettled f first i)
+pub counted_change : (calls : List DiskCall) (call : DiskCall) (n : ℕ) → IsChange call → n ≤ length calls → IsSyncedCount calls n → IsSyncedCount (calls ++ call ∷ []) n
+counted_change calls call n change le so_far = record {
+  synced = λ f first. ap (λ (s : FileState). s.synced) (state_after-push f (durable first) calls call) ∙ synced_change f call (state_after f (durable first) calls) change
+      ∙ so_far.synced f first ∙ ap (λ cs. (state_after f (durable first) cs).held) (sym (take-append-le n calls (call ∷ []) le));
+  pending = λ f first i. ap (λ (s : FileState). s.pending i) (state_after-push f (durable first) calls call) ∙ pending_change f call (state_after f (durable first) calls) i change
+      ∙ ap (λ b. touches f call i || b) (so_far.pending f first i)
       ∙ sym (ap (λ cs. touched_by f cs i) (drop-append-le n calls (call ∷ []) le) ∙ touched_by-push f (drop n calls) call i);
 }
 
@@ -182,15 +182,15 @@ settled_change calls call n change le so_far = record {
 step_on : (calls : List DiskCall) (i : ℕ) (call : DiskCall) → i < length calls → call ≡ get_or calls i call → take (i + 1) calls ≡ take i calls ++ call ∷ []
 step_on calls i call lt is = take_more calls i call lt ∙ ap (λ c. take i calls ++ c ∷ []) (sym is)
 
-pub count_sync : (calls : List DiskCall) (i n : ℕ) (call : DiskCall) → i < length calls → call ≡ get_or calls i call → call ≡ Sync → n ≡ i + 1 → IsSettledCount (take (i + 1) calls) n
+pub count_sync : (calls : List DiskCall) (i n : ℕ) (call : DiskCall) → i < length calls → call ≡ get_or calls i call → call ≡ Sync → n ≡ i + 1 → IsSyncedCount (take (i + 1) calls) n
 count_sync calls i n call lt is sync next =
-    subst (λ cs. IsSettledCount cs n) (sym (step_on calls i call lt is ∙ ap (λ c. take i calls ++ c ∷ []) sync))
-    (settled_sync (take i calls) n (omega (arith, next, length-take-le i calls (omega (arith, lt)))))
+    subst (λ cs. IsSyncedCount cs n) (sym (step_on calls i call lt is ∙ ap (λ c. take i calls ++ c ∷ []) sync))
+    (counted_sync (take i calls) n (omega (arith, next, length-take-le i calls (omega (arith, lt)))))
 
-pub count_change : (calls : List DiskCall) (i n count : ℕ) (call : DiskCall) → i < length calls → call ≡ get_or calls i call → IsChange call → n ≡ count → count ≤ i → IsSettledCount (take i calls) count → IsSettledCount (take (i + 1) calls) n
+pub count_change : (calls : List DiskCall) (i n count : ℕ) (call : DiskCall) → i < length calls → call ≡ get_or calls i call → IsChange call → n ≡ count → count ≤ i → IsSyncedCount (take i calls) count → IsSyncedCount (take (i + 1) calls) n
 count_change calls i n count call lt is change same le so_far =
-    subst (λ cs. IsSettledCount cs n) (sym (step_on calls i call lt is))
-    (settled_change (take i calls) call n change (omega (arith, same, le, length-take-le i calls (omega (arith, lt)))) (subst (λ k. IsSettledCount (take i calls) k) (sym same) so_far))
+    subst (λ cs. IsSyncedCount cs n) (sym (step_on calls i call lt is))
+    (counted_change (take i calls) call n change (omega (arith, same, le, length-take-le i calls (omega (arith, lt)))) (subst (λ k. IsSyncedCount (take i calls) k) (sym same) so_far))
 
 -- ---- marks
 

@@ -1,3 +1,4 @@
+pub mod Counts
 pub mod DiskCalls
 pub mod DiskImages
 pub mod DiskPasts
@@ -8,3 +9,4 @@ pub mod FileNames
 pub mod FileTables
 mod MemoryLists
 pub mod Moments
+pub mod Search

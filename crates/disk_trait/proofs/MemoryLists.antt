@@ -98,7 +98,7 @@ before_write_torn at n held state c a b e f image =
     let no_shorter = image.no_shorter in
     let size = before_write_size at n state.greatest (length c) a (omega arith) in
     let least = size.5 state.least b (omega arith) in (
-      record { no_shorter = omega arith; no_longer = omega arith; same = settled_before },
+      record { no_shorter = omega arith; no_longer = omega arith; same = durable_before },
       record {
         front = take_same at c d (size.3 ∙ ap (λ m. min at m) (sym l)) (λ i p q. sym (before_write-outside at n state c i (omega arith) (in_range-before at n i p)));
         back = drop_same (at + n) c d (size.4 ∙ ap (λ m. m - (at + n)) (sym l)) (λ i p q. sym (before_write-outside at n state c i (omega arith) (in_range-past at n i p)));
@@ -110,15 +110,15 @@ before_write_torn at n held state c a b e f image =
     d : List ℕ
     d = before_write at n state c
 
-    settled_before : (i : ℕ) → i < length d → state.unsettled i ≡ false → slice_index d i ≡ slice_index state.synced i
-    settled_before i h kept = ⊎_elim
+    durable_before : (i : ℕ) → i < length d → state.pending i ≡ false → slice_index d i ≡ slice_index state.synced i
+    durable_before i h kept = ⊎_elim
         (λ (inside : in_range at n i ≡ true). before_write-inside at n state c i h inside)
         (λ (outside : in_range at n i ≡ false).
         let l = length-before_write at n state c in
         let no_longer = image.no_longer in
         let size = before_write_size at n state.greatest (length c) a (omega arith) in
         let short : i < length c = omega arith in
-        before_write-outside at n state c i h outside ∙ image.same i short (or_from (in_range at n i) (state.unsettled i) outside kept))
+        before_write-outside at n state c i h outside ∙ image.same i short (or_from (in_range at n i) (state.pending i) outside kept))
         (cases_Bool (in_range at n i))
 
 -- what lay there before a cut that this image comes from
@@ -151,7 +151,7 @@ before_cut_shortened size held state c a b e image =
     let t = length-take size held in
     let no_longer = image.no_longer in
     let no_shorter = image.no_shorter in (
-      record { no_shorter = omega arith; no_longer = omega arith; same = settled_before },
+      record { no_shorter = omega arith; no_longer = omega arith; same = durable_before },
       record {
         front = take_same size c d (omega arith) (λ i p q. sym (before_cut-below size state c i (omega arith) p));
         no_shorter = omega arith;
@@ -162,13 +162,13 @@ before_cut_shortened size held state c a b e image =
     d : List ℕ
     d = before_cut size state c
 
-    settled_before : (i : ℕ) → i < length d → state.unsettled i ≡ false → slice_index d i ≡ slice_index state.synced i
-    settled_before i h kept = ⊎_elim
+    durable_before : (i : ℕ) → i < length d → state.pending i ≡ false → slice_index d i ≡ slice_index state.synced i
+    durable_before i h kept = ⊎_elim
         (λ (below : i < size).
         let l = length-before_cut size state c in
         let t = length-take size held in
         let no_shorter = image.no_shorter in
         let short : i < length c = omega arith in
-        before_cut-below size state c i h below ∙ image.same i short (or_from (leb size i) (state.unsettled i) (lt-leb size i below) kept))
+        before_cut-below size state c i h below ∙ image.same i short (or_from (leb size i) (state.pending i) (lt-leb size i below) kept))
         (λ (past : size ≤ i). before_cut-past size state c i h past)
         (cases_lt i size)

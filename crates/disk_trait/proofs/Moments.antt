@@ -1,26 +1,91 @@
 -- How what is promised of a stop goes on from call to call.
-use Rattle.std.proofs.Common.{◌≡◌, ⊎_elim, ℕ, subst, arith}
+use Rattle.std.proofs.Common.{◌≡◌, ⊎_elim, ℕ, ◌+◌, ◌<◌, ◌≤◌, subst, arith}
 use Rattle.std.proofs.lemmas.Bool.{cases_lt}
 use Rattle.disk_trait.specs.Files.{Files}
-use Rattle.disk_trait.specs.Images.{After, Since, Stays}
+use Rattle.disk_trait.specs.Images.{After, SinceMoment, Since, Stays}
+
+-- ---- a promise from a moment on
+
+module _ {D : Type 0} (moment : D → ℕ) (images : D → ℕ → Files → Type 0) where
+  -- what a stop at the end of a call may leave has P
+  pub left_at_the_end : (start : ℕ) (old new : D) (P : ℕ → Files → Type 0) → SinceMoment moment images start old new P
+      → (c : Files) → images new (moment new) c → P (moment new) c
+  left_at_the_end start old new P since c left = since.each (moment new) c since.begun (omega arith) left
+
+  -- a wider promise, of each moment that it speaks of and of what is left indeed
+  pub wider_at_each : (start : ℕ) (old new : D) (P Q : ℕ → Files → Type 0) → SinceMoment moment images start old new P
+      → ((k : ℕ) (c : Files) → start ≤ k → k ≤ moment new → images new k c → P k c → Q k c)
+      → SinceMoment moment images start old new Q
+  wider_at_each start old new P Q since to = record {
+    later = since.later;
+    begun = since.begun;
+    past = since.past;
+    kept = since.kept;
+    each = λ k c from up left. to k c from up left (since.each k c from up left);
+  }
+
+  -- a promise from a later moment on
+  pub from_later_on : (start from : ℕ) (old new : D) (P : ℕ → Files → Type 0) → SinceMoment moment images start old new P
+      → start ≤ from → from ≤ moment new → SinceMoment moment images from old new P
+  from_later_on start from old new P since le reached = record {
+    later = since.later;
+    begun = reached;
+    past = since.past;
+    kept = since.kept;
+    each = λ k c up_from up left. since.each k c (omega (arith, le, up_from)) up left;
+  }
+
+  -- One call after another: the first one's promise holds up to where that of the second begins, at the latest right
+  -- behind the first call.
+  pub one_part_after_another : (start from : ℕ) (old mid new : D) (P Q R : ℕ → Files → Type 0)
+      → SinceMoment moment images start old mid P → SinceMoment moment images from mid new Q → from ≤ moment mid + 1
+      → ((k : ℕ) (c : Files) → start ≤ k → k < from → P k c → R k c)
+      → ((k : ℕ) (c : Files) → from ≤ k → k ≤ moment new → images new k c → Q k c → R k c)
+      → SinceMoment moment images start old new R
+  one_part_after_another start from old mid new P Q R first second joined from_first from_second = record {
+    later = omega (arith, first.later, second.later);
+    begun = omega (arith, first.begun, second.later);
+    past = λ k c le left. first.past k c le (second.past k c (omega (arith, first.later)) left);
+    kept = λ k c le left. second.kept k c (omega (arith, first.later)) (first.kept k c le left);
+    each = λ k c up_from up left.
+        ⊎_elim
+        (λ (early : k < from). from_first k c up_from early (first.each k c up_from (omega (arith, joined, early)) (second.past k c (omega (arith, joined, early)) left)))
+        (λ (late : from ≤ k). from_second k c late up left (second.each k c late up left))
+        (cases_lt k from);
+  }
+
+  -- a promise that begins where an earlier call has ended, as one call with it
+  pub behind_a_call : (start from : ℕ) (old mid new : D) (P Q : ℕ → Files → Type 0)
+      → SinceMoment moment images start old mid P → SinceMoment moment images from mid new Q
+      → SinceMoment moment images from old new Q
+  behind_a_call start from old mid new P Q first second = record {
+    later = omega (arith, first.later, second.later);
+    begun = second.begun;
+    past = λ k c le left. first.past k c le (second.past k c (omega (arith, first.later)) left);
+    kept = λ k c le left. second.kept k c (omega (arith, first.later)) (first.kept k c le left);
+    each = second.each;
+  }
+
+-- ---- a promise from a call's own start on
 
 module _ {D : Type 0} (moment : D → ℕ) (images : D → ℕ → Files → Type 0) where
   -- what a stop at the end of a call may leave has P
   pub at_the_end : (old new : D) (P : Files → Type 0) → Since moment images old new P → (c : Files) → images new (moment new) c → P c
-  at_the_end old new P since c left = since.each (moment new) c since.later (omega arith) left
+  at_the_end old new P since = left_at_the_end moment images (moment old) old new (λ k. P) since
 
   -- a wider promise
   pub wider : (old new : D) (P Q : Files → Type 0) → Since moment images old new P → ((c : Files) → P c → Q c) → Since moment images old new Q
-  wider old new P Q since to = record { later = since.later; past = since.past; kept = since.kept; each = λ k c from up left. to c (since.each k c from up left) }
+  wider old new P Q since to = wider_at_each moment images (moment old) old new (λ k. P) (λ k. Q) since (λ k c from up left. to c)
 
   -- a wider promise, of what is left indeed
   pub wider_where_left : (old new : D) (P Q : Files → Type 0) → Since moment images old new P → ((k : ℕ) (c : Files) → images new k c → P c → Q c) → Since moment images old new Q
-  wider_where_left old new P Q since to = record { later = since.later; past = since.past; kept = since.kept; each = λ k c from up left. to k c left (since.each k c from up left) }
+  wider_where_left old new P Q since to = wider_at_each moment images (moment old) old new (λ k. P) (λ k. Q) since (λ k c from up left. to k c left)
 
   -- nothing was called
   pub nothing : (disk : D) → Since moment images disk disk (images disk (moment disk))
   nothing disk = record {
     later = omega arith;
+    begun = omega arith;
     past = λ k c le left. left;
     kept = λ k c le left. left;
     each = λ k c from up left. let same : k ≡ moment disk = omega arith in subst (λ (m : ℕ). images disk m c) same left;
@@ -30,6 +95,7 @@ module _ {D : Type 0} (moment : D → ℕ) (images : D → ℕ → Files → Typ
   pub only_read : (held : D → Files) (old new : D) → Stays held moment images old new → Since moment images old new (images old (moment old))
   only_read held old new stays = record {
     later = omega (arith, stays.time);
+    begun = omega (arith, stays.time);
     past = λ k c le left. stays.past k c left;
     kept = λ k c le left. stays.kept k c left;
     each = λ k c from up left. let same : k ≡ moment old = omega (arith, stays.time) in subst (λ (m : ℕ). images old m c) same (stays.past k c left);
@@ -39,16 +105,9 @@ module _ {D : Type 0} (moment : D → ℕ) (images : D → ℕ → Files → Typ
   pub one_after_another : (old mid new : D) (P Q R : Files → Type 0)
       → Since moment images old mid P → Since moment images mid new Q
       → ((c : Files) → P c → R c) → ((c : Files) → Q c → R c) → Since moment images old new R
-  one_after_another old mid new P Q R first second from_first from_second = record {
-    later = omega (arith, first.later, second.later);
-    past = λ k c le left. first.past k c le (second.past k c (omega (arith, first.later)) left);
-    kept = λ k c le left. second.kept k c (omega (arith, first.later)) (first.kept k c le left);
-    each = λ k c from up left.
-        ⊎_elim
-        (λ early. from_first c (first.each k c from (omega arith) (second.past k c (omega arith) left)))
-        (λ late. from_second c (second.each k c late up left))
-        (cases_lt k (moment mid));
-  }
+  one_after_another old mid new P Q R first second from_first from_second =
+      one_part_after_another moment images (moment old) (moment mid) old mid new (λ k. P) (λ k. Q) (λ k. R) first second (omega arith)
+      (λ k c from early. from_first c) (λ k c late up left. from_second c)
 
   -- A step that a call may be stopped in, and then another. The first alone is one of both, since the second may
   -- not have begun.
@@ -64,7 +123,7 @@ module _ {D : Type 0} (moment : D → ℕ) (images : D → ℕ → Files → Typ
       (middle.0, middle.1, both middle.0 after.0 c middle.2 after.2))
 
   -- a call that changes nothing of what may be left, as a sync, after others
-  pub and_settles : (old mid new : D) (P : Files → Type 0)
+  pub and_syncs : (old mid new : D) (P : Files → Type 0)
       → Since moment images old mid P → Since moment images mid new (images mid (moment mid)) → Since moment images old new P
-  and_settles old mid new P first second =
+  and_syncs old mid new P first second =
       one_after_another old mid new P (images mid (moment mid)) P first second (λ c p. p) (λ c left. at_the_end old mid P first c left)

@@ -1,3 +1,5 @@
+pub mod Called
+pub mod Count
 pub mod Faults
 pub mod Files
 pub mod Images
@@ -9,3 +11,4 @@ pub mod MemoryHistory
 pub mod MemoryPast
 pub mod MemoryStop
 pub mod MemoryTable
+pub mod Search

@@ -12,20 +12,20 @@ pub record FileState : Type 0 where
   pub synced : List ℕ
   pub least : ℕ
   pub greatest : ℕ
-  pub unsettled : ℕ → Bool
+  pub pending : ℕ → Bool
 
 -- right after a sync
-unfoldable pub settled : List ℕ → FileState
-settled bytes = record { held = bytes; synced = bytes; least = length bytes; greatest = length bytes; unsettled = λ _. false }
+unfoldable pub durable : List ℕ → FileState
+durable bytes = record { held = bytes; synced = bytes; least = length bytes; greatest = length bytes; pending = λ _. false }
 
--- after a call that made the file this and unsettled these places
+-- after a call that made the file this and pending these places
 unfoldable pub changed : List ℕ → (ℕ → Bool) → FileState → FileState
 changed held touched state = record {
   held = held;
   synced = state.synced;
   least = min state.least (length held);
   greatest = max state.greatest (length held);
-  unsettled = λ i. touched i || state.unsettled i;
+  pending = λ i. touched i || state.pending i;
 }
 
 -- the same name, by the names' own `==`
@@ -40,7 +40,7 @@ after_call file (Write name at bytes) state =
     else state
 after_call file (Cut name size) state =
     if same_name name file then changed (take size state.held) (λ i. nat_le size i) state else state
-after_call file Sync state = settled state.held
+after_call file Sync state = durable state.held
 
 -- a write to the file begins at most at its end
 unfoldable pub fits : FileName → DiskCall → FileState → Bool
@@ -57,4 +57,4 @@ state_after file state (call ∷ calls) = state_after file (after_call file call
 pub record IsImage (state : FileState) (image : List ℕ) : Type 0 where
   pub no_shorter : state.least ≤ length image
   pub no_longer : length image ≤ state.greatest
-  pub same : (i : ℕ) → i < length image → state.unsettled i ≡ false → slice_index image i ≡ slice_index state.synced i
+  pub same : (i : ℕ) → i < length image → state.pending i ≡ false → slice_index image i ≡ slice_index state.synced i

@@ -1,7 +1,7 @@
 -- The past of a disk in memory: its files, and the calls that made them, each with its moment.
-use Rattle.std.specs.Prelude.{◌≡◌, ℕ, ◌<◌, ◌≤◌, nat_le, true, false, slice_index_or, List, [], length, take, count_by, All}
+use Rattle.std.specs.Prelude.{◌≡◌, ℕ, ◌^◌, ◌<◌, ◌≤◌, nat_le, true, false, slice_index_or, List, [], length, take, count_by, All}
 use Rattle.disk_trait.specs.Files.{Files}
-use Rattle.disk_trait.specs.Memory.{FileState, settled, state_after, fits, IsImage}
+use Rattle.disk_trait.specs.Memory.{FileState, durable, state_after, fits, IsImage}
 use Rattle.disk_trait.specs.MemoryTable.{bytes_of, first_of, has_file}
 use Rattle.disk_trait.specs.declared.file_name.FileName.{FileName}
 use Rattle.disk_trait.specs.declared.memory.call.DiskCall.{DiskCall}
@@ -18,7 +18,7 @@ pub record Past : Type 0 where
 
 -- a file after the first n calls
 unfoldable pub file_after : Past → ℕ → FileName → FileState
-file_after past n file = state_after file (settled (first_of past.table file)) (take n past.calls)
+file_after past n file = state_after file (durable (first_of past.table file)) (take n past.calls)
 
 -- how many of the calls came up to a moment
 unfoldable pub calls_until : Past → ℕ → ℕ
@@ -33,7 +33,7 @@ unfoldable pub left_at : Past → ℕ → Files → Type 0
 left_at past k files = (f : FileName) → IsImage (file_at past k f) (files f)
 
 -- The calls made the files what they are, and each write fits. What was held after each call might be left,
--- and a file with no entry was always empty.
+-- a file with no entry was always empty, and one under a number that no call can name never grew.
 pub record IsPast (past : Past) : Type 0 where
   pub paired : length past.moments ≡ length past.calls
   pub passed : All (λ moment. moment ≤ past.now) past.moments
@@ -41,3 +41,4 @@ pub record IsPast (past : Past) : Type 0 where
   pub inside : (n : ℕ) (f : FileName) → n < length past.calls → fits f (slice_index_or past.calls n Sync) (file_after past n f) ≡ true
   pub sound : (n : ℕ) (f : FileName) → IsImage (file_after past n f) (file_after past n f).held
   pub absent : (n : ℕ) (f : FileName) → has_file past.table f ≡ false → ((file_after past n f).held ≡ []) × ((file_after past n f).synced ≡ [])
+  pub ends : (n : ℕ) (f : FileName) → 2 ^ 64 ≤ f.number → (file_after past n f).greatest ≡ 0

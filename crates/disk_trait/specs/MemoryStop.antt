@@ -3,7 +3,7 @@ use Rattle.std.specs.Prelude.{◌≡◌, ℕ, ◌+◌, ◌*◌, ◌/◌, ◌%◌
 use Rattle.std.specs.List.{list_any}
 use Rattle.std.specs.List.Sorted.{IsStrictlySortedBy}
 use Rattle.disk_trait.specs.Files.{Files}
-use Rattle.disk_trait.specs.Memory.{FileState, settled, state_after, same_name}
+use Rattle.disk_trait.specs.Memory.{FileState, durable, state_after, same_name}
 use Rattle.disk_trait.specs.declared.file_name.FileName.{FileName}
 use Rattle.disk_trait.specs.declared.memory.call.DiskCall.{DiskCall}
 use Rattle.disk_trait.specs.declared.memory.call.DiskCall.TheVariants.{Write, Cut, Sync}
@@ -29,9 +29,9 @@ abbrev pub MarksPlaces : List Bool → (ℕ → Bool) → Type 0
 MarksPlaces marks test = (i : ℕ) → i < length marks → slice_index_or marks i false ≡ test i
 
 -- the first so many calls are those up to the last sync
-pub record IsSettledCount (calls : List DiskCall) (count : ℕ) : Type 0 where
-  pub synced : (f : FileName) (first : List ℕ) → (state_after f (settled first) calls).synced ≡ (state_after f (settled first) (take count calls)).held
-  pub unsettled : (f : FileName) (first : List ℕ) (i : ℕ) → (state_after f (settled first) calls).unsettled i ≡ touched_by f (drop count calls) i
+pub record IsSyncedCount (calls : List DiskCall) (count : ℕ) : Type 0 where
+  pub synced : (f : FileName) (first : List ℕ) → (state_after f (durable first) calls).synced ≡ (state_after f (durable first) (take count calls)).held
+  pub pending : (f : FileName) (first : List ℕ) (i : ℕ) → (state_after f (durable first) calls).pending i ≡ touched_by f (drop count calls) i
 
 abbrev pub next_draw : ℕ → ℕ
 next_draw x = (x * 6364136223846793005 + 1442695040888963407) % 2 ^ 64
@@ -54,11 +54,11 @@ abbrev pub Draws : Files → (FileName → ℕ → Bool) → List FileName → �
 Draws held picked [] x files = Unit {0}
 Draws held picked (f ∷ names) x files = (files f ≡ drawn (picked f) 0 x (held f)) × Draws held picked names (seed_after (picked f) 0 x (held f)) files
 
--- all files as held, but each unsettled byte drawn from the seed, in the order of their names
+-- all files as held, but each pending byte drawn from the seed, in the order of their names
 pub record IsTorn (x : ℕ) (state : FileName → FileState) (files : Files) : Type 0 where
   pub names : List FileName
   pub ascending : IsStrictlySortedBy order.ghosts.cmp names
-  pub draws : Draws (λ f. (state f).held) (λ f. (state f).unsettled) names x files
+  pub draws : Draws (λ f. (state f).held) (λ f. (state f).pending) names x files
   pub others : (f : FileName) → (Contains names f → ⊥) → (files f ≡ []) × ((state f).held ≡ [])
 
 -- the files that a stop leaves, by the states of all files at its moment

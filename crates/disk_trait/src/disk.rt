@@ -1,9 +1,10 @@
 //! The contract of a disk: what its calls do to what it holds, and to what a stop may leave.
-ghost use Rattle.std.specs.Prelude.{◌≡◌, ℕ, ◌+◌, ◌-◌, ◌^◌, ◌<◌, ◌≤◌, ◌↔◌, Bool, List, [], length, take, drop, Contains, IsTrue, IfOk, OnOk, OnErr, IsErr, IsErrOf};
+ghost use Rattle.std.specs.Prelude.{◌≡◌, ℕ, ◌+◌, ◌-◌, ◌^◌, ◌<◌, ◌≤◌, ◌↔◌, Bool, List, [], length, take, drop, All, Contains, IsTrue, IfOk, OnOk, OnErr, IsErr, IsErrOf};
 ghost use Rattle.std.specs.List.Sorted.{IsStrictlyIncreasing};
 ghost use Rattle.disk_trait.specs.Files.{Files, At, Overwritten, Torn, Shortened, named};
 ghost use Rattle.disk_trait.specs.Images.{After, Since, IsOnly, Stays, next_moment};
 ghost use Rattle.disk_trait.specs.Faults.{CountsFaults};
+ghost use Rattle.disk_trait.specs.declared.file_name.FileName.{FileName as TheName};
 
 use crate::{DiskError, Failed, FileKind, FileName};
 
@@ -33,6 +34,7 @@ pub trait Disk: Send {
     fn files(&mut self, kind: FileKind, list: &mut Vec<u64>) -> Result<(), DiskError>
         requires { list.old.items ≡ [] }
         ensures ascending { IsStrictlyIncreasing list.new.items }
+        ensures below { All (λ n. n < 2 ^ 64) list.new.items }
         ensures listed { OnOk result (IsTrue tells → (n : ℕ) → n < 2 ^ 64 → Contains list.new.items n ↔ (0 < length (held self.old (named kind n)))) }
         ensures emptied { OnErr result (list.new.items ≡ []) }
         ensures stays { Stays held moment images self.old self.new }
@@ -73,10 +75,11 @@ pub trait Disk: Send {
         ensures last { moment self.old ≡ 2 ^ 64 - 1 → IsErr result }
         ensures cause { CountsFaults (faults self.old) (faults self.new) (IsErr result) };
 
-    /// Settles all files. After Ok a stop leaves what a read gives; after a failure nothing is settled.
+    /// Makes all that was written durable. After Ok a read gives what it gave before, and a stop leaves that; after a
+    /// failure a read may give any of the images, and all that was pending is pending still.
     fn sync(&mut self) -> Result<(), Failed>
-        ensures settled { OnOk result (IsOnly (held self.new) (images self.new (moment self.new))) }
-        ensures held { held self.new ≡ held self.old }
+        ensures synced { OnOk result (IsOnly (held self.new) (images self.new (moment self.new))) }
+        ensures held { OnOk result (held self.new ≡ held self.old) }
         ensures images { Since moment images self.old self.new (images self.old (moment self.old)) }
         ensures moment { moment self.new ≡ next_moment (moment self.old) }
         ensures last { moment self.old ≡ 2 ^ 64 - 1 → IsErr result }
@@ -91,4 +94,7 @@ pub trait Disk: Send {
 
     /// A disk that doesn't tell has no images, so that no clause on images needs to ask.
     ghost left_is_told: { (disk : Self) (k : ℕ) (c : Files) → images disk k c → IsTrue tells };
+
+    /// Nothing stands under a number that no call can name.
+    ghost images_end: { (disk : Self) (k : ℕ) (c : Files) (file : TheName) → images disk k c → 2 ^ 64 ≤ file.number → c file ≡ [] };
 }

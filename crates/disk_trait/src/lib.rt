@@ -4,14 +4,16 @@
 //! what each call does to what is held, and to the *images*: the files that a stop may leave.
 #![tactic(auto)]
 
+mod calls;
 mod damage;
 mod disk;
 mod file_name;
 mod memory;
-mod settle;
+mod synced;
 
+pub use calls::Calls;
 pub use damage::Damage;
 pub use disk::Disk;
 pub use file_name::{DiskError, Failed, FileKind, FileName};
 pub use memory::{DiskBytes, DiskCall, MemoryDisk, Pick};
-pub use settle::{cut_synced, write_synced};
+pub use synced::{cut_synced, write_synced};

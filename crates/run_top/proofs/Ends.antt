@@ -3,7 +3,7 @@ use Rattle.std.proofs.Common.{◌≡◌, ◌⊎◌, ⊎_elim, ℕ, ◌+◌, ◌<
 use Rattle.std.proofs.lemmas.Bool.Decides.{nat_tests}
 use Rattle.std.specs.Prelude.{Option, None, Some, Ok, IsSome, IsNone, IfSome, nat_le}
 use Rattle.disk_trait.specs.Files.{Files}
-use Rattle.world_io.specs.Inbox.{InboxFile, bytes_of}
+use Rattle.flowfile_record.specs.NamedFile.{NamedFile, bytes_of}
 use Rattle.flowfile_record.specs.declared.TheConstants.{CONTENT_MAX}
 use Rattle.store_core.specs.Opening.{SinceSync}
 use Rattle.store_core.specs.State.{stands_for}
@@ -14,7 +14,7 @@ use Rattle.run_top.specs.declared.status.TheConstants.{DONE}
 use Rattle.run_top.proofs.Journals.{whole_prefix, acknowledged-all}
 
 -- a run that was just opened
-pub begins : {D : Type 0} (moment : D → ℕ) (images : D → ℕ → Files → Type 0) (held : Files) (old new : D) (queue : List Queued) (left : List InboxFile) (standing : List ℕ → Option (List ℕ))
+pub begins : {D : Type 0} (moment : D → ℕ) (images : D → ℕ → Files → Type 0) (held : Files) (old new : D) (queue : List Queued) (left : List NamedFile) (standing : List ℕ → Option (List ℕ))
     → SinceSync moment images old new (λ c. stands_for c ≡ stands_for held) → stands_for held ≡ Ok queue
     → IsRunning (record { queue = queue; left = left; outbox = standing }) (moment old + 1) (images new) (moment new) queue left standing
 begins moment images held old new queue left standing since stands =
@@ -47,14 +47,14 @@ none_to_get m name (Some bytes) large = ⊎_elim
     (λ (too : CONTENT_MAX < length bytes). let fits : nat_le (length bytes) CONTENT_MAX ≡ false = grind (arith, nat_tests, too) in grind (arith, nat_tests, fits))
     (large refl)
 
-pub is_quiet : (m : Machine) (left : List InboxFile) → m.queue ≡ [] → m.left ≡ left → IsLeftBut [] left → IsQuiet m
+pub is_quiet : (m : Machine) (left : List NamedFile) → m.queue ≡ [] → m.left ≡ left → IsLeftBut [] left → IsQuiet m
 is_quiet m left waits lies but = record {
   nothing_waits = waits;
-  nothing_to_take = λ name. ap (λ (l : List InboxFile). got m name (bytes_of l name)) lies ∙ none_to_get m name (bytes_of left name) (but.others name);
+  nothing_to_take = λ name. ap (λ (l : List NamedFile). got m name (bytes_of l name)) lies ∙ none_to_get m name (bytes_of left name) (but.others name);
 }
 
 -- a run that was done
-pub ends : (opened : Machine) (held : Files) (images : ℕ → Files → Type 0) (start now : ℕ) (left : List InboxFile) (standing : List ℕ → Option (List ℕ))
+pub ends : (opened : Machine) (held : Files) (images : ℕ → Files → Type 0) (start now : ℕ) (left : List NamedFile) (standing : List ℕ → Option (List ℕ))
     → IsRunning opened start images now [] left standing → IsLeftBut [] left → stands_for held ≡ Ok [] → HasRun DONE opened held images start now left standing
 ends opened held images start now left standing run but stands = record {
   journal = run.journal;

@@ -3,9 +3,9 @@ use Rattle.std.proofs.Common.{◌≡◌, ◌⊎◌, inl, inr, ⊎_elim, ℕ, ◌
 use Rattle.std.proofs.lemmas.Bool.{cond-true, cond-false}
 use Rattle.std.proofs.lemmas.Slice.Eq.{bytes_eq-Decides}
 use Rattle.std.specs.Prelude.{Option, None, IsSome, IsNone, IfSome}
-use Rattle.world_io.specs.Inbox.{InboxFile, bytes_of, without}
+use Rattle.flowfile_record.specs.NamedFile.{NamedFile, bytes_of, without}
 use Rattle.world_io.specs.Inbox.{IsAscending}
-use Rattle.world_io.proofs.Listed.{bytes_of-without}
+use Rattle.world_io.proofs.Without.{bytes_of-without}
 use Rattle.std.specs.List.{AllByRecursion}
 use Rattle.std.specs.Ordering.{nat_cmp, is_eq}
 use Rattle.std.specs.Cmp.Lexicographic.{slice_cmp, texts_ties}
@@ -19,12 +19,12 @@ bool_cases true = inl refl
 bool_cases false = inr refl
 
 -- the file of that name is no longer there
-pub bytes_of-without_same : (name : List ℕ) (files : List InboxFile) → bytes_of (without name files) name ≡ None
+pub bytes_of-without_same : (name : List ℕ) (files : List NamedFile) → bytes_of (without name files) name ≡ None
 bytes_of-without_same name [] = refl
 bytes_of-without_same name (file ∷ files) = ⊎_elim
-    (λ (same : bytes_eq file.name name ≡ true). ap (λ (l : List InboxFile). bytes_of l name) (cond-false _ _ _ (ap not same)) ∙ bytes_of-without_same name files)
+    (λ (same : bytes_eq file.name name ≡ true). ap (λ (l : List NamedFile). bytes_of l name) (cond-false _ _ _ (ap not same)) ∙ bytes_of-without_same name files)
     (λ (other : bytes_eq file.name name ≡ false).
-    ap (λ (l : List InboxFile). bytes_of l name) (cond-true _ _ _ (ap not other)) ∙ cond-false _ _ _ other ∙ bytes_of-without_same name files)
+    ap (λ (l : List NamedFile). bytes_of l name) (cond-true _ _ _ (ap not other)) ∙ cond-false _ _ _ other ∙ bytes_of-without_same name files)
     (bool_cases (bytes_eq file.name name))
 
 -- two names are the same or not
@@ -32,7 +32,7 @@ pub same_or_apart : (name other : List ℕ) → (name ≡ other) ⊎ (bytes_eq n
 same_or_apart name other = ⊎_elim (λ (same : bytes_eq name other ≡ true). inl ((bytes_eq-Decides name other).0 same)) (λ (apart : bytes_eq name other ≡ false). inr apart) (bool_cases (bytes_eq name other))
 
 -- The file of an acknowledged entry is gone.
-pub gone_without : (before left : List InboxFile) (name : List ℕ) (journal more : List Entry) → IsGoneByEntry before left journal → ((n : List ℕ) → WasGot n journal → WasGot n more) → WasGot name more
+pub gone_without : (before left : List NamedFile) (name : List ℕ) (journal more : List Entry) → IsGoneByEntry before left journal → ((n : List ℕ) → WasGot n journal → WasGot n more) → WasGot name more
     → IsGoneByEntry before (without name left) more
 gone_without before left name journal more gone keeps was n here none = ⊎_elim
     (λ (same : name ≡ n). subst (λ (m : List ℕ). WasGot m more) same was)
@@ -48,14 +48,14 @@ both P Q R [] to first second = tt
 both P Q R (n ∷ names) to first second = (to n first.0 second.0, both P Q R names to first.1 second.1)
 
 -- what is found behind a file is found with it
-found_behind : (file : InboxFile) (files : List InboxFile) (name : List ℕ) → IsSome (bytes_of files name) → IsSome (bytes_of (file ∷ files) name)
+found_behind : (file : NamedFile) (files : List NamedFile) (name : List ℕ) → IsSome (bytes_of files name) → IsSome (bytes_of (file ∷ files) name)
 found_behind file files name some = ⊎_elim
     (λ (same : bytes_eq file.name name ≡ true). subst (λ (o : Option (List ℕ)). IsSome o) (sym (cond-true _ _ _ same)) refl)
     (λ (other : bytes_eq file.name name ≡ false). subst (λ (o : Option (List ℕ)). IsSome o) (sym (cond-false _ _ _ other)) some)
     (bool_cases (bytes_eq file.name name))
 
 -- every file is found by its name
-all_found : (files : List InboxFile) → AllByRecursion (λ name. IsSome (bytes_of files name)) (map (λ file. file.name) files)
+all_found : (files : List NamedFile) → AllByRecursion (λ name. IsSome (bytes_of files name)) (map (λ file. file.name) files)
 all_found [] = tt
 all_found (file ∷ files) =
     let here : bytes_eq file.name file.name ≡ true = (bytes_eq-Decides file.name file.name).1 refl in (
@@ -64,7 +64,7 @@ all_found (file ∷ files) =
     )
 
 -- what is found is one of the names
-found_named : (files : List InboxFile) (name : List ℕ) → IsSome (bytes_of files name) → IsOneOf (map (λ file. file.name) files) name
+found_named : (files : List NamedFile) (name : List ℕ) → IsSome (bytes_of files name) → IsOneOf (map (λ file. file.name) files) name
 found_named [] name some = absurd (cc)
 found_named (file ∷ files) name some = ⊎_elim
     (λ (same : bytes_eq file.name name ≡ true). inl ((bytes_eq-Decides file.name name).0 same))
@@ -72,7 +72,7 @@ found_named (file ∷ files) name some = ⊎_elim
     (bool_cases (bytes_eq file.name name))
 
 -- at the start every name is left
-pub left_at_first : (names : List (List ℕ)) (left : List InboxFile) → names ≡ map (λ file. file.name) left → IsLeftBut names left
+pub left_at_first : (names : List (List ℕ)) (left : List NamedFile) → names ≡ map (λ file. file.name) left → IsLeftBut names left
 left_at_first names left listed = subst (λ (l : List (List ℕ)). IsLeftBut l left) (sym listed) (record { here = all_found left; others = λ name some. inl (found_named left name some) })
 
 -- a name that goes before others is none of them
@@ -80,9 +80,9 @@ is_apart : (name later : List ℕ) → slice_cmp nat_cmp name later ≡ Less →
 is_apart name later less = texts_ties name later ∙ ap is_eq less
 
 -- one name less
-pub left_after : (name : List ℕ) (names : List (List ℕ)) (before after : List InboxFile) → IsAscending (name ∷ names) → IsLeftBut (name ∷ names) before → TakesOrLeaves name before after
+pub left_after : (name : List ℕ) (names : List (List ℕ)) (before after : List NamedFile) → IsAscending (name ∷ names) → IsLeftBut (name ∷ names) before → TakesOrLeaves name before after
     → IsLeftBut names after
-left_after name names before after ascends is (inl removed) = subst (λ (l : List InboxFile). IsLeftBut names l) (sym removed) (record {
+left_after name names before after ascends is (inl removed) = subst (λ (l : List NamedFile). IsLeftBut names l) (sym removed) (record {
   here = both (λ later. slice_cmp nat_cmp name later ≡ Less) (λ n. IsSome (bytes_of before n)) (λ n. IsSome (bytes_of (without name before) n)) names
       (λ n less some. subst (λ (o : Option (List ℕ)). IsSome o) (sym (bytes_of-without name n before (is_apart name n less))) some)
       ascends.0 is.here.1;
@@ -100,7 +100,7 @@ left_after name names before after ascends is (inl removed) = subst (λ (l : Lis
       (is.others n was))
       (same_or_apart name n);
 })
-left_after name names before after ascends is (inr (same, large)) = subst (λ (l : List InboxFile). IsLeftBut names l) (sym same) (record {
+left_after name names before after ascends is (inr (same, large)) = subst (λ (l : List NamedFile). IsLeftBut names l) (sym same) (record {
   here = is.here.1;
   others = λ n some. ⊎_elim
       (λ (among : IsOneOf (name ∷ names) n). ⊎_elim

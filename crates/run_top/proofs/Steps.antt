@@ -5,8 +5,8 @@ use Rattle.std.proofs.lemmas.List.{drop_more}
 use Rattle.std.specs.Prelude.{Option, None, Some, Ok, nat_le, if◌then◌else◌}
 use Rattle.disk_trait.specs.Files.{Files}
 use Rattle.disk_trait.specs.Images.{Since}
-use Rattle.world_io.specs.Inbox.{InboxFile, bytes_of, without}
-use Rattle.world_io.specs.Outbox.{with_file}
+use Rattle.flowfile_record.specs.NamedFile.{NamedFile, bytes_of, without}
+use Rattle.flowfile_record.specs.NamedFile.{with_file}
 use Rattle.flowfile_record.specs.declared.TheConstants.{CONTENT_MAX}
 use Rattle.store_core.specs.Entry.{queued}
 use Rattle.store_core.specs.State.{stands_for}
@@ -20,7 +20,7 @@ use Rattle.run_top.proofs.Journals.{step_open, step_acked, all-append, was_got-b
 use Rattle.run_top.proofs.Names.{gone_without}
 
 -- a run that stops between two steps
-pub stops_between : (status : ℕ) (opened : Machine) (held : Files) (images : ℕ → Files → Type 0) (start now : ℕ) (queue : List Queued) (left : List InboxFile) (standing : List ℕ → Option (List ℕ))
+pub stops_between : (status : ℕ) (opened : Machine) (held : Files) (images : ℕ → Files → Type 0) (start now : ℕ) (queue : List Queued) (left : List NamedFile) (standing : List ℕ → Option (List ℕ))
     → status ≢ DONE → IsRunning opened start images now queue left standing → HasRun status opened held images start now left standing
 stops_between status opened held images start now queue left standing isnt run = record {
   journal = run.journal;
@@ -32,7 +32,7 @@ stops_between status opened held images start now queue left standing isnt run =
 }
 
 -- a run that stops where a put failed: the outbox may hold anything under that name
-pub stops_at_put : (opened : Machine) (held : Files) (images : ℕ → Files → Type 0) (start now : ℕ) (queue : List Queued) (left : List InboxFile) (standing after : List ℕ → Option (List ℕ))
+pub stops_at_put : (opened : Machine) (held : Files) (images : ℕ → Files → Type 0) (start now : ℕ) (queue : List Queued) (left : List NamedFile) (standing after : List ℕ → Option (List ℕ))
     → IsRunning opened start images now queue left standing → HasRun OUTBOX_FAULT opened held images start now left after
 stops_at_put opened held images start now queue left standing after run = record {
   journal = run.journal;
@@ -59,7 +59,7 @@ pub works_on : (failed : Bool) → (failed ≡ true → ⊥) → failed ≡ fals
 works_on true none = absurd (none refl)
 works_on false none = refl
 
-module _ {D : Type 0} (moment : D → ℕ) (images : D → ℕ → Files → Type 0) (old new : D) (opened : Machine) (start : ℕ) (queue : List Queued) (left : List InboxFile) (standing : List ℕ → Option (List ℕ)) where
+module _ {D : Type 0} (moment : D → ℕ) (images : D → ℕ → Files → Type 0) (old new : D) (opened : Machine) (start : ℕ) (queue : List Queued) (left : List NamedFile) (standing : List ℕ → Option (List ℕ)) where
   abbrev BeforeOr : List Queued → List Queued → Type 0
   BeforeOr before after = Since moment images old new (λ c. (stands_for c ≡ Ok before) ⊎ (stands_for c ≡ Ok after))
 
@@ -114,7 +114,7 @@ module _ {D : Type 0} (moment : D → ℕ) (images : D → ℕ → Files → Typ
 
       gets : step run.reached (Get name) ≡ Some after_get
       gets =
-          let lies : bytes_of run.reached.left name ≡ Some bytes = ap (λ (l : List InboxFile). bytes_of l name) run.lies ∙ found in
+          let lies : bytes_of run.reached.left name ≡ Some bytes = ap (λ (l : List NamedFile). bytes_of l name) run.lies ∙ found in
           let fits : nat_le (length bytes) CONTENT_MAX ≡ true = grind (arith, nat_tests, small) in
           ap (got run.reached name) lies ∙ ap (λ (b : Bool). if b then Some after_get else None) fits
 
@@ -148,27 +148,27 @@ module _ {D : Type 0} (moment : D → ℕ) (images : D → ℕ → Files → Typ
         got_gone = gone_without opened.left left name run.journal (run.journal ++ entry_acked ∷ []) run.gone (λ n was. was_got-before n run.journal entry_acked was) (was_got-last name run.journal entry_acked refl refl)
 
         -- it was acknowledged and removed
-        pub get_done : (after : List InboxFile) → after ≡ without name left → IsRunning opened start (images new) (moment new) (queue ++ queued name bytes ∷ []) after standing
+        pub get_done : (after : List NamedFile) → after ≡ without name left → IsRunning opened start (images new) (moment new) (queue ++ queued name bytes ∷ []) after standing
         get_done after removed = record {
           journal = run.journal ++ entry_acked ∷ [];
           reached = after_get;
           ran = got_ran;
           all = all-append run.journal entry_acked run.all refl;
-          gone = subst (λ (l : List InboxFile). IsGoneByEntry opened.left l (run.journal ++ entry_acked ∷ [])) (sym removed) got_gone;
+          gone = subst (λ (l : List NamedFile). IsGoneByEntry opened.left l (run.journal ++ entry_acked ∷ [])) (sym removed) got_gone;
           waits = joins;
           lies = ap (without name) run.lies ∙ sym removed;
           stands = run.stands;
         }
 
         -- it was acknowledged, and may be left
-        pub get_left : (status : ℕ) (held : Files) (after : List InboxFile) → status ≢ DONE → (after ≡ left) ⊎ (after ≡ without name left) → HasRun status opened held (images new) start (moment new) after standing
+        pub get_left : (status : ℕ) (held : Files) (after : List NamedFile) → status ≢ DONE → (after ≡ left) ⊎ (after ≡ without name left) → HasRun status opened held (images new) start (moment new) after standing
         get_left status held after isnt either = record {
           journal = run.journal ++ entry_acked ∷ [];
           reached = after_get;
           ran = got_ran;
           gone = ⊎_elim
-              (λ (same : after ≡ left). subst (λ (l : List InboxFile). IsGoneByEntry opened.left l (run.journal ++ entry_acked ∷ [])) (sym same) (λ n here none. was_got-before n run.journal entry_acked (run.gone n here none)))
-              (λ (removed : after ≡ without name left). subst (λ (l : List InboxFile). IsGoneByEntry opened.left l (run.journal ++ entry_acked ∷ [])) (sym removed) got_gone)
+              (λ (same : after ≡ left). subst (λ (l : List NamedFile). IsGoneByEntry opened.left l (run.journal ++ entry_acked ∷ [])) (sym same) (λ n here none. was_got-before n run.journal entry_acked (run.gone n here none)))
+              (λ (removed : after ≡ without name left). subst (λ (l : List NamedFile). IsGoneByEntry opened.left l (run.journal ++ entry_acked ∷ [])) (sym removed) got_gone)
               either;
           outbox = λ _. sym run.stands;
           done = λ is. absurd (isnt is);

@@ -2,8 +2,8 @@
 -- no device.
 use Rattle.std.specs.Prelude.{◌≡◌, ◌⊎◌, ℕ, ◌+◌, ◌≤◌, nat_le, Bool, false, List, [], ◌∷◌, ◌++◌, length, Option, None, Some, IsSome, MatchOption, if◌then◌else◌}
 use Rattle.std.specs.List.{AllByRecursion}
-use Rattle.world_io.specs.Inbox.{InboxFile, bytes_of, without}
-use Rattle.world_io.specs.Outbox.{with_file}
+use Rattle.flowfile_record.specs.NamedFile.{NamedFile, bytes_of, without}
+use Rattle.flowfile_record.specs.NamedFile.{with_file}
 use Rattle.flowfile_record.specs.declared.TheConstants.{CONTENT_MAX}
 use Rattle.store_core.specs.Entry.{queued}
 use Rattle.store_core.specs.declared.queued.Queued.{Queued}
@@ -11,7 +11,7 @@ use Rattle.store_core.specs.declared.queued.Queued.{Queued}
 -- the files that wait, those that are left in the inbox, and what stands under each name in the outbox
 pub record Machine : Type 0 where
   pub queue : List Queued
-  pub left : List InboxFile
+  pub left : List NamedFile
   pub outbox : List ℕ → Option (List ℕ)
 
 pub data Step : Type 0 where

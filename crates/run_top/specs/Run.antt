@@ -2,7 +2,7 @@
 use Rattle.std.specs.Prelude.{◌≡◌, ◌≢◌, ◌⊎◌, ℕ, ◌<◌, ◌≤◌, List, [], ◌∷◌, ◌++◌, length, Option, Some, Result, Ok, Err, ⊤, IsSome, IsNone, IfSome}
 use Rattle.disk_trait.specs.Files.{Files}
 use Rattle.std.specs.List.{AllByRecursion}
-use Rattle.world_io.specs.Inbox.{InboxFile, bytes_of, without}
+use Rattle.flowfile_record.specs.NamedFile.{NamedFile, bytes_of, without}
 use Rattle.flowfile_record.specs.declared.TheConstants.{CONTENT_MAX}
 use Rattle.store_core.specs.declared.queued.Queued.{Queued}
 use Rattle.store_core.specs.State.{stands_for}
@@ -32,12 +32,12 @@ pub record Replays (opened : Machine) (journal : List Entry) (reached : Machine)
   pub prefixes : (k : ℕ) (c : Files) → start ≤ k → k ≤ now → images k c → IsPrefix opened journal k c
 
 -- each name that is gone from the inbox is that of an acknowledged entry
-abbrev pub IsGoneByEntry : (before after : List InboxFile) → List Entry → Type 0
+abbrev pub IsGoneByEntry : (before after : List NamedFile) → List Entry → Type 0
 IsGoneByEntry before after journal = (name : List ℕ) → IsSome (bytes_of before name) → IsNone (bytes_of after name) → WasGot name journal
 
 -- At the end of a run that was done: every entry is acknowledged, disk, inbox and outbox are those of the whole
 -- journal, and the flow is quiet.
-pub record IsDone (journal : List Entry) (reached : Machine) (held : Files) (left : List InboxFile) (now : ℕ) : Type 0 where
+pub record IsDone (journal : List Entry) (reached : Machine) (held : Files) (left : List NamedFile) (now : ℕ) : Type 0 where
   pub acknowledged_all : acknowledged journal now ≡ length journal
   pub disk : stands_for held ≡ Ok reached.queue
   pub inbox : left ≡ reached.left
@@ -45,7 +45,7 @@ pub record IsDone (journal : List Entry) (reached : Machine) (held : Files) (lef
 
 -- Whatever its status: a journal tells what the run did to disk, inbox and outbox. The outbox is that of the whole
 -- journal unless it failed.
-pub record HasRun (status : ℕ) (opened : Machine) (held : Files) (images : ℕ → Files → Type 0) (start now : ℕ) (left : List InboxFile) (standing : List ℕ → Option (List ℕ)) : Type 0 where
+pub record HasRun (status : ℕ) (opened : Machine) (held : Files) (images : ℕ → Files → Type 0) (start now : ℕ) (left : List NamedFile) (standing : List ℕ → Option (List ℕ)) : Type 0 where
   pub journal : List Entry
   pub reached : Machine
   pub ran : Replays opened journal reached images start now
@@ -54,7 +54,7 @@ pub record HasRun (status : ℕ) (opened : Machine) (held : Files) (images : ℕ
   pub done : status ≡ DONE → IsDone journal reached held left now
 
 -- Between two steps: every entry is acknowledged, and store, inbox and outbox are those of the whole journal.
-pub record IsRunning (opened : Machine) (start : ℕ) (images : ℕ → Files → Type 0) (now : ℕ) (queue : List Queued) (left : List InboxFile) (standing : List ℕ → Option (List ℕ)) : Type 0 where
+pub record IsRunning (opened : Machine) (start : ℕ) (images : ℕ → Files → Type 0) (now : ℕ) (queue : List Queued) (left : List NamedFile) (standing : List ℕ → Option (List ℕ)) : Type 0 where
   pub journal : List Entry
   pub reached : Machine
   pub ran : Replays opened journal reached images start now
@@ -65,11 +65,11 @@ pub record IsRunning (opened : Machine) (start : ℕ) (images : ℕ → Files �
   pub stands : reached.outbox ≡ standing
 
 -- a file that is left has more bytes than a content may
-abbrev pub IsTooLarge : List InboxFile → List ℕ → Type 0
+abbrev pub IsTooLarge : List NamedFile → List ℕ → Type 0
 IsTooLarge left name = IfSome (bytes_of left name) (λ bytes. CONTENT_MAX < length bytes)
 
 -- A file was removed, or it stays and is too large.
-abbrev pub TakesOrLeaves : List ℕ → (before after : List InboxFile) → Type 0
+abbrev pub TakesOrLeaves : List ℕ → (before after : List NamedFile) → Type 0
 TakesOrLeaves name before after = (after ≡ without name before) ⊎ ((after ≡ before) × IsTooLarge before name)
 
 -- a text among others
@@ -78,7 +78,7 @@ IsOneOf [] name = ⊥
 IsOneOf (first ∷ names) name = (first ≡ name) ⊎ IsOneOf names name
 
 -- All but these names that are left are too large, and each of these is left.
-pub record IsLeftBut (names : List (List ℕ)) (left : List InboxFile) : Type 0 where
+pub record IsLeftBut (names : List (List ℕ)) (left : List NamedFile) : Type 0 where
   pub here : AllByRecursion (λ name. IsSome (bytes_of left name)) names
   pub others : (name : List ℕ) → IsSome (bytes_of left name) → IsOneOf names name ⊎ IsTooLarge left name
 

@@ -3,7 +3,8 @@
 ghost use Rattle.std.specs.Prelude.{◌≡◌, ◌⊎◌, ℕ, ◌+◌, ◌<◌, ◌≤◌, false, List, [], Option, length, map, IsTrue, IsSome, OnOk, IsErrOf};
 ghost use Rattle.disk_trait.specs.Faults.{CountsFaults};
 ghost use Rattle.disk_trait.specs.declared.damage.Damage.{Damage as TheDamage};
-ghost use Rattle.world_io.specs.Inbox.{InboxFile, IsAscending, bytes_of};
+ghost use Rattle.flowfile_record.specs.NamedFile.{NamedFile, bytes_of};
+ghost use Rattle.world_io.specs.Inbox.{IsAscending};
 ghost use Rattle.store_core.specs.Kept.{IsKeptOn};
 ghost use Rattle.run_top.specs.Machine.{Machine};
 ghost use Rattle.run_top.specs.Run.{HasRun, IsRunning, TakesOrLeaves, IsLeftBut};
@@ -26,10 +27,10 @@ fn put_first<D: Disk, O: Outbox>(
     requires kept { IsKeptOn D.moment D.images store.old disk.old }
     requires some { 0 < length store.old.files }
 
-    ensures goes_on { OnOk result ((opened : Machine) (start : ℕ) (left : List InboxFile) → IsTrue O.tells
+    ensures goes_on { OnOk result ((opened : Machine) (start : ℕ) (left : List NamedFile) → IsTrue O.tells
         → IsRunning opened start (D.images disk.old) (D.moment disk.old) store.old.files left (O.standing outbox.old)
         → IsRunning opened start (D.images disk.new) (D.moment disk.new) store.new.files left (O.standing outbox.new)) }
-    ensures stopped { (error : TheError) → IsErrOf result error → (opened : Machine) (start : ℕ) (left : List InboxFile) → IsTrue O.tells
+    ensures stopped { (error : TheError) → IsErrOf result error → (opened : Machine) (start : ℕ) (left : List NamedFile) → IsTrue O.tells
         → IsRunning opened start (D.images disk.old) (D.moment disk.old) store.old.files left (O.standing outbox.old)
         → HasRun (status_of error) opened (D.held disk.new) (D.images disk.new) start (D.moment disk.new) left (O.standing outbox.new) }
 
@@ -104,10 +105,10 @@ fn put_all<D: Disk, O: Outbox>(
     requires works { store.old.failed ≡ false }
     requires kept { IsKeptOn D.moment D.images store.old disk.old }
 
-    ensures goes_on { OnOk result ((opened : Machine) (start : ℕ) (left : List InboxFile) → IsTrue O.tells
+    ensures goes_on { OnOk result ((opened : Machine) (start : ℕ) (left : List NamedFile) → IsTrue O.tells
         → IsRunning opened start (D.images disk.old) (D.moment disk.old) store.old.files left (O.standing outbox.old)
         → IsRunning opened start (D.images disk.new) (D.moment disk.new) store.new.files left (O.standing outbox.new)) }
-    ensures stopped { (error : TheError) → IsErrOf result error → (opened : Machine) (start : ℕ) (left : List InboxFile) → IsTrue O.tells
+    ensures stopped { (error : TheError) → IsErrOf result error → (opened : Machine) (start : ℕ) (left : List NamedFile) → IsTrue O.tells
         → IsRunning opened start (D.images disk.old) (D.moment disk.old) store.old.files left (O.standing outbox.old)
         → HasRun (status_of error) opened (D.held disk.new) (D.images disk.new) start (D.moment disk.new) left (O.standing outbox.new) }
 

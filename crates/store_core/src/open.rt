@@ -16,7 +16,7 @@ use disk_trait::{Disk, Failed, cut_synced, write_synced};
 
 /// Cuts what stands behind the last gate, at `end`, of a log of this size.
 pub fn cut_tail<D: Disk>(disk: &mut D, end: u64, size: u64) -> Result<(), Failed>
-    requires settled { IsOnly (D.held disk.old) (D.images disk.old (D.moment disk.old)) }
+    requires synced { IsOnly (D.held disk.old) (D.images disk.old (D.moment disk.old)) }
     requires within { end ≤ size }
     requires size { IsTrue D.tells → size ≡ length (D.held disk.old the_log) }
     ensures images { (queue : List TheFile) (closed : Bool) → (IsTrue D.tells → IsRead end queue closed (D.held disk.old the_log))
@@ -25,7 +25,7 @@ pub fn cut_tail<D: Disk>(disk: &mut D, end: u64, size: u64) -> Result<(), Failed
         → IsRead end queue closed (D.held disk.new the_log)) }
     ensures short { OnOk result (IsTrue D.tells → length (D.held disk.new the_log) ≤ end + 1) }
     ensures same { size ≤ end + 1 → D.held disk.new ≡ D.held disk.old }
-    ensures settled { OnOk result (IsOnly (D.held disk.new) (D.images disk.new (D.moment disk.new))) }
+    ensures synced { OnOk result (IsOnly (D.held disk.new) (D.images disk.new (D.moment disk.new))) }
     ensures cause { CountsFaults (D.faults disk.old) (D.faults disk.new) (IsErr result) }
 {
     if size - end > 1 {
@@ -36,7 +36,7 @@ pub fn cut_tail<D: Disk>(disk: &mut D, end: u64, size: u64) -> Result<(), Failed
 
 /// Puts a closed gate at `end`, where nothing stands behind it, unless one stands there.
 pub fn close_gate<D: Disk>(disk: &mut D, end: u64, closed: bool) -> Result<(), Failed>
-    requires settled { IsOnly (D.held disk.old) (D.images disk.old (D.moment disk.old)) }
+    requires synced { IsOnly (D.held disk.old) (D.images disk.old (D.moment disk.old)) }
     requires short { IsTrue D.tells → length (D.held disk.old the_log) ≤ end + 1 }
     requires within { IsTrue D.tells → end ≤ length (D.held disk.old the_log) }
     requires closed { closed ≡ true → end + 1 < 2 ^ 64 }
@@ -55,12 +55,12 @@ pub fn close_gate<D: Disk>(disk: &mut D, end: u64, closed: bool) -> Result<(), F
 
 /// Cuts a log of this size with no entry to nothing. What is left of it is at most its first byte.
 pub fn clear<D: Disk>(disk: &mut D, size: u64) -> Result<(), Failed>
-    requires settled { IsOnly (D.held disk.old) (D.images disk.old (D.moment disk.old)) }
+    requires synced { IsOnly (D.held disk.old) (D.images disk.old (D.moment disk.old)) }
     requires short { IsTrue D.tells → length (D.held disk.old the_log) ≤ 1 }
     requires size { size ≡ 0 → IsTrue D.tells → D.held disk.old the_log ≡ [] }
     ensures images { Since D.moment D.images disk.old disk.new (λ c. stands_for c ≡ Ok []) }
     ensures empty { OnOk result (IsTrue D.tells → D.held disk.new the_log ≡ []) }
-    ensures settled { OnOk result (IsOnly (D.held disk.new) (D.images disk.new (D.moment disk.new))) }
+    ensures synced { OnOk result (IsOnly (D.held disk.new) (D.images disk.new (D.moment disk.new))) }
     ensures cause { CountsFaults (D.faults disk.old) (D.faults disk.new) (IsErr result) }
 {
     if size > 0 {
@@ -72,7 +72,7 @@ pub fn clear<D: Disk>(disk: &mut D, size: u64) -> Result<(), Failed>
 // Begins a log where none has an entry: it is cut to nothing, a closed gate is written, and the log's
 // Begin is added. `size` is that of the log. Gives the place of the last gate.
 fn begin<D: Disk>(disk: &mut D, size: u64, frame: &[u8]) -> Result<u64, Failed>
-    requires settled { IsOnly (D.held disk.old) (D.images disk.old (D.moment disk.old)) }
+    requires synced { IsOnly (D.held disk.old) (D.images disk.old (D.moment disk.old)) }
     requires short { IsTrue D.tells → length (D.held disk.old the_log) ≤ 1 }
     requires size { size ≡ 0 → IsTrue D.tells → D.held disk.old the_log ≡ [] }
     requires frame { frame.now ≡ block begin_kind begin_payload ++ closed_gate ∷ [] }
@@ -89,7 +89,7 @@ fn begin<D: Disk>(disk: &mut D, size: u64, frame: &[u8]) -> Result<u64, Failed>
 
 /// Makes the end of a log that was read whole again, or begins one. Gives the place of the last gate.
 pub fn settle<D: Disk>(disk: &mut D, scan: &Scan, frame: &[u8]) -> Result<u64, Failed>
-    requires settled { IsOnly (D.held disk.old) (D.images disk.old (D.moment disk.old)) }
+    requires synced { IsOnly (D.held disk.old) (D.images disk.old (D.moment disk.old)) }
     requires read { IsTrue D.tells → IsRead scan.now.end scan.now.queue scan.now.closed (D.held disk.old the_log) }
     requires size { IsTrue D.tells → scan.now.size ≡ length (D.held disk.old the_log) }
     requires within { scan.now.end ≤ scan.now.size }

@@ -1,6 +1,6 @@
-pub mod Counts
+pub mod Pieces
 pub mod Places
 pub mod Sorting
 pub mod Standing
-pub mod Listed
+pub mod Without
 pub mod Once

@@ -9,7 +9,8 @@ use Rattle.std.proofs.lemmas.Bool.{cond-true, cond-false, cases_lt, lt-ltb, le-l
 use Rattle.std.proofs.lemmas.List.Quantifiers.{position-Some}
 use Rattle.std.proofs.lemmas.Bool.Decides.{nat_tests}
 use Rattle.std.proofs.lemmas.Slice.Eq.{bytes_eq-Decides}
-use Rattle.world_io.specs.Inbox.{InboxFile, IsAscending, bytes_of, without}
+use Rattle.flowfile_record.specs.NamedFile.{NamedFile, bytes_of, without}
+use Rattle.world_io.specs.Inbox.{IsAscending}
 use Rattle.world_io.specs.Memory.{file_of, IsPlaceOf}
 
 abbrev pub Stored : Type 0
@@ -46,7 +47,7 @@ all-at P (f ∷ fs) (suc i) d all h = all-at P fs i d all.1 (omega arith)
 without-later : (name : List ℕ) (files : List Stored) → AllByRecursion (λ later. slice_cmp nat_cmp name later ≡ Less) (map (λ file. file.name) (map file_of files)) → without name (map file_of files) ≡ map file_of files
 without-later name [] all = refl
 without-later name (f ∷ fs) all =
-    cond-true _ _ _ (ap not (apart-back name f.0 all.0)) ∙ ap (λ (l : List InboxFile). file_of f ∷ l) (without-later name fs all.1)
+    cond-true _ _ _ (ap not (apart-back name f.0 all.0)) ∙ ap (λ (l : List NamedFile). file_of f ∷ l) (without-later name fs all.1)
 
 -- what is left without the file at a place
 pub without-at : (name : List ℕ) (files : List Stored) (i : ℕ) (d : Stored) → IsAscending (map (λ file. file.name) (map file_of files)) → i < length files → is_of name (get_or files i d) ≡ true → without name (map file_of files) ≡ map file_of (remove files i)
@@ -59,14 +60,14 @@ without-at name (f ∷ fs) (suc i) d up h e =
     let same : (get_or fs i d).0 ≡ name = (bytes_eq-Decides (get_or fs i d).0 name).0 e in
     let less = all-at (λ later. slice_cmp nat_cmp f.0 later ≡ Less) fs i d up.0 (omega arith) in
     let P : List ℕ → Type 0 = λ n. slice_cmp nat_cmp f.0 n ≡ Less in
-    cond-true _ _ _ (ap not (apart f.0 name (subst P same less))) ∙ ap (λ (l : List InboxFile). file_of f ∷ l) (without-at name fs i d up.1 (omega arith) e)
+    cond-true _ _ _ (ap not (apart f.0 name (subst P same less))) ∙ ap (λ (l : List NamedFile). file_of f ∷ l) (without-at name fs i d up.1 (omega arith) e)
 
-all-filter : (P : List ℕ → Type 0) (p : InboxFile → Bool) (files : List InboxFile) → AllByRecursion P (map (λ file. file.name) files) → AllByRecursion P (map (λ file. file.name) (filter p files))
+all-filter : (P : List ℕ → Type 0) (p : NamedFile → Bool) (files : List NamedFile) → AllByRecursion P (map (λ file. file.name) files) → AllByRecursion P (map (λ file. file.name) (filter p files))
 all-filter P p [] all = tt
 all-filter P p (f ∷ fs) all = elim (p f) as (λ b. AllByRecursion P (map (λ file. file.name) (cond b (f ∷ filter p fs) (filter p fs)))) [ true ↦ (all.0, all-filter P p fs all.1) | false ↦ all-filter P p fs all.1 ]
 
 -- some of the files ascend as all did
-pub ascending-filter : (p : InboxFile → Bool) (files : List InboxFile) → IsAscending (map (λ file. file.name) files) → IsAscending (map (λ file. file.name) (filter p files))
+pub ascending-filter : (p : NamedFile → Bool) (files : List NamedFile) → IsAscending (map (λ file. file.name) files) → IsAscending (map (λ file. file.name) (filter p files))
 ascending-filter p [] up = tt
 ascending-filter p (f ∷ fs) up = elim (p f) as (λ b. IsAscending (map (λ file. file.name) (cond b (f ∷ filter p fs) (filter p fs)))) [ true ↦ (all-filter (λ later. slice_cmp nat_cmp f.name later ≡ Less) p fs up.0, ascending-filter p fs up.1) | false ↦ ascending-filter p fs up.1 ]
 
@@ -103,7 +104,7 @@ left-without name files read new i d up all found is =
     let place : List Stored → Type 0 = λ l. IsPlaceOf name l i in
     let at : IsPlaceOf name files i = subst place all found in
     let same : map file_of new ≡ without name (map file_of files) = ap (λ (l : List Stored). map file_of l) is ∙ sym (without-at name files i d up at.within (at.here d)) in
-    let ascends : List InboxFile → Type 0 = λ l. IsAscending (map (λ file. file.name) l) in
+    let ascends : List NamedFile → Type 0 = λ l. IsAscending (map (λ file. file.name) l) in
     (same, subst ascends (sym same) (ascending-filter (λ file. not (bytes_eq file.name name)) (map file_of files) up))
 
 -- the names of the files, as an inbox shows them

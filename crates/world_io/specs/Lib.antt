@@ -1,9 +1,6 @@
 pub mod Ascending
-pub mod Called
-pub mod Count
 pub mod Inbox
 pub mod Memory
 pub mod MemoryInbox
 pub mod MemoryOutbox
 pub mod MemoryStream
-pub mod Outbox

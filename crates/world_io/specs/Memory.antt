@@ -2,10 +2,10 @@
 use Rattle.std.specs.Prelude.{◌≡◌, ℕ, ◌<◌, true, false, List, [], ◌∷◌, Vec, length, map, slice_index_or, bytes_eq}
 use Rattle.std.specs.List.{AllByRecursion}
 use Rattle.std.specs.declared.alloc.Global.{Global}
-use Rattle.world_io.specs.Inbox.{InboxFile}
+use Rattle.flowfile_record.specs.NamedFile.{NamedFile}
 
 -- a file, as an inbox shows it
-abbrev pub file_of : List ℕ × Vec ℕ Global → InboxFile
+abbrev pub file_of : List ℕ × Vec ℕ Global → NamedFile
 file_of file = record { name = file.0; bytes = file.1.items }
 
 -- the names of the files

@@ -1,11 +1,11 @@
 -- The files of an outbox in memory.
 use Rattle.std.specs.Prelude.{ℕ, List, Option, map}
-use Rattle.world_io.specs.Inbox.{InboxFile, bytes_of}
+use Rattle.flowfile_record.specs.NamedFile.{NamedFile, bytes_of}
 use Rattle.world_io.specs.Memory.{file_of}
 use Rattle.world_io.specs.declared.memory.outbox.MemoryOutbox.{MemoryOutbox}
 
 -- the files that stand in it, each under a name of its own
-abbrev pub files_standing : MemoryOutbox → List InboxFile
+abbrev pub files_standing : MemoryOutbox → List NamedFile
 files_standing outbox = map file_of outbox.files.items
 
 -- what stands under each name

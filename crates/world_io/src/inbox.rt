@@ -1,7 +1,8 @@
 //! Where a flow takes its files from.
 ghost use Rattle.std.specs.Prelude.{◌≡◌, ◌⊎◌, ℕ, ◌<◌, ◌≤◌, Bool, List, [], length, map, IsTrue, IsSome, IfSome, Some, IfOk, OnOk, OnErr, IsErr, IsErrOf};
 ghost use Rattle.disk_trait.specs.Faults.{CountsFaults};
-ghost use Rattle.world_io.specs.Inbox.{InboxFile, IsAscending, bytes_of, without};
+ghost use Rattle.flowfile_record.specs.NamedFile.{NamedFile, bytes_of, without};
+ghost use Rattle.world_io.specs.Inbox.{IsAscending};
 
 use crate::{CONTENT_MAX, Name, WorldError};
 use disk_trait::Failed;
@@ -13,7 +14,7 @@ pub trait Inbox: Send {
     ghost tells: { Bool };
 
     /// The files that are left, ascending by the bytes of their names, where the inbox tells.
-    ghost left: { Self → List InboxFile };
+    ghost left: { Self → List NamedFile };
 
     /// How often the inbox has failed, up to 2^64 - 1. It never falls.
     ghost faults: { Self → ℕ };

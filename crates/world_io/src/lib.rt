@@ -12,11 +12,12 @@ mod outbox;
 mod stream;
 
 pub use clock::{Clock, Gate};
+pub use disk_trait::Calls;
 pub use error::WorldError;
 pub use flowfile_record::{CONTENT_MAX, Name, NameError};
 pub use inbox::Inbox;
 pub use memory::{
-    Calls, FreeGate, MemoryClock, MemoryInbox, MemoryOutbox, MemorySink, MemorySource, TurnGate,
+    FreeGate, MemoryClock, MemoryInbox, MemoryOutbox, MemorySink, MemorySource, TurnGate,
 };
 pub use outbox::Outbox;
 pub use stream::{Sink, Source};

@@ -1,6 +1,5 @@
 //! A world in memory, that a flow is tried in. Each object tells what it holds, and fails where it is told to.
 
-mod calls;
 mod clock;
 mod files;
 mod gate;
@@ -8,12 +7,8 @@ mod inbox;
 mod outbox;
 mod stream;
 
-pub use calls::Calls;
 pub use clock::MemoryClock;
 pub use gate::{FreeGate, TurnGate};
 pub use inbox::MemoryInbox;
 pub use outbox::MemoryOutbox;
 pub use stream::{MemorySink, MemorySource};
-
-#[cfg(test)]
-mod tests;

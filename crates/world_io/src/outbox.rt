@@ -1,7 +1,7 @@
 //! Where a flow puts its files.
 ghost use Rattle.std.specs.Prelude.{◌≡◌, ◌≢◌, ℕ, Bool, List, Option, is_some, IsTrue, IfOk, OnOk, IsErr};
 ghost use Rattle.disk_trait.specs.Faults.{CountsFaults};
-ghost use Rattle.world_io.specs.Outbox.{with_file};
+ghost use Rattle.flowfile_record.specs.NamedFile.{with_file};
 
 use crate::Name;
 use disk_trait::Failed;

@@ -2,7 +2,7 @@
 use super::DiskBytes;
 use crate::FileName;
 
-/// A call that changes a disk or settles it. Places and sizes are in bytes.
+/// A call that changes a disk or syncs it. Places and sizes are in bytes.
 #[derive(Debug, Drop)]
 pub enum DiskCall {
     Write {
@@ -24,7 +24,6 @@ pub enum Pick {
     Old,
     /// What was held at that moment.
     New,
-    /// The sizes as held at that moment, and bytes drawn from this seed wherever no sync has settled
-    /// them.
+    /// The sizes as held at that moment, and bytes drawn from this seed wherever they are pending.
     Torn(u64),
 }

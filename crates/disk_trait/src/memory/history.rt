@@ -3,7 +3,7 @@ ghost use Rattle.disk_trait.specs.MemoryPast.{Past, IsPast};
 
 use super::Pick;
 use super::call_list::CallList;
-use super::replay::settled_count;
+use super::replay::synced_count;
 use super::steps::{cut_file, note_sync, write_file};
 use super::table::FileTable;
 use crate::FileName;
@@ -18,8 +18,9 @@ pub(crate) struct History {
 }
 
 impl History {
-    ghost use Rattle.std.specs.Prelude.{◌≡◌, ℕ, ◌+◌, ◌-◌, ◌<◌, ◌≤◌, ◌^◌, [], IfOk, OnOk, OnErr, length, take};
+    ghost use Rattle.std.specs.Prelude.{◌≡◌, ℕ, ◌+◌, ◌-◌, ◌<◌, ◌≤◌, ◌^◌, [], ◌∷◌, ◌++◌, IfOk, OnOk, OnErr, length, take};
     ghost use Rattle.disk_trait.specs.declared.file_name.FileName.{FileName};
+    ghost use Rattle.disk_trait.specs.declared.memory.call.DiskCall.TheVariants.{Write, Cut, Sync};
     ghost use Rattle.disk_trait.specs.Files.{Files, At, Overwritten, Torn, Shortened};
     ghost use Rattle.disk_trait.specs.Images.{After, Since, IsOnly, Stays, next_moment};
     ghost use Rattle.disk_trait.specs.MemoryTable.{bytes_of, first_of};
@@ -29,11 +30,12 @@ impl History {
 
     /// A past with no calls.
     pub(crate) fn new(table: FileTable) -> History
-        requires { (f : FileName) → bytes_of table f ≡ first_of table f }
+        requires begins { (f : FileName) → bytes_of table f ≡ first_of table f }
+        requires ends { (f : FileName) → 2 ^ 64 ≤ f.number → bytes_of table f ≡ [] }
         ensures table { result.table ≡ table }
         ensures calls { result.done.calls.items ≡ [] }
         ensures moment { result.moment ≡ 0 }
-        ensures settled { IsOnly (bytes_of table) (left_at (past_of result) 0) }
+        ensures synced { IsOnly (bytes_of table) (left_at (past_of result) 0) }
     {
         let alloc = table.alloc;
         History {
@@ -49,11 +51,11 @@ impl History {
         ensures first { IfOk result (λ image. (f : FileName) → bytes_of image f ≡ first_of image f) }
     {
         let calls = &self.done.calls[..self.done.count_until(at)];
-        let settled = settled_count(calls);
+        let synced = synced_count(calls);
         match pick {
-            Pick::Old => self.table.image(&calls[..settled], &[], 0),
+            Pick::Old => self.table.image(&calls[..synced], &[], 0),
             Pick::New => self.table.image(calls, &[], 0),
-            Pick::Torn(seed) => self.table.image(calls, &calls[settled..], seed),
+            Pick::Torn(seed) => self.table.image(calls, &calls[synced..], seed),
         }
     }
 
@@ -61,6 +63,7 @@ impl History {
     pub(crate) fn pass(&mut self)
         ensures moment { self.new.moment ≡ next_moment self.old.moment }
         ensures held { bytes_of self.new.table ≡ bytes_of self.old.table }
+        ensures calls { self.new.done.calls.items ≡ self.old.done.calls.items }
         ensures images { Since (λ past. past.now) left_at (past_of self.old) (past_of self.new) (left_at (past_of self.old) self.old.moment) }
     {
         self.moment = self.moment.saturating_add(1);
@@ -71,6 +74,8 @@ impl History {
         requires left { self.old.moment < 2 ^ 64 - 1 }
         requires inside { at ≤ length (bytes_of self.old.table file) }
         ensures moment { self.new.moment ≡ self.old.moment + 1 }
+        ensures noted { OnOk result (self.new.done.calls.items ≡ self.old.done.calls.items ++ Write file at bytes.now ∷ []) }
+        ensures unnoted { OnErr result (self.new.done.calls.items ≡ self.old.done.calls.items) }
         ensures written { OnOk result (At file (Overwritten at bytes.now) (bytes_of self.old.table) (bytes_of self.new.table)) }
         ensures held { OnErr result ((f : FileName) → bytes_of self.new.table f ≡ bytes_of self.old.table f) }
         ensures images { Since (λ past. past.now) left_at (past_of self.old) (past_of self.new) (After (At file (Torn at (length bytes.now))) (left_at (past_of self.old) self.old.moment)) }
@@ -91,6 +96,8 @@ impl History {
         requires left { self.old.moment < 2 ^ 64 - 1 }
         requires inside { size ≤ length (bytes_of self.old.table file) }
         ensures moment { self.new.moment ≡ self.old.moment + 1 }
+        ensures noted { OnOk result (self.new.done.calls.items ≡ self.old.done.calls.items ++ Cut file size ∷ []) }
+        ensures unnoted { OnErr result (self.new.done.calls.items ≡ self.old.done.calls.items) }
         ensures cut { OnOk result (At file (λ old new. new ≡ take size old) (bytes_of self.old.table) (bytes_of self.new.table)) }
         ensures held { OnErr result ((f : FileName) → bytes_of self.new.table f ≡ bytes_of self.old.table f) }
         ensures images { Since (λ past. past.now) left_at (past_of self.old) (past_of self.new) (After (At file (Shortened size)) (left_at (past_of self.old) self.old.moment)) }
@@ -99,11 +106,13 @@ impl History {
         cut_file(&mut self.table, &mut self.done, self.moment, file, size)
     }
 
-    /// Settles all files at the next moment, or lets it pass where memory runs out.
+    /// Syncs all files at the next moment, or lets it pass where memory runs out.
     pub(crate) fn sync(&mut self) -> Result<(), AllocError>
         requires { self.old.moment < 2 ^ 64 - 1 }
         ensures moment { self.new.moment ≡ self.old.moment + 1 }
-        ensures settled { OnOk result (IsOnly (bytes_of self.new.table) (left_at (past_of self.new) self.new.moment)) }
+        ensures noted { OnOk result (self.new.done.calls.items ≡ self.old.done.calls.items ++ Sync ∷ []) }
+        ensures unnoted { OnErr result (self.new.done.calls.items ≡ self.old.done.calls.items) }
+        ensures synced { OnOk result (IsOnly (bytes_of self.new.table) (left_at (past_of self.new) self.new.moment)) }
         ensures held { bytes_of self.new.table ≡ bytes_of self.old.table }
         ensures images { Since (λ past. past.now) left_at (past_of self.old) (past_of self.new) (left_at (past_of self.old) self.old.moment) }
     {

@@ -2,7 +2,7 @@
 ghost use Rattle.std.specs.Prelude.{◌≡◌, ℕ, ◌<◌, length, take, slice_index_or, true, false, [], IfOk};
 ghost use Rattle.disk_trait.specs.declared.file_name.FileName.{FileName};
 ghost use Rattle.disk_trait.specs.declared.memory.call.DiskCall.TheVariants.{Sync};
-ghost use Rattle.disk_trait.specs.Memory.{settled, state_after, fits};
+ghost use Rattle.disk_trait.specs.Memory.{durable, state_after, fits};
 ghost use Rattle.disk_trait.specs.MemoryStop.{IsDrawn, touched_by, drawn, seed_after};
 ghost use Rattle.disk_trait.specs.MemoryTable.{bytes_of, first_of};
 
@@ -21,8 +21,8 @@ impl FileTable {
         torn: &[DiskCall],
         seed: u64,
     ) -> Result<FileTable, AllocError>
-        requires { (f : FileName) (n : ℕ) → n < length calls.now → fits f (slice_index_or calls.now n Sync) (state_after f (settled (first_of self.now f)) (take n calls.now)) ≡ true }
-        ensures drawn { IfOk result (λ image. IsDrawn self.now (λ f. (state_after f (settled (first_of self.now f)) calls.now).held) (λ f i. touched_by f torn.now i) seed (bytes_of image)) }
+        requires { (f : FileName) (n : ℕ) → n < length calls.now → fits f (slice_index_or calls.now n Sync) (state_after f (durable (first_of self.now f)) (take n calls.now)) ≡ true }
+        ensures drawn { IfOk result (λ image. IsDrawn self.now (λ f. (state_after f (durable (first_of self.now f)) calls.now).held) (λ f i. touched_by f torn.now i) seed (bytes_of image)) }
         ensures first { IfOk result (λ image. (f : FileName) → bytes_of image f ≡ first_of image f) }
     {
         let mut image = FileTable::new(self.alloc);
@@ -43,9 +43,9 @@ impl FileTable {
         torn: &[DiskCall],
         seed: u64,
     ) -> Result<(Vec<u8>, u64), AllocError>
-        requires { (n : ℕ) → n < length calls.now → fits name (slice_index_or calls.now n Sync) (state_after name (settled (first_of self.now name)) (take n calls.now)) ≡ true }
-        ensures bytes { IfOk result (λ file. file.0.items ≡ drawn (λ i. touched_by name torn.now i) 0 seed (state_after name (settled (first_of self.now name)) calls.now).held) }
-        ensures seed { IfOk result (λ file. file.1 ≡ seed_after (λ i. touched_by name torn.now i) 0 seed (state_after name (settled (first_of self.now name)) calls.now).held) }
+        requires { (n : ℕ) → n < length calls.now → fits name (slice_index_or calls.now n Sync) (state_after name (durable (first_of self.now name)) (take n calls.now)) ≡ true }
+        ensures bytes { IfOk result (λ file. file.0.items ≡ drawn (λ i. touched_by name torn.now i) 0 seed (state_after name (durable (first_of self.now name)) calls.now).held) }
+        ensures seed { IfOk result (λ file. file.1 ≡ seed_after (λ i. touched_by name torn.now i) 0 seed (state_after name (durable (first_of self.now name)) calls.now).held) }
     {
         let mut bytes = replay(self.alloc, self.first(name), name, calls)?;
         let marks = touched_places(self.alloc, name, torn, bytes.len())?;

@@ -1,7 +1,7 @@
 //! A file of a disk in memory, made again from the calls that made it.
 ghost use Rattle.std.specs.Prelude.{◌≡◌, ℕ, ◌<◌, ◌≤◌, [], length, take, true, IfOk, OnOk, slice_index_or};
-ghost use Rattle.disk_trait.specs.Memory.{settled, after_call, state_after, fits};
-ghost use Rattle.disk_trait.specs.MemoryStop.{IsSettledCount};
+ghost use Rattle.disk_trait.specs.Memory.{durable, after_call, state_after, fits};
+ghost use Rattle.disk_trait.specs.MemoryStop.{IsSyncedCount};
 ghost use Rattle.disk_trait.specs.declared.memory.call.DiskCall.TheVariants.{Sync};
 
 use super::DiskCall;
@@ -10,9 +10,9 @@ use crate::FileName;
 use std::alloc::{AllocError, Global};
 
 /// How many calls there are up to the last sync.
-pub(crate) fn settled_count(calls: &[DiskCall]) -> usize
+pub(crate) fn synced_count(calls: &[DiskCall]) -> usize
     ensures within { result ≤ length calls.now }
-    ensures settled { IsSettledCount calls.now result }
+    ensures synced { IsSyncedCount calls.now result }
 {
     let mut count = 0;
     for (i, call) in calls.iter().enumerate() {
@@ -30,8 +30,8 @@ pub(crate) fn replay(
     name: FileName,
     calls: &[DiskCall],
 ) -> Result<Vec<u8>, AllocError>
-    requires { (n : ℕ) → n < length calls.now → fits name (slice_index_or calls.now n Sync) (state_after name (settled first.now) (take n calls.now)) ≡ true }
-    ensures { IfOk result (λ bytes. bytes.items ≡ (state_after name (settled first.now) calls.now).held) }
+    requires { (n : ℕ) → n < length calls.now → fits name (slice_index_or calls.now n Sync) (state_after name (durable first.now) (take n calls.now)) ≡ true }
+    ensures { IfOk result (λ bytes. bytes.items ≡ (state_after name (durable first.now) calls.now).held) }
 {
     let mut bytes = Vec::from_slice(alloc, first)?;
     for call in calls {
@@ -41,8 +41,8 @@ pub(crate) fn replay(
 }
 
 fn apply(bytes: &mut Vec<u8>, name: FileName, call: &DiskCall) -> Result<(), AllocError>
-    requires { fits name call.now (settled bytes.old.items) ≡ true }
-    ensures { OnOk result (bytes.new.items ≡ (after_call name call.now (settled bytes.old.items)).held) }
+    requires { fits name call.now (durable bytes.old.items) ≡ true }
+    ensures { OnOk result (bytes.new.items ≡ (after_call name call.now (durable bytes.old.items)).held) }
 {
     match call {
         DiskCall::Write {

@@ -1,5 +1,5 @@
 //! One call of a disk in memory: it is done and noted, or neither.
-ghost use Rattle.std.specs.Prelude.{◌≡◌, ◌+◌, ◌≤◌, [], length, take, OnOk, OnErr, true, false};
+ghost use Rattle.std.specs.Prelude.{◌≡◌, ◌+◌, ◌^◌, ◌<◌, ◌≤◌, [], length, take, OnOk, OnErr, true, false};
 ghost use Rattle.disk_trait.specs.declared.file_name.FileName.{FileName};
 ghost use Rattle.disk_trait.specs.declared.memory.call.DiskCall.TheVariants.{Write, Cut, Sync};
 ghost use Rattle.disk_trait.specs.Files.{At, Overwritten};
@@ -21,6 +21,7 @@ pub(crate) fn write_file(
     bytes: &[u8],
 ) -> Result<(), AllocError>
     requires { at ≤ length (bytes_of table.old file) }
+    ensures number { file.number < 2 ^ 64 }
     ensures written { OnOk result (At file (Overwritten at bytes.now) (bytes_of table.old) (bytes_of table.new)) }
     ensures has { OnOk result (has_file table.new file ≡ true) }
     ensures noted { OnOk result (Notes done.old done.new (Write file at bytes.now) moment) }
@@ -45,6 +46,7 @@ pub(crate) fn cut_file(
     size: u64,
 ) -> Result<(), AllocError>
     requires { size ≤ length (bytes_of table.old file) }
+    ensures number { file.number < 2 ^ 64 }
     ensures cut { OnOk result (At file (λ old new. new ≡ take size old) (bytes_of table.old) (bytes_of table.new)) }
     ensures noted { OnOk result (Notes done.old done.new (Cut file size) moment) }
     ensures held { OnErr result ((f : FileName) → bytes_of table.new f ≡ bytes_of table.old f) }

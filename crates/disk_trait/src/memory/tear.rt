@@ -1,4 +1,4 @@
-//! The bytes of a file that no sync has settled, drawn anew.
+//! The pending bytes of a file, drawn anew.
 ghost use Rattle.std.specs.Prelude.{◌≡◌, ℕ, ◌^◌, ◌<◌, ◌≤◌, ◌&&◌, ◌||◌, nat_le, nat_lt, length, false, IfOk, slice_index_or};
 ghost use Rattle.disk_trait.specs.MemoryStop.{touches, touched_by, drawn, seed_after, MarksPlaces};
 

@@ -1,13 +1,13 @@
 //! An inbox in memory.
 ghost use Rattle.std.specs.Prelude.{◌≡◌, ◌↔◌, ◌≤◌, Some, true, [], length, map, IsSome, IfSome, IfOk, OnOk, OnErr, IsErr, IsErrOf, IsPermutation};
-ghost use Rattle.world_io.specs.Inbox.{IsAscending, bytes_of, without};
+ghost use Rattle.flowfile_record.specs.NamedFile.{bytes_of, without};
+ghost use Rattle.world_io.specs.Inbox.{IsAscending};
 ghost use Rattle.world_io.specs.Ascending.{IsAscending-prop};
 ghost use Rattle.world_io.specs.Memory.{EachOnce, file_of, names_of, IsPlaceOf};
 
-use crate::memory::calls::Calls;
 use crate::memory::files::{copy_names, place_of};
 use crate::{CONTENT_MAX, Inbox, Name, WorldError};
-use disk_trait::Failed;
+use disk_trait::{Calls, Failed};
 
 /// Files that are taken by their names.
 #[derive(Debug, Drop)]
@@ -41,9 +41,9 @@ impl MemoryInbox {
     }
 }
 
-#[tactic(auto, using(crate::proofs::Counts::counts_any))]
+#[tactic(auto, using(disk_trait::proofs::Counts::counts_any))]
 impl Inbox for MemoryInbox {
-    ghost use Rattle.world_io.specs.Called.{Called, FailsNext};
+    ghost use Rattle.disk_trait.specs.Called.{Called, FailsNext};
     ghost use Rattle.world_io.specs.MemoryInbox.{files_left};
 
     ghost tells = { true };

@@ -3,14 +3,13 @@ ghost use Rattle.std.specs.Prelude.{◌≡◌, ◌≢◌, ◌↔◌, true, ℕ, 
 ghost use Rattle.std.specs.List.{IsDistinct};
 ghost use Rattle.std.specs.Option.{option_copied};
 ghost use Rattle.std.proofs.lemmas.Map.Keys.{IsDistinct-prop};
-ghost use Rattle.world_io.specs.Inbox.{bytes_of};
-ghost use Rattle.world_io.specs.Outbox.{with_file};
+ghost use Rattle.flowfile_record.specs.NamedFile.{bytes_of};
+ghost use Rattle.flowfile_record.specs.NamedFile.{with_file};
 ghost use Rattle.world_io.specs.Memory.{EachOnce, file_of, names_of};
 
-use crate::memory::calls::Calls;
 use crate::memory::files::place_of;
 use crate::{Name, Outbox};
-use disk_trait::Failed;
+use disk_trait::{Calls, Failed};
 use std::alloc::AllocError;
 
 /// Keeps the files that are put into it. A call goes over them all.
@@ -57,9 +56,9 @@ impl MemoryOutbox {
     }
 }
 
-#[tactic(auto, using(crate::proofs::Counts::counts_any))]
+#[tactic(auto, using(disk_trait::proofs::Counts::counts_any))]
 impl Outbox for MemoryOutbox {
-    ghost use Rattle.world_io.specs.Called.{Called, FailsNext};
+    ghost use Rattle.disk_trait.specs.Called.{Called, FailsNext};
     ghost use Rattle.world_io.specs.MemoryOutbox.{files_standing, standing_in};
 
     ghost tells = { true };

@@ -1,9 +1,8 @@
 //! A source and a sink of bytes in memory.
 ghost use Rattle.std.specs.Prelude.{◌≡◌, ◌↔◌, ◌<◌, ◌≤◌, [], ◌++◌, true, min, length, take, IfOk, OnOk, OnErr, IsErr, vec_len};
 
-use crate::memory::calls::Calls;
 use crate::{Sink, Source};
-use disk_trait::Failed;
+use disk_trait::{Calls, Failed};
 
 /// Bytes that are read from their front on.
 #[derive(Debug, Drop)]
@@ -30,9 +29,9 @@ impl MemorySource {
     }
 }
 
-#[tactic(auto, using(crate::proofs::Counts::counts_any, crate::proofs::Counts::read_rest))]
+#[tactic(auto, using(disk_trait::proofs::Counts::counts_any, crate::proofs::Pieces::read_rest))]
 impl Source for MemorySource {
-    ghost use Rattle.world_io.specs.Called.{Called, FailsNext};
+    ghost use Rattle.disk_trait.specs.Called.{Called, FailsNext};
     ghost use Rattle.world_io.specs.MemoryStream.{rest_of};
 
     ghost tells = { true };
@@ -88,9 +87,9 @@ impl MemorySink {
     }
 }
 
-#[tactic(auto, using(crate::proofs::Counts::counts_any))]
+#[tactic(auto, using(disk_trait::proofs::Counts::counts_any))]
 impl Sink for MemorySink {
-    ghost use Rattle.world_io.specs.Called.{Called, FailsNext};
+    ghost use Rattle.disk_trait.specs.Called.{Called, FailsNext};
     ghost use Rattle.world_io.specs.MemoryStream.{written_to};
 
     ghost tells = { true };

@@ -1,7 +1,7 @@
 use Rattle.std.proofs.Common.{◌≡◌, inl, inr, ⊎_elim, ◌+◌, List, [], refl, sym, ◌∙◌, ap, subst}
 use Rattle.std.proofs.lemmas.Result.{err_from_is_err_and}
 use Rattle.std.specs.Prelude.{Ok, Err, Result}
-use Rattle.world_io.specs.Inbox.{InboxFile}
+use Rattle.flowfile_record.specs.NamedFile.{NamedFile}
 use Rattle.store_core.specs.Opening.{SinceSync}
 use Rattle.store_core.specs.State.{stands_for}
 use Rattle.store_core.specs.declared.queued.Queued.{Queued}
@@ -23,7 +23,7 @@ returns-in-Err-clause-headline g c disk_told in_told out_told queue stands = ⊎
 
 pub returns-in-Err-list-clause-headline : goal.returns-in-Err-list-clause-headline
 returns-in-Err-list-clause-headline g c disk_told in_told out_told queue stands = ⊎_elim
-    (λ since. inl (subst (λ (l : List InboxFile). HasRun (status_of c.from-in-Err-list.result) (record { queue = queue; left = g.I.Inbox.left c.args.inbox.now; outbox = g.O.Outbox.standing c.args.outbox.now }) (g.D.Disk.held c.load.new.disk) (g.D.Disk.images c.load.new.disk) (g.D.Disk.moment c.args.disk.now + 1) (g.D.Disk.moment c.load.new.disk) l (g.O.Outbox.standing c.args.outbox.now))
+    (λ since. inl (subst (λ (l : List NamedFile). HasRun (status_of c.from-in-Err-list.result) (record { queue = queue; left = g.I.Inbox.left c.args.inbox.now; outbox = g.O.Outbox.standing c.args.outbox.now }) (g.D.Disk.held c.load.new.disk) (g.D.Disk.images c.load.new.disk) (g.D.Disk.moment c.args.disk.now + 1) (g.D.Disk.moment c.load.new.disk) l (g.O.Outbox.standing c.args.outbox.now))
     (sym c.list.ensures.left)
     (stops_between (status_of c.from-in-Err-list.result) _ (g.D.Disk.held c.load.new.disk) (g.D.Disk.images c.load.new.disk) _ (g.D.Disk.moment c.load.new.disk) queue _ _ (status_isnt_done c.from-in-Err-list.result)
     (begins g.D.Disk.moment g.D.Disk.images (g.D.Disk.held c.args.disk.now) c.args.disk.now c.load.new.disk queue (g.I.Inbox.left c.args.inbox.now) (g.O.Outbox.standing c.args.outbox.now) since stands))))
@@ -35,13 +35,13 @@ ok_is is = cc
 
 pub returns-in_err-move_all-clause-headline : goal.returns-in_err-move_all-clause-headline
 returns-in_err-move_all-clause-headline g c disk_told in_told out_told queue stands =
-    let left : List InboxFile = g.I.Inbox.left c.args.inbox.now in
+    let left : List NamedFile = g.I.Inbox.left c.args.inbox.now in
     let standing = g.O.Outbox.standing c.args.outbox.now in
     let same : queue ≡ c.in-Ok.store.files = ok_is (sym stands ∙ c.in-Ok.ensures.opened disk_told) in
     let run : SinceSync g.D.Disk.moment g.D.Disk.images c.args.disk.now c.load.new.disk (λ c'. stands_for c' ≡ stands_for (g.D.Disk.held c.args.disk.now))
     → IsRunning (record { queue = queue; left = left; outbox = standing }) (g.D.Disk.moment c.args.disk.now + 1) (g.D.Disk.images c.load.new.disk) (g.D.Disk.moment c.load.new.disk) c.in-Ok.store.files (g.I.Inbox.left c.list.new.self) standing =
     λ since. subst (λ (q : List Queued). IsRunning (record { queue = queue; left = left; outbox = standing }) (g.D.Disk.moment c.args.disk.now + 1) (g.D.Disk.images c.load.new.disk) (g.D.Disk.moment c.load.new.disk) q (g.I.Inbox.left c.list.new.self) standing) same
-    (subst (λ (l : List InboxFile). IsRunning (record { queue = queue; left = left; outbox = standing }) (g.D.Disk.moment c.args.disk.now + 1) (g.D.Disk.images c.load.new.disk) (g.D.Disk.moment c.load.new.disk) queue l standing) (sym c.list.ensures.left)
+    (subst (λ (l : List NamedFile). IsRunning (record { queue = queue; left = left; outbox = standing }) (g.D.Disk.moment c.args.disk.now + 1) (g.D.Disk.images c.load.new.disk) (g.D.Disk.moment c.load.new.disk) queue l standing) (sym c.list.ensures.left)
     (begins g.D.Disk.moment g.D.Disk.images (g.D.Disk.held c.args.disk.now) c.args.disk.now c.load.new.disk queue left standing since stands)) in
     let p = err_from_is_err_and c.from_residual.result c.from_residual.ensures.1 in
     let fails : c.from_residual.result ≡ Err c.in_err-move_all.field-0.0 = cc (p.1, p.2) in
@@ -54,13 +54,13 @@ returns-in_err-move_all-clause-headline g c disk_told in_told out_told queue sta
 
 pub returns-clause-headline : goal.returns-clause-headline
 returns-clause-headline g c disk_told in_told out_told queue stands =
-    let left : List InboxFile = g.I.Inbox.left c.args.inbox.now in
+    let left : List NamedFile = g.I.Inbox.left c.args.inbox.now in
     let standing = g.O.Outbox.standing c.args.outbox.now in
     let same : queue ≡ c.in-Ok.store.files = ok_is (sym stands ∙ c.in-Ok.ensures.opened disk_told) in
     let run : SinceSync g.D.Disk.moment g.D.Disk.images c.args.disk.now c.load.new.disk (λ c'. stands_for c' ≡ stands_for (g.D.Disk.held c.args.disk.now))
     → IsRunning (record { queue = queue; left = left; outbox = standing }) (g.D.Disk.moment c.args.disk.now + 1) (g.D.Disk.images c.load.new.disk) (g.D.Disk.moment c.load.new.disk) c.in-Ok.store.files (g.I.Inbox.left c.list.new.self) standing =
     λ since. subst (λ (q : List Queued). IsRunning (record { queue = queue; left = left; outbox = standing }) (g.D.Disk.moment c.args.disk.now + 1) (g.D.Disk.images c.load.new.disk) (g.D.Disk.moment c.load.new.disk) q (g.I.Inbox.left c.list.new.self) standing) same
-    (subst (λ (l : List InboxFile). IsRunning (record { queue = queue; left = left; outbox = standing }) (g.D.Disk.moment c.args.disk.now + 1) (g.D.Disk.images c.load.new.disk) (g.D.Disk.moment c.load.new.disk) queue l standing) (sym c.list.ensures.left)
+    (subst (λ (l : List NamedFile). IsRunning (record { queue = queue; left = left; outbox = standing }) (g.D.Disk.moment c.args.disk.now + 1) (g.D.Disk.images c.load.new.disk) (g.D.Disk.moment c.load.new.disk) queue l standing) (sym c.list.ensures.left)
     (begins g.D.Disk.moment g.D.Disk.images (g.D.Disk.held c.args.disk.now) c.args.disk.now c.load.new.disk queue left standing since stands)) in
     let laws = g.met.D.Disk g.world.𝓛 g.world.𝓜 g.world.𝓡 ((λ s x. x), (λ x. x), (λ x. x), λ x. x) in
     let new = c.move_all.new.disk in

@@ -1,5 +1,5 @@
 use Rattle.std.proofs.Common.{◌≡◌, ◌≤◌, ℕ, false, List, length, IsTrue}
-use Rattle.world_io.specs.Inbox.{InboxFile}
+use Rattle.flowfile_record.specs.NamedFile.{NamedFile}
 use Rattle.store_core.specs.Kept.{IsKeptOn}
 use Rattle.run_top.specs.Machine.{Machine}
 use Rattle.run_top.specs.Run.{IsRunning}
@@ -9,7 +9,7 @@ abbrev pub invariant-loop-store : goal.invariant-loop-store
 invariant-loop-store g l = record {
   works : l.store.failed ≡ false;
   kept : IsKeptOn g.D.Disk.moment g.D.Disk.images l.store l.disk;
-  goes_on : (opened : Machine) (start : ℕ) (left : List InboxFile) → IsTrue g.O.Outbox.tells
+  goes_on : (opened : Machine) (start : ℕ) (left : List NamedFile) → IsTrue g.O.Outbox.tells
       → IsRunning opened start (g.D.Disk.images l.fn.disk) (g.D.Disk.moment l.fn.disk) l.fn.store.files left (g.O.Outbox.standing l.fn.outbox)
       → IsRunning opened start (g.D.Disk.images l.disk) (g.D.Disk.moment l.disk) l.store.files left (g.O.Outbox.standing l.outbox);
   disk_faults : g.D.Disk.faults l.fn.disk ≤ g.D.Disk.faults l.disk;

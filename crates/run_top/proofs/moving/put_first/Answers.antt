@@ -1,6 +1,6 @@
 use Rattle.std.proofs.Common.{◌≡◌, ⊎_elim, true, List, drop, get_or, arith, sym, ◌∙◌, ap, subst}
 use Rattle.std.specs.Prelude.{Ok}
-use Rattle.world_io.specs.Outbox.{with_file}
+use Rattle.flowfile_record.specs.NamedFile.{with_file}
 use Rattle.store_core.specs.declared.queued.Queued.{Queued}
 use Rattle.run_top.specs.Status.{status_of}
 use Rattle.run_top.specs.Run.{IsRunning, HasRun}

@@ -1,7 +1,7 @@
 use Rattle.std.proofs.Common.{◌≡◌, ◌⊎◌, ⊎_elim, inl, inr, ℕ, true, ◌≤◌, List, [], ◌∷◌, ◌++◌, length, sym, ◌∙◌, ap, subst}
 use Rattle.std.specs.Prelude.{Ok, Some}
 use Rattle.disk_trait.specs.Files.{Files}
-use Rattle.world_io.specs.Inbox.{InboxFile, bytes_of, without}
+use Rattle.flowfile_record.specs.NamedFile.{NamedFile, bytes_of, without}
 use Rattle.flowfile_record.specs.declared.TheConstants.{CONTENT_MAX}
 use Rattle.store_core.specs.Entry.{queued}
 use Rattle.store_core.specs.State.{stands_for}
@@ -13,29 +13,29 @@ use Rattle.run_top.proofs.moving.take.Goals as goal
 
 pub returns-in-Err-add-clause-stopped : goal.returns-in-Err-add-clause-stopped
 returns-in-Err-add-clause-stopped g c error is opened start standing told run =
-    let left : List InboxFile = g.I.Inbox.left c.args.inbox.now in
+    let left : List NamedFile = g.I.Inbox.left c.args.inbox.now in
     let files : List Queued = c.args.store.now.files in
     let name : List ℕ = c.args.name.now in
     let bytes : List ℕ = c.as_slice.result.now in
     let sized : g.I.Inbox.left c.size.new.self ≡ left = c.size.ensures.left in
     let read : g.I.Inbox.left c.read.new.self ≡ left = c.read.ensures.left ∙ sized in
     let found : bytes_of left name ≡ Some bytes =
-    ap (λ (l : List InboxFile). bytes_of l name) (sym sized) ∙ c.in_default-read.ensures.bytes told ∙ ap Some (sym c.as_slice.ensures.value) in
+    ap (λ (l : List NamedFile). bytes_of l name) (sym sized) ∙ c.in_default-read.ensures.bytes told ∙ ap Some (sym c.as_slice.ensures.value) in
     let small : length bytes ≤ CONTENT_MAX = subst (λ (b : List ℕ). length b ≤ CONTENT_MAX) (sym c.as_slice.ensures.value) c.in_default-read.ensures.most in
     let since = c.add.ensures.images c.requires.works in
-    subst (λ (l : List InboxFile). HasRun (status_of error) opened (g.D.Disk.held c.add.new.disk) (g.D.Disk.images c.add.new.disk) start (g.D.Disk.moment c.add.new.disk) l standing) (sym read)
+    subst (λ (l : List NamedFile). HasRun (status_of error) opened (g.D.Disk.held c.add.new.disk) (g.D.Disk.images c.add.new.disk) start (g.D.Disk.moment c.add.new.disk) l standing) (sym read)
     (get_open g.D.Disk.moment g.D.Disk.images c.args.disk.now c.add.new.disk opened start files left standing run name bytes found small since (status_of error) (g.D.Disk.held c.add.new.disk) (status_isnt_done error))
 
 pub returns-in_default-remove-clause-stopped : goal.returns-in_default-remove-clause-stopped
 returns-in_default-remove-clause-stopped g c error is opened start standing told run =
-    let left : List InboxFile = g.I.Inbox.left c.args.inbox.now in
+    let left : List NamedFile = g.I.Inbox.left c.args.inbox.now in
     let files : List Queued = c.args.store.now.files in
     let name : List ℕ = c.args.name.now in
     let bytes : List ℕ = c.as_slice.result.now in
     let sized : g.I.Inbox.left c.size.new.self ≡ left = c.size.ensures.left in
     let read : g.I.Inbox.left c.read.new.self ≡ left = c.read.ensures.left ∙ sized in
     let found : bytes_of left name ≡ Some bytes =
-    ap (λ (l : List InboxFile). bytes_of l name) (sym sized) ∙ c.in_default-read.ensures.bytes told ∙ ap Some (sym c.as_slice.ensures.value) in
+    ap (λ (l : List NamedFile). bytes_of l name) (sym sized) ∙ c.in_default-read.ensures.bytes told ∙ ap Some (sym c.as_slice.ensures.value) in
     let small : length bytes ≤ CONTENT_MAX = subst (λ (b : List ℕ). length b ≤ CONTENT_MAX) (sym c.as_slice.ensures.value) c.in_default-read.ensures.most in
     let since = c.add.ensures.images c.requires.works in
     let works = works_on c.add.new.self.failed (λ t. ⊎_elim (λ (o : c.args.store.now.failed ≡ true). cc (o, c.requires.works)) (λ e. cc (e, c.in_default-add.is)) (c.in_default-add.ensures.failed.0 t)) in
@@ -49,14 +49,14 @@ returns-in_default-remove-clause-stopped g c error is opened start standing told
 
 pub returns-clause-goes_on : goal.returns-clause-goes_on
 returns-clause-goes_on g c opened start standing told run =
-    let left : List InboxFile = g.I.Inbox.left c.args.inbox.now in
+    let left : List NamedFile = g.I.Inbox.left c.args.inbox.now in
     let files : List Queued = c.args.store.now.files in
     let name : List ℕ = c.args.name.now in
     let bytes : List ℕ = c.as_slice.result.now in
     let sized : g.I.Inbox.left c.size.new.self ≡ left = c.size.ensures.left in
     let read : g.I.Inbox.left c.read.new.self ≡ left = c.read.ensures.left ∙ sized in
     let found : bytes_of left name ≡ Some bytes =
-    ap (λ (l : List InboxFile). bytes_of l name) (sym sized) ∙ c.in_default-read.ensures.bytes told ∙ ap Some (sym c.as_slice.ensures.value) in
+    ap (λ (l : List NamedFile). bytes_of l name) (sym sized) ∙ c.in_default-read.ensures.bytes told ∙ ap Some (sym c.as_slice.ensures.value) in
     let small : length bytes ≤ CONTENT_MAX = subst (λ (b : List ℕ). length b ≤ CONTENT_MAX) (sym c.as_slice.ensures.value) c.in_default-read.ensures.most in
     let since = c.add.ensures.images c.requires.works in
     let works = works_on c.add.new.self.failed (λ t. ⊎_elim (λ (o : c.args.store.now.failed ≡ true). cc (o, c.requires.works)) (λ e. cc (e, c.in_default-add.is)) (c.in_default-add.ensures.failed.0 t)) in

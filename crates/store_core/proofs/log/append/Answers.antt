@@ -18,7 +18,7 @@ returns-in_err-write_synced-2-clause-images g c queue entry block rest is frame_
     let laws = g.met.D.Disk g.world.𝓛 g.world.𝓜 g.world.𝓡 ((λ s x. x), (λ x. x), (λ x. x), λ x. x) in
     entry_or_none g.D.Disk.moment g.D.Disk.images old mid c.write_synced-2.new.disk (g.D.Disk.held old) (g.D.Disk.held mid) c.args.end queue entry block c.args.frame.now rest is frame_is
     (λ d left. let told = laws.left_is_told mid (g.D.Disk.moment mid) d left in (laws.held_is_left old told, c.in_ok-write_synced.ensures.written told))
-    c.in_ok-write_synced.ensures.settled c.write_synced.ensures.images c.write_synced-2.ensures.images
+    c.in_ok-write_synced.ensures.synced c.write_synced.ensures.images c.write_synced-2.ensures.images
 
 pub returns-clause-images : goal.returns-clause-images
 returns-clause-images g c queue entry block rest is frame_is =
@@ -27,7 +27,7 @@ returns-clause-images g c queue entry block rest is frame_is =
     let laws = g.met.D.Disk g.world.𝓛 g.world.𝓜 g.world.𝓡 ((λ s x. x), (λ x. x), (λ x. x), λ x. x) in
     entry_or_none g.D.Disk.moment g.D.Disk.images old mid c.write_synced-2.new.disk (g.D.Disk.held old) (g.D.Disk.held mid) c.args.end queue entry block c.args.frame.now rest is frame_is
     (λ d left. let told = laws.left_is_told mid (g.D.Disk.moment mid) d left in (laws.held_is_left old told, c.in_ok-write_synced.ensures.written told))
-    c.in_ok-write_synced.ensures.settled c.write_synced.ensures.images c.write_synced-2.ensures.images
+    c.in_ok-write_synced.ensures.synced c.write_synced.ensures.images c.write_synced-2.ensures.images
 
 pub returns-clause-added : goal.returns-clause-added
 returns-clause-added g c queue after entry block rest is frame_is fits c' left =
@@ -40,6 +40,6 @@ returns-clause-added g c queue after entry block rest is frame_is fits c' left =
     let staged = staged_log c.args.end queue (g.D.Disk.held old) (g.D.Disk.held mid) was block c.args.frame.now (c.in_ok-write_synced.ensures.written told) frame_is in
     let over = subst (λ (l : List ℕ). Overwritten c.args.end (open_gate ∷ []) l (g.D.Disk.held new the_log)) staged (c.in_ok-write_synced-2.ensures.written told).here in
     let at_rest = written_gate c.args.end queue (g.D.Disk.held old the_log) was entry block is after (g.D.Disk.held new the_log) fits over in
-    let settled = ap (λ (f : Files). f the_log) (c.in_ok-write_synced-2.ensures.settled c' left) in
+    let settled = ap (λ (f : Files). f the_log) (c.in_ok-write_synced-2.ensures.synced c' left) in
     subst (λ (l : List ℕ). IsAtRest (c.args.end + length l) after (c' the_log)) (sym frame_is)
     (subst (λ (l : List ℕ). IsAtRest (c.args.end + length (block ++ closed_gate ∷ [])) after l) (sym settled) at_rest)

@@ -12,7 +12,7 @@ returns-in_err-cut_synced-clause-images g c =
     wider g.D.Disk.moment g.D.Disk.images old c.cut_synced.new.disk _ _ c.cut_synced.ensures.images
     (λ c' after.
     let told = laws.left_is_told old (g.D.Disk.moment old) after.0 after.1 in
-    clear_gives (g.D.Disk.held old) after.0 c' (c.requires.short told) (c.requires.settled after.0 after.1) after.2.here)
+    clear_gives (g.D.Disk.held old) after.0 c' (c.requires.short told) (c.requires.synced after.0 after.1) after.2.here)
 
 pub returns-in_ok-cut_synced-clause-images : goal.returns-in_ok-cut_synced-clause-images
 returns-in_ok-cut_synced-clause-images g c =
@@ -21,7 +21,7 @@ returns-in_ok-cut_synced-clause-images g c =
     wider g.D.Disk.moment g.D.Disk.images old c.cut_synced.new.disk _ _ c.cut_synced.ensures.images
     (λ c' after.
     let told = laws.left_is_told old (g.D.Disk.moment old) after.0 after.1 in
-    clear_gives (g.D.Disk.held old) after.0 c' (c.requires.short told) (c.requires.settled after.0 after.1) after.2.here)
+    clear_gives (g.D.Disk.held old) after.0 c' (c.requires.short told) (c.requires.synced after.0 after.1) after.2.here)
 
 pub returns-else-size-gt0-clause-images : goal.returns-else-size-gt0-clause-images
 returns-else-size-gt0-clause-images g c =
@@ -30,4 +30,4 @@ returns-else-size-gt0-clause-images g c =
     wider g.D.Disk.moment g.D.Disk.images old old _ _ (nothing g.D.Disk.moment g.D.Disk.images old)
     (λ c' left.
     let told = laws.left_is_told old (g.D.Disk.moment old) c' left in
-    held_gives 0 [] false (g.D.Disk.held old) c' (hardly_there (g.D.Disk.held old the_log) (c.requires.short told)) (c.requires.settled c' left))
+    held_gives 0 [] false (g.D.Disk.held old) c' (hardly_there (g.D.Disk.held old the_log) (c.requires.short told)) (c.requires.synced c' left))

@@ -1,10 +1,10 @@
 use Rattle.std.proofs.Common.{sym, ◌∙◌, arith}
-use Rattle.disk_trait.proofs.DiskCalls.{held-settled}
+use Rattle.disk_trait.proofs.DiskCalls.{held-durable}
 use Rattle.disk_trait.proofs.DiskStops.{walk_fits, walk_held}
 use Rattle.disk_trait.proofs.memory.replay.replay.Goals as goal
 
 pub loop-call-init : goal.loop-call-init
-loop-call-init c = c.in_ok-bytes.ensures.items ∙ sym (held-settled c.args.first.now)
+loop-call-init c = c.in_ok-bytes.ensures.items ∙ sym (held-durable c.args.first.now)
 
 pub apply-requires : goal.apply-requires
 apply-requires c =

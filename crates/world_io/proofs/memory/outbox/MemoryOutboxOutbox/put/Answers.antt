@@ -1,5 +1,5 @@
 use Rattle.std.proofs.Common.{◌∙◌, List, Option, ℕ, map, ap}
-use Rattle.world_io.specs.Inbox.{bytes_of}
+use Rattle.flowfile_record.specs.NamedFile.{bytes_of}
 use Rattle.world_io.specs.Memory.{file_of}
 use Rattle.world_io.proofs.Standing.{with_file-other}
 use Rattle.world_io.proofs.memory.outbox.MemoryOutboxOutbox.put.Goals as goal

@@ -1,6 +1,6 @@
 use Rattle.std.proofs.Common.{arith}
 use Rattle.std.proofs.lemmas.Grind.{common_steps}
-use Rattle.world_io.proofs.Counts.{read_rest}
+use Rattle.world_io.proofs.Pieces.{read_rest}
 use Rattle.world_io.proofs.memory.stream.MemorySourceSource.read.Goals as goal
 
 pub returns-clause-bytes : goal.returns-clause-bytes

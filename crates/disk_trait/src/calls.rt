@@ -1,9 +1,9 @@
-//! The calls of an object in memory, some of which fail.
+//! The calls of an object in memory: how many there were, which of them fail, and how many did.
 ghost use Rattle.std.specs.Prelude.{◌≡◌, ◌↔◌, ⊤, OnOk, OnErr, IsErr};
 ghost use Rattle.disk_trait.specs.Faults.{CountsFaults};
-ghost use Rattle.world_io.specs.Count.{one_more};
+ghost use Rattle.disk_trait.specs.Count.{one_more};
 
-use disk_trait::Failed;
+use crate::Failed;
 
 /// The calls of an object in memory.
 #[derive(Debug, Drop)]
@@ -17,9 +17,10 @@ pub struct Calls {
 }
 
 impl Calls {
-    ghost use Rattle.world_io.specs.Called.{FailsNext};
+    ghost use Rattle.disk_trait.specs.Called.{FailsNext};
 
-    pub(crate) fn new(failing: Vec<u64>) -> Calls
+    /// No calls yet.
+    pub fn new(failing: Vec<u64>) -> Calls
         ensures failing { result.failing ≡ failing }
         ensures count { result.count ≡ 0 }
         ensures faults { result.faults ≡ 0 }
@@ -32,7 +33,7 @@ impl Calls {
     }
 
     /// Counts a call, which fails where its number is listed.
-    pub(crate) fn begin(&mut self) -> Result<(), Failed>
+    pub fn begin(&mut self) -> Result<(), Failed>
         ensures fails { IsErr result ↔ FailsNext self.old }
         ensures failing { self.new.failing ≡ self.old.failing }
         ensures count { self.new.count ≡ one_more self.old.count }
@@ -48,7 +49,7 @@ impl Calls {
     }
 
     /// Counts a fault of the call that is under way.
-    pub(crate) fn fault(&mut self) -> Failed
+    pub fn fault(&mut self) -> Failed
         ensures faults { self.new ≡ record self.old { faults = one_more self.old.faults } }
         ensures cause { CountsFaults self.old.faults self.new.faults ⊤ }
     {

@@ -1,4 +1,4 @@
-//! A change of one file and the sync that settles it.
+//! A change of one file and the sync behind it.
 ghost use Rattle.std.specs.Prelude.{◌≡◌, ◌+◌, ◌^◌, ◌<◌, ◌≤◌, length, take, IsTrue, OnOk, IsErr};
 ghost use Rattle.disk_trait.specs.Files.{At, Overwritten, Torn, Shortened};
 ghost use Rattle.disk_trait.specs.Images.{After, Since, IsOnly};
@@ -6,7 +6,7 @@ ghost use Rattle.disk_trait.specs.Faults.{CountsFaults};
 
 use crate::{Disk, Failed, FileName};
 
-/// Writes over a file and settles the disk: a write and a sync.
+/// Writes over a file and syncs the disk: a write and a sync.
 pub fn write_synced<D: Disk>(
     disk: &mut D,
     file: FileName,
@@ -14,9 +14,8 @@ pub fn write_synced<D: Disk>(
     bytes: &[u8],
 ) -> Result<(), Failed>
     requires { IsTrue D.tells → at ≤ length (D.held disk.old file) }
-    ensures settled { OnOk result (IsOnly (D.held disk.new) (D.images disk.new (D.moment disk.new))) }
+    ensures synced { OnOk result (IsOnly (D.held disk.new) (D.images disk.new (D.moment disk.new))) }
     ensures written { OnOk result (IsTrue D.tells → At file (Overwritten at bytes.now) (D.held disk.old) (D.held disk.new)) }
-    ensures torn { IsTrue D.tells → At file (Torn at (length bytes.now)) (D.held disk.old) (D.held disk.new) }
     ensures images { Since D.moment D.images disk.old disk.new (After (At file (Torn at (length bytes.now))) (D.images disk.old (D.moment disk.old))) }
     ensures fits { OnOk result (at + length bytes.now < 2 ^ 64) }
     ensures cause { CountsFaults (D.faults disk.old) (D.faults disk.new) (IsErr result) }
@@ -25,12 +24,11 @@ pub fn write_synced<D: Disk>(
     disk.sync()
 }
 
-/// Cuts a file and settles the disk: a cut and a sync.
+/// Cuts a file and syncs the disk: a cut and a sync.
 pub fn cut_synced<D: Disk>(disk: &mut D, file: FileName, size: u64) -> Result<(), Failed>
     requires { IsTrue D.tells → size ≤ length (D.held disk.old file) }
-    ensures settled { OnOk result (IsOnly (D.held disk.new) (D.images disk.new (D.moment disk.new))) }
+    ensures synced { OnOk result (IsOnly (D.held disk.new) (D.images disk.new (D.moment disk.new))) }
     ensures cut { OnOk result (IsTrue D.tells → At file (λ old new. new ≡ take size old) (D.held disk.old) (D.held disk.new)) }
-    ensures shortened { IsTrue D.tells → At file (Shortened size) (D.held disk.old) (D.held disk.new) }
     ensures images { Since D.moment D.images disk.old disk.new (After (At file (Shortened size)) (D.images disk.old (D.moment disk.old))) }
     ensures cause { CountsFaults (D.faults disk.old) (D.faults disk.new) (IsErr result) }
 {

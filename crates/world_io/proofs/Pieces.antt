@@ -1,12 +1,6 @@
--- Fault counts, and pieces of a list.
-use Rattle.std.specs.Prelude.{⊤}
+-- Pieces of a list.
 use Rattle.std.proofs.Common.{◌≡◌, ℕ, ◌+◌, List, ◌++◌, length, take, drop, sym, ap, ◌∙◌}
 use Rattle.std.proofs.lemmas.List.{take_at, take-append-drop, drop-drop}
-use Rattle.disk_trait.specs.Faults.{CountsFaults}
-
--- a count that went up counts any failure
-pub counts_any : (before now : ℕ) (failed : Type 0) → CountsFaults before now ⊤ → CountsFaults before now failed
-counts_any before now failed up = record { never_falls = up.never_falls; rose = λ _. up.rose tt }
 
 -- what was read, and then what is left
 pub read_rest : (at count : ℕ) (bytes read after : List ℕ) → read ≡ take count (drop at bytes) → length read ≡ count → drop at bytes ≡ take count (read ++ after) ++ drop (at + count) bytes

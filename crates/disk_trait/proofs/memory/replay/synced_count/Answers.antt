@@ -1,10 +1,10 @@
 use Rattle.std.proofs.Common.{arith}
-use Rattle.disk_trait.proofs.DiskStops.{settled_none, count_sync, count_change}
-use Rattle.disk_trait.proofs.memory.replay.settled_count.Goals.{in-Sync, in_default}
-use Rattle.disk_trait.proofs.memory.replay.settled_count.Goals as goal
+use Rattle.disk_trait.proofs.DiskStops.{counted_none, count_sync, count_change}
+use Rattle.disk_trait.proofs.memory.replay.synced_count.Goals.{in-Sync, in_default}
+use Rattle.disk_trait.proofs.memory.replay.synced_count.Goals as goal
 
 pub loop-i-init : goal.loop-i-init
-loop-i-init c = record { within = omega arith; counted = settled_none }
+loop-i-init c = record { within = omega arith; counted = counted_none }
 
 pub loop-i-preserved : goal.loop-i-preserved
 loop-i-preserved c = elim c.match-call.branch [

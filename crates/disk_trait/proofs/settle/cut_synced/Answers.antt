@@ -1,6 +1,0 @@
-use Rattle.disk_trait.proofs.Moments.{and_settles}
-use Rattle.disk_trait.proofs.settle.cut_synced.Goals as goal
-
-pub returns-clause-images : goal.returns-clause-images
-returns-clause-images g c =
-    and_settles g.D.Disk.moment g.D.Disk.images c.args.disk.now c.cut.new.self c.sync.new.self _ c.cut.ensures.images c.sync.ensures.images

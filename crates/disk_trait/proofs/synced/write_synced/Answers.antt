@@ -1,0 +1,6 @@
+use Rattle.disk_trait.proofs.Moments.{and_syncs}
+use Rattle.disk_trait.proofs.synced.write_synced.Goals as goal
+
+pub returns-clause-images : goal.returns-clause-images
+returns-clause-images g c =
+    and_syncs g.D.Disk.moment g.D.Disk.images c.args.disk.now c.write.new.self c.sync.new.self _ c.write.ensures.images c.sync.ensures.images
