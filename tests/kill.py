@@ -3,7 +3,7 @@
 
 Every file's bytes have to be in `out` then, `in` has to be empty, nothing may be left over, and no start
 may end with a status but 0: the store opens every time. A kill ends the process and not the machine, so
-this tries the order of the program's steps, and not what a power cut leaves of unsettled writes.
+this tries the order of the program's steps, and not what a power cut leaves of pending writes.
 """
 
 import os

@@ -111,7 +111,7 @@ def damaged(program, parent, case):
         put_log(folder, DAMAGE[case])
         write_files(folder / "in", {"waits": b"untouched"})
         write_files(folder / "out", {"a": b"from before"})
-        (folder / "store" / "lock").write_bytes(b"")
+        (folder / "store" / "lock").write_bytes(b"\0")
         before = photo(folder)
         need_status(run(program, folder), DAMAGED)
         need(photo(folder) == before, "something was written")

@@ -73,6 +73,8 @@ impl<'r, R: Files<File = File> + Alloc + Sync> Disk for StoreFolder<'r, R> {
 
     ghost left_is_told = { λ _ _ _. left_by_none };
 
+    ghost images_end = { λ _ _ _ _. left_by_none };
+
     fn files(&mut self, kind: FileKind, list: &mut Vec<u64>) -> Result<(), DiskError> {
         match list_numbers(&self.place, &mut self.files, kind, list) {
             Ok(()) => Ok(()),
