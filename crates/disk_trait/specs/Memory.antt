@@ -6,7 +6,7 @@ use Rattle.disk_trait.specs.declared.memory.call.DiskCall.{DiskCall}
 use Rattle.disk_trait.specs.declared.memory.call.DiskCall.TheVariants.{Write, Cut, Sync}
 
 -- a file since the last sync: its bytes now and at that sync, its least and greatest length since, and
--- the places that may hold any byte after a stop
+-- the offsets that may hold any byte after a stop
 pub record FileState : Type 0 where
   pub held : List ℕ
   pub synced : List ℕ
@@ -24,7 +24,7 @@ durable bytes = record {
   pending = λ _. false;
 }
 
--- after a call that made the file this and pending these places
+-- after a call that made the file this and left these offsets pending
 unfoldable pub changed : List ℕ → (ℕ → Bool) → FileState → FileState
 changed held touched state = record {
   held = held;

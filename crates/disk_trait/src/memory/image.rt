@@ -9,12 +9,12 @@ ghost use Rattle.disk_trait.specs.MemoryTable.{bytes_of, first_of};
 use super::DiskCall;
 use super::replay::replay;
 use super::table::FileTable;
-use super::tear::{tear, touched_places};
+use super::tear::{tear, touched_offsets};
 use crate::FileName;
 use std::alloc::AllocError;
 
 impl FileTable {
-    /// Each file as the calls left it, but for the places that the `torn` ones touched.
+    /// Each file as the calls left it, but for the bytes that the `torn` ones touched.
     pub(crate) fn image(
         &self,
         calls: &[DiskCall],
@@ -58,7 +58,7 @@ impl FileTable {
             (state_after name (durable (first_of self.now name)) calls.now).held) }
     {
         let mut bytes = replay(self.alloc, self.first(name), name, calls)?;
-        let marks = touched_places(self.alloc, name, torn, bytes.len())?;
+        let marks = touched_offsets(self.alloc, name, torn, bytes.len())?;
         let next = tear(&mut bytes, &marks, seed);
         Ok((bytes, next))
     }

@@ -3,8 +3,7 @@ ghost use Rattle.std.specs.Prelude.{◌≡◌, ◌≢◌, ◌↔◌, true, ℕ, 
 ghost use Rattle.std.specs.List.{IsDistinct};
 ghost use Rattle.std.specs.Option.{option_copied};
 ghost use Rattle.std.proofs.lemmas.Map.Keys.{IsDistinct-prop};
-ghost use Rattle.flowfile_record.specs.NamedFile.{bytes_of};
-ghost use Rattle.flowfile_record.specs.NamedFile.{with_file};
+ghost use Rattle.flowfile_record.specs.NamedFile.{bytes_of, with_file};
 ghost use Rattle.world_io.specs.Memory.{EachOnce, file_of, names_of};
 
 use crate::memory::files::place_of;
