@@ -235,10 +235,6 @@ module _ {A : Type 0} (number : A → ℕ) where
   the None e = absurd cc
   the (Some item) e = (item, refl)
 
-  no : (o : Option A) → is_some o ≡ false → o ≡ None
-  no None e = refl
-  no (Some item) e = absurd cc
-
   -- ---- slots
 
   module _ (slots : List (Slot A)) (count : ℕ) (are : AreSlots number slots count) where
@@ -268,7 +264,10 @@ module _ {A : Type 0} (number : A → ℕ) where
     pub slots_within : count ≤ length slots
     slots_within = let le = length-items_of slots in let is = are.count in omega arith
 
-    module _ (news : List (Slot A)) (new : A) (made : map number_and_item news ≡ put nat_cmp (number new) (Some new) es) (none : item_of number (number new) (items_of slots) ≡ None) where
+    module _ (news : List (Slot A)) (new : A) (n : ℕ) (is : n ≡ number new) (put_so : map number_and_item news ≡ put nat_cmp n (Some new) es) (none : item_of number (number new) (items_of slots) ≡ None) where
+      made : map number_and_item news ≡ put nat_cmp (number new) (Some new) es
+      made = put_so ∙ ap (λ k. put nat_cmp k (Some new) es) is
+
       pub items-put : items_of news ≡ with_item number new (items_of slots)
       items-put = items-held news ∙ ap held made ∙ held-put new es rises owns (ap (item_of number (number new)) (sym (items-held slots)) ∙ none) ∙ ap (with_item number new) (sym (items-held slots))
 
@@ -276,7 +275,7 @@ module _ {A : Type 0} (number : A → ℕ) where
       slots-put = record {
         ascending = T-to _ (subst (λ l. T (is_sorted nat_cmp l)) (sym made) (is_sorted-put nat_cmp nat_cmp_total (number new) (Some new) es (T-from _ are.ascending)));
         own = subst (All (λ e. IfSome e.1 (λ item. number item ≡ e.0))) (sym made) (All-put nat_cmp_total nat_cmp-IsAntisymmetric (λ e. IfSome e.1 (λ item. number item ≡ e.0)) (number new) (Some new) es refl are.own);
-        count = let is = are.count in let long = ap length items-put ∙ length-with_item new (items_of slots) in omega arith;
+        count = let was = are.count in let long = ap length items-put ∙ length-with_item new (items_of slots) in omega arith;
       }
 
     module _ (news : List (Slot A)) (n : ℕ) (made : map number_and_item news ≡ put nat_cmp n None es) where
@@ -297,9 +296,6 @@ module _ {A : Type 0} (number : A → ℕ) where
           let same = ap length items-take in
           let was = are.count in
           slots-left less (omega arith)
-
-      pub slots-kept : is_some (item_of number n (items_of slots)) ≡ false → AreSlots number news count
-      slots-kept none = slots-left count (are.count ∙ ap length (sym (items-take ∙ without_none n (items_of slots) (no (item_of number n (items_of slots)) none))))
 
     pub taken_some : (n : ℕ) → is_some (item_of number n (items_of slots)) ≡ true → 0 < count
     taken_some n some =
