@@ -5,7 +5,7 @@ use Rattle.std.specs.Int.{w16, w32, w64}
 use Rattle.std.proofs.lemmas.Bool.{ne_eqb}
 use Rattle.flowfile_record.specs.Reading.{Reading, ◌>>=◌, ◌then◌, uint_at, number_at, first_at}
 use Rattle.record_codec.specs.ActiveFile.{active_file_at, active_front_at}
-use Rattle.record_codec.specs.FileReading.{attributes_at, content_ref_at, file_number_at, file_front_at, flow_file_at, pairs_at}
+use Rattle.record_codec.specs.FileReading.{attributes_at, content_ref_at, file_number_at, file_front_at, flow_file_at}
 
 abbrev Read : Type 0 → Type 0
 Read A = Result (A × List ℕ) ℕ

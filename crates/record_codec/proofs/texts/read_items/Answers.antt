@@ -4,8 +4,7 @@ use Rattle.std.proofs.lemmas.Result.{err_from_is_err_and}
 use Rattle.flowfile_record.specs.Reading.{text_at, items_at}
 use Rattle.flowfile_record.specs.declared.fields.fault.FieldError.TheVariants.{Memory}
 use Rattle.flowfile_record.proofs.Items.{goes_on, fails, is_done}
-use Rattle.record_codec.specs.ActiveFile.{active_file_at, active_front_at}
-use Rattle.record_codec.proofs.Fronts.{first_front, active_has_front}
+use Rattle.record_codec.proofs.Fronts.{first_front}
 use Rattle.record_codec.proofs.texts.read_items.Goals as goal
 
 pub returns-in_err-text-clause-read : goal.returns-in_err-text-clause-read

@@ -1,7 +1,6 @@
 use Rattle.std.proofs.Common.{◌≡◌, ◌-◌, ◌<◌, IsTrue, is_ok}
 use Rattle.flowfile_record.specs.Reading.{text_at, items_at}
 use Rattle.flowfile_record.proofs.Items.{with_front}
-use Rattle.record_codec.specs.ActiveFile.{active_file_at, active_front_at}
 use Rattle.record_codec.proofs.texts.read_items.Given as goal
 
 abbrev pub invariant-loop : goal.invariant-loop

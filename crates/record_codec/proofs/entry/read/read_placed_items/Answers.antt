@@ -1,7 +1,7 @@
 use Rattle.std.proofs.Common.{◌≡◌, ap, Err, arith}
 use Rattle.std.specs.Prelude.{is_ok}
 use Rattle.std.proofs.lemmas.Result.{err_from_is_err_and}
-use Rattle.flowfile_record.specs.Reading.{text_at, items_at}
+use Rattle.flowfile_record.specs.Reading.{items_at}
 use Rattle.flowfile_record.specs.declared.fields.fault.FieldError.TheVariants.{Memory}
 use Rattle.flowfile_record.proofs.Items.{goes_on, fails, is_done}
 use Rattle.record_codec.specs.ActiveFile.{active_file_at, active_front_at}

@@ -1,5 +1,5 @@
 use Rattle.std.proofs.Common.{◌≡◌, ◌-◌, ◌<◌, IsTrue, is_ok}
-use Rattle.flowfile_record.specs.Reading.{text_at, items_at}
+use Rattle.flowfile_record.specs.Reading.{items_at}
 use Rattle.flowfile_record.proofs.Items.{with_front}
 use Rattle.record_codec.specs.ActiveFile.{active_file_at, active_front_at}
 use Rattle.record_codec.proofs.entry.read.read_placed_items.Given as goal

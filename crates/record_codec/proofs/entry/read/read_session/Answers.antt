@@ -1,11 +1,11 @@
 use Rattle.std.proofs.Common.{◌≡◌, ap, Err}
 use Rattle.std.proofs.lemmas.Result.{err_from_is_err_and}
 use Rattle.std.specs.Prelude.{is_ok}
-use Rattle.std.specs.Int.{w16, w32, w64}
-use Rattle.flowfile_record.specs.Reading.{◌then◌, uint_at, number_at, numbers_at, raw_at, text_at, first_at}
+use Rattle.std.specs.Int.{w16, w64}
+use Rattle.flowfile_record.specs.Reading.{◌then◌, uint_at, number_at, numbers_at, first_at}
 use Rattle.flowfile_record.specs.declared.fields.fault.FieldError.TheVariants.{Memory}
 use Rattle.record_codec.specs.ActiveFile.{active_front_at}
-use Rattle.record_codec.proofs.Fronts.{then_ok, first_ok, or_left, or_right}
+use Rattle.record_codec.proofs.Fronts.{then_ok, or_left, or_right}
 use Rattle.record_codec.proofs.entry.read.read_session.Goals as goal
 
 pub returns-in_err-gone-clause-memory : goal.returns-in_err-gone-clause-memory
