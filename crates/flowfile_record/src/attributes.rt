@@ -9,7 +9,8 @@ ghost use Rattle.std.specs.FinMap as map;
 ghost use Rattle.std.specs.FinMap.{put, insert, is_sorted};
 ghost use Rattle.flowfile_record.specs.Attributes.{encoded_size, pair_size, has_key_length, is_uuid, IsWithinLimits, IsPutAnswer, put_answer, after_put, shared};
 ghost use Rattle.flowfile_record.specs.Outcome.{same_attributes};
-ghost use Rattle.flowfile_record.specs.HeldPairs.{key_and_value, IsPlaceOf, IsGapFor};
+ghost use Rattle.flowfile_record.specs.HeldPairs.{key_and_value};
+ghost use Rattle.flowfile_record.specs.Places.{IsAt, IsGap};
 ghost use Rattle.flowfile_record.specs.OptionalText.{same_text};
 
 use crate::Text;
@@ -255,8 +256,8 @@ fn size_of_all(pairs: &[Pair]) -> u64
 // Where the pair of a key stands, or where it would.
 fn place_of(pairs: &[Pair], key: &str) -> Result<usize, usize>
     requires { IsTrue (is_sorted (slice_cmp nat_cmp) (each key_and_value pairs.now)) }
-    ensures found { IfOk result (IsPlaceOf (each key_and_value pairs.now) key.now) }
-    ensures absent { IfErr result (IsGapFor (each key_and_value pairs.now) key.now) }
+    ensures found { IfOk result (IsAt (slice_cmp nat_cmp) (each key_and_value pairs.now) key.now) }
+    ensures absent { IfErr result (IsGap (slice_cmp nat_cmp) (each key_and_value pairs.now) key.now) }
 {
     pairs.binary_search_by(
         |pair: &Pair| -> Ordering
@@ -270,8 +271,8 @@ fn size_with(pairs: &[Pair], size: u64, place: Result<usize, usize>, key: &str, 
     requires size_is { size ≡ sum_by pair_size (each key_and_value pairs.now) + COUNT_SIZE }
     requires size_within { size ≤ ATTRIBUTES_MAX }
     requires key_within { length key.now ≤ KEY_MAX }
-    requires found { IfOk place (IsPlaceOf (each key_and_value pairs.now) key.now) }
-    requires absent { IfErr place (IsGapFor (each key_and_value pairs.now) key.now) }
+    requires found { IfOk place (IsAt (slice_cmp nat_cmp) (each key_and_value pairs.now) key.now) }
+    requires absent { IfErr place (IsGap (slice_cmp nat_cmp) (each key_and_value pairs.now) key.now) }
     ensures { result ≡ sum_by pair_size (put (slice_cmp nat_cmp) key.now value.now (each key_and_value pairs.now)) + COUNT_SIZE }
 {
     match place {
@@ -287,8 +288,8 @@ fn store(
     key: &str,
     value: &str,
 ) -> Result<(), AllocError>
-    requires found { IfOk place (IsPlaceOf (each key_and_value pairs.old.items) key.now) }
-    requires absent { IfErr place (IsGapFor (each key_and_value pairs.old.items) key.now) }
+    requires found { IfOk place (IsAt (slice_cmp nat_cmp) (each key_and_value pairs.old.items) key.now) }
+    requires absent { IfErr place (IsGap (slice_cmp nat_cmp) (each key_and_value pairs.old.items) key.now) }
     ensures { each key_and_value pairs.new.items ≡ (if is_ok result then put (slice_cmp nat_cmp) key.now value.now (each key_and_value pairs.old.items) else each key_and_value pairs.old.items) }
 {
     let alloc = *pairs.allocator();
@@ -340,108 +341,5 @@ impl<T: Drop> From<AllocFailed<T>> for AttrError {
 
     fn from(_: AllocFailed<T>) -> AttrError {
         AttrError::Memory
-    }
-}
-
-#[cfg(test)]
-mod tests {
-    use super::*;
-    use std::test::Fail;
-
-    #[test]
-    fn a_pair_is_put_read_and_removed(rt: HostRuntime) -> Result<(), Fail> {
-        let mut attributes = Attributes::new(rt.alloc());
-        assert!(rt; attributes.is_empty());
-        assert_eq!(rt; attributes.put("filename", "a.txt"), Ok(Put::Stored));
-        assert_eq!(rt; attributes.len(), 1);
-        assert_eq!(rt; attributes.size(), 21);
-        assert_eq!(rt; attributes.get("filename"), Some("a.txt"));
-        assert_eq!(rt; attributes.get("path"), None);
-        assert_eq!(rt; attributes.pair(0), Some(("filename", "a.txt")));
-        assert_eq!(rt; attributes.pair(1), None);
-        assert!(rt; attributes.remove("filename"));
-        assert!(rt; !attributes.remove("filename"));
-        assert_eq!(rt; attributes.size(), 2);
-        Ok(())
-    }
-
-    #[test]
-    fn keys_stand_in_the_order_of_their_bytes(rt: HostRuntime) -> Result<(), Fail> {
-        let mut attributes = Attributes::new(rt.alloc());
-        for (key, value) in [("é", "1"), ("b", "2"), ("Z", "3"), ("ab", "4"), ("a", "5")] {
-            assert_eq!(rt; attributes.put(key, value), Ok(Put::Stored));
-        }
-        assert_eq!(rt; attributes.put("ab", "longer"), Ok(Put::Stored));
-        let pairs = [
-            ("Z", "3"),
-            ("a", "5"),
-            ("ab", "longer"),
-            ("b", "2"),
-            ("é", "1"),
-        ];
-        for (place, pair) in pairs.iter().enumerate() {
-            assert_eq!(rt; attributes.pair(place as u64), Some(*pair));
-        }
-        assert_eq!(rt; attributes.len(), 5);
-        assert_eq!(rt; attributes.size(), 2 + 7 + 10 + 30);
-        Ok(())
-    }
-
-    #[test]
-    fn a_key_has_1_to_255_bytes_and_is_not_uuid(rt: HostRuntime) -> Result<(), Fail> {
-        let longest = "k".repeat(rt.alloc(), 255)?;
-        let too_long = "k".repeat(rt.alloc(), 256)?;
-        let mut attributes = Attributes::new(rt.alloc());
-        assert_eq!(rt; attributes.put("", "v"), Err(AttrError::BadKey));
-        assert_eq!(rt;
-            attributes.put(too_long.as_str(), "v"),
-            Err(AttrError::BadKey)
-        );
-        assert_eq!(rt; attributes.put("uuid", "v"), Ok(Put::Ignored));
-        assert!(rt; attributes.is_empty());
-        assert_eq!(rt; attributes.put(longest.as_str(), "v"), Ok(Put::Stored));
-        assert_eq!(rt; attributes.put("UUID", ""), Ok(Put::Stored));
-        assert_eq!(rt; attributes.len(), 2);
-        Ok(())
-    }
-
-    #[test]
-    fn the_size_stops_at_65_536(rt: HostRuntime) -> Result<(), Fail> {
-        let fills = "v".repeat(rt.alloc(), 65_527)?;
-        let passes = "v".repeat(rt.alloc(), 65_528)?;
-        let mut attributes = Attributes::new(rt.alloc());
-        assert_eq!(rt;
-            attributes.put("k", passes.as_str()),
-            Err(AttrError::TooLarge { size: 65_537 })
-        );
-        assert_eq!(rt; attributes.put("k", fills.as_str()), Ok(Put::Stored));
-        assert_eq!(rt; attributes.size(), 65_536);
-        assert_eq!(rt;
-            attributes.put("k", passes.as_str()),
-            Err(AttrError::TooLarge { size: 65_537 })
-        );
-        assert_eq!(rt;
-            attributes.put("l", ""),
-            Err(AttrError::TooLarge { size: 65_543 })
-        );
-        assert_eq!(rt; attributes.put("k", ""), Ok(Put::Stored));
-        assert_eq!(rt; attributes.size(), 9);
-        Ok(())
-    }
-
-    #[test]
-    fn what_both_hold_is_kept(rt: HostRuntime) -> Result<(), Fail> {
-        let mut attributes = Attributes::new(rt.alloc());
-        for (key, value) in [("a", "1"), ("b", "2"), ("c", "3")] {
-            assert_eq!(rt; attributes.put(key, value), Ok(Put::Stored));
-        }
-        let mut others = attributes.copy()?;
-        assert_eq!(rt; others.put("b", "other"), Ok(Put::Stored));
-        assert!(rt; others.remove("a"));
-        attributes.keep_shared(&others);
-        assert_eq!(rt; attributes.pair(0), Some(("c", "3")));
-        assert_eq!(rt; attributes.len(), 1);
-        assert_eq!(rt; attributes.size(), 10);
-        Ok(())
     }
 }

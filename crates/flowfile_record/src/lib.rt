@@ -15,6 +15,8 @@ mod identifier;
 mod law;
 mod limits;
 mod name;
+mod numbered;
+mod numbered_list;
 mod sequence;
 mod stored;
 mod text;
@@ -32,6 +34,8 @@ pub use limits::{
     TAKEN_MAX, WRITTEN_MAX,
 };
 pub use name::{NAME_MAX, Name, NameError};
+pub use numbered::Numbered;
+pub use numbered_list::{NumberedIter, NumberedList};
 pub use sequence::{Bytes, Numbers, Sequence};
 pub use stored::{
     ActiveFile, ActiveList, BatchList, Counted, EventList, FileList, Placed, PlacedList, Stored,

@@ -1,4 +1,4 @@
-use Rattle.std.proofs.Common.{◌-◌, ◌≤◌, ◌∙◌, ap, sym, subst, arith}
+use Rattle.std.proofs.Common.{◌-◌, ◌∙◌, ap, sym, arith}
 use Rattle.std.specs.FinMap as finite
 use Rattle.flowfile_record.specs.Attributes.{encoded_size}
 use Rattle.flowfile_record.proofs.Held.{in_pairs, size_within, get_of_gap, remove-map_of, remove_held, remove_missing, encoded_size-map_of}
