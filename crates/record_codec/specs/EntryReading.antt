@@ -1,9 +1,9 @@
 -- Reading the entries of a log from left to right, up to the first field that can't be read.
-use Rattle.std.specs.Prelude.{ℕ, ◌==◌, ◌||◌, not, length, Option, Some, None, Ok, Err, if◌then◌else◌}
-use Rattle.std.specs.Int.{w16, w32, w64}
-use Rattle.flowfile_record.specs.Reading.{Reading, ◌>>=◌, ◌then◌, made, such, uint_at, number_at, numbers_at, listed_at}
+use Rattle.std.specs.Prelude.{ℕ, ◌==◌, ◌||◌, Bool, false, not, is_ok, List, length, Option, Some, None, Ok, Err, if◌then◌else◌}
+use Rattle.std.specs.Int.{w16, w64}
+use Rattle.flowfile_record.specs.Reading.{Reading, ◌>>=◌, ◌then◌, made, such, uint_at, number_at, numbers_at, listed_at, first_at}
 use Rattle.flowfile_record.specs.declared.stored.Counted.{Counted}
-use Rattle.record_codec.specs.ActiveFile.{active_file_at}
+use Rattle.record_codec.specs.ActiveFile.{active_file_at, active_front_at}
 use Rattle.record_codec.specs.Version.{version_at}
 use Rattle.record_codec.specs.declared.entry.TheConstants.{NO_GENERATOR}
 use Rattle.record_codec.specs.declared.entry.SessionEntry.{SessionEntry}
@@ -58,20 +58,23 @@ entry_at kind bytes =
     else if kind == 5 then swap_in_at bytes
     else Err (length bytes)
 
--- the fields before the first list of an entry, and the list's count
-abbrev pub session_front_at : Reading (ℕ × (ℕ × ℕ))
-session_front_at = uint_at w16 then uint_at w64 then uint_at w32
+-- ---- where memory is taken: for the first item of a list
 
-abbrev pub expire_front_at : Reading (ℕ × (ℕ × ℕ))
-expire_front_at = uint_at w16 then uint_at w64 then uint_at w32
+abbrev pub session_takes_memory : List ℕ → Bool
+session_takes_memory bytes =
+    is_ok ((uint_at w16 then uint_at w64 then first_at number_at) bytes)
+    || is_ok ((uint_at w16 then uint_at w64 then numbers_at then first_at active_front_at) bytes)
 
-abbrev pub swap_out_front_at : Reading (ℕ × (ℕ × ℕ))
-swap_out_front_at = uint_at w16 then number_at then uint_at w32
+abbrev pub expire_takes_memory : List ℕ → Bool
+expire_takes_memory bytes = is_ok ((uint_at w16 then uint_at w64 then first_at number_at) bytes)
 
--- What is read before memory is taken. Entries of the other kinds take none.
-abbrev pub front_at : ℕ → Reading (ℕ × (ℕ × ℕ))
-front_at kind bytes =
-    if kind == 2 then session_front_at bytes
-    else if kind == 3 then expire_front_at bytes
-    else if kind == 4 then swap_out_front_at bytes
-    else Err (length bytes)
+abbrev pub swap_out_takes_memory : List ℕ → Bool
+swap_out_takes_memory bytes = is_ok ((uint_at w16 then number_at then first_at number_at) bytes)
+
+-- entries of the other kinds take none
+abbrev pub takes_memory : ℕ → List ℕ → Bool
+takes_memory kind bytes =
+    if kind == 2 then session_takes_memory bytes
+    else if kind == 3 then expire_takes_memory bytes
+    else if kind == 4 then swap_out_takes_memory bytes
+    else false

@@ -1,11 +1,11 @@
 //! The entries of a log.
-ghost use Rattle.std.specs.Prelude.{◌≡◌, ◌+◌, ◌≤◌, ◌++◌, ℕ, length, vec_len, vec_capacity, IsTrue, is_ok, IfOk, IsErrOf, IsOk, OnOk, OnErr, Ok};
+ghost use Rattle.std.specs.Prelude.{◌≡◌, ◌+◌, ◌≤◌, ◌++◌, ℕ, length, vec_len, vec_capacity, IsTrue, IfOk, IsErrOf, IsOk, OnOk, OnErr, Ok};
 ghost use Rattle.flowfile_record.specs.Field.{HasOneEncoding};
 ghost use Rattle.flowfile_record.specs.Reading.{Answers, answer, whole};
 ghost use Rattle.flowfile_record.specs.declared.flow_file.FlowFile.{FlowFile as File};
 ghost use Rattle.record_codec.specs.FileEncoding.{flow_file};
 ghost use Rattle.record_codec.specs.Placeless.{placeless, placeless_entry};
-ghost use Rattle.record_codec.specs.EntryReading.{entry_at, front_at};
+ghost use Rattle.record_codec.specs.EntryReading.{entry_at, takes_memory};
 ghost use Rattle.record_codec.specs.EntryEncoding.{entry as encoding, kind_of, IsEntry, IsEntryOf};
 ghost use Rattle.record_codec.specs.declared.entry.LogEntry.{LogEntry as Entry};
 
@@ -107,8 +107,8 @@ pub fn read_entry(alloc: Global, kind: u8, bytes: &[u8]) -> Result<LogEntry, Cod
     ensures only { (entry : Entry) → IsEntryOf kind entry → bytes.now ≡ encoding entry → Answers result (Ok entry) }
     // Which place can't be read.
     ensures exact { Answers result (answer (length bytes.now) (whole (entry_at kind) bytes.now)) }
-    // Memory is taken only for the kinds 2 to 4, behind the count of the first list.
-    ensures memory { IsErrOf result CodecError.Memory → IsTrue (is_ok (front_at kind bytes.now)) }
+    // Memory is taken only for the first item of a list, and so for the kinds 2 to 4 alone.
+    ensures memory { IsErrOf result CodecError.Memory → IsTrue (takes_memory kind bytes.now) }
 {
     read::read_answer(alloc, kind, bytes)
 }

@@ -1,5 +1,5 @@
 //! The head of a snapshot.
-ghost use Rattle.std.specs.Prelude.{◌≡◌, ◌+◌, ◌<◌, ◌≤◌, ◌^◌, ◌++◌, length, vec_len, vec_capacity, IsTrue, is_ok, IfOk, IsErrOf, IsOk, OnOk, OnErr, Ok};
+ghost use Rattle.std.specs.Prelude.{◌≡◌, ◌+◌, ◌<◌, ◌≤◌, ◌^◌, ◌++◌, length, vec_len, vec_capacity, IsTrue, IfOk, IsErrOf, IsOk, OnOk, OnErr, Ok};
 ghost use Rattle.std.specs.Int.{w64, to_be_bytes};
 ghost use Rattle.flowfile_record.specs.Reading.{Reads, Gives, Answers, answer, whole};
 ghost use Rattle.flowfile_record.specs.Field.{HasOneEncoding};
@@ -8,7 +8,7 @@ ghost use Rattle.record_codec.specs.declared.head.Head.{Head as TheHead};
 ghost use Rattle.record_codec.specs.StoreHead.{IsHead, head_of};
 ghost use Rattle.record_codec.specs.Texts.{texts, AreTexts};
 ghost use Rattle.record_codec.specs.StoreHead as encoding;
-ghost use Rattle.record_codec.specs.StoreHeadReading.{store_at, head_at, head_front_at};
+ghost use Rattle.record_codec.specs.StoreHeadReading.{store_at, head_at, head_takes_memory};
 
 use crate::FORMAT_VERSION;
 use crate::put::{put, put_numbers, put_u8, put_u64};
@@ -116,8 +116,8 @@ pub fn read_head(alloc: Global, bytes: &[u8]) -> Result<Head, CodecError>
     ensures only { (value : TheHead) → IsHead value → bytes.now ≡ encoding.head value → Answers result (Ok value) }
     // Which place can't be read.
     ensures exact { Answers result (answer (length bytes.now) (whole head_at bytes.now)) }
-    // Memory is taken only behind the count of connections.
-    ensures memory { IsErrOf result CodecError.Memory → IsTrue (is_ok (head_front_at bytes.now)) }
+    // Memory is taken only for the first item of a list.
+    ensures memory { IsErrOf result CodecError.Memory → IsTrue (head_takes_memory bytes.now) }
 {
     read_answer(alloc, bytes)
 }
@@ -129,7 +129,7 @@ pub fn heads_have_one_encoding()
 
 fn read_answer(alloc: Global, bytes: &[u8]) -> Result<Head, CodecError>
     ensures exact { Answers result (answer (length bytes.now) (whole head_at bytes.now)) }
-    ensures memory { IsErrOf result CodecError.Memory → IsTrue (is_ok (head_front_at bytes.now)) }
+    ensures memory { IsErrOf result CodecError.Memory → IsTrue (head_takes_memory bytes.now) }
 {
     match read_all(alloc, bytes) {
         Ok(head) => Ok(head),
@@ -139,7 +139,7 @@ fn read_answer(alloc: Global, bytes: &[u8]) -> Result<Head, CodecError>
 
 fn read_all(alloc: Global, bytes: &[u8]) -> Result<Head, FieldError>
     ensures read { Gives (λ value. value) result (whole head_at bytes.now) }
-    ensures memory { IsErrOf result FieldError.Memory → IsTrue (is_ok (head_front_at bytes.now)) }
+    ensures memory { IsErrOf result FieldError.Memory → IsTrue (head_takes_memory bytes.now) }
 {
     let (head, rest) = read_fields(alloc, bytes)?;
     if !rest.is_empty() {
@@ -153,7 +153,7 @@ fn read_all(alloc: Global, bytes: &[u8]) -> Result<Head, FieldError>
 #[tactic(auto, unfolding(crate::specs::StoreHeadReading::head_at))]
 fn read_fields(alloc: Global, bytes: &[u8]) -> Result<(Head, &[u8]), FieldError>
     ensures read { Gives (λ x. (x.0, x.1.now)) result (head_at bytes.now) }
-    ensures memory { IsErrOf result FieldError.Memory → IsTrue (is_ok (head_front_at bytes.now)) }
+    ensures memory { IsErrOf result FieldError.Memory → IsTrue (head_takes_memory bytes.now) }
 {
     let (_, rest) = read_version(bytes)?;
     let (store, rest) = read_store(rest)?;

@@ -1,7 +1,6 @@
 //! Lists of texts.
 ghost use Rattle.std.specs.Prelude.{◌≡◌, ◌+◌, ◌<◌, ◌≤◌, ◌^◌, ◌++◌, length, vec_len, vec_capacity, IsTrue, is_ok, IsErrOf};
-ghost use Rattle.std.specs.Int.{w32};
-ghost use Rattle.flowfile_record.specs.Reading.{Gives, uint_at, text_at, items_at};
+ghost use Rattle.flowfile_record.specs.Reading.{Gives, text_at, items_at, first_at};
 ghost use Rattle.record_codec.specs.Texts.{AreTexts, texts_at};
 ghost use Rattle.record_codec.specs.Texts as encoding;
 
@@ -14,7 +13,7 @@ use std::alloc::{AllocError, Global};
 #[tactic(auto, unfolding(flowfile_record::specs::Reading::listed_at))]
 pub(crate) fn read_texts(alloc: Global, bytes: &[u8]) -> Result<(TextList, &[u8]), FieldError>
     ensures read { Gives (λ x. (x.0, x.1.now)) result (texts_at bytes.now) }
-    ensures memory { IsErrOf result FieldError.Memory → IsTrue (is_ok (uint_at w32 bytes.now)) }
+    ensures memory { IsErrOf result FieldError.Memory → IsTrue (is_ok (first_at text_at bytes.now)) }
 {
     let (count, rest) = read_u32(bytes)?;
     let (texts, rest) = read_items(alloc, count, rest)?;
@@ -22,7 +21,8 @@ pub(crate) fn read_texts(alloc: Global, bytes: &[u8]) -> Result<(TextList, &[u8]
 }
 
 fn read_items(alloc: Global, count: u32, bytes: &[u8]) -> Result<(Vec<Text>, &[u8]), FieldError>
-    ensures { Gives (λ x. (x.0.items, x.1.now)) result (items_at text_at count bytes.now) }
+    ensures read { Gives (λ x. (x.0.items, x.1.now)) result (items_at text_at count bytes.now) }
+    ensures memory { IsErrOf result FieldError.Memory → (0 < count) × IsTrue (is_ok (text_at bytes.now)) }
 {
     let mut texts = Vec::new(alloc);
     let mut rest = bytes;
@@ -35,7 +35,8 @@ fn read_items(alloc: Global, count: u32, bytes: &[u8]) -> Result<(Vec<Text>, &[u
 }
 
 fn read_own_text(alloc: Global, bytes: &[u8]) -> Result<(Text, &[u8]), FieldError>
-    ensures { Gives (λ x. (x.0, x.1.now)) result (text_at bytes.now) }
+    ensures read { Gives (λ x. (x.0, x.1.now)) result (text_at bytes.now) }
+    ensures memory { IsErrOf result FieldError.Memory → IsTrue (is_ok (text_at bytes.now)) }
 {
     let (text, rest) = read_text(bytes)?;
     let text = Text::from_str(alloc, text)?;

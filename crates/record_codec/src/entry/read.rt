@@ -1,8 +1,8 @@
 //! Reading the entries of a log.
-ghost use Rattle.std.specs.Prelude.{◌≡◌, length, IsTrue, is_ok, IsErrOf};
-ghost use Rattle.flowfile_record.specs.Reading.{Reads, Gives, Answers, answer, whole, items_at, listed_at};
-ghost use Rattle.record_codec.specs.ActiveFile.{active_file_at};
-ghost use Rattle.record_codec.specs.EntryReading.{begin_at, count_at, generator_at, session_at, expire_at, swap_out_at, swap_in_at, entry_at, session_front_at, expire_front_at, swap_out_front_at, front_at};
+ghost use Rattle.std.specs.Prelude.{◌≡◌, ◌<◌, length, IsTrue, is_ok, IsErrOf};
+ghost use Rattle.flowfile_record.specs.Reading.{Reads, Gives, Answers, answer, whole, items_at, listed_at, first_at};
+ghost use Rattle.record_codec.specs.ActiveFile.{active_file_at, active_front_at};
+ghost use Rattle.record_codec.specs.EntryReading.{begin_at, count_at, generator_at, session_at, expire_at, swap_out_at, swap_in_at, entry_at, session_takes_memory, expire_takes_memory, swap_out_takes_memory, takes_memory};
 
 use crate::active_file::read_fields as read_active_fields;
 use crate::entry::{ExpireEntry, LogEntry, NO_GENERATOR, SessionEntry, SwapOutEntry};
@@ -15,7 +15,7 @@ use std::alloc::Global;
 
 pub(crate) fn read_answer(alloc: Global, kind: u8, bytes: &[u8]) -> Result<LogEntry, CodecError>
     ensures exact { Answers result (answer (length bytes.now) (whole (entry_at kind) bytes.now)) }
-    ensures memory { IsErrOf result CodecError.Memory → IsTrue (is_ok (front_at kind bytes.now)) }
+    ensures memory { IsErrOf result CodecError.Memory → IsTrue (takes_memory kind bytes.now) }
 {
     match read_all(alloc, kind, bytes) {
         Ok(entry) => Ok(entry),
@@ -25,7 +25,7 @@ pub(crate) fn read_answer(alloc: Global, kind: u8, bytes: &[u8]) -> Result<LogEn
 
 fn read_all(alloc: Global, kind: u8, bytes: &[u8]) -> Result<LogEntry, FieldError>
     ensures read { Gives (λ entry. entry) result (whole (entry_at kind) bytes.now) }
-    ensures memory { IsErrOf result FieldError.Memory → IsTrue (is_ok (front_at kind bytes.now)) }
+    ensures memory { IsErrOf result FieldError.Memory → IsTrue (takes_memory kind bytes.now) }
 {
     let (entry, rest) = read_of_kind(alloc, kind, bytes)?;
     if !rest.is_empty() {
@@ -39,7 +39,7 @@ fn read_all(alloc: Global, kind: u8, bytes: &[u8]) -> Result<LogEntry, FieldErro
 #[tactic(auto, unfolding(crate::specs::EntryReading::entry_at))]
 fn read_of_kind(alloc: Global, kind: u8, bytes: &[u8]) -> Result<(LogEntry, &[u8]), FieldError>
     ensures read { Gives (λ x. (x.0, x.1.now)) result (entry_at kind bytes.now) }
-    ensures memory { IsErrOf result FieldError.Memory → IsTrue (is_ok (front_at kind bytes.now)) }
+    ensures memory { IsErrOf result FieldError.Memory → IsTrue (takes_memory kind bytes.now) }
 {
     match kind {
         1 => Ok(read_begin(bytes)?),
@@ -74,7 +74,7 @@ fn read_begin(bytes: &[u8]) -> Result<(LogEntry, &[u8]), Unread>
 #[tactic(auto, unfolding(crate::specs::EntryReading::session_at))]
 fn read_session(alloc: Global, bytes: &[u8]) -> Result<(SessionEntry, &[u8]), FieldError>
     ensures read { Gives (λ x. (x.0, x.1.now)) result (session_at bytes.now) }
-    ensures memory { IsErrOf result FieldError.Memory → IsTrue (is_ok (session_front_at bytes.now)) }
+    ensures memory { IsErrOf result FieldError.Memory → IsTrue (session_takes_memory bytes.now) }
 {
     let (processor, rest) = read_u16(bytes)?;
     let (moment, rest) = read_u64(rest)?;
@@ -102,7 +102,8 @@ fn read_placed_list(
     alloc: Global,
     bytes: &[u8],
 ) -> Result<(Sequence<ActiveFile>, &[u8]), FieldError>
-    ensures { Gives (λ x. (x.0, x.1.now)) result (listed_at active_file_at bytes.now) }
+    ensures read { Gives (λ x. (x.0, x.1.now)) result (listed_at active_file_at bytes.now) }
+    ensures memory { IsErrOf result FieldError.Memory → IsTrue (is_ok (first_at active_front_at bytes.now)) }
 {
     let (count, rest) = read_u32(bytes)?;
     let (items, rest) = read_placed_items(alloc, count, rest)?;
@@ -114,7 +115,8 @@ fn read_placed_items(
     count: u32,
     bytes: &[u8],
 ) -> Result<(Vec<ActiveFile>, &[u8]), FieldError>
-    ensures { Gives (λ x. (x.0.items, x.1.now)) result (items_at active_file_at count bytes.now) }
+    ensures read { Gives (λ x. (x.0.items, x.1.now)) result (items_at active_file_at count bytes.now) }
+    ensures memory { IsErrOf result FieldError.Memory → (0 < count) × IsTrue (is_ok (active_front_at bytes.now)) }
 {
     let mut items = Vec::new(alloc);
     let mut rest = bytes;
@@ -155,7 +157,7 @@ fn read_count(processor: u16, bytes: &[u8]) -> Result<(u64, &[u8]), Unread>
 #[tactic(auto, unfolding(crate::specs::EntryReading::expire_at))]
 fn read_expire(alloc: Global, bytes: &[u8]) -> Result<(ExpireEntry, &[u8]), FieldError>
     ensures read { Gives (λ x. (x.0, x.1.now)) result (expire_at bytes.now) }
-    ensures memory { IsErrOf result FieldError.Memory → IsTrue (is_ok (expire_front_at bytes.now)) }
+    ensures memory { IsErrOf result FieldError.Memory → IsTrue (expire_takes_memory bytes.now) }
 {
     let (connection, rest) = read_u16(bytes)?;
     let (moment, rest) = read_u64(rest)?;
@@ -173,7 +175,7 @@ fn read_expire(alloc: Global, bytes: &[u8]) -> Result<(ExpireEntry, &[u8]), Fiel
 #[tactic(auto, unfolding(crate::specs::EntryReading::swap_out_at))]
 fn read_swap_out(alloc: Global, bytes: &[u8]) -> Result<(SwapOutEntry, &[u8]), FieldError>
     ensures read { Gives (λ x. (x.0, x.1.now)) result (swap_out_at bytes.now) }
-    ensures memory { IsErrOf result FieldError.Memory → IsTrue (is_ok (swap_out_front_at bytes.now)) }
+    ensures memory { IsErrOf result FieldError.Memory → IsTrue (swap_out_takes_memory bytes.now) }
 {
     let (connection, rest) = read_u16(bytes)?;
     let (batch, rest) = read_number(rest)?;
