@@ -1,12 +1,12 @@
 -- What attributes take where a value is put under a key, or a key is left out.
-use Rattle.std.proofs.Common.{◌≡◌, ℕ, Ordering, ◌+◌, ◌≤◌, Bool, true, false, cond, not, List, sum_by, codes, bytes_eq, Option, Some, None, refl, sym, ◌∙◌, ap, arith}
+use Rattle.std.proofs.Common.{◌≡◌, ℕ, Ordering, ◌+◌, ◌≤◌, Bool, true, false, cond, not, List, sum_by, bytes_eq, Option, Some, None, refl, sym, ◌∙◌, ap, arith}
 use Rattle.std.specs.Prelude.{is_none, is_some}
 use Rattle.std.specs.Option.{option_map_or}
 use Rattle.std.specs.Ordering.{nat_cmp, eq_by_cmp}
 use Rattle.std.specs.Cmp.{eq_by_cmp_equiv}
 use Rattle.std.specs.Cmp.Lexicographic.{slice_cmp, nat_list_cmp_total, texts_ties}
 use Rattle.std.specs.FinMap.{IsAntisymmetric, contains_key, entries, entries_sorted, entries-insert, entries-from_sorted, from_sorted, get, get-entries, get-from_sorted, get-insert, get-remove, insert, remove, same_map, slice_cmp-IsAntisymmetric, nat_cmp-IsAntisymmetric}
-use Rattle.std.specs.FinMap.Entries.{find, put, where_key, is_sorted-where_key, find-where_key}
+use Rattle.std.specs.FinMap.Entries.{find, where_key, is_sorted-where_key, find-where_key}
 use Rattle.flowfile_record.specs.Attributes.{AttributeMap, encoded_size, pair_size}
 use Rattle.process_session.specs.Pairs.{held_size}
 use Rattle.process_session.proofs.Pairs.{held, sum-put, sum-without}

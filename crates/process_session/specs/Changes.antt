@@ -1,5 +1,5 @@
 -- What the calls of a session change.
-use Rattle.std.specs.Prelude.{ℕ, ◌+◌, ◌==◌, ◌&&◌, Bool, true, false, List, [], ◌∷◌, ◌++◌, length, map, fold, Option, None, Some, unwrap_or, slice_get, slice_set, slice_range, if◌then◌else◌}
+use Rattle.std.specs.Prelude.{ℕ, ◌+◌, ◌==◌, ◌&&◌, Bool, true, false, List, [], ◌∷◌, ◌++◌, length, fold, None, Some, unwrap_or, slice_get, slice_set, slice_range, if◌then◌else◌}
 use Rattle.std.specs.Option.{option_map_or}
 use Rattle.std.specs.FinMap.{empty, insert, remove}
 use Rattle.flowfile_record.specs.Attributes.{AttributeMap, is_uuid, shared}
