@@ -46,9 +46,6 @@ abbrev pub with_attributes : Bench → ℕ → AttributeMap → Bench
 with_attributes bench place attributes = with_changed bench place (attributed_file attributes)
 
 -- `uuid` can't be set
-abbrev pub put_in : AttributeMap → List ℕ → List ℕ → AttributeMap
-put_in attributes key value = if is_uuid key then attributes else insert attributes key value
-
 abbrev pub with_put : Bench → ℕ → List ℕ → List ℕ → Bench
 with_put bench place key value =
     if is_uuid key then bench else with_attributes bench place (insert (attributes_at bench place) key value)
