@@ -1,12 +1,12 @@
 -- What attributes take where a value is put under a key, or a key is left out.
-use Rattle.std.proofs.Common.{◌≡◌, ℕ, Ordering, ◌+◌, ◌≤◌, Bool, true, false, cond, not, List, sum_by, codes, bytes_eq, Option, Some, None, refl, sym, ◌∙◌, ap, arith}
+use Rattle.std.proofs.Common.{◌≡◌, ℕ, Ordering, ◌+◌, Bool, true, false, cond, not, List, sum_by, bytes_eq, Option, Some, None, refl, sym, ◌∙◌, ap, arith}
 use Rattle.std.specs.Prelude.{is_none, is_some}
 use Rattle.std.specs.Option.{option_map_or}
 use Rattle.std.specs.Ordering.{nat_cmp, eq_by_cmp}
 use Rattle.std.specs.Cmp.{eq_by_cmp_equiv}
 use Rattle.std.specs.Cmp.Lexicographic.{slice_cmp, nat_list_cmp_total, texts_ties}
 use Rattle.std.specs.FinMap.{IsAntisymmetric, contains_key, entries, entries_sorted, entries-insert, entries-from_sorted, from_sorted, get, get-entries, get-from_sorted, get-insert, get-remove, insert, remove, same_map, slice_cmp-IsAntisymmetric, nat_cmp-IsAntisymmetric}
-use Rattle.std.specs.FinMap.Entries.{find, put, where_key, is_sorted-where_key, find-where_key}
+use Rattle.std.specs.FinMap.Entries.{find, where_key, is_sorted-where_key, find-where_key}
 use Rattle.flowfile_record.specs.Attributes.{AttributeMap, encoded_size, pair_size}
 use Rattle.process_session.specs.Pairs.{held_size}
 use Rattle.process_session.proofs.Pairs.{held, sum-put, sum-without}
@@ -56,13 +56,6 @@ encoded_size-remove m key =
     let was = held-entries m key in
     omega (arith, sums, left, was)
 
-pub held_size-part : (m : AttributeMap) (key : List ℕ) → held_size m key + 2 ≤ encoded_size m
-unfolding encoded_size
-held_size-part m key =
-    let sums = sum-without nat_list_cmp_total same_key pair_size key (entries m) (entries_sorted m) in
-    let was = held-entries m key in
-    omega (arith, sums, was)
-
 -- what stands under another key then
 none-put : (b : Bool) (value : List ℕ) (o : Option (List ℕ)) → is_none (cond b (Some value) o) ≡ cond b false (is_none o)
 none-put true value o = refl
@@ -84,15 +77,8 @@ absent : (o : Option (List ℕ)) → not (is_some o) ≡ is_none o
 absent None = refl
 absent (Some value) = refl
 
-pub absent-get : (m : AttributeMap) (other : List ℕ) → not (contains_key m other) ≡ is_none (get m other)
-absent-get m other = absent (get m other)
-
 pub absent-insert : (m : AttributeMap) (key value other : List ℕ) → not (contains_key (insert m key value) other) ≡ cond (bytes_eq key other) false (is_none (get m other))
 absent-insert m key value other = absent (get (insert m key value) other) ∙ is_none-insert m key value other
 
 pub absent-remove : (m : AttributeMap) (key other : List ℕ) → not (contains_key (remove m key) other) ≡ cond (bytes_eq key other) true (is_none (get m other))
 absent-remove m key other = absent (get (remove m key) other) ∙ is_none-remove m key other
-
--- what a value that is there takes
-pub held_size-some : (m : AttributeMap) (key value : List ℕ) → Some value ≡ get m key → held_size m key ≡ pair_size (key, value)
-held_size-some m key value is = ap (λ o. option_map_or (λ v. pair_size (key, v)) o 0) (sym is)

@@ -3,7 +3,6 @@ use Rattle.std.proofs.Common.{◌≡◌, ℕ, ◌+◌, ◌<◌, ◌≤◌, Bool,
 use Rattle.std.specs.Option.{option_map}
 use Rattle.std.proofs.lemmas.List.{append-nil, drop_more, map-append}
 use Rattle.flowfile_record.specs.declared.worked.Origin.{Origin}
-use Rattle.flowfile_record.specs.declared.worked.Origin.TheVariants.{Taken, Created, Received, Forked, Part, Cloned, Joined}
 use Rattle.flowfile_record.specs.declared.worked.Outcome.{Outcome}
 use Rattle.flowfile_record.specs.declared.worked.Sent.{Sent}
 use Rattle.flowfile_record.specs.declared.worked.Worked.{Worked}
@@ -13,7 +12,7 @@ use Rattle.process_session.specs.declared.session.finish.standing.Stand.{Stand}
 use Rattle.process_session.specs.Bench.{Bench}
 use Rattle.process_session.specs.Finish.{is_left_out, standing, standing_for, standing_from, origin_in, kept_files, outcome_of, place_in, sent_in, worked_with}
 use Rattle.flowfile_record.specs.Outcome.{parents_of}
-use Rattle.process_session.specs.Finishing.{origin_with, kept_origins, next_place, place_of_sent, places_of, sent_at, stand_for, Keeps}
+use Rattle.process_session.specs.Finishing.{kept_origins, next_place, place_of_sent, places_of, sent_at, stand_for, Keeps}
 use Rattle.process_session.specs.Reasons.{not_accounted_from}
 
 pub rest_is : (files : List File) (i : ℕ) (file : File) → i < length files → file ≡ get_or files i file → drop i files ≡ file ∷ drop (i + 1) files
@@ -47,16 +46,6 @@ next_upto next i file counted = next_cases (is_left_out file) next i counted
 pub standing_done : (stand : List (List ℕ)) (next : ℕ) → standing_from stand next [] ≡ stand
 unfolding standing_from
 standing_done stand next = refl
-
--- an origin from what is left of the parents that it names
-pub origin_in-is : (stand : List (List ℕ)) (origin : Origin) → origin_with origin (standing_for stand (parents_of origin)) ≡ origin_in stand origin
-origin_in-is stand (Taken place) = refl
-origin_in-is stand Created = refl
-origin_in-is stand Received = refl
-origin_in-is stand (Forked parent) = refl
-origin_in-is stand (Part of) = refl
-origin_in-is stand (Cloned of) = refl
-origin_in-is stand (Joined parents) = refl
 
 origins_out : (stand : List (List ℕ)) (file : File) (files : List File) → is_left_out file ≡ true → kept_origins stand (file ∷ files) ≡ kept_origins stand files
 unfolding kept_origins

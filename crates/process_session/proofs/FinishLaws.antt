@@ -3,7 +3,7 @@ use Rattle.std.proofs.Common.{◌≡◌, ℕ, zero, suc, ◌+◌, ◌<◌, ◌�
 use Rattle.std.specs.Prelude.{IfSome, slice_index}
 use Rattle.std.specs.FinMap.{contains_key}
 use Rattle.std.specs.List.{All, AllByRecursion, IsDistinct, flat_map, slice_get}
-use Rattle.std.specs.Option.{option_map, option_map_or}
+use Rattle.std.specs.Option.{option_map}
 use Rattle.std.proofs.lemmas.Bool.Decides.{nat_tests}
 use Rattle.std.proofs.lemmas.List.{append-nil, length-map}
 use Rattle.std.proofs.lemmas.List.Elements.{All-nil, All-cons, All-head, All-tail}
@@ -25,7 +25,7 @@ use Rattle.process_session.specs.declared.error.SessionError.TheVariants.{NotAcc
 use Rattle.process_session.specs.declared.file.File.{File}
 use Rattle.process_session.specs.declared.file.Source.{Source}
 use Rattle.process_session.specs.Bench.{Bench, IsBodyOf, file_size, sizes_of, taken_size}
-use Rattle.process_session.specs.Finish.{child_of, each_once, is_left_out, is_removed, joined_of, kept_files, origin_in, outcome_of, place_if_kept, place_in, sent_in, standing, standing_for, standing_from, worked_of}
+use Rattle.process_session.specs.Finish.{child_of, each_once, is_left_out, is_removed, joined_of, kept_files, origin_in, outcome_of, place_if_kept, sent_in, standing, standing_for, standing_from, worked_of}
 use Rattle.process_session.specs.Finishing.{stand_at}
 use Rattle.process_session.specs.Reasons.{not_accounted, not_accounted_from}
 use Rattle.process_session.specs.Sound.{IsHeld, IsSound, MayEnd, as_worked}

@@ -60,11 +60,6 @@ pub with_each-append : (left xs ys : List ℕ) → with_each left (xs ++ ys) ≡
 with_each-append left [] ys = refl
 with_each-append left (x ∷ xs) ys = with_each-append (with_once left x) xs ys
 
-pub place_step : (left left' places : List ℕ) (i place : ℕ) → i < length places → place ≡ get_or places i 0 → left' ≡ with_once left place → with_each left' (drop (i + 1) places) ≡ with_each left (drop i places)
-place_step left left' places i place within is added =
-    let more : with_each left (drop i places) ≡ with_each (with_once left (get_or places i 0)) (drop (i + 1) places) = at_drop_more (with_each left) places i 0 within in
-    ap (λ l. with_each l (drop (i + 1) places)) (added ∙ ap (with_once left) is) ∙ sym more
-
 pub parent_step : (f : ℕ → List ℕ) (left left' parents : List ℕ) (i parent : ℕ) → i < length parents → parent ≡ get_or parents i 0 → left' ≡ with_each left (f parent) → with_each left' (flat_map f (drop (i + 1) parents)) ≡ with_each left (flat_map f (drop i parents))
 parent_step f left left' parents i parent within is added =
     let rest = flat_map f (drop (i + 1) parents) in
@@ -98,10 +93,6 @@ no_marks places = λ place within. let same = length-replicate {A = ℕ} places 
 pub below_next : (met : List ℕ) (round next : ℕ) → next ≡ round + 1 → AreMarkedUpto met round → AreMarkedBelow met next
 unfolding AreMarkedUpto AreMarkedBelow
 below_next met round next is upto = λ place within. let most = upto place within in omega arith
-
-pub upto_later : (met : List ℕ) (round next : ℕ) → round ≤ next → AreMarkedUpto met round → AreMarkedUpto met next
-unfolding AreMarkedUpto
-upto_later met round next less upto = λ place within. let most = upto place within in omega arith
 
 mark_is : (met left : List ℕ) (round place other : ℕ) → place < length met → (slice_index met other == round) ≡ has left other → (slice_index (set met place round) other == round) ≡ (has left other || ((place == other) || false))
 mark_is met left round place other within was = grind (arith, nat_tests, get_or-set_same, get_or-set_other)

@@ -1,5 +1,5 @@
 -- The reasons to refuse of several files, a file at a time.
-use Rattle.std.proofs.Common.{◌≡◌, ℕ, suc, ◌+◌, ◌<◌, List, [], ◌∷◌, length, get_or, take, drop, ◌-◌, arith, Option, None, Some, sym, ◌∙◌, ap, add-one, drop-cons}
+use Rattle.std.proofs.Common.{◌≡◌, ℕ, ◌+◌, ◌<◌, List, [], ◌∷◌, length, get_or, take, drop, ◌-◌, arith, None, Some, sym, ◌∙◌, ap, add-one, drop-cons}
 use Rattle.std.specs.Prelude.{fold}
 use Rattle.std.proofs.lemmas.List.{take_all}
 use Rattle.flowfile_record.specs.Attributes.{shared}

@@ -1,7 +1,7 @@
 -- What the pairs of a map count together, where one is put or left out.
 use Rattle.std.proofs.Common.{◌≡◌, ℕ, ◌+◌, Bool, true, false, cond, not, ◌&&◌, List, [], ◌∷◌, sum_by, Ordering, Less, Equal, Greater, Option, Some, None, refl, sym, ◌∙◌, ap, subst, arith}
 use lib.Dec.{T}
-use Rattle.std.specs.Ordering.{ordering_reverse, is_lt, is_eq, eq_by_cmp}
+use Rattle.std.specs.Ordering.{is_lt, is_eq, eq_by_cmp}
 use Rattle.std.specs.Cmp.{IsTotalOrder}
 use Rattle.std.proofs.lemmas.List.Sums.{sum_by-cons}
 use Rattle.std.specs.FinMap.{IsAntisymmetric}

@@ -1,5 +1,5 @@
 -- The reasons to refuse, as the code tests them.
-use Rattle.std.proofs.Common.{◌≡◌, ℕ, ◌+◌, ◌-◌, ◌<◌, ◌≤◌, Bool, true, false, cond, List, [], ◌∷◌, length, sym, ◌∙◌, ap, arith}
+use Rattle.std.proofs.Common.{◌≡◌, ℕ, ◌+◌, ◌-◌, ◌<◌, ◌≤◌, false, cond, List, [], ◌∷◌, length, sym, ◌∙◌, ap, arith}
 use Rattle.std.specs.FinMap.{insert}
 use Rattle.flowfile_record.specs.Attributes.{AttributeMap, encoded_size, is_uuid}
 use Rattle.flowfile_record.specs.Outcome.{filename_to_come}
@@ -8,7 +8,7 @@ use Rattle.flowfile_record.specs.declared.worked.Origin.TheVariants.{Forked, Clo
 use Rattle.process_session.specs.Bench.{Bench, attribute_size, attributes_at, body_at, made_size, named_size, origin_at}
 use Rattle.process_session.specs.Changes.{with_attributes}
 use Rattle.process_session.specs.Refusals.{refusal_of_write, refusal_of_put, refusal_of_create_from, refusal_of_clone, refusal_of_clone_range}
-use Rattle.process_session.specs.Reasons.{Refusal, first_refusal, unknown_file, already_ended, content_too_large, bad_key, attributes_too_large, no_room_for, past_limits, range_outside, session_full}
+use Rattle.process_session.specs.Reasons.{first_refusal, unknown_file, already_ended, content_too_large, bad_key, attributes_too_large, no_room_for, past_limits, range_outside, session_full}
 use Rattle.process_session.proofs.Sound.{full-added, full-attributes, full-content, full-range}
 
 pub write_refusal : (bench : Bench) (place : ℕ) (bytes : List ℕ) (size : ℕ) → size ≡ length bytes

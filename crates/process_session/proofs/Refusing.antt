@@ -1,6 +1,6 @@
 -- The first reason to refuse, a reason at a time.
-use Rattle.std.proofs.Common.{◌≡◌, ℕ, inl, inr, List, [], ◌∷◌, Option, None, Some, refl, sym, subst}
-use Rattle.std.specs.Prelude.{Result, Ok, Err}
+use Rattle.std.proofs.Common.{◌≡◌, ℕ, inl, inr, List, [], ◌∷◌, None, Some, refl, sym, subst}
+use Rattle.std.specs.Prelude.{Result, Err}
 use Rattle.process_session.specs.declared.error.SessionError.{SessionError}
 use Rattle.process_session.specs.declared.error.SessionError.TheVariants.{Memory}
 use Rattle.process_session.specs.Reasons.{Refusal, first_refusal, IsErrorFor, IsRefusal, IsRefusalBehind}

@@ -1,5 +1,5 @@
 -- What a session holds: the files that it works on, as they are now.
-use Rattle.std.specs.Prelude.{◌≡◌, ℕ, ◌+◌, ◌<◌, ◌≤◌, Bool, true, false, List, [], ◌∷◌, length, map, sum_by, Option, None, Some, option_and_then, slice_get, slice_range}
+use Rattle.std.specs.Prelude.{◌≡◌, ℕ, ◌+◌, ◌<◌, ◌≤◌, Bool, false, List, [], ◌∷◌, length, map, sum_by, Option, None, Some, option_and_then, slice_get, slice_range}
 use Rattle.std.specs.Option.{option_map, option_map_or}
 use Rattle.std.specs.FinMap.{empty}
 use Rattle.flowfile_record.specs.Attributes.{AttributeMap, encoded_size}

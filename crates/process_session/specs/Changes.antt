@@ -1,5 +1,5 @@
 -- What the calls of a session change.
-use Rattle.std.specs.Prelude.{ℕ, ◌+◌, ◌==◌, ◌&&◌, Bool, true, false, List, [], ◌∷◌, ◌++◌, length, map, fold, Option, None, Some, unwrap_or, slice_get, slice_set, slice_range, if◌then◌else◌}
+use Rattle.std.specs.Prelude.{ℕ, ◌+◌, ◌==◌, ◌&&◌, Bool, true, false, List, [], ◌∷◌, ◌++◌, length, fold, None, Some, unwrap_or, slice_get, slice_set, slice_range, if◌then◌else◌}
 use Rattle.std.specs.Option.{option_map_or}
 use Rattle.std.specs.FinMap.{empty, insert, remove}
 use Rattle.flowfile_record.specs.Attributes.{AttributeMap, is_uuid, shared}
@@ -46,9 +46,6 @@ abbrev pub with_attributes : Bench → ℕ → AttributeMap → Bench
 with_attributes bench place attributes = with_changed bench place (attributed_file attributes)
 
 -- `uuid` can't be set
-abbrev pub put_in : AttributeMap → List ℕ → List ℕ → AttributeMap
-put_in attributes key value = if is_uuid key then attributes else insert attributes key value
-
 abbrev pub with_put : Bench → ℕ → List ℕ → List ℕ → Bench
 with_put bench place key value =
     if is_uuid key then bench else with_attributes bench place (insert (attributes_at bench place) key value)

@@ -8,7 +8,7 @@ use Rattle.process_session.specs.declared.file.File.{File}
 use Rattle.process_session.specs.declared.session.finish.Plan.{Plan}
 use Rattle.process_session.specs.declared.session.finish.standing.Stand.{Stand}
 use Rattle.process_session.specs.declared.session.finish.standing.Stand.TheVariants.{Kept, Gone}
-use Rattle.process_session.specs.Finish.{is_left_out, standing_for, standing_from, child_of, joined_of, origin_in, place_in, kept_files, worked_with}
+use Rattle.process_session.specs.Finish.{is_left_out, standing_for, standing_from, child_of, joined_of, origin_in, place_in, kept_files}
 use Rattle.flowfile_record.specs.Outcome.{parents_of}
 
 -- the places that stand for a file

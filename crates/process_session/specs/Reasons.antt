@@ -1,11 +1,10 @@
 -- When a session refuses, each reason by itself.
-use Rattle.std.specs.Prelude.{◌≡◌, ℕ, ◌+◌, ◌&&◌, nat_lt, nat_le, Bool, true, false, not, List, [], ◌∷◌, length, Option, None, Some, is_some, is_none, slice_get, Result, IfSome, ◌⊎◌, if◌then◌else◌}
+use Rattle.std.specs.Prelude.{◌≡◌, ℕ, ◌+◌, nat_lt, nat_le, Bool, false, not, List, [], ◌∷◌, length, Option, None, Some, is_some, is_none, slice_get, Result, IfSome, ◌⊎◌, if◌then◌else◌}
 use Rattle.std.specs.Option.{option_map_or}
 use Rattle.std.specs.Result.{result_err}
 use Rattle.flowfile_record.specs.Attributes.{has_key_length}
 use Rattle.flowfile_record.specs.declared.TheConstants.{CONTENT_MAX}
 use Rattle.flowfile_record.specs.declared.attributes.TheConstants.{ATTRIBUTES_MAX}
-use Rattle.process_session.specs.declared.error.Full.{Full}
 use Rattle.process_session.specs.declared.error.Full.TheVariants.{Files, Attributes, Written}
 use Rattle.process_session.specs.declared.error.SessionError.{SessionError}
 use Rattle.process_session.specs.declared.error.SessionError.TheVariants.{UnknownFile, AlreadyEnded, NoRelationship, MadeHere, NoBytes, RangeOutside, ContentTooLarge, BadKey, AttributesTooLarge, AlreadySent, SessionFull, NotAccounted, Memory}

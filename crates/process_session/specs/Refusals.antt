@@ -1,5 +1,5 @@
 -- Which reasons each call of a session has to refuse, in the order in which they are tested.
-use Rattle.std.specs.Prelude.{ℕ, ◌+◌, Bool, true, false, List, [], ◌∷◌, length, None, if◌then◌else◌}
+use Rattle.std.specs.Prelude.{ℕ, ◌+◌, List, [], ◌∷◌, length, None, if◌then◌else◌}
 use Rattle.std.specs.FinMap.{insert, remove}
 use Rattle.flowfile_record.specs.Attributes.{is_uuid}
 use Rattle.process_session.specs.Bench.{Bench, attributes_at, content_size, made_size, named_size, origin_at}
