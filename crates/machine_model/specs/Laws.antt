@@ -17,8 +17,8 @@ use Rattle.machine_model.specs.declared.given.Given.{Given}
 use Rattle.machine_model.specs.declared.journal.Step.{Step}
 use Rattle.machine_model.specs.declared.journal.Step.TheVariants.{Expire, SwapOut, SwapIn}
 use Rattle.machine_model.specs.declared.journal.Step.TheVariants as entry
-use Rattle.machine_model.specs.Due.{due_expiry, due_swap_out, due_swap_in}
-use Rattle.machine_model.specs.Files.{queues_of}
+use Rattle.machine_model.specs.Due.{numbers_of, due_expiry, due_swap_out, due_swap_in}
+use Rattle.machine_model.specs.Files.{active_views, queue_at, queues_of, view_of}
 use Rattle.machine_model.specs.declared.kind.Kind.{Kind}
 use Rattle.machine_model.specs.declared.kind.Kind.TheVariants.{GetFile, GenerateFlowFile}
 use Rattle.machine_model.specs.declared.kind.TakeRule.{TakeRule}
@@ -27,12 +27,13 @@ use Rattle.machine_model.specs.State.{QueuedFile, State, World, Machine}
 use Rattle.machine_model.specs.Acting.{TakenFile, act, generated_text}
 use Rattle.machine_model.specs.Kinds.{take_rule_of, relationships_of, is_among}
 use Rattle.machine_model.specs.Lineage.{Lineage, IsLineage}
-use Rattle.machine_model.specs.Order.{goes_before, in_order, is_eligible, best}
+use Rattle.machine_model.specs.Order.{goes_before, in_order, is_eligible, eligible_files, best}
 use Rattle.machine_model.specs.Placing.{EndedSession}
 use Rattle.machine_model.specs.Settling.{settle}
 use Rattle.machine_model.specs.View.{FileView}
 use Rattle.machine_model.specs.Valid.{files_of_all, IsWellNumbered, AreEventsInRow, EventsTellKin, IsValid, new_state}
-use Rattle.machine_model.specs.Stepping.{has_all, source_of, step, replay}
+use Rattle.machine_model.specs.Stepping.{has_all, source_of, taken_files, step, replay}
+use Rattle.machine_model.specs.Taking.{picks}
 
 -- ---- the order of a queue
 
@@ -234,6 +235,18 @@ ReplaysLoseNames = (flow : Flow) (machine : Machine) (steps : List Step) →
 abbrev pub OneConnectionHas : Type 0
 OneConnectionHas = (flow : Flow) (state : State) (processor number : ℕ) (numbers : List ℕ) (source : ℕ × Connection) → IsValid flow state
     → Contains (enumerate_from 0 flow.connections) source → has_all state processor (number ∷ numbers) source ≡ true → source_of flow state processor (number ∷ numbers) ≡ Some source
+
+-- a session of a processor may take these files: those that its connection has under their numbers
+pub record IsTaking (flow : Flow) (state : State) (processor : ℕ) (rule : TakeRule) (moment : ℕ) (picked : List FileView) : Type 0 where
+  pub files : List QueuedFile
+  pub taken : taken_files flow state processor rule (numbers_of picked) moment ≡ Some files
+  pub seen : map view_of files ≡ picked
+
+-- what a rule picks of the eligible files of a connection may be taken by a session of the processor at its end
+abbrev pub PicksMayBeTaken : Type 0
+PicksMayBeTaken = (flow : Flow) (state : State) (place : ℕ) (connection : Connection) (rule : TakeRule) (moment : ℕ) → IsValid flow state
+    → slice_get flow.connections place ≡ Some connection
+    → IfSome (picks rule (eligible_files connection.order connection.limits moment (active_views (queue_at state place)))) (IsTaking flow state connection.target rule moment)
 
 -- ---- what is due has a step
 

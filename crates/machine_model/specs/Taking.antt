@@ -79,14 +79,14 @@ abbrev pub whole_of : List FileView → FileView → Option Fragment → Option 
 whole_of files file None = Some (file ∷ [])
 whole_of files file (Some fragment) = fragments_from fragment 1 fragment.count files
 
+abbrev pub first_some : Option (List FileView) → Option (List FileView) → Option (List FileView)
+first_some (Some found) other = Some found
+first_some None other = other
+
 -- what the first file of some gives that gives anything
 abbrev pub first_whole : List FileView → List FileView → Option (List FileView)
 first_whole files [] = None
 first_whole files (file ∷ rest) = first_some (whole_of files file (fragment_of file.attributes)) (first_whole files rest)
-  where
-    first_some : Option (List FileView) → Option (List FileView) → Option (List FileView)
-    first_some (Some found) other = Some found
-    first_some None other = other
 
 -- the files that a session takes of the eligible ones, which stand in their order
 abbrev pub picks : TakeRule → List FileView → Option (List FileView)
