@@ -18,7 +18,7 @@ use Rattle.machine_model.specs.declared.journal.Step.{Step}
 use Rattle.machine_model.specs.declared.journal.Step.TheVariants.{Expire, SwapOut, SwapIn}
 use Rattle.machine_model.specs.declared.journal.Step.TheVariants as entry
 use Rattle.machine_model.specs.Due.{due_expiry, due_swap_out, due_swap_in}
-use Rattle.machine_model.specs.Files.{queues_of}
+use Rattle.machine_model.specs.Files.{content_bytes, queue_view, queues_of}
 use Rattle.machine_model.specs.declared.kind.Kind.{Kind}
 use Rattle.machine_model.specs.declared.kind.Kind.TheVariants.{GetFile, GenerateFlowFile}
 use Rattle.machine_model.specs.declared.kind.TakeRule.{TakeRule}
@@ -30,7 +30,7 @@ use Rattle.machine_model.specs.Lineage.{Lineage, IsLineage}
 use Rattle.machine_model.specs.Order.{goes_before, in_order, is_eligible, best}
 use Rattle.machine_model.specs.Placing.{EndedSession}
 use Rattle.machine_model.specs.Settling.{settle}
-use Rattle.machine_model.specs.View.{FileView}
+use Rattle.machine_model.specs.View.{file_count, byte_count, FileView}
 use Rattle.machine_model.specs.Valid.{files_of_all, IsWellNumbered, AreEventsInRow, EventsTellKin, IsValid, new_state}
 use Rattle.machine_model.specs.Stepping.{has_all, source_of, step, replay}
 
@@ -77,6 +77,11 @@ BestIsBest = (order : List Prioritizer) (limits : QueueLimits) (moment : ℕ) (f
 abbrev pub BestIsOnly : Type 0
 BestIsOnly = (order : List Prioritizer) (limits : QueueLimits) (moment : ℕ) (files : List FileView) (file : FileView) → ArrivalsDiffer files
     → IsBest order limits moment files file → best order limits moment files ≡ Some file
+
+-- ---- how a queue is seen: with all of its files and bytes, the swapped ones by their batches
+
+abbrev pub ViewsCountAll : Type 0
+ViewsCountAll = (files : List QueuedFile) → (file_count (queue_view files) ≡ length files) × (byte_count (queue_view files) ≡ content_bytes files)
 
 -- ---- replays
 
