@@ -14,7 +14,7 @@ use Rattle.machine_model.specs.declared.journal.Step.TheVariants as entry
 use Rattle.machine_model.specs.State.{QueuedFile, Machine}
 use Rattle.machine_model.specs.Acting.{act, received_attributes}
 use Rattle.machine_model.specs.Kinds.{take_rule_of}
-use Rattle.machine_model.specs.Stepping.{step, session_step, taken_files, given_in, as_taken, after_session, session_after, session_of}
+use Rattle.machine_model.specs.Stepping.{step, session_step, taken_files, given_at, given_in, as_taken, after_session, session_after, session_of}
 use Rattle.flowfile_record.specs.Outcome.{same_attributes, same_pairs}
 
 bytes_eq-self : (bytes : List ℕ) → bytes_eq bytes bytes ≡ true
@@ -31,12 +31,12 @@ same_attributes-self attributes = same_pairs-self (entries attributes)
 pub session-gives : (flow : Flow) (machine : Machine) (place : ℕ) (numbers : List ℕ) (moment : ℕ) (given given' : Given) (processor : Processor) (taken : List QueuedFile) (outcome : Outcome) →
     slice_get flow.processors place ≡ Some processor →
     taken_files flow machine.state place (take_rule_of processor.kind) numbers moment ≡ Some taken →
-    given_in processor.kind place machine.state machine.world taken (record given { moment = moment }) ≡ Some given' →
+    option_and_then (given_in processor.kind place machine.state machine.world taken) (given_at moment given) ≡ Some given' →
     act processor.kind (map (as_taken machine.state) taken) given' ≡ Some outcome →
     step flow machine (entry.Session place numbers moment given) ≡ Some (session_after machine (session_of flow machine place processor taken given') outcome)
 session-gives flow machine place numbers moment given given' processor taken outcome has takes is_given makes =
     ap (option_and_then (session_step flow machine place numbers moment given)) has
-    ∙ ap (option_and_then (λ (taken : List QueuedFile). option_and_then (λ (given : Given). after_session machine (session_of flow machine place processor taken given)) (given_in processor.kind place machine.state machine.world taken (record given { moment = moment })))) takes
+    ∙ ap (option_and_then (λ (taken : List QueuedFile). option_and_then (λ (given : Given). after_session machine (session_of flow machine place processor taken given)) (option_and_then (given_in processor.kind place machine.state machine.world taken) (given_at moment given)))) takes
     ∙ ap (option_and_then (λ (given : Given). after_session machine (session_of flow machine place processor taken given))) is_given
     ∙ ap (option_map (session_after machine (session_of flow machine place processor taken given'))) makes
 
@@ -44,11 +44,11 @@ session-gives flow machine place numbers moment given given' processor taken out
 pub session-refused : (flow : Flow) (machine : Machine) (place : ℕ) (numbers : List ℕ) (moment : ℕ) (given : Given) (processor : Processor) (taken : List QueuedFile) →
     slice_get flow.processors place ≡ Some processor →
     taken_files flow machine.state place (take_rule_of processor.kind) numbers moment ≡ Some taken →
-    given_in processor.kind place machine.state machine.world taken (record given { moment = moment }) ≡ None →
+    option_and_then (given_in processor.kind place machine.state machine.world taken) (given_at moment given) ≡ None →
     step flow machine (entry.Session place numbers moment given) ≡ None
 session-refused flow machine place numbers moment given processor taken has takes refused =
     ap (option_and_then (session_step flow machine place numbers moment given)) has
-    ∙ ap (option_and_then (λ (taken : List QueuedFile). option_and_then (λ (given : Given). after_session machine (session_of flow machine place processor taken given)) (given_in processor.kind place machine.state machine.world taken (record given { moment = moment })))) takes
+    ∙ ap (option_and_then (λ (taken : List QueuedFile). option_and_then (λ (given : Given). after_session machine (session_of flow machine place processor taken given)) (option_and_then (given_in processor.kind place machine.state machine.world taken) (given_at moment given)))) takes
     ∙ ap (option_and_then (λ (given : Given). after_session machine (session_of flow machine place processor taken given))) refused
 
 -- ---- attributes that differ

@@ -1,12 +1,13 @@
 -- Which attributes make a file a fragment, and which fragments are picked.
 use Rattle.std.proofs.Common.{◌≡◌, ℕ, List, refl, ap, ◌∙◌}
 use Rattle.std.specs.Prelude.{Option, Some, None, codes, option_and_then}
-use Rattle.std.specs.FinMap.{get, insert, empty, get-insert}
-use Rattle.std.specs.Cmp.Lexicographic.{nat_list_cmp_total}
+use Rattle.std.specs.FinMap.{get, insert, empty, get-insert, get-empty}
+use Rattle.std.specs.Ordering.{nat_cmp}
+use Rattle.std.specs.Cmp.Lexicographic.{slice_cmp, nat_list_cmp_total}
 use Rattle.expr_lang.specs.Value.{text, as_number}
 use Rattle.flowfile_record.specs.Attributes.{AttributeMap}
 use Rattle.machine_model.specs.Taking.{Fragment, within_count, positive, fragment_of}
-use Rattle.machine_examples.specs.Picks.{saying, TwoAreNoWhole, ThreeAreAWhole, LoneGoesBesideTwo, EarlierWholeGoes, EarlierLoneGoes}
+use Rattle.machine_examples.specs.Picks.{NoCountIsNone, NoIdentifierIsNone, saying, TwoAreNoWhole, ThreeAreAWhole, LoneGoesBesideTwo, EarlierWholeGoes, EarlierLoneGoes}
 
 -- what three attributes say
 pub number_in : Option (List ℕ) → Option ℕ
@@ -76,3 +77,35 @@ whole-earlier a b c lone are = simp (are.first, are.second, are.third, are.no_pa
 
 pub lone-earlier : EarlierLoneGoes
 lone-earlier a b c lone are = rw are.no_part refl
+
+-- an attribute is missing
+abbrev without_count : AttributeMap
+without_count = insert first (codes "fragment.index") (codes "1")
+
+countless-is : get without_count (codes "fragment.count") ≡ None
+countless-is = get-insert nat_list_cmp_total first (codes "fragment.index") (codes "1") (codes "fragment.count")
+    ∙ get-insert nat_list_cmp_total empty (codes "fragment.identifier") (codes "w") (codes "fragment.count") ∙ get-empty (slice_cmp nat_cmp) (codes "fragment.count")
+
+pub countless : NoCountIsNone
+unfolding read number_in
+countless =
+    ap (λ (o : Option (List ℕ)). read o (get without_count (codes "fragment.index")) (get without_count (codes "fragment.count"))) identifier-is
+    ∙ ap (λ (o : Option (List ℕ)). read (Some (codes "w")) o (get without_count (codes "fragment.count"))) index-is
+    ∙ ap (λ (o : Option (List ℕ)). read (Some (codes "w")) (Some (codes "1")) o) countless-is
+  where
+    identifier-is : get without_count (codes "fragment.identifier") ≡ Some (codes "w")
+    identifier-is = get-insert nat_list_cmp_total first (codes "fragment.index") (codes "1") (codes "fragment.identifier")
+        ∙ get-insert nat_list_cmp_total empty (codes "fragment.identifier") (codes "w") (codes "fragment.identifier")
+
+    index-is : get without_count (codes "fragment.index") ≡ Some (codes "1")
+    index-is = get-insert nat_list_cmp_total first (codes "fragment.index") (codes "1") (codes "fragment.index")
+
+abbrev without_identifier : AttributeMap
+without_identifier = insert (insert empty (codes "fragment.index") (codes "1")) (codes "fragment.count") (codes "1")
+
+nameless-is : get without_identifier (codes "fragment.identifier") ≡ None
+nameless-is = get-insert nat_list_cmp_total (insert empty (codes "fragment.index") (codes "1")) (codes "fragment.count") (codes "1") (codes "fragment.identifier")
+    ∙ get-insert nat_list_cmp_total empty (codes "fragment.index") (codes "1") (codes "fragment.identifier") ∙ get-empty (slice_cmp nat_cmp) (codes "fragment.identifier")
+
+pub nameless : NoIdentifierIsNone
+nameless = rw nameless-is refl

@@ -37,5 +37,5 @@ sent-empty =
 
 pub delivered : (bytes : List ℕ) → IsReceived bytes → IsSent bytes → IsDelivered bytes
 delivered bytes received sent =
-    ap (option_and_then (λ (machine : Machine). replay flow machine (record { step = putting; acked = None } ∷ []))) received
+    ap (option_and_then (λ (machine : Machine). replay flow machine (putting ∷ []))) received
     ∙ ap (option_and_then (λ (machine : Machine). replay flow machine [])) sent

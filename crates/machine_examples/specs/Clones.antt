@@ -1,7 +1,8 @@
 -- Tried: numbers, arrivals, connections and events of clones, and the names of made files.
-use Rattle.std.specs.Prelude.{◌≡◌, ℕ, true, false, List, [], ◌∷◌, Some, None, codes}
+use Rattle.std.specs.Prelude.{◌≡◌, ℕ, true, Err, false, List, [], ◌∷◌, Some, None, codes}
 use Rattle.std.specs.FinMap.{get, insert}
 use Rattle.expr_lang.specs.declared.syntax.Expr.{Expr}
+use Rattle.expr_lang.specs.declared.error.EvalError.{EvalError}
 use Rattle.expr_lang.specs.Meaning.{tree_value}
 use Rattle.expr_lang.specs.View.{tree_of}
 use Rattle.flowfile_record.specs.Attributes.{AttributeMap}
@@ -16,9 +17,9 @@ use Rattle.flowfile_record.specs.declared.worked.Worked.{Worked}
 use Rattle.machine_model.specs.declared.flow.Flow.{Flow}
 use Rattle.machine_model.specs.declared.flow.Processor.{Processor}
 use Rattle.machine_model.specs.declared.kind.Conflict.TheVariants.{Replace}
-use Rattle.machine_model.specs.declared.kind.Kind.TheVariants.{GetFile, GenerateFlowFile, PutFile, DuplicateFlowFile}
+use Rattle.machine_model.specs.declared.kind.Kind.TheVariants.{GetFile, GenerateFlowFile, PutFile, UpdateAttribute, DuplicateFlowFile}
 use Rattle.machine_model.specs.State.{QueuedFile, State}
-use Rattle.machine_model.specs.Acting.{passed_on, received_attributes, generated_attributes, text_or_nothing}
+use Rattle.machine_model.specs.Acting.{act, alone, made_file, passed_on, received_attributes, generated_attributes, text_or_nothing}
 use Rattle.flowfile_record.specs.Outcome.{is_made}
 use Rattle.machine_model.specs.Placing.{EndedSession, uuid_text, with_filename}
 use Rattle.machine_model.specs.Settling.{settle}
@@ -83,6 +84,49 @@ ClonesArePenalisedToo =
       kin = kin_of ((2, 1) ∷ []);
     }
 
+-- ---- two files that were taken and one that was made of the first, each to two connections: clones behind all of them
+
+abbrev pub two_files : State
+two_files = state_of ((a_file 1 1 ∷ a_file 2 2 ∷ []) ∷ [] ∷ [] ∷ []) 3 3 (0 ∷ 0 ∷ 0 ∷ [])
+
+abbrev pub ending_two : EndedSession
+ending_two = record ending { flow = doubling; state = two_files; taken = a_file 1 1 ∷ a_file 2 2 ∷ [] }
+
+abbrev pub passed : (place : ℕ) → Worked
+passed place = passed_on place (received_attributes a_txt) false 0
+
+abbrev pub TwoFanOut : Type 0
+TwoFanOut =
+    settle ending_two (record { files = passed 0 ∷ passed 1 ∷ clone ∷ []; sent = None })
+    ≡ record (state_of ([] ∷ (a_file 1 3 ∷ a_file 2 4 ∷ a_file 3 5 ∷ []) ∷ (a_file 4 6 ∷ a_file 5 7 ∷ a_file 6 8 ∷ []) ∷ []) 7 9 (0 ∷ 0 ∷ 0 ∷ [])) {
+      events = clone_of 1 2000 (codes "dup") 1 3 hi ∷ clone_of 2 2000 (codes "dup") 1 4 hi ∷ clone_of 3 2000 (codes "dup") 2 5 hi
+          ∷ clone_of 4 2000 (codes "dup") 3 6 hi ∷ [];
+      kin = kin_of ((3, 1) ∷ (4, 1) ∷ (5, 2) ∷ (6, 3) ∷ []);
+    }
+
+-- a copy of the second before one of the first: each is told by its original's place
+abbrev pub CopiesGoByOriginals : Type 0
+CopiesGoByOriginals =
+    (settle (record ending_two { flow = duplicating }) (record { files = passed 0 ∷ passed 1 ∷ record clone { origin = origin.Cloned 1 } ∷ clone ∷ []; sent = None })).events
+    ≡ clone_of 1 2000 (codes "dup") 1 4 hi ∷ clone_of 2 2000 (codes "dup") 2 3 hi ∷ []
+
+-- ---- beside a file that is dropped: its clone is told before the drop, wherever they stand
+
+abbrev pub upd : Processor
+upd = processor (codes "upd") (UpdateAttribute []) (codes "failure" ∷ [])
+
+abbrev pub fanning : Flow
+fanning = record doubling { processors = processor (codes "get") (GetFile None) [] ∷ upd ∷ processor (codes "put") (PutFile Replace) both ∷ [] }
+
+abbrev pub BesideADrop : Type 0
+BesideADrop =
+    settle (record ending_two { flow = fanning; processor = upd })
+    (record { files = passed_on 0 (received_attributes a_txt) false 1 ∷ passed 1 ∷ []; sent = None })
+    ≡ record (state_of ([] ∷ (a_file 2 3 ∷ []) ∷ (a_file 3 4 ∷ []) ∷ []) 4 5 (0 ∷ 0 ∷ 0 ∷ [])) {
+      events = clone_of 1 2000 (codes "upd") 2 3 hi ∷ told 2 2000 kind.Drop (codes "upd") 1 (codes "failure") hi ∷ [];
+      kin = kin_of ((3, 2) ∷ []);
+    }
+
 -- ---- a file that a GenerateFlowFile made, whose relationship leads to three connections
 
 abbrev pub generating : Expr → Flow
@@ -111,6 +155,12 @@ abbrev pub EachConnectionGetsOne : Type 0
 EachConnectionGetsOne =
     (text : Expr) → step (generating text) (machine (state_of ([] ∷ [] ∷ [] ∷ []) 1 1 (0 ∷ 0 ∷ [])) nothing) (session 0 [] 1000 (record (at_moment 1000) { index = 1 }))
     ≡ Some (machine (three_files text) nothing)
+
+-- a text that has no value makes a file without bytes
+abbrev pub NoValueIsEmpty : Type 0
+NoValueIsEmpty =
+    (text : Expr) (error : EvalError) → tree_value (get (generated_attributes 1)) (tree_of text) ≡ Err error →
+    act (GenerateFlowFile 1 text) [] (record (at_moment 1000) { index = 1 }) ≡ Some (alone (made_file origin.Created (generated_attributes 1) [] true 0))
 
 -- ---- names of made files
 

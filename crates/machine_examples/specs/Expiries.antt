@@ -78,12 +78,9 @@ BatchMustWait = step swapping (machine two_active nothing) (SwapIn 0 1) ≡ None
 abbrev pub BatchComesBack : Type 0
 BatchComesBack = step swapping (machine one_active nothing) (SwapIn 0 1) ≡ Some (machine back_again nothing)
 
-abbrev pub entry_of : Step → Entry
-entry_of step = record { step = step; acked = None }
-
 abbrev pub GoesAndComesBack : Type 0
 GoesAndComesBack =
-    replay swapping (machine all_active nothing) (entry_of (SwapOut 0 (3 ∷ []) 1) ∷ entry_of (Expire 0 (1 ∷ []) 2000) ∷ entry_of (SwapIn 0 1) ∷ [])
+    replay swapping (machine all_active nothing) (SwapOut 0 (3 ∷ []) 1 ∷ Expire 0 (1 ∷ []) 2000 ∷ SwapIn 0 1 ∷ [])
     ≡ Some (machine back_again nothing)
 
 -- what is due with these files in the queue

@@ -1,5 +1,7 @@
 pub mod Acks
+pub mod Batches
 pub mod Clones
+pub mod Elsewhere
 pub mod Ends
 pub mod Expiries
 pub mod Families

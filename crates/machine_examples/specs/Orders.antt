@@ -1,10 +1,13 @@
 -- Tried: which files of a queue are eligible, in which order, and when a queue is full.
-use Rattle.std.specs.Prelude.{map, ◌≡◌, ℕ, Bool, List, Some}
+use Rattle.std.specs.Prelude.{map, ◌≡◌, ℕ, Bool, true, false, List, [], ◌∷◌, Option, Some, None, codes}
 use Rattle.prioritizer.specs.declared.prioritizer.Prioritizer.{Prioritizer}
+use Rattle.prioritizer.specs.declared.prioritizer.Prioritizer.TheVariants.{PriorityAttribute}
+use Rattle.std.specs.FinMap.{get}
+use Rattle.machine_model.specs.View.{FileView}
 use Rattle.machine_model.specs.declared.flow.QueueLimits.{QueueLimits}
 use Rattle.machine_model.specs.State.{QueuedFile}
 use Rattle.machine_model.specs.Files.{active_views, queue_view, view_of}
-use Rattle.machine_model.specs.Order.{eligible_files}
+use Rattle.machine_model.specs.Order.{eligible_files, goes_before}
 use Rattle.machine_model.specs.Quiet.{is_full}
 use Rattle.machine_examples.specs.Small.{wide, a_file}
 
@@ -38,3 +41,16 @@ since entered = record third { entered = entered }
 -- limits on files and on bytes
 abbrev pub FullIs : (objects bytes : ℕ) → List QueuedFile → Bool → Type 0
 FullIs objects bytes files answer = is_full (record wide { objects = objects; bytes = bytes }) (queue_view files) ≡ answer
+
+-- ---- by the attribute `priority`: by value, then what is no number, then what has none
+
+abbrev pub HasPriority : FileView → Option (List ℕ) → Type 0
+HasPriority file text = get file.attributes (codes "priority") ≡ text
+
+abbrev pub GoesFirst : FileView → FileView → Type 0
+GoesFirst file other = (goes_before (PriorityAttribute ∷ []) file other ≡ true) × (goes_before (PriorityAttribute ∷ []) other file ≡ false)
+
+abbrev pub PrioritiesTell : Type 0
+PrioritiesTell = (ten nine word none : FileView) → HasPriority ten (Some (codes "10")) → HasPriority nine (Some (codes "9"))
+    → HasPriority word (Some (codes "x")) → HasPriority none None
+    → GoesFirst nine ten × GoesFirst ten word × GoesFirst word none

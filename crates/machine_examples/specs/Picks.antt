@@ -66,3 +66,48 @@ EarlierWholeGoes = PicksParts (λ a b c lone. c ∷ lone ∷ a ∷ b ∷ []) (λ
 
 abbrev pub EarlierLoneGoes : Type 0
 EarlierLoneGoes = PicksParts (λ a b c lone. lone ∷ c ∷ a ∷ b ∷ []) (λ a b c lone. Some (lone ∷ []))
+
+-- ---- fragments of two wholes
+
+abbrev pub part_of : (whole : List ℕ) → (index count : ℕ) → Option Fragment
+part_of whole index count = Some (record { identifier = whole; index = index; count = count })
+
+-- both parts of one whole, both of another, one that doubles the first's index, and one of a greater whole of its name
+pub record AreOfWholes (a b c d again greater : FileView) : Type 0 where
+  pub first : fragment_of a.attributes ≡ part_of (codes "w") 1 2
+  pub second : fragment_of b.attributes ≡ part_of (codes "w") 2 2
+  pub other_first : fragment_of c.attributes ≡ part_of (codes "v") 1 2
+  pub other_second : fragment_of d.attributes ≡ part_of (codes "v") 2 2
+  pub first_again : fragment_of again.attributes ≡ part_of (codes "w") 1 2
+  pub of_greater : fragment_of greater.attributes ≡ part_of (codes "w") 2 3
+
+abbrev pub OfWholes : (files : FileView → FileView → FileView → FileView → FileView → FileView → List FileView)
+    (answer : FileView → FileView → FileView → FileView → FileView → FileView → Option (List FileView)) → Type 0
+OfWholes files answer = (a b c d again greater : FileView) → AreOfWholes a b c d again greater →
+    picks Defragment (files a b c d again greater) ≡ answer a b c d again greater
+
+-- the other's first part waits for its second
+abbrev pub WholeGoesBesideAPart : Type 0
+WholeGoesBesideAPart = OfWholes (λ a b c d again greater. c ∷ a ∷ b ∷ []) (λ a b c d again greater. Some (a ∷ b ∷ []))
+
+-- of two wholes that are there the one whose part stands first
+abbrev pub EarlierOfTwoWholes : Type 0
+EarlierOfTwoWholes = OfWholes (λ a b c d again greater. d ∷ a ∷ c ∷ b ∷ []) (λ a b c d again greater. Some (c ∷ d ∷ []))
+
+-- of a doubled index the first, and twice the first part is no whole
+abbrev pub FirstOfDoubled : Type 0
+FirstOfDoubled = OfWholes (λ a b c d again greater. again ∷ a ∷ b ∷ []) (λ a b c d again greater. Some (again ∷ b ∷ []))
+
+abbrev pub TwiceIsNoWhole : Type 0
+TwiceIsNoWhole = OfWholes (λ a b c d again greater. a ∷ again ∷ []) (λ a b c d again greater. None)
+
+-- a part of three isn't one of two
+abbrev pub CountsTellWholes : Type 0
+CountsTellWholes = OfWholes (λ a b c d again greater. a ∷ greater ∷ []) (λ a b c d again greater. None)
+
+-- an attribute of the three is missing
+abbrev pub NoCountIsNone : Type 0
+NoCountIsNone = fragment_of (insert (insert empty (codes "fragment.identifier") (codes "w")) (codes "fragment.index") (codes "1")) ≡ None
+
+abbrev pub NoIdentifierIsNone : Type 0
+NoIdentifierIsNone = fragment_of (insert (insert empty (codes "fragment.index") (codes "1")) (codes "fragment.count") (codes "1")) ≡ None

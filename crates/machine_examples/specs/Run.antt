@@ -8,6 +8,7 @@ use Rattle.machine_model.specs.declared.journal.Entry.{Entry}
 use Rattle.machine_model.specs.declared.journal.Step.{Step}
 use Rattle.machine_model.specs.declared.kind.Conflict.TheVariants.{Replace}
 use Rattle.machine_model.specs.State.{State, World}
+use Rattle.machine_model.specs.Acknowledged.{steps}
 use Rattle.machine_model.specs.Acting.{received_attributes}
 use Rattle.machine_model.specs.Stepping.{step, replay}
 use Rattle.machine_examples.specs.Small.{get_to_put, a_txt, wide, told, waiting, state_of, at_moment, session, machine, no_file, inbox_of}
@@ -58,4 +59,4 @@ abbrev pub IsSent : List ℕ → Type 0
 IsSent bytes = step flow (machine (between bytes) (world_between bytes)) putting ≡ Some (machine (after bytes) (world_after bytes))
 
 abbrev pub IsDelivered : List ℕ → Type 0
-IsDelivered bytes = replay flow (machine before (world_before bytes)) journal ≡ Some (machine (after bytes) (world_after bytes))
+IsDelivered bytes = replay flow (machine before (world_before bytes)) (steps journal) ≡ Some (machine (after bytes) (world_after bytes))

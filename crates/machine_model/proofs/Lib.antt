@@ -27,6 +27,7 @@ pub mod Places
 pub mod Preserved
 pub mod QueueOrder
 pub mod Replayed
+pub mod Seen
 pub mod Settled
 pub mod SettledNumbers
 pub mod SettlingKeeps

@@ -3,6 +3,7 @@ use Rattle.std.specs.Prelude.{ℕ, zero, suc, ◌+◌, ◌-◌, ◌==◌, ◌&&�
 use Rattle.std.specs.FinMap.{get}
 use Rattle.flowfile_record.specs.Attributes.{AttributeMap}
 use Rattle.flowfile_record.specs.declared.TheConstants.{CONTENT_MAX}
+use Rattle.flowfile_record.specs.declared.limits.TheConstants.{TAKEN_MAX}
 use Rattle.expr_lang.specs.declared.error.EvalError.{EvalError}
 use Rattle.expr_lang.specs.Value.{text, as_number}
 use Rattle.machine_model.specs.declared.kind.TakeRule.{TakeRule}
@@ -43,7 +44,7 @@ pub record Fragment : Type 0 where
   pub count : ℕ
 
 abbrev pub within_count : Fragment → Option Fragment
-within_count fragment = if nat_le fragment.index fragment.count && nat_le fragment.count 1000 then Some fragment else None
+within_count fragment = if nat_le fragment.index fragment.count && nat_le fragment.count TAKEN_MAX then Some fragment else None
 
 abbrev pub fragment_of : AttributeMap → Option Fragment
 fragment_of attributes =

@@ -1,5 +1,5 @@
-use Rattle.std.proofs.Common.{refl}
 use Rattle.machine_examples.proofs.TriedFlows.{get_to_put-sound, duplicating-sound, generating-sound, ring-sound, splitting-sound, merging-sound, marked-sound, contained-not}
+use Rattle.std.proofs.Common.{refl}
 use Rattle.machine_examples.proofs.tries.flows_are_sound.Goals as goal
 
 pub returns : goal.returns

@@ -1,6 +1,6 @@
-use Rattle.std.proofs.Common.{arith, refl}
-use Rattle.machine_examples.specs.Flows.{getting}
 use Rattle.machine_examples.proofs.TriedFlows.{untrue, alone-not-joined, unmarked-unsound, exact-marked}
+use Rattle.machine_examples.specs.Flows.{getting}
+use Rattle.std.proofs.Common.{arith, refl}
 use Rattle.machine_examples.proofs.tries.flows_are_unsound.Goals as goal
 
 pub returns : goal.returns

@@ -1,5 +1,17 @@
+use Rattle.prioritizer.specs.Order.{order_cmp}
 use Rattle.std.proofs.Common.{refl}
 use Rattle.machine_examples.proofs.tries.takes_are_allowed.Goals as goal
 
 pub returns : goal.returns
-returns c = record { fresh = refl; free = refl; second = refl }
+unfolding order_cmp
+returns c = record {
+  fresh = refl;
+  free = refl;
+  second = refl;
+  bin_three = refl;
+  bin_turned = refl;
+  bin_twice = refl;
+  bin_none = refl;
+  bin_first = refl;
+  bin_skipping = refl;
+}
