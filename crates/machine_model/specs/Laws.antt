@@ -21,15 +21,16 @@ use Rattle.machine_model.specs.declared.journal.Step.TheVariants as entry
 use Rattle.machine_model.specs.Due.{numbers_of, due_expiry, due_swap_out, due_swap_in}
 use Rattle.machine_model.specs.Files.{active_views, content_bytes, queue_at, queue_view, queues_of, view_of}
 use Rattle.machine_model.specs.declared.kind.Kind.{Kind}
-use Rattle.machine_model.specs.declared.kind.Kind.TheVariants.{GetFile, GenerateFlowFile}
+use Rattle.machine_model.specs.declared.kind.Kind.TheVariants.{GetFile}
 use Rattle.machine_model.specs.declared.kind.TakeRule.{TakeRule}
 use Rattle.machine_model.specs.declared.kind.TakeRule.TheVariants.{Source, One, Bin, Defragment}
 use Rattle.machine_model.specs.State.{QueuedFile, State, World, Machine}
-use Rattle.machine_model.specs.Acting.{TakenFile, act, generated_text}
+use Rattle.machine_model.specs.Acting.{TakenFile, act}
 use Rattle.machine_model.specs.Kinds.{take_rule_of, relationships_of, is_among}
 use Rattle.machine_model.specs.Lineage.{Lineage, IsLineage}
 use Rattle.machine_model.specs.Order.{goes_before, in_order, is_eligible, eligible_files, best}
 use Rattle.machine_model.specs.Placing.{EndedSession}
+use Rattle.machine_model.specs.Sound.{IsSoundKind}
 use Rattle.machine_model.specs.Settling.{settle}
 use Rattle.machine_model.specs.View.{file_count, byte_count, FileView}
 use Rattle.machine_model.specs.Valid.{files_of_all, IsWellNumbered, AreEventsInRow, EventsTellKin, IsValid, new_state}
@@ -117,21 +118,16 @@ abbrev pub ActsEndAllInTurn : Type 0
 ActsEndAllInTurn = (kind : Kind) (taken : List TakenFile) (given : Given) → MayTake (take_rule_of kind) (length taken) →
     IfSome (act kind taken given) (EndsAllInTurn (length taken))
 
--- what a generator's text is worth is no longer than a content
-abbrev pub HasTextWithin : Kind → (index : ℕ) → Type 0
-HasTextWithin (GenerateFlowFile count custom_text) index = length (generated_text custom_text index) ≤ CONTENT_MAX
-HasTextWithin _ index = Unit {0}
-
--- What a processor may be handed: as many files as its rule takes, each within the limits of a flow file; an index of 64
--- bits; the name of a file of the inbox, and bytes that a content may have.
+-- What a sound processor may be handed: as many files as its rule takes, each within the limits of a flow file; an index
+-- of 64 bits; the name of a file of the inbox, and bytes that a content may have.
 pub record MayBeHanded (kind : Kind) (taken : List TakenFile) (given : Given) : Type 0 where
+  pub sound : IsSoundKind kind
   pub count : MayTake (take_rule_of kind) (length taken)
   pub contents : All (λ file. length file.bytes ≤ CONTENT_MAX) taken
   pub attributes : All (λ file. IsWithinLimits file.attributes) taken
   pub index : given.index < 2 ^ 64
   pub name : IfSome given.file IsName
   pub bytes : IfSome given.bytes (λ bytes. length bytes ≤ CONTENT_MAX)
-  pub text : HasTextWithin kind given.index
 
 -- the outcome is one of a session with the processor's relationships, over the contents that were taken
 abbrev pub ActsGiveOutcomes : Type 0
