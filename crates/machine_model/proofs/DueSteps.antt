@@ -1,7 +1,7 @@
 -- That what is due has a step.
-use Rattle.std.proofs.Common.{◌≡◌, inl, inr, ℕ, zero, suc, ◌+◌, ◌-◌, ◌<◌, ◌≤◌, Bool, true, false, cond, not, List, [], ◌∷◌, map, length, drop, refl, sym, ap, subst, ◌∙◌, arith}
+use Rattle.std.proofs.Common.{◌≡◌, inl, inr, ℕ, zero, suc, ◌+◌, ◌-◌, ◌≤◌, Bool, true, false, cond, not, List, [], ◌∷◌, map, length, drop, refl, sym, ap, subst, ◌∙◌, arith}
 use Rattle.std.specs.Prelude.{◌==◌, nat_lt, nat_le, Option, Some, None, IfSome, IsSome, filter, option_map, option_and_then, slice_get}
-use Rattle.std.specs.List.{flat_map, list_all, cons_option, filter_map, enumerate_from}
+use Rattle.std.specs.List.{cons_option, filter_map, enumerate_from}
 use Rattle.std.specs.Option.{option_map_or}
 use Rattle.std.proofs.lemmas.Bool.{and_from, cases_lt, lt-ltb, le-leb, leb-true, eq-eqb, true≢false}
 use Rattle.std.proofs.lemmas.List.{length-map, length-drop}
@@ -11,17 +11,16 @@ use Rattle.machine_model.specs.declared.flow.Connection.{Connection}
 use Rattle.machine_model.specs.declared.flow.Flow.{Flow}
 use Rattle.machine_model.specs.declared.flow.QueueLimits.{QueueLimits}
 use Rattle.machine_model.specs.declared.journal.Step.TheVariants.{Expire, SwapOut, SwapIn}
-use Rattle.machine_model.specs.Due.{numbers_of, expired_numbers, some_numbers, batch_size, last_batch, lowest_batch, at_place, first_due, due_expiry, due_swap_out, due_swap_in}
+use Rattle.machine_model.specs.Due.{numbers_of, expired_numbers, some_numbers, batch_size, last_batch, lowest_batch, at_place, first_due}
 use Rattle.machine_model.specs.Events.{ascending}
-use Rattle.machine_model.specs.Files.{is_active, active_files, active_views, are_active, are_distinct, queue_at, queues_of, view_of, queue_view}
+use Rattle.machine_model.specs.Files.{is_active, active_files, active_views, queue_at, queues_of, view_of, queue_view}
 use Rattle.machine_model.specs.Laws.{DueExpiriesHaveSteps, DueSwapOutsHaveSteps, DueSwapInsHaveSteps}
 use Rattle.machine_model.specs.Order.{in_order}
-use Rattle.machine_model.specs.State.{QueuedFile, State, World, Machine}
+use Rattle.machine_model.specs.State.{QueuedFile, State, World}
 use Rattle.machine_model.specs.Stepping.{step, same_world, expire_step, swap_out_step, swap_in_step, swapped_in, with_queue}
-use Rattle.machine_model.specs.Valid.{IsValid}
 use Rattle.machine_model.specs.View.{FileView, QueueView, is_expired, at_rest}
-use Rattle.machine_model.proofs.Among.{Among, IsMade, is_made, kept_by, ascending-had, contains_among, among_contained}
-use Rattle.machine_model.proofs.Numbered.{number_of, HaveOwnNumbers, HasActive, all-active, all-pass, once-distinct, ascending-weighs, order-weighs, drop-weighs, own-numbers}
+use Rattle.machine_model.proofs.Among.{Among, is_made, kept_by, ascending-had, contains_among, among_contained}
+use Rattle.machine_model.proofs.Numbered.{HaveOwnNumbers, HasActive, all-active, all-pass, once-distinct, ascending-weighs, order-weighs, drop-weighs, own-numbers}
 use Rattle.machine_model.proofs.Options.{if_when, if_weaker}
 use Rattle.machine_model.proofs.Ordered.{in_order-permutes}
 use Rattle.machine_model.proofs.Places.{place_of}
@@ -60,7 +59,7 @@ if_not false x P h = h refl
 
 -- ---- files that are seen
 
-active-seen : (p : FileView → Bool) (queue : List QueuedFile) (number : ℕ) (view : FileView) → Among view (active_views queue) → view.number ≡ number → p view ≡ true → HasActive queue p number
+pub active-seen : (p : FileView → Bool) (queue : List QueuedFile) (number : ℕ) (view : FileView) → Among view (active_views queue) → view.number ≡ number → p view ≡ true → HasActive queue p number
 active-seen p queue number view h same passes =
     let made = is_made view_of (active_files queue) view h in
     record {
@@ -71,7 +70,7 @@ active-seen p queue number view h same passes =
       passes = ap p made.is ∙ passes;
     }
 
-views-once : (queue : List QueuedFile) (n : ℕ) → HaveOwnNumbers queue → tally (λ (view : FileView). bit (view.number == n)) (active_views queue) ≤ 1
+pub views-once : (queue : List QueuedFile) (n : ℕ) → HaveOwnNumbers queue → tally (λ (view : FileView). bit (view.number == n)) (active_views queue) ≤ 1
 views-once queue n own = omega (
   arith,
   own n,

@@ -9,6 +9,7 @@ pub mod Drafted
 pub mod DueSteps
 pub mod EventRows
 pub mod EventsTell
+pub mod Fragments
 pub mod GivenIn
 pub mod GoesOn
 pub mod Keyed
@@ -21,13 +22,16 @@ pub mod OnlyOrder
 pub mod Options
 pub mod Ordered
 pub mod Outcomes
+pub mod Picked
 pub mod Places
 pub mod Preserved
 pub mod QueueOrder
 pub mod Replayed
+pub mod Seen
 pub mod Settled
 pub mod SettledNumbers
 pub mod SettlingKeeps
+pub mod ShortTexts
 pub mod Stepped
 pub mod Tally
 pub mod Took

@@ -1,17 +1,16 @@
 -- Of files with numbers that differ, each is found by its number, and in one queue.
-use Rattle.std.proofs.Common.{◌≡◌, inl, inr, ℕ, zero, suc, ◌+◌, ◌≤◌, Bool, true, false, cond, not, ◌&&◌, List, [], ◌∷◌, map, length, drop, refl, sym, ap, subst, ◌∙◌, arith}
-use Rattle.std.specs.Prelude.{◌==◌, Option, Some, None, is_some, find, filter, nat_le}
+use Rattle.std.proofs.Common.{◌≡◌, inl, inr, ℕ, zero, suc, ◌+◌, ◌≤◌, Bool, true, false, cond, not, List, [], ◌∷◌, map, drop, refl, sym, ap, subst, ◌∙◌, arith}
+use Rattle.std.specs.Prelude.{◌==◌, Some, is_some, find, nat_le}
 use Rattle.std.specs.List.{flat_map, list_all, cons_option, enumerate_from}
 use Rattle.std.proofs.lemmas.Bool.{cases_eq, ne_eqb, eq-eqb, and_parts, and_from, true≢false}
 use Rattle.prioritizer.specs.declared.prioritizer.Prioritizer.{Prioritizer}
-use Rattle.machine_model.specs.declared.flow.Connection.{Connection}
 use Rattle.machine_model.specs.declared.flow.Flow.{Flow}
 use Rattle.machine_model.specs.Events.{put_ascending, ascending}
 use Rattle.machine_model.specs.Files.{is_active, active_files, file_numbered, queue_at, are_active, are_distinct, is_number_among, view_of}
 use Rattle.machine_model.specs.Laws.{OneConnectionHas}
 use Rattle.machine_model.specs.Order.{goes_before, put_in_order, in_order}
 use Rattle.machine_model.specs.State.{QueuedFile, State}
-use Rattle.machine_model.specs.Stepping.{files_of, has_all, source_of}
+use Rattle.machine_model.specs.Stepping.{files_of, has_all}
 use Rattle.machine_model.specs.Valid.{IsValid}
 use Rattle.machine_model.specs.View.{FileView}
 use Rattle.machine_model.proofs.Among.{Among, among_contained}
