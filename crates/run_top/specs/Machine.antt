@@ -1,6 +1,7 @@
 -- The machine that a run replays: one thread, plain lists, one whole step at a time. It knows no log, no gate and
 -- no device.
-use Rattle.std.specs.Prelude.{◌≡◌, ◌⊎◌, ℕ, ◌+◌, ◌≤◌, nat_le, Bool, false, List, [], ◌∷◌, ◌++◌, length, Option, None, Some, IsSome, MatchOption, if◌then◌else◌}
+use Rattle.std.specs.Prelude.{◌≡◌, ◌⊎◌, ℕ, ◌+◌, ◌≤◌, nat_le, Bool, false, if◌then◌else◌}
+use Rattle.std.specs.Prelude.{List, [], ◌∷◌, ◌++◌, length, Option, None, Some, IsSome, MatchOption}
 use Rattle.std.specs.List.{AllByRecursion}
 use Rattle.flowfile_record.specs.NamedFile.{NamedFile, bytes_of, without, with_file}
 use Rattle.flowfile_record.specs.declared.TheConstants.{CONTENT_MAX}
@@ -29,7 +30,8 @@ got m name (Some bytes) =
 
 abbrev pub put : Machine → List Queued → Option Machine
 put m [] = None
-put m (file ∷ queue) = Some (record { queue = queue; left = m.left; outbox = with_file m.outbox file.name file.bytes })
+put m (file ∷ queue) =
+    Some (record { queue = queue; left = m.left; outbox = with_file m.outbox file.name file.bytes })
 
 -- A step, where it is defined: a name is got that is left, and something is put where a file waits.
 abbrev pub step : Machine → Step → Option Machine
@@ -63,7 +65,9 @@ acknowledged (entry ∷ journal) t = (if is_acked_by t entry.acked then 1 else 0
 abbrev pub IsInOrder : (low high : ℕ) → List Entry → Type 0
 IsInOrder low high [] = Unit {0}
 IsInOrder low high (entry ∷ journal) =
-    MatchOption entry.acked (AllByRecursion (λ later. later.acked ≡ None) journal) (λ moment. (low ≤ moment) × (moment ≤ high) × IsInOrder moment high journal)
+    MatchOption entry.acked
+    (AllByRecursion (λ later. later.acked ≡ None) journal)
+    (λ moment. (low ≤ moment) × (moment ≤ high) × IsInOrder moment high journal)
 
 -- each entry was acknowledged
 abbrev pub IsAcknowledged : List Entry → Type 0

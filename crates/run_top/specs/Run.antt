@@ -1,5 +1,6 @@
 -- What a run promises.
-use Rattle.std.specs.Prelude.{◌≡◌, ◌≢◌, ◌⊎◌, ℕ, ◌+◌, ◌≤◌, List, [], ◌∷◌, ◌++◌, length, Option, Some, Result, Ok, Err, ⊤, IsSome, IsNone, IsTrue, Bool}
+use Rattle.std.specs.Prelude.{◌≡◌, ◌≢◌, ◌⊎◌, ⊤, ℕ, ◌+◌, ◌≤◌, Bool, List, [], ◌∷◌, ◌++◌, length}
+use Rattle.std.specs.Prelude.{Option, Some, Result, Ok, Err, IsSome, IsNone, IsTrue}
 use Rattle.disk_trait.specs.Files.{Files}
 use Rattle.disk_trait.specs.Images.{SinceMoment, Since, next_moment}
 use Rattle.disk_trait.specs.Faults.{CountsFaults}
@@ -10,7 +11,8 @@ use Rattle.store_core.specs.Opening.{SinceSync}
 use Rattle.store_core.specs.State.{stands_for}
 use Rattle.run_top.specs.Status.{status_of}
 use Rattle.run_top.specs.declared.status.RunError.{RunError}
-use Rattle.run_top.specs.declared.status.TheConstants.{DONE, DAMAGED, DISK_FAULT, INBOX_FAULT, OUTBOX_FAULT, OUT_OF_MEMORY}
+use Rattle.run_top.specs.declared.status.TheConstants.{DONE, DAMAGED, DISK_FAULT, INBOX_FAULT, OUTBOX_FAULT}
+use Rattle.run_top.specs.declared.status.TheConstants.{OUT_OF_MEMORY}
 use Rattle.run_top.specs.Machine.{Machine, Entry, Get, replay, acknowledged, IsInOrder, WasGot, IsQuiet}
 
 -- These files stand for the queue after a prefix of the journal, and each entry that was acknowledged by the moment
@@ -26,20 +28,25 @@ pub record IsPrefix (opened : Machine) (journal : List Entry) (k : ℕ) (c : Fil
 
 -- The journal leads from the opened state to this one, its moments are in order, and from behind the opening's first
 -- sync on, whatever a stop may leave is a prefix. What a stop before that could leave is as it was.
-pub record Replays {D : Type 0} (moment : D → ℕ) (images : D → ℕ → Files → Type 0) (opened : Machine) (journal : List Entry) (reached : Machine) (old new : D) : Type 0 where
+pub record Replays {D : Type 0} (moment : D → ℕ) (images : D → ℕ → Files → Type 0) (opened : Machine)
+    (journal : List Entry) (reached : Machine) (old new : D) : Type 0 where
   pub replays : replay opened journal ≡ Some reached
   pub in_order : IsInOrder (moment old + 1) (moment new) journal
   pub prefixes : SinceMoment moment images (moment old + 1) old new (IsPrefix opened journal)
 
 -- By now each entry is acknowledged. At a fault of the disk the last one may not be.
 abbrev pub IsAckedBy : (now status : ℕ) → List Entry → Type 0
-IsAckedBy now status journal = (acknowledged journal now ≡ length journal) ⊎ ((status ≡ DISK_FAULT) × (acknowledged journal now + 1 ≡ length journal))
+IsAckedBy now status journal =
+    (acknowledged journal now ≡ length journal)
+    ⊎ ((status ≡ DISK_FAULT) × (acknowledged journal now + 1 ≡ length journal))
 
 -- each name that is gone from the inbox is that of an acknowledged entry
 abbrev pub IsGoneByEntry : (before after : List NamedFile) → List Entry → Type 0
-IsGoneByEntry before after journal = (name : List ℕ) → IsSome (bytes_of before name) → IsNone (bytes_of after name) → WasGot name journal
+IsGoneByEntry before after journal =
+    (name : List ℕ) → IsSome (bytes_of before name) → IsNone (bytes_of after name) → WasGot name journal
 
--- The inbox is as before the journal's last step, which got a file: disk or inbox failed before the file was removed.
+-- The inbox is as before the journal's last step, which got a file: disk or inbox failed before the file was
+-- removed.
 pub record IsLeftOver (status : ℕ) (opened : Machine) (journal : List Entry) (left : List NamedFile) : Type 0 where
   pub failed : (status ≡ DISK_FAULT) ⊎ (status ≡ INBOX_FAULT)
   pub before : List Entry
@@ -51,7 +58,8 @@ pub record IsLeftOver (status : ℕ) (opened : Machine) (journal : List Entry) (
   pub replays : replay opened before ≡ Some reached
   pub still : left ≡ reached.left
 
--- The outbox failed at the first file that waits. What stands under its name may be anything, and the file still waits.
+-- The outbox failed at the first file that waits. What stands under its name may be anything, and the file still
+-- waits.
 pub record IsStoppedAtPut (status : ℕ) (reached : Machine) (standing : List ℕ → Option (List ℕ)) : Type 0 where
   pub failed : status ≡ OUTBOX_FAULT
   pub file : Queued
@@ -66,7 +74,8 @@ pub record IsDone (reached : Machine) (held : Files) : Type 0 where
 
 -- Whatever its status: a journal tells what the run did to disk, inbox and outbox. Inbox and outbox are those of the
 -- whole journal, but for the one file at which a device failed.
-pub record HasRun {D : Type 0} (status : ℕ) (held : D → Files) (moment : D → ℕ) (images : D → ℕ → Files → Type 0) (opened : Machine) (old new : D) (left : List NamedFile) (standing : List ℕ → Option (List ℕ)) : Type 0 where
+pub record HasRun {D : Type 0} (status : ℕ) (held : D → Files) (moment : D → ℕ) (images : D → ℕ → Files → Type 0)
+    (opened : Machine) (old new : D) (left : List NamedFile) (standing : List ℕ → Option (List ℕ)) : Type 0 where
   pub journal : List Entry
   pub reached : Machine
   pub ran : Replays moment images opened journal reached old new
@@ -77,7 +86,8 @@ pub record HasRun {D : Type 0} (status : ℕ) (held : D → Files) (moment : D �
   pub done : status ≡ DONE → IsDone reached (held new)
 
 -- The opening's first sync failed: nothing was done, and the disk's fault is told.
-pub record IsNotOpened {D I O : Type 0} (status : ℕ) (moment : D → ℕ) (images : D → ℕ → Files → Type 0) (old new : D) (inbox_old inbox_new : I) (outbox_old outbox_new : O) : Type 0 where
+pub record IsNotOpened {D I O : Type 0} (status : ℕ) (moment : D → ℕ) (images : D → ℕ → Files → Type 0) (old new : D)
+    (inbox_old inbox_new : I) (outbox_old outbox_new : O) : Type 0 where
   pub fault : status ≡ DISK_FAULT
   pub since : Since moment images old new (images old (moment old))
   pub inbox : inbox_new ≡ inbox_old
@@ -85,7 +95,9 @@ pub record IsNotOpened {D I O : Type 0} (status : ℕ) (moment : D → ℕ) (ima
 
 -- Files that stand for this damage are left so: what the disk holds and, from behind the opening's first sync on,
 -- whatever a stop may leave.
-pub record IsLeftDamaged {D I O : Type 0} (status : ℕ) (held : D → Files) (moment : D → ℕ) (images : D → ℕ → Files → Type 0) (damage : Damage) (old new : D) (inbox_old inbox_new : I) (outbox_old outbox_new : O) : Type 0 where
+pub record IsLeftDamaged {D I O : Type 0} (status : ℕ) (held : D → Files) (moment : D → ℕ)
+    (images : D → ℕ → Files → Type 0) (damage : Damage) (old new : D)
+    (inbox_old inbox_new : I) (outbox_old outbox_new : O) : Type 0 where
   pub told : (status ≡ DAMAGED) ⊎ (status ≡ DISK_FAULT) ⊎ (status ≡ OUT_OF_MEMORY)
   pub since : SinceSync moment images old new (λ c. stands_for c ≡ Err damage)
   pub stands : stands_for (held new) ≡ Err damage
@@ -94,7 +106,8 @@ pub record IsLeftDamaged {D I O : Type 0} (status : ℕ) (held : D → Files) (m
 
 -- Damage was told: on a disk that tells the files stand for some. On any disk they are as before, and of the calls that
 -- change something there was one sync.
-pub record IsToldDamaged {D I O : Type 0} (tells : Bool) (held : D → Files) (moment : D → ℕ) (old new : D) (inbox_old inbox_new : I) (outbox_old outbox_new : O) : Type 0 where
+pub record IsToldDamaged {D I O : Type 0} (tells : Bool) (held : D → Files) (moment : D → ℕ) (old new : D)
+    (inbox_old inbox_new : I) (outbox_old outbox_new : O) : Type 0 where
   pub found : IsTrue tells → (damage : Damage) × (stands_for (held old) ≡ Err damage)
   pub same : held new ≡ held old
   pub one_sync : moment new ≡ next_moment (moment old)
@@ -103,7 +116,8 @@ pub record IsToldDamaged {D I O : Type 0} (tells : Bool) (held : D → Files) (m
 
 -- A device's fault count never falls, and its status is answered only where the count rose, or stands at its type's
 -- end.
-pub record CountsEachFault (status : ℕ) (disk_old disk_new inbox_old inbox_new outbox_old outbox_new : ℕ) : Type 0 where
+pub record CountsEachFault (status : ℕ) (disk_old disk_new inbox_old inbox_new outbox_old outbox_new : ℕ)
+    : Type 0 where
   pub disk : CountsFaults disk_old disk_new (status ≡ DISK_FAULT)
   pub inbox : CountsFaults inbox_old inbox_new (status ≡ INBOX_FAULT)
   pub outbox : CountsFaults outbox_old outbox_new (status ≡ OUTBOX_FAULT)

@@ -9,7 +9,8 @@ use Rattle.run_top.specs.Machine.{Machine, Entry, IsAcknowledged}
 use Rattle.run_top.specs.Run.{Replays, IsGoneByEntry}
 
 -- Every entry is acknowledged, and store, inbox and outbox are those of the whole journal.
-pub record IsRunning {D : Type 0} (moment : D → ℕ) (images : D → ℕ → Files → Type 0) (opened : Machine) (old now : D) (queue : List Queued) (left : List NamedFile) (standing : List ℕ → Option (List ℕ)) : Type 0 where
+pub record IsRunning {D : Type 0} (moment : D → ℕ) (images : D → ℕ → Files → Type 0) (opened : Machine) (old now : D)
+    (queue : List Queued) (left : List NamedFile) (standing : List ℕ → Option (List ℕ)) : Type 0 where
   pub journal : List Entry
   pub reached : Machine
   pub ran : Replays moment images opened journal reached old now

@@ -35,21 +35,30 @@ pub fn run<R, D: Disk, I: Inbox, O: Outbox, F: Source, S: Sink, C: Clock, G: Gat
 ) -> u8
     // The headline. Where the devices tell and the files stand for a queue, there is a journal of which all that
     // HasRun says is true, whatever the status; or the opening's first sync failed.
-    ensures headline { IsTrue D.tells → IsTrue I.tells → IsTrue O.tells → is_run words.now ≡ true → (queue : List Queued) → stands_for (D.held disk.old) ≡ Ok queue
-        → HasRun result D.held D.moment D.images (record { queue = queue; left = I.left inbox.old; outbox = O.standing outbox.old }) disk.old disk.new (I.left inbox.new) (O.standing outbox.new)
+    ensures headline { IsTrue D.tells → IsTrue I.tells → IsTrue O.tells → is_run words.now ≡ true
+        → (queue : List Queued) → stands_for (D.held disk.old) ≡ Ok queue
+        → HasRun result D.held D.moment D.images
+        (record { queue = queue; left = I.left inbox.old; outbox = O.standing outbox.old })
+        disk.old disk.new (I.left inbox.new) (O.standing outbox.new)
         ⊎ IsNotOpened result D.moment D.images disk.old disk.new inbox.old inbox.new outbox.old outbox.new }
 
     // Where the files stand for no queue, nothing is done, whatever the status.
-    ensures damage_left { IsTrue D.tells → is_run words.now ≡ true → (damage : TheDamage) → stands_for (D.held disk.old) ≡ Err damage
-        → IsLeftDamaged result D.held D.moment D.images damage disk.old disk.new inbox.old inbox.new outbox.old outbox.new
+    ensures damage_left { IsTrue D.tells → is_run words.now ≡ true
+        → (damage : TheDamage) → stands_for (D.held disk.old) ≡ Err damage
+        → IsLeftDamaged result D.held D.moment D.images damage
+        disk.old disk.new inbox.old inbox.new outbox.old outbox.new
         ⊎ IsNotOpened result D.moment D.images disk.old disk.new inbox.old inbox.new outbox.old outbox.new }
 
     // Each status has its cause.
     ensures usage { result ≡ USAGE ↔ (is_run words.now ≡ false) }
-    ensures usage_untouched { result ≡ USAGE → (disk.new ≡ disk.old) × (inbox.new ≡ inbox.old) × (outbox.new ≡ outbox.old) }
-    ensures damaged { result ≡ DAMAGED → IsToldDamaged D.tells D.held D.moment disk.old disk.new inbox.old inbox.new outbox.old outbox.new }
-    ensures causes { CountsEachFault result (D.faults disk.old) (D.faults disk.new) (I.faults inbox.old) (I.faults inbox.new) (O.faults outbox.old) (O.faults outbox.new) }
-    ensures statuses { (result ≡ DONE) ⊎ (result ≡ USAGE) ⊎ (result ≡ DAMAGED) ⊎ (result ≡ DISK_FAULT) ⊎ (result ≡ INBOX_FAULT) ⊎ (result ≡ OUTBOX_FAULT) ⊎ (result ≡ OUT_OF_MEMORY) }
+    ensures usage_untouched { result ≡ USAGE
+        → (disk.new ≡ disk.old) × (inbox.new ≡ inbox.old) × (outbox.new ≡ outbox.old) }
+    ensures damaged { result ≡ DAMAGED
+        → IsToldDamaged D.tells D.held D.moment disk.old disk.new inbox.old inbox.new outbox.old outbox.new }
+    ensures causes { CountsEachFault result (D.faults disk.old) (D.faults disk.new)
+        (I.faults inbox.old) (I.faults inbox.new) (O.faults outbox.old) (O.faults outbox.new) }
+    ensures statuses { (result ≡ DONE) ⊎ (result ≡ USAGE) ⊎ (result ≡ DAMAGED)
+        ⊎ (result ≡ DISK_FAULT) ⊎ (result ≡ INBOX_FAULT) ⊎ (result ≡ OUTBOX_FAULT) ⊎ (result ≡ OUT_OF_MEMORY) }
 
     // The other devices aren't used yet.
     ensures unused { (flow.new ≡ flow.old) × (sink.new ≡ sink.old) × (clock.new ≡ clock.old) }
@@ -80,15 +89,21 @@ fn run_flow<D: Disk, I: Inbox, O: Outbox>(
     inbox: &mut I,
     outbox: &mut O,
 ) -> Result<(), RunError>
-    ensures headline { IsTrue D.tells → IsTrue I.tells → IsTrue O.tells → (queue : List Queued) → stands_for (D.held disk.old) ≡ Ok queue
-        → HasRun (status_at result) D.held D.moment D.images (record { queue = queue; left = I.left inbox.old; outbox = O.standing outbox.old }) disk.old disk.new (I.left inbox.new) (O.standing outbox.new)
+    ensures headline { IsTrue D.tells → IsTrue I.tells → IsTrue O.tells
+        → (queue : List Queued) → stands_for (D.held disk.old) ≡ Ok queue
+        → HasRun (status_at result) D.held D.moment D.images
+        (record { queue = queue; left = I.left inbox.old; outbox = O.standing outbox.old })
+        disk.old disk.new (I.left inbox.new) (O.standing outbox.new)
         ⊎ IsNotOpened (status_at result) D.moment D.images disk.old disk.new inbox.old inbox.new outbox.old outbox.new }
     ensures damage_left { IsTrue D.tells → (damage : TheDamage) → stands_for (D.held disk.old) ≡ Err damage
-        → IsLeftDamaged (status_at result) D.held D.moment D.images damage disk.old disk.new inbox.old inbox.new outbox.old outbox.new
+        → IsLeftDamaged (status_at result) D.held D.moment D.images damage
+        disk.old disk.new inbox.old inbox.new outbox.old outbox.new
         ⊎ IsNotOpened (status_at result) D.moment D.images disk.old disk.new inbox.old inbox.new outbox.old outbox.new }
-    ensures damaged { (damage : TheDamage) → IsErrOf result (RunError.Damaged damage) → IsTrue D.tells → stands_for (D.held disk.old) ≡ Err damage }
+    ensures damaged { (damage : TheDamage) → IsErrOf result (RunError.Damaged damage) → IsTrue D.tells
+        → stands_for (D.held disk.old) ≡ Err damage }
     ensures damaged_untouched { (damage : TheDamage) → IsErrOf result (RunError.Damaged damage)
-        → (D.held disk.new ≡ D.held disk.old) × (D.moment disk.new ≡ next_moment (D.moment disk.old)) × (inbox.new ≡ inbox.old) × (outbox.new ≡ outbox.old) }
+        → (D.held disk.new ≡ D.held disk.old) × (D.moment disk.new ≡ next_moment (D.moment disk.old))
+        × (inbox.new ≡ inbox.old) × (outbox.new ≡ outbox.old) }
     ensures disk_cause { CountsFaults (D.faults disk.old) (D.faults disk.new) (IsErrOf result RunError.Disk) }
     ensures inbox_cause { CountsFaults (I.faults inbox.old) (I.faults inbox.new) (IsErrOf result RunError.Inbox) }
     ensures outbox_cause { CountsFaults (O.faults outbox.old) (O.faults outbox.new) (IsErrOf result RunError.Outbox) }

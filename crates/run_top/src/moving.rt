@@ -1,6 +1,7 @@
 //! What a run does: it takes each file of the inbox into the store, and puts each file of the store into
 //! the outbox.
-ghost use Rattle.std.specs.Prelude.{◌≡◌, ◌⊎◌, ℕ, ◌+◌, ◌<◌, ◌≤◌, false, List, [], Option, length, map, IsTrue, IsSome, OnOk, IsErrOf};
+ghost use Rattle.std.specs.Prelude.{◌≡◌, ◌⊎◌, ℕ, ◌+◌, ◌<◌, ◌≤◌, false, List, [], Option, length, map};
+ghost use Rattle.std.specs.Prelude.{IsTrue, IsSome, OnOk, IsErrOf};
 ghost use Rattle.disk_trait.specs.Faults.{CountsFaults};
 ghost use Rattle.disk_trait.specs.declared.damage.Damage.{Damage as TheDamage};
 ghost use Rattle.flowfile_record.specs.NamedFile.{NamedFile, bytes_of};
@@ -31,7 +32,8 @@ fn put_first<D: Disk, O: Outbox>(
     ensures goes_on { OnOk result ((opened : Machine) (first : D) (left : List NamedFile) → IsTrue O.tells
         → IsRunning D.moment D.images opened first disk.old store.old.files left (O.standing outbox.old)
         → IsRunning D.moment D.images opened first disk.new store.new.files left (O.standing outbox.new)) }
-    ensures stopped { (error : TheError) → IsErrOf result error → (opened : Machine) (first : D) (left : List NamedFile) → IsTrue O.tells
+    ensures stopped { (error : TheError) → IsErrOf result error
+        → (opened : Machine) (first : D) (left : List NamedFile) → IsTrue O.tells
         → IsRunning D.moment D.images opened first disk.old store.old.files left (O.standing outbox.old)
         → HasRun (status_of error) D.held D.moment D.images opened first disk.new left (O.standing outbox.new) }
 
@@ -40,7 +42,8 @@ fn put_first<D: Disk, O: Outbox>(
     ensures shorter { OnOk result (length store.new.files + 1 ≡ length store.old.files) }
     ensures disk_cause { CountsFaults (D.faults disk.old) (D.faults disk.new) (IsErrOf result RunError.Disk) }
     ensures outbox_cause { CountsFaults (O.faults outbox.old) (O.faults outbox.new) (IsErrOf result RunError.Outbox) }
-    ensures kinds { (error : TheError) → IsErrOf result error → (error ≡ RunError.Disk) ⊎ (error ≡ RunError.Outbox) }
+    ensures kinds { (error : TheError) → IsErrOf result error
+        → (error ≡ RunError.Disk) ⊎ (error ≡ RunError.Outbox) }
 {
     let file = &store.files()[0];
     let Ok(()) = outbox.put(&file.name, file.bytes.as_slice()) else {
@@ -64,10 +67,12 @@ fn take<D: Disk, I: Inbox>(
     requires kept { IsKeptOn D.moment D.images store.old disk.old }
     requires left { IsTrue I.tells → IsSome (bytes_of (I.left inbox.old) name.now) }
 
-    ensures goes_on { OnOk result ((opened : Machine) (first : D) (standing : List ℕ → Option (List ℕ)) → IsTrue I.tells
+    ensures goes_on { OnOk result ((opened : Machine) (first : D) (standing : List ℕ → Option (List ℕ))
+        → IsTrue I.tells
         → IsRunning D.moment D.images opened first disk.old store.old.files (I.left inbox.old) standing
         → IsRunning D.moment D.images opened first disk.new store.new.files (I.left inbox.new) standing) }
-    ensures stopped { (error : TheError) → IsErrOf result error → (opened : Machine) (first : D) (standing : List ℕ → Option (List ℕ)) → IsTrue I.tells
+    ensures stopped { (error : TheError) → IsErrOf result error
+        → (opened : Machine) (first : D) (standing : List ℕ → Option (List ℕ)) → IsTrue I.tells
         → IsRunning D.moment D.images opened first disk.old store.old.files (I.left inbox.old) standing
         → HasRun (status_of error) D.held D.moment D.images opened first disk.new (I.left inbox.new) standing }
     ensures left { OnOk result (IsTrue I.tells → TakesOrLeaves name.now (I.left inbox.old) (I.left inbox.new)) }
@@ -76,7 +81,8 @@ fn take<D: Disk, I: Inbox>(
     ensures kept { OnOk result (IsKeptOn D.moment D.images store.new disk.new) }
     ensures disk_cause { CountsFaults (D.faults disk.old) (D.faults disk.new) (IsErrOf result RunError.Disk) }
     ensures inbox_cause { CountsFaults (I.faults inbox.old) (I.faults inbox.new) (IsErrOf result RunError.Inbox) }
-    ensures kinds { (error : TheError) → IsErrOf result error → (error ≡ RunError.Disk) ⊎ (error ≡ RunError.Inbox) ⊎ (error ≡ RunError.Memory) }
+    ensures kinds { (error : TheError) → IsErrOf result error
+        → (error ≡ RunError.Disk) ⊎ (error ≡ RunError.Inbox) ⊎ (error ≡ RunError.Memory) }
 {
     let Ok(size) = inbox.size(name) else {
         return Err(RunError::Inbox);
@@ -109,7 +115,8 @@ fn put_all<D: Disk, O: Outbox>(
     ensures goes_on { OnOk result ((opened : Machine) (first : D) (left : List NamedFile) → IsTrue O.tells
         → IsRunning D.moment D.images opened first disk.old store.old.files left (O.standing outbox.old)
         → IsRunning D.moment D.images opened first disk.new store.new.files left (O.standing outbox.new)) }
-    ensures stopped { (error : TheError) → IsErrOf result error → (opened : Machine) (first : D) (left : List NamedFile) → IsTrue O.tells
+    ensures stopped { (error : TheError) → IsErrOf result error
+        → (opened : Machine) (first : D) (left : List NamedFile) → IsTrue O.tells
         → IsRunning D.moment D.images opened first disk.old store.old.files left (O.standing outbox.old)
         → HasRun (status_of error) D.held D.moment D.images opened first disk.new left (O.standing outbox.new) }
 
@@ -118,7 +125,8 @@ fn put_all<D: Disk, O: Outbox>(
     ensures kept { OnOk result (IsKeptOn D.moment D.images store.new disk.new) }
     ensures disk_cause { CountsFaults (D.faults disk.old) (D.faults disk.new) (IsErrOf result RunError.Disk) }
     ensures outbox_cause { CountsFaults (O.faults outbox.old) (O.faults outbox.new) (IsErrOf result RunError.Outbox) }
-    ensures kinds { (error : TheError) → IsErrOf result error → (error ≡ RunError.Disk) ⊎ (error ≡ RunError.Outbox) }
+    ensures kinds { (error : TheError) → IsErrOf result error
+        → (error ≡ RunError.Disk) ⊎ (error ≡ RunError.Outbox) }
 {
     while !store.files().is_empty() {
         put_first(store, disk, outbox)?;
@@ -142,11 +150,15 @@ pub fn move_all<D: Disk, I: Inbox, O: Outbox>(
     requires ascending { IsAscending names.now }
 
     ensures moved { OnOk result ((opened : Machine) (first : D) → IsTrue I.tells → IsTrue O.tells
-        → IsRunning D.moment D.images opened first disk.old store.old.files (I.left inbox.old) (O.standing outbox.old)
+        → IsRunning D.moment D.images opened first disk.old store.old.files
+        (I.left inbox.old) (O.standing outbox.old)
         → IsRunning D.moment D.images opened first disk.new [] (I.left inbox.new) (O.standing outbox.new)) }
-    ensures stopped { (error : TheError) → IsErrOf result error → (opened : Machine) (first : D) → IsTrue I.tells → IsTrue O.tells
-        → IsRunning D.moment D.images opened first disk.old store.old.files (I.left inbox.old) (O.standing outbox.old)
-        → HasRun (status_of error) D.held D.moment D.images opened first disk.new (I.left inbox.new) (O.standing outbox.new) }
+    ensures stopped { (error : TheError) → IsErrOf result error
+        → (opened : Machine) (first : D) → IsTrue I.tells → IsTrue O.tells
+        → IsRunning D.moment D.images opened first disk.old store.old.files
+        (I.left inbox.old) (O.standing outbox.old)
+        → HasRun (status_of error) D.held D.moment D.images opened first disk.new
+        (I.left inbox.new) (O.standing outbox.new) }
 
     ensures empty { OnOk result (store.new.files ≡ []) }
     ensures none_to_take { OnOk result (IsTrue I.tells → IsLeftBut [] (I.left inbox.new)) }
