@@ -19,20 +19,20 @@ encodes_begin = record {
   says = entry_at-begin;
 }
 
-pub encodes_drop : (place : ℕ) → 0 < place → IsBlockOf place Drop (block drop_kind [])
-encodes_drop place later = record {
+pub encodes_drop : (offset : ℕ) → 0 < offset → IsBlockOf offset Drop (block drop_kind [])
+encodes_drop offset later = record {
   kind = drop_kind;
   payload = [];
   reads = λ rest. reading_of-block drop_kind [] rest (lit≤ tt);
   size = length-block drop_kind [];
-  says = entry_at-drop place later;
+  says = entry_at-drop offset later;
 }
 
-pub encodes_add : (place : ℕ) (name bytes : List ℕ) → 0 < place → IsName name → length bytes ≤ CONTENT_MAX → IsBlockOf place (Add (queued name bytes)) (block add_kind (add_payload name bytes))
-encodes_add place name bytes later is small = record {
+pub encodes_add : (offset : ℕ) (name bytes : List ℕ) → 0 < offset → IsName name → length bytes ≤ CONTENT_MAX → IsBlockOf offset (Add (queued name bytes)) (block add_kind (add_payload name bytes))
+encodes_add offset name bytes later is small = record {
   kind = add_kind;
   payload = add_payload name bytes;
   reads = λ rest. reading_of-block add_kind (add_payload name bytes) rest (omega (arith, length-add_payload name bytes, name-most name is));
   size = length-block add_kind (add_payload name bytes);
-  says = entry_at-add place name bytes later is small;
+  says = entry_at-add offset name bytes later is small;
 }

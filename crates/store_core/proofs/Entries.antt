@@ -45,14 +45,14 @@ add_of-add_payload name bytes is small =
     add_of-parts (to_be_bytes w16 (length name)) name (to_be_bytes w32 (length bytes)) bytes refl refl
     (from_be_bytes-to_be_bytes_2 (length name) (omega (arith, name-most name is))) (from_be_bytes-to_be_bytes_4 (length bytes) (omega arith)) is small
 
-pub entry_at-add : (place : ℕ) (name bytes : List ℕ) → 0 < place → IsName name → length bytes ≤ CONTENT_MAX → entry_at place add_kind (add_payload name bytes) ≡ Some (Add (queued name bytes))
-entry_at-add place name bytes behind is small =
-    let later : (place == 0) ≡ false = grind (arith, nat_tests) in
+pub entry_at-add : (offset : ℕ) (name bytes : List ℕ) → 0 < offset → IsName name → length bytes ≤ CONTENT_MAX → entry_at offset add_kind (add_payload name bytes) ≡ Some (Add (queued name bytes))
+entry_at-add offset name bytes behind is small =
+    let later : (offset == 0) ≡ false = grind (arith, nat_tests) in
     rw later (add_of-add_payload name bytes is small)
 
-pub entry_at-drop : (place : ℕ) → 0 < place → entry_at place drop_kind [] ≡ Some Drop
-entry_at-drop place behind =
-    let later : (place == 0) ≡ false = grind (arith, nat_tests) in
+pub entry_at-drop : (offset : ℕ) → 0 < offset → entry_at offset drop_kind [] ≡ Some Drop
+entry_at-drop offset behind =
+    let later : (offset == 0) ≡ false = grind (arith, nat_tests) in
     rw later
 
 pub entry_at-begin : entry_at 0 begin_kind begin_payload ≡ Some Begin

@@ -13,41 +13,41 @@ use Rattle.store_core.specs.declared.entry.LogEntry.{LogEntry}
 use Rattle.store_core.specs.declared.queued.Queued.{Queued}
 
 -- bytes that are passed over
-pub passed_over : (passed place : ℕ) (bytes : List ℕ) → entries_from passed place bytes ≡ entries_from 0 (place + passed) (drop passed bytes)
-passed_over zero place [] = refl
-passed_over zero place (b ∷ bytes) = ap (λ (n : ℕ). entries_from 0 n (b ∷ bytes)) (omega arith)
-passed_over (suc passed) place [] = refl
-passed_over (suc passed) place (b ∷ bytes) =
-    passed_over passed (place + 1) bytes ∙ ap (λ (n : ℕ). entries_from 0 n (drop passed bytes)) (omega arith)
+pub passed_over : (passed offset : ℕ) (bytes : List ℕ) → entries_from passed offset bytes ≡ entries_from 0 (offset + passed) (drop passed bytes)
+passed_over zero offset [] = refl
+passed_over zero offset (b ∷ bytes) = ap (λ (n : ℕ). entries_from 0 n (b ∷ bytes)) (omega arith)
+passed_over (suc passed) offset [] = refl
+passed_over (suc passed) offset (b ∷ bytes) =
+    passed_over passed (offset + 1) bytes ∙ ap (λ (n : ℕ). entries_from 0 n (drop passed bytes)) (omega arith)
 
 -- a gate that isn't open, or that is the last byte, ends the entries
-pub shut : (place gate : ℕ) (rest : List ℕ) → gate ≢ open_gate → entries_from 0 place (gate ∷ rest) ≡ Ok []
-shut place gate rest isnt = grind (arith, nat_tests)
+pub shut : (offset gate : ℕ) (rest : List ℕ) → gate ≢ open_gate → entries_from 0 offset (gate ∷ rest) ≡ Ok []
+shut offset gate rest isnt = grind (arith, nat_tests)
 
-pub last_byte : (place gate : ℕ) → entries_from 0 place (gate ∷ []) ≡ Ok []
-last_byte place gate = grind (arith, nat_tests)
+pub last_byte : (offset gate : ℕ) → entries_from 0 offset (gate ∷ []) ≡ Ok []
+last_byte offset gate = grind (arith, nat_tests)
 
 -- an open gate with a block behind it
-pub opened : (place : ℕ) (block rest : List ℕ) (entry : LogEntry) → IsBlockOf place entry block
-    → entries_from 0 place (open_gate ∷ (block ++ rest)) ≡ put_first place entry (entries_from 0 (place + length block + 1) rest)
-opened place block rest entry is =
-    let following : ℕ → Result Entries Damage = λ (size : ℕ). entries_from size (place + 1) (block ++ rest) in
+pub opened : (offset : ℕ) (block rest : List ℕ) (entry : LogEntry) → IsBlockOf offset entry block
+    → entries_from 0 offset (open_gate ∷ (block ++ rest)) ≡ put_first offset entry (entries_from 0 (offset + length block + 1) rest)
+opened offset block rest entry is =
+    let following : ℕ → Result Entries Damage = λ (size : ℕ). entries_from size (offset + 1) (block ++ rest) in
     let long : 0 < length (block ++ rest) = omega (arith, length-append block rest, is.size) in
-    let behind : entries_from 0 place (open_gate ∷ (block ++ rest)) ≡ behind_gate place (reading_of (block ++ rest)) following = grind (arith, nat_tests) in
-    let whole : behind_gate place (reading_of (block ++ rest)) following ≡ told place (entry_at place is.kind is.payload) (following (length is.payload + 37)) =
-    ap (λ (r : Reading). behind_gate place r following) (is.reads rest) in
-    let says : told place (entry_at place is.kind is.payload) (following (length is.payload + 37)) ≡ put_first place entry (following (length is.payload + 37)) =
-    ap (λ (o : Option LogEntry). told place o (following (length is.payload + 37))) is.says in
-    let next : following (length is.payload + 37) ≡ entries_from 0 (place + length block + 1) rest =
-    passed_over (length is.payload + 37) (place + 1) (block ++ rest)
-    ∙ ap (λ (l : List ℕ). entries_from 0 (place + 1 + (length is.payload + 37)) l) (drop_at block rest (length is.payload + 37) is.size)
+    let behind : entries_from 0 offset (open_gate ∷ (block ++ rest)) ≡ behind_gate offset (reading_of (block ++ rest)) following = grind (arith, nat_tests) in
+    let whole : behind_gate offset (reading_of (block ++ rest)) following ≡ told offset (entry_at offset is.kind is.payload) (following (length is.payload + 37)) =
+    ap (λ (r : Reading). behind_gate offset r following) (is.reads rest) in
+    let says : told offset (entry_at offset is.kind is.payload) (following (length is.payload + 37)) ≡ put_first offset entry (following (length is.payload + 37)) =
+    ap (λ (o : Option LogEntry). told offset o (following (length is.payload + 37))) is.says in
+    let next : following (length is.payload + 37) ≡ entries_from 0 (offset + length block + 1) rest =
+    passed_over (length is.payload + 37) (offset + 1) (block ++ rest)
+    ∙ ap (λ (l : List ℕ). entries_from 0 (offset + 1 + (length is.payload + 37)) l) (drop_at block rest (length is.payload + 37) is.size)
     ∙ ap (λ (n : ℕ). entries_from 0 n rest) (omega (arith, is.size)) in
-    behind ∙ whole ∙ says ∙ ap (put_first place entry) next
+    behind ∙ whole ∙ says ∙ ap (put_first offset entry) next
 
-before_all_one : (entries : Entries) (place : ℕ) (entry : LogEntry) (more : Result Entries Damage)
-    → before_all entries (put_first place entry more) ≡ before_all (entries ++ (place, entry) ∷ []) more
-before_all_one entries place entry (Ok more) = ap Ok (sym (append_assoc entries ((place, entry) ∷ []) more))
-before_all_one entries place entry (Err damage) = refl
+before_all_one : (entries : Entries) (offset : ℕ) (entry : LogEntry) (more : Result Entries Damage)
+    → before_all entries (put_first offset entry more) ≡ before_all (entries ++ (offset, entry) ∷ []) more
+before_all_one entries offset entry (Ok more) = ap Ok (sym (append_assoc entries ((offset, entry) ∷ []) more))
+before_all_one entries offset entry (Err damage) = refl
 
 -- no frames
 pub no_frames : IsFrames [] []
@@ -76,12 +76,12 @@ none_left (Ok queue) = refl
 none_left (Err damage) = refl
 
 -- one entry more
-pub one_entry_more : (so_far : Result (List Queued) Damage) (entries : Entries) (queue : List Queued) (place : ℕ) (entry : LogEntry)
-    → queue_after_all so_far entries ≡ Ok queue → queue_after_all so_far (entries ++ (place, entry) ∷ []) ≡ queue_after queue place entry
-one_entry_more (Err damage) entries queue place entry gives = cc
-one_entry_more (Ok so_far) [] queue place entry gives =
-    let same : so_far ≡ queue = cc in none_left (queue_after so_far place entry) ∙ ap (λ (q : List Queued). queue_after q place entry) same
-one_entry_more (Ok so_far) ((p, e) ∷ entries) queue place entry gives = one_entry_more (queue_after so_far p e) entries queue place entry gives
+pub one_entry_more : (so_far : Result (List Queued) Damage) (entries : Entries) (queue : List Queued) (offset : ℕ) (entry : LogEntry)
+    → queue_after_all so_far entries ≡ Ok queue → queue_after_all so_far (entries ++ (offset, entry) ∷ []) ≡ queue_after queue offset entry
+one_entry_more (Err damage) entries queue offset entry gives = cc
+one_entry_more (Ok so_far) [] queue offset entry gives =
+    let same : so_far ≡ queue = cc in none_left (queue_after so_far offset entry) ∙ ap (λ (q : List Queued). queue_after q offset entry) same
+one_entry_more (Ok so_far) ((p, e) ∷ entries) queue offset entry gives = one_entry_more (queue_after so_far p e) entries queue offset entry gives
 
 -- Whole frames whose entries give a queue, with an end that holds no entry.
 pub gives_queue : (front rest : List ℕ) (entries : Entries) (queue : List Queued) → IsFrames front entries → queue_after_all (Ok []) entries ≡ Ok queue

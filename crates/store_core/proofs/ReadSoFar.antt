@@ -15,11 +15,11 @@ use Rattle.store_core.proofs.Logs.{shut, last_byte, one_frame_more, none_left}
 use Rattle.store_core.proofs.Stops.{log_gives}
 
 -- the state after one entry more
-after_one_more : (so_far : Result (List Queued) Damage) (entries : Entries) (place : ℕ) (entry : LogEntry)
-    → queue_after_all so_far (entries ++ (place, entry) ∷ []) ≡ after_entry (queue_after_all so_far entries) place entry
-after_one_more (Err damage) entries place entry = refl
-after_one_more (Ok queue) [] place entry = none_left (queue_after queue place entry)
-after_one_more (Ok queue) ((p, e) ∷ entries) place entry = after_one_more (queue_after queue p e) entries place entry
+after_one_more : (so_far : Result (List Queued) Damage) (entries : Entries) (offset : ℕ) (entry : LogEntry)
+    → queue_after_all so_far (entries ++ (offset, entry) ∷ []) ≡ after_entry (queue_after_all so_far entries) offset entry
+after_one_more (Err damage) entries offset entry = refl
+after_one_more (Ok queue) [] offset entry = none_left (queue_after queue offset entry)
+after_one_more (Ok queue) ((p, e) ∷ entries) offset entry = after_one_more (queue_after queue p e) entries offset entry
 
 -- one entry more was read
 pub read_more : (log : List ℕ) (at next : ℕ) (state : Result (List Queued) Damage) (entry : LogEntry) → IsReadTo at state log → IsEntryAt at log entry next

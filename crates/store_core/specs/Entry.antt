@@ -39,10 +39,10 @@ add_of payload =
     if nat_le (name_size + 6) (length payload) && is_name name && nat_le size CONTENT_MAX && (length bytes == size)
     then Some (Add (queued name bytes)) else None
 
--- the entry behind the gate at a place of the log: the Begin stands first, and nowhere else
+-- the entry behind the gate at an offset of the log: the Begin stands first, and nowhere else
 abbrev pub entry_at : ℕ → ℕ → List ℕ → Option LogEntry
-entry_at place kind payload =
-    if place == 0 then (if (kind == begin_kind) && bytes_eq payload begin_payload then Some Begin else None)
+entry_at offset kind payload =
+    if offset == 0 then (if (kind == begin_kind) && bytes_eq payload begin_payload then Some Begin else None)
     else if kind == add_kind then add_of payload
     else if (kind == drop_kind) && (length payload == 0) then Some Drop
     else None

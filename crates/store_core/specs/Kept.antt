@@ -18,15 +18,15 @@ before_all entries (Err damage) = Err damage
 pub record IsFrames (front : List ℕ) (entries : Entries) : Type 0 where
   pub reads : (rest : List ℕ) → entries_from 0 0 (front ++ rest) ≡ before_all entries (entries_from 0 (length front) rest)
 
--- these bytes are the block of this entry, for a gate at this place
-pub record IsBlockOf (place : ℕ) (entry : LogEntry) (bytes : List ℕ) : Type 0 where
+-- these bytes are the block of this entry, for a gate at this offset
+pub record IsBlockOf (offset : ℕ) (entry : LogEntry) (bytes : List ℕ) : Type 0 where
   pub kind : ℕ
   pub payload : List ℕ
   pub reads : (rest : List ℕ) → reading_of (bytes ++ rest) ≡ Whole kind payload
   pub size : length bytes ≡ length payload + 37
-  pub says : entry_at place kind payload ≡ Some entry
+  pub says : entry_at offset kind payload ≡ Some entry
 
--- A log at rest: whole frames of entries that give this queue, and a closed gate at this place, which is its end.
+-- A log at rest: whole frames of entries that give this queue, and a closed gate at this offset, which is its end.
 pub record IsAtRest (end : ℕ) (queue : List Queued) (log : List ℕ) : Type 0 where
   pub front : List ℕ
   pub entries : Entries
@@ -43,7 +43,7 @@ EachAtRest end queue left = (c : Files) → left c → IsAtRest end queue (c the
 abbrev pub EachStandsFor : Result (List Queued) Damage → (Files → Type 0) → Type 0
 EachStandsFor state left = (c : Files) → left c → stands_for c ≡ state
 
--- what a store has in memory: its queue, the place of its log's last gate, and whether its disk failed
+-- what a store has in memory: its queue, the offset of its log's last gate, and whether its disk failed
 pub record Kept : Type 0 where
   pub files : List Queued
   pub end : ℕ

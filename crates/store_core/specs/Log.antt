@@ -19,33 +19,33 @@ closed_gate = 0
 abbrev pub the_log : FileName
 the_log = named Log 1
 
--- the entries of a log, each with the place of its gate
+-- the entries of a log, each with the offset of its gate
 abbrev pub Entries : Type 0
 Entries = List (ℕ × LogEntry)
 
 -- an entry before others
 abbrev pub put_first : ℕ → LogEntry → Result Entries Damage → Result Entries Damage
-put_first place entry (Ok entries) = Ok ((place, entry) ∷ entries)
-put_first place entry (Err damage) = Err damage
+put_first offset entry (Ok entries) = Ok ((offset, entry) ∷ entries)
+put_first offset entry (Err damage) = Err damage
 
 -- the entry of a whole block, before what follows; a block that says nothing is damage
 abbrev pub told : ℕ → Option LogEntry → Result Entries Damage → Result Entries Damage
-told place None following = Err (Form the_log place)
-told place (Some entry) following = put_first place entry following
+told offset None following = Err (Form the_log offset)
+told offset (Some entry) following = put_first offset entry following
 
 -- What a block's reading means behind an open gate. What follows is asked for behind so many bytes.
 abbrev pub behind_gate : ℕ → Reading → (ℕ → Result Entries Damage) → Result Entries Damage
-behind_gate place (Whole kind payload) following = told place (entry_at place kind payload) (following (length payload + 37))
-behind_gate place (Cut need have) following = Err (Short the_log place need have)
-behind_gate place (Long size) following = Err (Form the_log place)
-behind_gate place (Differs stored found) following = Err (Digest the_log place stored found)
+behind_gate offset (Whole kind payload) following = told offset (entry_at offset kind payload) (following (length payload + 37))
+behind_gate offset (Cut need have) following = Err (Short the_log offset need have)
+behind_gate offset (Long size) following = Err (Form the_log offset)
+behind_gate offset (Differs stored found) following = Err (Digest the_log offset stored found)
 
--- The entries from a place on: each behind an open gate with bytes behind it, up to a gate that isn't open, that is
+-- The entries from an offset on: each behind an open gate with bytes behind it, up to a gate that isn't open, that is
 -- the last byte, or that is missing. Bytes of the block before are passed over first.
-abbrev pub entries_from : (passed place : ℕ) → List ℕ → Result Entries Damage
-entries_from passed place [] = Ok []
-entries_from (suc passed) place (byte ∷ rest) = entries_from passed (place + 1) rest
-entries_from zero place (gate ∷ rest) =
+abbrev pub entries_from : (passed offset : ℕ) → List ℕ → Result Entries Damage
+entries_from passed offset [] = Ok []
+entries_from (suc passed) offset (byte ∷ rest) = entries_from passed (offset + 1) rest
+entries_from zero offset (gate ∷ rest) =
     if (gate == open_gate) && nat_lt 0 (length rest)
-    then behind_gate place (reading_of rest) (λ size. entries_from size (place + 1) rest)
+    then behind_gate offset (reading_of rest) (λ size. entries_from size (offset + 1) rest)
     else Ok []

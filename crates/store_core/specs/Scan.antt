@@ -12,23 +12,23 @@ use Rattle.store_core.specs.declared.queued.Queued.{Queued}
 use Rattle.store_core.specs.declared.scan.Frame.{Frame}
 use Rattle.store_core.specs.declared.scan.Frame.TheVariants.{Last, Entry}
 
--- a queue, unless an entry at a place didn't fit it
+-- a queue, unless an entry at an offset didn't fit it
 abbrev pub unless_misfit : List Queued → Option ℕ → Result (List Queued) Damage
 unless_misfit queue None = Ok queue
-unless_misfit queue (Some place) = Err (Form the_log place)
+unless_misfit queue (Some offset) = Err (Form the_log offset)
 
 -- one entry more, of a queue that all entries fit so far
 abbrev pub after_entry : Result (List Queued) Damage → ℕ → LogEntry → Result (List Queued) Damage
-after_entry (Ok queue) place entry = queue_after queue place entry
-after_entry (Err damage) place entry = Err damage
+after_entry (Ok queue) offset entry = queue_after queue offset entry
+after_entry (Err damage) offset entry = Err damage
 
--- a block's refusal, as damage behind the gate at a place
+-- a block's refusal, as damage behind the gate at an offset
 abbrev pub damage_at : ℕ → BlockEnd → Damage
 damage_at at (BlockEnd.Short need have) = Short the_log at need have
 damage_at at (BlockEnd.TooLong size) = Form the_log at
 damage_at at (BlockEnd.Digest stored found) = Digest the_log at stored found
 
--- these bytes behind the open gate at a place are damaged so
+-- these bytes behind the open gate at an offset are damaged so
 abbrev pub BrokenAt : ℕ → List ℕ → Damage → Type 0
 BrokenAt at bytes damage = (following : ℕ → Result Entries Damage) → behind_gate at (reading_of bytes) following ≡ Err damage
 

@@ -10,16 +10,16 @@ use Rattle.store_core.specs.declared.queued.Queued.{Queued}
 
 -- A queue after an entry. A Drop doesn't fit an empty queue.
 abbrev pub queue_after : List Queued → ℕ → LogEntry → Result (List Queued) Damage
-queue_after queue place Begin = Ok queue
-queue_after queue place (Add file) = Ok (queue ++ file ∷ [])
-queue_after [] place Drop = Err (Form the_log place)
-queue_after (file ∷ queue) place Drop = Ok queue
+queue_after queue offset Begin = Ok queue
+queue_after queue offset (Add file) = Ok (queue ++ file ∷ [])
+queue_after [] offset Drop = Err (Form the_log offset)
+queue_after (file ∷ queue) offset Drop = Ok queue
 
 -- a queue after entries in order, up to the first that doesn't fit
 abbrev pub queue_after_all : Result (List Queued) Damage → Entries → Result (List Queued) Damage
 queue_after_all (Err damage) entries = Err damage
 queue_after_all (Ok queue) [] = Ok queue
-queue_after_all (Ok queue) ((place, entry) ∷ entries) = queue_after_all (queue_after queue place entry) entries
+queue_after_all (Ok queue) ((offset, entry) ∷ entries) = queue_after_all (queue_after queue offset entry) entries
 
 -- that of a log's reading: damage in the log goes before an entry that doesn't fit
 abbrev pub queue_of : Result (List Queued) Damage → Result Entries Damage → Result (List Queued) Damage

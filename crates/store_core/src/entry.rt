@@ -48,17 +48,17 @@ pub fn append_add(out: &mut Vec<u8>, name: &Name, bytes: &[u8]) -> Result<(), Al
     append_parts(out, ADD_KIND, &[&name_size, name, &size, bytes])
 }
 
-/// The entry that a block of this kind and payload says at a place of the log, in bytes from its start;
+/// The entry that a block of this kind and payload says at an offset of the log;
 /// `None` where it says none.
 pub fn read_entry(
     alloc: Global,
-    place: u64,
+    offset: u64,
     kind: u8,
     payload: &[u8],
 ) -> Result<Option<LogEntry>, AllocError>
-    ensures { IfOk result (λ entry. entry ≡ entry_at place kind payload.now) }
+    ensures { IfOk result (λ entry. entry ≡ entry_at offset kind payload.now) }
 {
-    if place == 0 {
+    if offset == 0 {
         let begins = kind == BEGIN_KIND && payload == BEGIN_PAYLOAD.as_slice();
         return Ok(begins.then_some(LogEntry::Begin));
     }

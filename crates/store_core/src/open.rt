@@ -70,7 +70,7 @@ pub fn clear<D: Disk>(disk: &mut D, size: u64) -> Result<(), Failed>
 }
 
 // Begins a log where none has an entry: it is cut to nothing, a closed gate is written, and the log's
-// Begin is added. `size` is that of the log. Gives the place of the last gate.
+// Begin is added. `size` is that of the log. Gives the offset of the last gate.
 fn begin<D: Disk>(disk: &mut D, size: u64, frame: &[u8]) -> Result<u64, Failed>
     requires synced { IsOnly (D.held disk.old) (D.images disk.old (D.moment disk.old)) }
     requires short { IsTrue D.tells → length (D.held disk.old the_log) ≤ 1 }
@@ -78,7 +78,7 @@ fn begin<D: Disk>(disk: &mut D, size: u64, frame: &[u8]) -> Result<u64, Failed>
     requires frame { frame.now ≡ block begin_kind begin_payload ++ closed_gate ∷ [] }
     ensures images { Since D.moment D.images disk.old disk.new (λ c. stands_for c ≡ Ok []) }
     ensures at_rest { IfOk result (λ end. EachAtRest end [] (D.images disk.new (D.moment disk.new))) }
-    ensures place { IfOk result (λ end. (0 < end) × (end + 1 < 2 ^ 64)) }
+    ensures offset { IfOk result (λ end. (0 < end) × (end + 1 < 2 ^ 64)) }
     ensures cause { CountsFaults (D.faults disk.old) (D.faults disk.new) (IsErr result) }
 {
     clear(disk, size)?;
@@ -87,7 +87,7 @@ fn begin<D: Disk>(disk: &mut D, size: u64, frame: &[u8]) -> Result<u64, Failed>
     Ok(frame.len() as u64)
 }
 
-/// Makes the end of a log that was read whole again, or begins one. Gives the place of the last gate.
+/// Makes the end of a log that was read whole again, or begins one. Gives the offset of the last gate.
 pub fn mend<D: Disk>(disk: &mut D, scan: &Scan, frame: &[u8]) -> Result<u64, Failed>
     requires synced { IsOnly (D.held disk.old) (D.images disk.old (D.moment disk.old)) }
     requires read { IsTrue D.tells → IsRead scan.now.end scan.now.queue scan.now.closed (D.held disk.old the_log) }
@@ -97,7 +97,7 @@ pub fn mend<D: Disk>(disk: &mut D, scan: &Scan, frame: &[u8]) -> Result<u64, Fai
     requires frame { frame.now ≡ block begin_kind begin_payload ++ closed_gate ∷ [] }
     ensures images { Since D.moment D.images disk.old disk.new (λ c. stands_for c ≡ Ok scan.now.queue) }
     ensures at_rest { IfOk result (λ end. EachAtRest end scan.now.queue (D.images disk.new (D.moment disk.new))) }
-    ensures place { IfOk result (λ end. (0 < end) × (end + 1 < 2 ^ 64)) }
+    ensures offset { IfOk result (λ end. (0 < end) × (end + 1 < 2 ^ 64)) }
     ensures cause { CountsFaults (D.faults disk.old) (D.faults disk.new) (IsErr result) }
 {
     cut_tail(disk, scan.end, scan.size)?;

@@ -21,7 +21,7 @@ use std::alloc::{AllocError, Global};
 pub enum Frame {
     /// No entry. Whether a closed gate stands here.
     Last(bool),
-    /// An entry, and the place of the next gate.
+    /// An entry, and the offset of the next gate.
     Entry(LogEntry, u64),
 }
 
@@ -30,11 +30,11 @@ pub enum Frame {
 pub struct Scan {
     /// The queue that its entries give.
     pub queue: Queue,
-    /// The place of its last gate, in bytes.
+    /// The offset of its last gate.
     pub end: u64,
     /// Its length in bytes.
     pub size: u64,
-    /// Whether a closed gate stands at the last gate's place.
+    /// Whether a closed gate stands at that offset.
     pub closed: bool,
 }
 
@@ -116,7 +116,7 @@ fn damage_of(at: u64, end: BlockEnd) -> Damage
     }
 }
 
-// The byte at a place of the log.
+// The byte at an offset of the log.
 fn read_gate<D: Disk>(disk: &mut D, at: u64) -> Result<u8, Failed>
     requires { IsTrue D.tells → at < length (D.held disk.old the_log) }
     ensures gate { IfOk result (λ gate. IsTrue D.tells → slice_index (D.held disk.old the_log) at ≡ gate) }
@@ -128,7 +128,7 @@ fn read_gate<D: Disk>(disk: &mut D, at: u64) -> Result<u8, Failed>
     Ok(gate[0])
 }
 
-// So many bytes from a place of the log on.
+// So many bytes from an offset of the log on.
 fn read_bytes<D: Disk>(
     alloc: Global,
     disk: &mut D,
@@ -146,7 +146,7 @@ fn read_bytes<D: Disk>(
     Ok(bytes)
 }
 
-// The entry whose block stands behind the open gate at `at`, and the place of the next gate.
+// The entry whose block stands behind the open gate at `at`, and the offset of the next gate.
 fn read_behind<D: Disk>(
     alloc: Global,
     disk: &mut D,
@@ -194,10 +194,10 @@ fn read_frame<D: Disk>(alloc: Global, disk: &mut D, at: u64, size: u64) -> Resul
 fn take_entry(
     queue: &mut Queue,
     misfit: &mut Option<u64>,
-    place: u64,
+    offset: u64,
     entry: LogEntry,
 ) -> Result<(), AllocError>
-    ensures { OnOk result (unless_misfit queue.new misfit.new ≡ after_entry (unless_misfit queue.old misfit.old) place entry) }
+    ensures { OnOk result (unless_misfit queue.new misfit.new ≡ after_entry (unless_misfit queue.old misfit.old) offset entry) }
 {
     if misfit.is_some() {
         return Ok(());
@@ -207,7 +207,7 @@ fn take_entry(
         LogEntry::Add(file) => queue.push(file)?,
         LogEntry::Drop => {
             if queue.as_slice().is_empty() {
-                *misfit = Some(place);
+                *misfit = Some(offset);
             } else {
                 queue.drop_first();
             }
@@ -240,7 +240,7 @@ pub fn read_log<D: Disk>(alloc: Global, disk: &mut D) -> Result<Scan, StoreError
         }
     };
     match misfit {
-        Some(place) => Err(StoreError::Damaged(form_at(place))),
+        Some(offset) => Err(StoreError::Damaged(form_at(offset))),
         None => Ok(Scan {
             queue,
             end,

@@ -13,8 +13,8 @@ behind_name payload rest n m is = ap (λ l. drop m (drop n l)) is ∙ ap (drop m
 content_size_is : (payload rest back head : List ℕ) (n number size : ℕ) → rest ≡ drop 2 payload → back ≡ drop n rest → head ≡ take 4 back → number ≡ from_be_bytes w32 head → size ≡ number
     → from_be_bytes w32 (take 4 (drop (n + 2) payload)) ≡ size
 content_size_is payload rest back head n number size is_rest is_back is_head is_number is =
-    let place : back ≡ drop (n + 2) payload = is_back ∙ behind_name payload rest n 0 is_rest ∙ ap (λ k. drop k payload) (let same : n + 2 + 0 ≡ n + 2 = omega arith in same) in
-    sym (is ∙ is_number ∙ ap (from_be_bytes w32) (is_head ∙ ap (take 4) place))
+    let offset : back ≡ drop (n + 2) payload = is_back ∙ behind_name payload rest n 0 is_rest ∙ ap (λ k. drop k payload) (let same : n + 2 + 0 ≡ n + 2 = omega arith in same) in
+    sym (is ∙ is_number ∙ ap (from_be_bytes w32) (is_head ∙ ap (take 4) offset))
 
 content_is : (payload rest back bytes : List ℕ) (n : ℕ) → rest ≡ drop 2 payload → back ≡ drop n rest → bytes ≡ drop 4 back → bytes ≡ drop (n + 6) payload
 content_is payload rest back bytes n is_rest is_back is = is ∙ ap (drop 4) is_back ∙ behind_name payload rest n 4 is_rest ∙ ap (λ k. drop k payload) (let same : n + 2 + 4 ≡ n + 6 = omega arith in same)

@@ -43,6 +43,6 @@ returns-in-Some-clause-damaged g c damage is told =
     let inv = c.loop-queue.invariant in
     let last = subst (λ (f : Files). IsLastGate c.loop-queue.end (f the_log) c.in-Last.closed) inv.stays.files
     (subst (λ (f : _). IsFrameAt c.loop-queue.end (g.D.Disk.held c.loop-queue.disk the_log) f) c.in-Last.is (c.in_ok-closed.ensures.frame told)) in
-    let same : Form the_log c.in-Some.place ≡ damage = cc (c.form_at.ensures, is) in
+    let same : Form the_log c.in-Some.offset ≡ damage = cc (c.form_at.ensures, is) in
     stands_for-log (g.D.Disk.held c.args.disk.now) ∙ read_all log c.loop-queue.end c.in-Last.closed _ (inv.read told) last
     ∙ ap (unless_misfit c.loop-queue.queue) c.in-Some.is ∙ ap Err same

@@ -51,8 +51,8 @@ at_rest g c working c' left =
     let added = c.in-Ok.ensures.added files (files ++ file ∷ []) (Add file) bytes rest encodes frame refl c' left in
     let queue : files ++ file ∷ [] ≡ c.push.new.self =
     sym (c.in_ok-push.ensures.ok ∙ ap (λ (q : List Queued). q ++ c.in_ok-file.file ∷ []) (ap (λ (s : Kept). s.files) c.self.view_is) ∙ ap (λ (f : Queued). files ++ f ∷ []) c.in_ok-file.ensures) in
-    let place : c.self.inside.end + length c.as_slice.result.now ≡ c.self.inside.end + c.len.result = omega (arith, c.as_slice.ensures.len) in
-    subst (λ (n : ℕ). IsAtRest n c.push.new.self (c' the_log)) place (subst (λ (q : List Queued). IsAtRest (c.self.inside.end + length c.as_slice.result.now) q (c' the_log)) queue added)
+    let offset : c.self.inside.end + length c.as_slice.result.now ≡ c.self.inside.end + c.len.result = omega (arith, c.as_slice.ensures.len) in
+    subst (λ (n : ℕ). IsAtRest n c.push.new.self (c' the_log)) offset (subst (λ (q : List Queued). IsAtRest (c.self.inside.end + length c.as_slice.result.now) q (c' the_log)) queue added)
 
 pub returns-clause-kept : goal.returns-clause-kept
 returns-clause-kept g c = record {

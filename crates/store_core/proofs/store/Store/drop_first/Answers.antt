@@ -15,9 +15,9 @@ use Rattle.store_core.proofs.Encoded.{encodes_drop}
 use Rattle.store_core.proofs.store.Store.drop_first.Given.{Over}
 use Rattle.store_core.proofs.store.Store.drop_first.Goals as goal
 
-drops : (files : List Queued) (place : ℕ) → 0 < length files → queue_after files place Drop ≡ Ok (drop 1 files)
-drops [] place some = absurd (omega arith)
-drops (file ∷ files) place some = refl
+drops : (files : List Queued) (offset : ℕ) → 0 < length files → queue_after files offset Drop ≡ Ok (drop 1 files)
+drops [] offset some = absurd (omega arith)
+drops (file ∷ files) offset some = refl
 
 pub returns-in_default-clause-images : goal.returns-in_default-clause-images
 returns-in_default-clause-images g c works =
@@ -58,8 +58,8 @@ at_rest g c working c' left =
     let frame : c.as_slice.result.now ≡ bytes ++ closed_gate ∷ [] = c.as_slice.ensures.value ∙ c.self.invariant.drops in
     let dropped = c.in-Ok.ensures.added files (drop 1 files) Drop bytes rest encodes frame (drops files c.self.inside.end c.requires.some) c' left in
     let queue : drop 1 files ≡ c.drop_first.new.self = sym (c.drop_first.ensures ∙ ap (λ (s : Kept). drop 1 s.files) c.self.view_is) in
-    let place : c.self.inside.end + length c.as_slice.result.now ≡ c.self.inside.end + c.len.result = omega (arith, c.as_slice.ensures.len) in
-    subst (λ (n : ℕ). IsAtRest n c.drop_first.new.self (c' the_log)) place (subst (λ (q : List Queued). IsAtRest (c.self.inside.end + length c.as_slice.result.now) q (c' the_log)) queue dropped)
+    let offset : c.self.inside.end + length c.as_slice.result.now ≡ c.self.inside.end + c.len.result = omega (arith, c.as_slice.ensures.len) in
+    subst (λ (n : ℕ). IsAtRest n c.drop_first.new.self (c' the_log)) offset (subst (λ (q : List Queued). IsAtRest (c.self.inside.end + length c.as_slice.result.now) q (c' the_log)) queue dropped)
 
 pub returns-clause-kept : goal.returns-clause-kept
 returns-clause-kept g c = record {
