@@ -21,8 +21,8 @@ pub record LogDamage : Type 0 where
   pub at : ℕ
   pub cause : Cause
 
--- What a log says: its entries in order, each with the offset of its gate, and the offset of the last gate, which is the
--- first that isn't open, that is the last byte, or that is missing.
+-- What a log says: its entries in order, each with the offset of its gate, and the offset of the last gate.
+-- The last gate is the first that isn't open, that is the last byte, or that is missing.
 pub record LogRead : Type 0 where
   pub entries : List (ℕ × LogEntry)
   pub end : ℕ
