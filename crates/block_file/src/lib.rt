@@ -8,4 +8,4 @@ mod error;
 mod read;
 
 pub use error::BlockError;
-pub use read::{BlockPlace, read_block_at};
+pub use read::{BlockAddress, read_block_at};

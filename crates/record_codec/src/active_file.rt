@@ -46,7 +46,7 @@ pub fn read_active_file(alloc: Global, bytes: &[u8]) -> Result<ActiveFile, Codec
     ensures found { IfOk result (λ active. IsActiveFile active × (bytes.now ≡ active_file active)) }
     // What is encoded so is read, unless memory runs out.
     ensures only { (active : Active) → IsActiveFile active → bytes.now ≡ active_file active → Answers result (Ok active) }
-    // Which place can't be read.
+    // Which offset can't be read.
     ensures exact { Answers result (answer (length bytes.now) (whole active_file_at bytes.now)) }
     // Memory is taken only behind the file's number and its count of attributes.
     ensures memory { IsErrOf result CodecError.Memory → IsTrue (is_ok (active_front_at bytes.now)) }

@@ -45,7 +45,7 @@ pub fn read_file(alloc: Global, bytes: &[u8]) -> Result<FlowFile, CodecError>
     ensures found { IfOk result (λ file. IsFlowFile file × (bytes.now ≡ flow_file file)) }
     // What is encoded so is read, unless memory runs out.
     ensures only { (file : File) → IsFlowFile file → bytes.now ≡ flow_file file → Answers result (Ok file) }
-    // Which place can't be read.
+    // Which offset can't be read.
     ensures exact { Answers result (answer (length bytes.now) (whole flow_file_at bytes.now)) }
     // Memory is taken only behind the number and the count of attributes.
     ensures memory { IsErrOf result CodecError.Memory → IsTrue (is_ok (file_front_at bytes.now)) }

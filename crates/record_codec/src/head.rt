@@ -114,7 +114,7 @@ pub fn read_head(alloc: Global, bytes: &[u8]) -> Result<Head, CodecError>
     ensures found { IfOk result (λ value. IsHead value × (bytes.now ≡ encoding.head value)) }
     // What is encoded so is read, unless memory runs out.
     ensures only { (value : TheHead) → IsHead value → bytes.now ≡ encoding.head value → Answers result (Ok value) }
-    // Which place can't be read.
+    // Which offset can't be read.
     ensures exact { Answers result (answer (length bytes.now) (whole head_at bytes.now)) }
     // Memory is taken only for the first item of a list.
     ensures memory { IsErrOf result CodecError.Memory → IsTrue (head_takes_memory bytes.now) }

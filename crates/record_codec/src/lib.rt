@@ -1,6 +1,6 @@
 //! How what a store keeps is encoded in its files: blocks, flow files, the log's entries and a snapshot's blocks.
 //!
-//! A reader takes exactly the encodings; where bytes are none, it tells the place of the first field that can't be
+//! A reader takes exactly the encodings; where bytes are none, it tells the offset of the first field that can't be
 //! read, or of what is left over.
 #![tactic(auto)]
 

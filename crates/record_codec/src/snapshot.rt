@@ -85,7 +85,7 @@ pub fn read_swap_batch(bytes: &[u8]) -> Result<SwapBatch, CodecError>
     ensures found { IfOk result (λ value. IsBatch value × (bytes.now ≡ encoding.swap_batch value)) }
     // What is encoded so is read.
     ensures only { (value : Batch) → IsBatch value → bytes.now ≡ encoding.swap_batch value → result ≡ Ok value }
-    // Which place can't be read.
+    // Which offset can't be read.
     ensures exact { result ≡ answer (length bytes.now) (whole batch_at bytes.now) }
 {
     read_batch_answer(bytes)
@@ -114,7 +114,7 @@ pub fn read_snapshot_end(bytes: &[u8]) -> Result<u64, CodecError>
     ensures found { IfOk result (λ blocks. IsEnding blocks × (bytes.now ≡ encoding.ending blocks)) }
     // What is encoded so is read.
     ensures only { (blocks : ℕ) → IsEnding blocks → bytes.now ≡ encoding.ending blocks → result ≡ Ok blocks }
-    // Which place can't be read.
+    // Which offset can't be read.
     ensures exact { result ≡ answer (length bytes.now) (whole ending_at bytes.now) }
 {
     read_end_answer(bytes)

@@ -8,12 +8,12 @@ use Rattle.block_file.proofs.read.read_block_at.Goals as goal
 
 pub returns-in-Ok-clause-found : goal.returns-in-Ok-clause-found
 returns-in-Ok-clause-found g c told =
-    let place = c.args.place in
-    let rest = drop place.offset (g.D.Disk.held c.args.disk.now place.file) in
+    let address = c.args.address in
+    let rest = drop address.offset (g.D.Disk.held c.args.disk.now address.file) in
     let n = c.in_ok-size.size in
     let block = c.in-Ok.block in
     let held = c.in_ok-size.ensures.stays.files in
-    let bytes : c.read_bytes.new.buffer.items ≡ take n rest = c.in_ok-read_bytes.ensures.bytes told ∙ ap (λ (f : Files). take n (drop place.offset (f place.file))) held in
+    let bytes : c.read_bytes.new.buffer.items ≡ take n rest = c.in_ok-read_bytes.ensures.bytes told ∙ ap (λ (f : Files). take n (drop address.offset (f address.file))) held in
     let read = subst (λ (l : List ℕ). reading_of l ≡ Whole block.kind (slice_range l block.start block.end)) c.as_slice.ensures.value c.in-Ok.ensures.whole in
     sym (same_reading n rest (c.in_ok-size.ensures.whole told)) ∙ ap reading_of (sym bytes) ∙ read
 
@@ -32,12 +32,12 @@ returns-in-Ok-clause-within g c =
 
 pub returns-in-Err-clause-damaged : goal.returns-in-Err-clause-damaged
 returns-in-Err-clause-damaged g c damage is told =
-    let place = c.args.place in
-    let rest = drop place.offset (g.D.Disk.held c.args.disk.now place.file) in
+    let address = c.args.address in
+    let rest = drop address.offset (g.D.Disk.held c.args.disk.now address.file) in
     let n = c.in_ok-size.size in
     let held = c.in_ok-size.ensures.stays.files in
     let bytes : c.as_slice.result.now ≡ take n rest =
-    c.as_slice.ensures.value ∙ c.in_ok-read_bytes.ensures.bytes told ∙ ap (λ (f : Files). take n (drop place.offset (f place.file))) held in
+    c.as_slice.ensures.value ∙ c.in_ok-read_bytes.ensures.bytes told ∙ ap (λ (f : Files). take n (drop address.offset (f address.file))) held in
     let reading = ap reading_of bytes ∙ same_reading n rest (c.in_ok-size.ensures.whole told) in
     let same : c.damage_of.result ≡ damage = cc is in
-    read_refused place.file place.at (reading_of rest) c.in-Err.end (c.in-Err.ensures.read ∙ ap (answer_at 0) reading) ∙ ap Some (sym c.damage_of.ensures ∙ same)
+    read_refused address.file address.at (reading_of rest) c.in-Err.end (c.in-Err.ensures.read ∙ ap (answer_at 0) reading) ∙ ap Some (sym c.damage_of.ensures ∙ same)
