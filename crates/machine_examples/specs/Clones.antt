@@ -1,5 +1,5 @@
 -- Tried: numbers, arrivals, connections and events of clones, and the names of made files.
-use Rattle.std.specs.Prelude.{◌≡◌, ℕ, true, Err, false, List, [], ◌∷◌, Some, None, codes}
+use Rattle.std.specs.Prelude.{◌≡◌, ℕ, true, Err, false, List, [], ◌∷◌, Some, None, codes, decimal}
 use Rattle.std.specs.FinMap.{get, insert}
 use Rattle.expr_lang.specs.declared.syntax.Expr.{Expr}
 use Rattle.expr_lang.specs.declared.error.EvalError.{EvalError}
@@ -127,6 +127,20 @@ BesideADrop =
       kin = kin_of ((3, 2) ∷ []);
     }
 
+-- ---- two relationships that lead apart
+
+abbrev pub apart : Flow
+apart = record fanning {
+  processors = processor (codes "get") (GetFile None) [] ∷ processor (codes "upd") (UpdateAttribute []) [] ∷ processor (codes "put") (PutFile Replace) both ∷ [];
+  connections = connection (codes "c1") 0 1 wide ∷ connection (codes "c2") 1 2 wide ∷ record (connection (codes "c3") 1 2 wide) { relationships = codes "failure" ∷ [] } ∷ [];
+}
+
+abbrev pub EachGoesItsWay : Type 0
+EachGoesItsWay =
+    settle (record ending_two { flow = apart; processor = processor (codes "upd") (UpdateAttribute []) [] })
+    (record { files = passed_on 0 (received_attributes a_txt) false 1 ∷ passed 1 ∷ []; sent = None })
+    ≡ record (state_of ([] ∷ (a_file 2 4 ∷ []) ∷ (a_file 1 3 ∷ []) ∷ []) 3 5 (0 ∷ 0 ∷ 0 ∷ [])) { kin = kin_of [] }
+
 -- ---- a file that a GenerateFlowFile made, whose relationship leads to three connections
 
 abbrev pub generating : Expr → Flow
@@ -161,6 +175,15 @@ abbrev pub NoValueIsEmpty : Type 0
 NoValueIsEmpty =
     (text : Expr) (error : EvalError) → tree_value (get (generated_attributes 1)) (tree_of text) ≡ Err error →
     act (GenerateFlowFile 1 text) [] (record (at_moment 1000) { index = 1 }) ≡ Some (alone (made_file origin.Created (generated_attributes 1) [] true 0))
+
+-- ---- the attributes of files that sources make
+
+abbrev pub ReceivedSays : Type 0
+ReceivedSays = (name : List ℕ) → (get (received_attributes name) (codes "filename") ≡ Some name) × (get (received_attributes name) (codes "path") ≡ Some (codes "./"))
+
+abbrev pub GeneratedSays : Type 0
+GeneratedSays = (index : ℕ) →
+    (get (generated_attributes index) (codes "generate.index") ≡ Some (decimal index)) × (get (generated_attributes index) (codes "path") ≡ Some (codes "./"))
 
 -- ---- names of made files
 

@@ -86,6 +86,13 @@ TwoDoNotGo = RefusesAt (a_file 1 1 ∷ a_file 2 2 ∷ a_file 3 3 ∷ []) (SwapOu
 abbrev pub FewDoNotGo : Type 0
 FewDoNotGo = RefusesAt (a_file 1 1 ∷ a_file 2 2 ∷ []) (SwapOut 0 (2 ∷ []) 3)
 
+-- a swapped file neither expires nor goes once more
+abbrev pub SwappedDoesNotExpire : Type 0
+SwappedDoesNotExpire = RefusesAt (swapped (a_file 1 1) 2 ∷ []) (Expire 0 (1 ∷ []) 2000)
+
+abbrev pub SwappedDoesNotGo : Type 0
+SwappedDoesNotGo = RefusesAt (a_file 1 1 ∷ a_file 2 2 ∷ a_file 3 3 ∷ swapped (a_file 4 4) 2 ∷ []) (SwapOut 0 (4 ∷ []) 3)
+
 -- batches 1 and 2 are swapped out
 abbrev pub HigherBatchDoesNotCome : Type 0
 HigherBatchDoesNotCome = RefusesAt (a_file 1 1 ∷ swapped (a_file 2 2) 1 ∷ swapped (a_file 3 3) 2 ∷ []) (SwapIn 0 2)

@@ -2,15 +2,16 @@
 //! that do nothing.
 ghost use Rattle.std.specs.Prelude.{◌-◌, [], ◌∷◌, true, false, Some, None, codes};
 ghost use Rattle.machine_model.specs.declared.kind.Conflict.TheVariants.{Replace, Ignore, Fail};
+ghost use Rattle.machine_model.specs.declared.kind.Kind.TheVariants.{PutFile};
 ghost use Rattle.machine_model.specs.declared.kind.TakeRule.TheVariants.{Source, One, Bin};
 ghost use Rattle.machine_model.specs.Sound.{IsSound};
 ghost use Rattle.machine_examples.specs.Small.{hi, nothing, with_a, a_file, get_to_put, wide};
 ghost use Rattle.machine_examples.specs.Acks.{AcknowledgedIs};
 ghost use Rattle.machine_examples.specs.Batches.{LastOf, OddGoes, six, nth, StepGives, queued, two_gone, two_batches, lower_back, BatchesAre, batch, FullWith, EligibleOf, ExpiredOf, GoesOf, ComesOf, FullOf, flying, still, waiting_penalised};
-ghost use Rattle.machine_examples.specs.Elsewhere.{SecondExpires, NotOfTheFirst, SecondSwapsOut, SecondSwapsIn, FirstsBatchIsNotSeconds, TakesOf, ExpiryIs, SwapOutIs, SwapInIs, CheckpointIs, ReclaimIs, chained, fresh, both_wait, both_swapped, three as first_three, three_more, in_batch, last_log};
+ghost use Rattle.machine_examples.specs.Elsewhere.{WantsIs, HeldBackIs, SecondExpires, NotOfTheFirst, SecondSwapsOut, SecondSwapsIn, FirstsBatchIsNotSeconds, TakesOf, ExpiryIs, SwapOutIs, SwapInIs, CheckpointIs, ReclaimIs, chained, fresh, both_wait, both_swapped, three as first_three, three_more, in_batch, last_log};
 ghost use Rattle.machine_model.specs.Files.{view_of};
 ghost use Rattle.machine_model.specs.declared.journal.Step.TheVariants.{SwapOut, SwapIn};
-ghost use Rattle.machine_examples.specs.Clones.{TwoFanOut, CopiesGoByOriginals, BesideADrop, NoValueIsEmpty, FourClonesFollow, ClonesArePenalisedToo, duplicating, EachConnectionGetsOne, MadeIsNamed, NamedKeepsItsName, TakenStaysNameless};
+ghost use Rattle.machine_examples.specs.Clones.{EachGoesItsWay, ReceivedSays, GeneratedSays, TwoFanOut, CopiesGoByOriginals, BesideADrop, NoValueIsEmpty, FourClonesFollow, ClonesArePenalisedToo, duplicating, EachConnectionGetsOne, MadeIsNamed, NamedKeepsItsName, TakenStaysNameless};
 ghost use Rattle.machine_examples.specs.Ends.{in_batch as swapped_out, NarrowIs, FilteredIsLeft, FoundIsWanted, SwappingIsQuiet, QuietIs, left_a, taken_a, penalised, BlockedIs, RingIsQuiet, ringed};
 ghost use Rattle.machine_examples.specs.Expiries.{ExpiredIs, OneExpires, NoneExpiresAtOnce, TwoExpire, BatchGoes, BatchMustWait, BatchComesBack, GoesAndComesBack, SwapsDueAre, late, late_in_batch};
 ghost use Rattle.machine_examples.specs.Families.{IsAncestorOf, IsNoAncestorOf, IsDescendantOf, IsNoDescendantOf, Tells, TellsNot, cloned, joined, stranger};
@@ -23,7 +24,7 @@ ghost use Rattle.machine_examples.specs.Picks.{WholeGoesBesideAPart, EarlierOfTw
 ghost use Rattle.machine_examples.specs.Outboxes.{PutReads};
 ghost use Rattle.machine_examples.specs.Puts.{PutsNamed, NamelessFails, BadNameFails, ReplacePutsOver, IgnoreLeaves, FailLeaves, sent, passed, failed};
 ghost use Rattle.machine_examples.specs.Returns.{ReturnsUntil, latest};
-ghost use Rattle.machine_examples.specs.Refusals.{ExpiredIsNotTaken, NoneIsTakenTwice, PenalisedIsNotTaken, SwappedIsNotTaken, StrangeIsNotTaken, TwoAreNotPut, NoneIsNotPut, NoSuchProcessor, NoSuchConnection, FreshDoesNotExpire, OneOfTwoIsFresh, NothingDoesNotExpire, NoneExpiresTwice, OtherBatchDoesNotGo, TwoDoNotGo, FewDoNotGo, HigherBatchDoesNotCome, StrangeBatchDoesNotCome, BatchWaitsWhileTwoAreActive, GoneIsNotReceived, MissingIsNotReceived, NamelessIsNotReceived, SourceTakesNone, RefusesAnswer, RefusesIndex, TakesToPut, TakesToMerge, penalised as penalty};
+ghost use Rattle.machine_examples.specs.Refusals.{SwappedDoesNotExpire, SwappedDoesNotGo, ExpiredIsNotTaken, NoneIsTakenTwice, PenalisedIsNotTaken, SwappedIsNotTaken, StrangeIsNotTaken, TwoAreNotPut, NoneIsNotPut, NoSuchProcessor, NoSuchConnection, FreshDoesNotExpire, OneOfTwoIsFresh, NothingDoesNotExpire, NoneExpiresTwice, OtherBatchDoesNotGo, TwoDoNotGo, FewDoNotGo, HigherBatchDoesNotCome, StrangeBatchDoesNotCome, BatchWaitsWhileTwoAreActive, GoneIsNotReceived, MissingIsNotReceived, NamelessIsNotReceived, SourceTakesNone, RefusesAnswer, RefusesIndex, TakesToPut, TakesToMerge, penalised as penalty};
 ghost use Rattle.machine_examples.specs.Run.{IsReceived, IsSent, IsDelivered};
 
 /// What is received and sent, from the inbox to the outbox.
@@ -83,6 +84,8 @@ pub fn queue_steps_are_refused()
     ensures two { TwoDoNotGo }
     ensures few { FewDoNotGo }
     ensures higher { HigherBatchDoesNotCome }
+    ensures swapped_expires { SwappedDoesNotExpire }
+    ensures swapped_goes { SwappedDoesNotGo }
     ensures strange { StrangeBatchDoesNotCome }
     ensures waits { BatchWaitsWhileTwoAreActive }
 {}
@@ -121,6 +124,9 @@ pub fn clones_are_told()
     ensures copies { CopiesGoByOriginals }
     ensures beside_a_drop { BesideADrop }
     ensures no_value { NoValueIsEmpty }
+    ensures apart { EachGoesItsWay }
+    ensures received { ReceivedSays }
+    ensures generated { GeneratedSays }
 {}
 
 /// What a PutFile makes of a file, by its strategy, by whether the outbox has the name, and by whether the name can name
@@ -300,6 +306,12 @@ pub fn second_queues_are_told()
     ensures elsewhere { TakesOf 2 1 None }
     ensures before { TakesOf 1 1 (Some (a_file 1 1 ∷ [])) }
     ensures behind { TakesOf 1 2 None }
+    ensures wants { WantsIs (chained (a_file 1 1 ∷ []) []) 1 (PutFile Replace) true }
+    ensures wants_not { WantsIs (chained (a_file 1 1 ∷ []) []) 2 (PutFile Replace) false }
+    ensures wants_second { WantsIs (chained [] (a_file 1 1 ∷ [])) 2 (PutFile Replace) true }
+    ensures held { HeldBackIs (chained [] (a_file 1 1 ∷ [])) 1 true }
+    ensures held_not { HeldBackIs (chained [] (a_file 1 1 ∷ [])) 0 false }
+    ensures held_by_none { HeldBackIs both_wait 2 false }
     ensures expiry { ExpiryIs (chained (fresh ∷ []) (a_file 3 3 ∷ fresh ∷ a_file 1 4 ∷ [])) 2000 (Some (1, 1 ∷ 3 ∷ [])) }
     ensures expiry_first { ExpiryIs both_wait 2000 (Some (0, 1 ∷ [])) }
     ensures expiry_none { ExpiryIs both_wait 1499 None }
