@@ -23,7 +23,8 @@ limits = record { expiration = 500; objects = 0; bytes = 0; swap = 2 }
 
 -- a GetFile, a DuplicateFlowFile and a PutFile, one behind the other
 abbrev pub chain : Flow
-chain = record duplicating { connections = connection (codes "c1") 0 1 limits ∷ connection (codes "c2") 1 2 limits ∷ [] }
+chain =
+    record duplicating { connections = connection (codes "c1") 0 1 limits ∷ connection (codes "c2") 1 2 limits ∷ [] }
 
 -- these files before the DuplicateFlowFile, and those before the PutFile
 abbrev pub chained : List QueuedFile → List QueuedFile → State
@@ -84,11 +85,14 @@ WantsIs state place kind answer = wants chain state nothing 1000 (place, process
 -- a queue is full with one file
 abbrev pub narrow_chain : Flow
 narrow_chain = record chain {
-  connections = connection (codes "c1") 0 1 (record limits { objects = 1 }) ∷ connection (codes "c2") 1 2 (record limits { objects = 1 }) ∷ [];
+  connections =
+      connection (codes "c1") 0 1 (record limits { objects = 1 })
+      ∷ connection (codes "c2") 1 2 (record limits { objects = 1 }) ∷ [];
 }
 
 abbrev pub HeldBackIs : State → (place : ℕ) → Bool → Type 0
-HeldBackIs state place answer = is_held_back narrow_chain (queues_of state) (place, processor (codes "p") (PutFile Replace) []) ≡ answer
+HeldBackIs state place answer =
+    is_held_back narrow_chain (queues_of state) (place, processor (codes "p") (PutFile Replace) []) ≡ answer
 
 -- ---- what is due of both: the first that owes it, by the flow's order
 

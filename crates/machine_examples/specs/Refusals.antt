@@ -21,7 +21,8 @@ abbrev pub limited : QueueLimits
 limited = record { expiration = 500; objects = 0; bytes = 0; swap = 2 }
 
 abbrev pub RefusesAt : List QueuedFile → Step → Type 0
-RefusesAt files entry = IsRefused (get_to_put Replace limited) (record (state_of (files ∷ []) 9 9 (0 ∷ 0 ∷ [])) { next_batch = 3 }) nothing entry
+RefusesAt files entry =
+    IsRefused (get_to_put Replace limited) (record (state_of (files ∷ []) 9 9 (0 ∷ 0 ∷ [])) { next_batch = 3 }) nothing entry
 
 -- the PutFile's session over these files
 abbrev pub RefusesToPut : List QueuedFile → List ℕ → (moment : ℕ) → Type 0
@@ -122,7 +123,8 @@ abbrev pub NamelessIsNotReceived : Type 0
 NamelessIsNotReceived = RefusesToGet (inbox_of a_txt hi) (session 0 [] 1000 (at_moment 1000))
 
 abbrev pub SourceTakesNone : Type 0
-SourceTakesNone = RefusesToGet (inbox_of a_txt hi) (session 0 (1 ∷ []) 1000 (record (at_moment 1000) { file = Some a_txt }))
+SourceTakesNone =
+    RefusesToGet (inbox_of a_txt hi) (session 0 (1 ∷ []) 1000 (record (at_moment 1000) { file = Some a_txt }))
 
 -- whether the outbox has the name is told wrongly
 abbrev pub RefusesAnswer : World → (there : Bool) → Type 0
@@ -138,7 +140,9 @@ RefusesIndex made index =
 -- ---- what is taken, where it may be
 
 abbrev pub TakesToPut : List QueuedFile → List ℕ → (moment : ℕ) → List QueuedFile → Type 0
-TakesToPut files numbers moment taken = taken_files (get_to_put Replace limited) (state_of (files ∷ []) 9 9 (0 ∷ 0 ∷ [])) 1 One numbers moment ≡ Some taken
+TakesToPut files numbers moment taken =
+    taken_files (get_to_put Replace limited) (state_of (files ∷ []) 9 9 (0 ∷ 0 ∷ [])) 1 One numbers moment
+    ≡ Some taken
 
 -- a bin of one to two files, of three that wait
 abbrev pub TakesToMerge : List ℕ → Option (List QueuedFile) → Type 0
