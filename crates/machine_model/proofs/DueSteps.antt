@@ -59,7 +59,7 @@ if_not false x P h = h refl
 
 -- ---- files that are seen
 
-active-seen : (p : FileView → Bool) (queue : List QueuedFile) (number : ℕ) (view : FileView) → Among view (active_views queue) → view.number ≡ number → p view ≡ true → HasActive queue p number
+pub active-seen : (p : FileView → Bool) (queue : List QueuedFile) (number : ℕ) (view : FileView) → Among view (active_views queue) → view.number ≡ number → p view ≡ true → HasActive queue p number
 active-seen p queue number view h same passes =
     let made = is_made view_of (active_files queue) view h in
     record {
@@ -70,7 +70,7 @@ active-seen p queue number view h same passes =
       passes = ap p made.is ∙ passes;
     }
 
-views-once : (queue : List QueuedFile) (n : ℕ) → HaveOwnNumbers queue → tally (λ (view : FileView). bit (view.number == n)) (active_views queue) ≤ 1
+pub views-once : (queue : List QueuedFile) (n : ℕ) → HaveOwnNumbers queue → tally (λ (view : FileView). bit (view.number == n)) (active_views queue) ≤ 1
 views-once queue n own = omega (
   arith,
   own n,

@@ -9,6 +9,7 @@ pub mod Drafted
 pub mod DueSteps
 pub mod EventRows
 pub mod EventsTell
+pub mod Fragments
 pub mod GivenIn
 pub mod GoesOn
 pub mod Keyed
@@ -21,6 +22,7 @@ pub mod OnlyOrder
 pub mod Options
 pub mod Ordered
 pub mod Outcomes
+pub mod Picked
 pub mod Places
 pub mod Preserved
 pub mod QueueOrder

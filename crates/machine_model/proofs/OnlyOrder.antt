@@ -17,7 +17,7 @@ use Rattle.machine_model.proofs.Keyed.{once_from_differ, differ_from_once, same_
 use Rattle.machine_model.proofs.Ordered.{goes_before-irreflexive, goes_before-total, asymmetric, pairs_head, pairs_tail, in_order-permutes, in_order-ordered, best-first, Follows}
 use Rattle.machine_model.proofs.Tally.{tally, bit}
 
-abbrev Leads : List Prioritizer → FileView → FileView → Type 0
+abbrev pub Leads : List Prioritizer → FileView → FileView → Type 0
 Leads order earlier later = goes_before order earlier later ≡ true
 
 -- ---- each file goes before all behind it
@@ -26,7 +26,7 @@ tally-is : {X : Type 0} (w : X → ℕ) (xs : List X) → sum_by w xs ≡ tally 
 tally-is w [] = refl
 tally-is w (x ∷ xs) = sum_by-cons w x xs ∙ ap (λ n. w x + n) (tally-is w xs)
 
-differ-permuted : (files sorted : List FileView) → ArrivalsDiffer files → IsPermutation files sorted → ArrivalsDiffer sorted
+pub differ-permuted : (files sorted : List FileView) → ArrivalsDiffer files → IsPermutation files sorted → ArrivalsDiffer sorted
 differ-permuted files sorted differ same =
     differ_from_once (λ (file : FileView). file.arrival) sorted (λ n.
     let w = λ (file : FileView). bit (file.arrival == n) in
@@ -35,7 +35,7 @@ differ-permuted files sorted differ same =
 leads_or_follows : (order : List Prioritizer) (a b : FileView) → a.arrival ≢ b.arrival → Follows order a b → Leads order a b
 leads_or_follows order a b differ follows = elim (goes_before-total order a b differ) [ inl leads ↦ leads | inr back ↦ absurd (true≢false (sym back ∙ follows)) ]
 
-all_lead : (order : List Prioritizer) (sorted : List FileView) → ArrivalsDiffer sorted → AllPairs (Follows order) sorted → AllPairs (Leads order) sorted
+pub all_lead : (order : List Prioritizer) (sorted : List FileView) → ArrivalsDiffer sorted → AllPairs (Follows order) sorted → AllPairs (Leads order) sorted
 all_lead order sorted differ follows i j d l m = leads_or_follows order (get_or sorted i d) (get_or sorted j d) (differ i j d l m) (follows i j d l m)
 
 -- ---- one such list only

@@ -87,7 +87,7 @@ all-weigh : (w : QueuedFile → ℕ) (numbers : List ℕ) (files : List QueuedFi
 all-weigh w numbers [] stand = omega (arith, tally-none numbers)
 all-weigh w numbers (file ∷ files) stand =
     let more = tally-same (swapped w (file ∷ files)) (λ n. cond (is_in_batch n file) (w file) 0 + swapped w files n) (λ n. filter_more w (is_in_batch n) file files) numbers
-        ∙ tally-plus (λ n. cond (is_in_batch n file) (w file) 0) (swapped w files) numbers in
+    ∙ tally-plus (λ n. cond (is_in_batch n file) (w file) 0) (swapped w files) numbers in
     omega (arith, filter_more w is_active file files, more, weighs numbers (w file) file.batch stand.0, all-weigh w numbers files stand.1)
 
 -- ---- each batch of a file is told
@@ -114,9 +114,10 @@ told files = filter_map (λ file. file.batch) files
 
 all-told : (files : List QueuedFile) → Each (IsTold (told files)) files
 all-told [] = tt
-all-told (file ∷ files) =
-    (λ batch is. itself_told file.batch (told files) batch is,
-    each_wider (λ other was batch is. one_more file.batch (told files) batch (was batch is)) files (all-told files))
+all-told (file ∷ files) = (
+  λ batch is. itself_told file.batch (told files) batch is,
+  each_wider (λ other was batch is. one_more file.batch (told files) batch (was batch is)) files (all-told files),
+)
 
 all-stand : (files : List QueuedFile) → Each (Stands (batches files)) files
 all-stand files = each_wider (λ file is_told batch is. once batch (told files) ∙ ap bit (is_told batch is)) files (all-told files)
@@ -132,12 +133,25 @@ sum-tally w [] = refl
 sum-tally w (x ∷ xs) = sum_by-cons w x xs ∙ ap (λ n. w x + n) (sum-tally w xs)
 
 pub views-count : ViewsCountAll
-views-count files =
-    (omega (arith, length-tally (queue_view files).active, tally-map (λ (view : FileView). 1) view_of (active_files files),
-    sum-tally (λ (batch : BatchView). batch.files) (queue_view files).batches, tally-map (λ (batch : BatchView). batch.files) (batch_view files) (batches files),
+views-count files = (
+  omega (
+    arith,
+    length-tally (queue_view files).active,
+    tally-map (λ (view : FileView). 1) view_of (active_files files),
+    sum-tally (λ (batch : BatchView). batch.files) (queue_view files).batches,
+    tally-map (λ (batch : BatchView). batch.files) (batch_view files) (batches files),
     tally-same (λ n. (batch_view files n).files) (swapped (λ (file : QueuedFile). 1) files) (λ n. length-tally (filter (is_in_batch n) files)) (batches files),
-    all-weigh (λ (file : QueuedFile). 1) (batches files) files (all-stand files), length-tally files),
-    omega (arith, sum-tally (λ (view : FileView). view.size) (queue_view files).active, tally-map (λ (view : FileView). view.size) view_of (active_files files),
-    sum-tally (λ (batch : BatchView). batch.size) (queue_view files).batches, tally-map (λ (batch : BatchView). batch.size) (batch_view files) (batches files),
+    all-weigh (λ (file : QueuedFile). 1) (batches files) files (all-stand files),
+    length-tally files,
+  ),
+  omega (
+    arith,
+    sum-tally (λ (view : FileView). view.size) (queue_view files).active,
+    tally-map (λ (view : FileView). view.size) view_of (active_files files),
+    sum-tally (λ (batch : BatchView). batch.size) (queue_view files).batches,
+    tally-map (λ (batch : BatchView). batch.size) (batch_view files) (batches files),
     tally-same (λ n. (batch_view files n).size) (swapped (λ (file : QueuedFile). length file.bytes) files) (λ n. sum-tally (λ (file : QueuedFile). length file.bytes) (filter (is_in_batch n) files)) (batches files),
-    all-weigh (λ (file : QueuedFile). length file.bytes) (batches files) files (all-stand files), sum-tally (λ (file : QueuedFile). length file.bytes) files))
+    all-weigh (λ (file : QueuedFile). length file.bytes) (batches files) files (all-stand files),
+    sum-tally (λ (file : QueuedFile). length file.bytes) files,
+  ),
+)

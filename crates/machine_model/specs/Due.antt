@@ -41,8 +41,8 @@ lowest_batch limits queue =
 
 -- ---- of all queues, which are told by their connections' places: the first one, by the flow's order, that owes this
 
-abbrev pub at_place : {X : Type 0} → (Connection → QueueView → Option X) → (ℕ → QueueView) → ℕ × Connection
-    → Option (ℕ × X)
+abbrev pub at_place : {X : Type 0} → (Connection → QueueView → Option X) → (ℕ → QueueView) → ℕ × Connection →
+    Option (ℕ × X)
 at_place owes queues (place, connection) = option_map (λ x. (place, x)) (owes connection (queues place))
 
 abbrev pub first_due : {X : Type 0} → (Connection → QueueView → Option X) → Flow → (ℕ → QueueView) → Option (ℕ × X)

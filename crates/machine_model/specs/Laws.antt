@@ -7,6 +7,7 @@ use Rattle.flowfile_record.specs.Attributes.{IsWithinLimits}
 use Rattle.flowfile_record.specs.Name.{IsName}
 use Rattle.flowfile_record.specs.Outcome.{AreInTurn, IsOutcome}
 use Rattle.flowfile_record.specs.declared.TheConstants.{CONTENT_MAX}
+use Rattle.flowfile_record.specs.declared.limits.TheConstants.{TAKEN_MAX}
 use Rattle.flowfile_record.specs.declared.event.Event.{Event}
 use Rattle.flowfile_record.specs.declared.worked.Outcome.{Outcome}
 use Rattle.prioritizer.specs.declared.prioritizer.Prioritizer.{Prioritizer}
@@ -17,8 +18,8 @@ use Rattle.machine_model.specs.declared.given.Given.{Given}
 use Rattle.machine_model.specs.declared.journal.Step.{Step}
 use Rattle.machine_model.specs.declared.journal.Step.TheVariants.{Expire, SwapOut, SwapIn}
 use Rattle.machine_model.specs.declared.journal.Step.TheVariants as entry
-use Rattle.machine_model.specs.Due.{due_expiry, due_swap_out, due_swap_in}
-use Rattle.machine_model.specs.Files.{content_bytes, queue_view, queues_of}
+use Rattle.machine_model.specs.Due.{numbers_of, due_expiry, due_swap_out, due_swap_in}
+use Rattle.machine_model.specs.Files.{active_views, content_bytes, queue_at, queue_view, queues_of, view_of}
 use Rattle.machine_model.specs.declared.kind.Kind.{Kind}
 use Rattle.machine_model.specs.declared.kind.Kind.TheVariants.{GetFile, GenerateFlowFile}
 use Rattle.machine_model.specs.declared.kind.TakeRule.{TakeRule}
@@ -27,12 +28,13 @@ use Rattle.machine_model.specs.State.{QueuedFile, State, World, Machine}
 use Rattle.machine_model.specs.Acting.{TakenFile, act, generated_text}
 use Rattle.machine_model.specs.Kinds.{take_rule_of, relationships_of, is_among}
 use Rattle.machine_model.specs.Lineage.{Lineage, IsLineage}
-use Rattle.machine_model.specs.Order.{goes_before, in_order, is_eligible, best}
+use Rattle.machine_model.specs.Order.{goes_before, in_order, is_eligible, eligible_files, best}
 use Rattle.machine_model.specs.Placing.{EndedSession}
 use Rattle.machine_model.specs.Settling.{settle}
 use Rattle.machine_model.specs.View.{file_count, byte_count, FileView}
 use Rattle.machine_model.specs.Valid.{files_of_all, IsWellNumbered, AreEventsInRow, EventsTellKin, IsValid, new_state}
-use Rattle.machine_model.specs.Stepping.{has_all, source_of, step, replay}
+use Rattle.machine_model.specs.Stepping.{has_all, source_of, taken_files, step, replay}
+use Rattle.machine_model.specs.Taking.{picks}
 
 -- ---- the order of a queue
 
@@ -41,25 +43,29 @@ abbrev pub NoneGoesBeforeItself : Type 0
 NoneGoesBeforeItself = (order : List Prioritizer) (file : FileView) → goes_before order file file ≡ false
 
 abbrev pub GoingBeforeChains : Type 0
-GoingBeforeChains = (order : List Prioritizer) (a b c : FileView) → goes_before order a b ≡ true → goes_before order b c ≡ true → goes_before order a c ≡ true
+GoingBeforeChains = (order : List Prioritizer) (a b c : FileView) → goes_before order a b ≡ true →
+    goes_before order b c ≡ true → goes_before order a c ≡ true
 
 -- of two files whose arrivals differ one goes before the other
 abbrev pub ArrivalsTell : Type 0
-ArrivalsTell = (order : List Prioritizer) (a b : FileView) → a.arrival ≢ b.arrival → (goes_before order a b ≡ true) ⊎ (goes_before order b a ≡ true)
+ArrivalsTell = (order : List Prioritizer) (a b : FileView) → a.arrival ≢ b.arrival →
+    (goes_before order a b ≡ true) ⊎ (goes_before order b a ≡ true)
 
 -- the same files, of which none goes before an earlier one
 abbrev pub OrderKeepsFiles : Type 0
 OrderKeepsFiles = (order : List Prioritizer) (files : List FileView) → IsPermutation files (in_order order files)
 
 abbrev pub OrderHolds : Type 0
-OrderHolds = (order : List Prioritizer) (files : List FileView) → AllPairs (λ earlier later. goes_before order later earlier ≡ false) (in_order order files)
+OrderHolds = (order : List Prioritizer) (files : List FileView) →
+    AllPairs (λ earlier later. goes_before order later earlier ≡ false) (in_order order files)
 
 -- where no two have one arrival, no other list has the same files with none behind one that it goes before
 abbrev pub ArrivalsDiffer : List FileView → Type 0
 ArrivalsDiffer files = AllPairs (λ one other. one.arrival ≢ other.arrival) files
 
 abbrev pub OrderIsOnly : Type 0
-OrderIsOnly = (order : List Prioritizer) (files sorted : List FileView) → ArrivalsDiffer files → IsPermutation files sorted
+OrderIsOnly = (order : List Prioritizer) (files sorted : List FileView) → ArrivalsDiffer files →
+    IsPermutation files sorted
     → AllPairs (λ earlier later. goes_before order later earlier ≡ false) sorted → sorted ≡ in_order order files
 
 -- the file is an eligible one of these files, and no eligible one goes before it
@@ -81,7 +87,8 @@ BestIsOnly = (order : List Prioritizer) (limits : QueueLimits) (moment : ℕ) (f
 -- ---- how a queue is seen: with all of its files and bytes, the swapped ones by their batches
 
 abbrev pub ViewsCountAll : Type 0
-ViewsCountAll = (files : List QueuedFile) → (file_count (queue_view files) ≡ length files) × (byte_count (queue_view files) ≡ content_bytes files)
+ViewsCountAll = (files : List QueuedFile) →
+    (file_count (queue_view files) ≡ length files) × (byte_count (queue_view files) ≡ content_bytes files)
 
 -- ---- replays
 
@@ -100,7 +107,7 @@ abbrev pub MayTake : TakeRule → (count : ℕ) → Type 0
 MayTake Source count = count ≡ 0
 MayTake One count = count ≡ 1
 MayTake (Bin min max) count = (1 ≤ count) × (count ≤ max)
-MayTake Defragment count = (1 ≤ count) × (count ≤ 1000)
+MayTake Defragment count = (1 ≤ count) × (count ≤ TAKEN_MAX)
 
 -- a session ends all files that it took, each once and in turn, and then some that it made
 abbrev pub EndsAllInTurn : (count : ℕ) → Outcome → Type 0
@@ -139,11 +146,13 @@ pub record HasTaken (session : EndedSession) : Type 0 where
   pub there : All (Contains (files_of_all session.state)) session.taken
 
 abbrev pub SettlingKeepsNumbers : Type 0
-SettlingKeepsNumbers = (session : EndedSession) (outcome : Outcome) → IsWellNumbered session.state → HasTaken session → EndsAllInTurn (length session.taken) outcome →
+SettlingKeepsNumbers = (session : EndedSession) (outcome : Outcome) → IsWellNumbered session.state →
+    HasTaken session → EndsAllInTurn (length session.taken) outcome →
     IsWellNumbered (settle session outcome)
 
 abbrev pub StepsKeepNumbers : Type 0
-StepsKeepNumbers = (flow : Flow) (machine : Machine) (one : Step) → IsWellNumbered machine.state → IfSome (step flow machine one) (λ after. IsWellNumbered after.state)
+StepsKeepNumbers = (flow : Flow) (machine : Machine) (one : Step) → IsWellNumbered machine.state →
+    IfSome (step flow machine one) (λ after. IsWellNumbered after.state)
 
 abbrev pub ReplaysKeepNumbers : Type 0
 ReplaysKeepNumbers = (flow : Flow) (machine : Machine) (steps : List Step) → IsWellNumbered machine.state →
@@ -152,10 +161,12 @@ ReplaysKeepNumbers = (flow : Flow) (machine : Machine) (steps : List Step) → I
 -- ---- events
 
 abbrev pub SettlingNumbersEvents : Type 0
-SettlingNumbersEvents = (session : EndedSession) (outcome : Outcome) → AreEventsInRow session.state → AreEventsInRow (settle session outcome)
+SettlingNumbersEvents = (session : EndedSession) (outcome : Outcome) → AreEventsInRow session.state →
+    AreEventsInRow (settle session outcome)
 
 abbrev pub StepsNumberEvents : Type 0
-StepsNumberEvents = (flow : Flow) (machine : Machine) (one : Step) → AreEventsInRow machine.state → IfSome (step flow machine one) (λ after. AreEventsInRow after.state)
+StepsNumberEvents = (flow : Flow) (machine : Machine) (one : Step) → AreEventsInRow machine.state →
+    IfSome (step flow machine one) (λ after. AreEventsInRow after.state)
 
 abbrev pub ReplaysNumberEvents : Type 0
 ReplaysNumberEvents = (flow : Flow) (machine : Machine) (steps : List Step) → AreEventsInRow machine.state →
@@ -166,15 +177,18 @@ abbrev pub AddsEvents : (before after : State) → Type 0
 AddsEvents before after = (more : List Event) × (after.events ≡ before.events ++ more)
 
 abbrev pub ReplaysAddEvents : Type 0
-ReplaysAddEvents = (flow : Flow) (machine : Machine) (steps : List Step) → IfSome (replay flow machine steps) (λ after. AddsEvents machine.state after.state)
+ReplaysAddEvents = (flow : Flow) (machine : Machine) (steps : List Step) →
+    IfSome (replay flow machine steps) (λ after. AddsEvents machine.state after.state)
 
 -- ---- kin
 
 abbrev pub SettlingTellsKin : Type 0
-SettlingTellsKin = (session : EndedSession) (outcome : Outcome) → EndsAllInTurn (length session.taken) outcome → EventsTellKin session.state → EventsTellKin (settle session outcome)
+SettlingTellsKin = (session : EndedSession) (outcome : Outcome) → EndsAllInTurn (length session.taken) outcome →
+    EventsTellKin session.state → EventsTellKin (settle session outcome)
 
 abbrev pub StepsTellKin : Type 0
-StepsTellKin = (flow : Flow) (machine : Machine) (one : Step) → EventsTellKin machine.state → IfSome (step flow machine one) (λ after. EventsTellKin after.state)
+StepsTellKin = (flow : Flow) (machine : Machine) (one : Step) → EventsTellKin machine.state →
+    IfSome (step flow machine one) (λ after. EventsTellKin after.state)
 
 abbrev pub ReplaysTellKin : Type 0
 ReplaysTellKin = (flow : Flow) (machine : Machine) (steps : List Step) → EventsTellKin machine.state →
@@ -186,7 +200,8 @@ abbrev pub NewStatesAreValid : Type 0
 NewStatesAreValid = (flow : Flow) (lot : ℕ) → IsValid flow (new_state flow lot)
 
 abbrev pub StepsStayValid : Type 0
-StepsStayValid = (flow : Flow) (machine : Machine) (one : Step) → IsValid flow machine.state → IfSome (step flow machine one) (λ after. IsValid flow after.state)
+StepsStayValid = (flow : Flow) (machine : Machine) (one : Step) → IsValid flow machine.state →
+    IfSome (step flow machine one) (λ after. IsValid flow after.state)
 
 abbrev pub ReplaysStayValid : Type 0
 ReplaysStayValid = (flow : Flow) (machine : Machine) (steps : List Step) → IsValid flow machine.state →
@@ -203,10 +218,12 @@ pub record GoesOn (before after : State) : Type 0 where
   pub counts : (place : ℕ) → slice_index before.counts place ≤ slice_index after.counts place
 
 abbrev pub StepsGoOn : Type 0
-StepsGoOn = (flow : Flow) (machine : Machine) (one : Step) → IfSome (step flow machine one) (λ after. GoesOn machine.state after.state)
+StepsGoOn = (flow : Flow) (machine : Machine) (one : Step) →
+    IfSome (step flow machine one) (λ after. GoesOn machine.state after.state)
 
 abbrev pub ReplaysGoOn : Type 0
-ReplaysGoOn = (flow : Flow) (machine : Machine) (steps : List Step) → IfSome (replay flow machine steps) (λ after. GoesOn machine.state after.state)
+ReplaysGoOn = (flow : Flow) (machine : Machine) (steps : List Step) →
+    IfSome (replay flow machine steps) (λ after. GoesOn machine.state after.state)
 
 -- the name of the inbox's file that a session received
 abbrev pub received_name : Kind → Option (List ℕ) → List (List ℕ)
@@ -227,7 +244,8 @@ pub record LosesNames (taken : List (List ℕ)) (before after : World) : Type 0 
   pub left : after.left ≡ filter (λ name. not (is_among name taken)) before.left
 
 abbrev pub StepsLoseNames : Type 0
-StepsLoseNames = (flow : Flow) (machine : Machine) (one : Step) → IfSome (step flow machine one) (λ after. LosesNames (names_of_step flow one) machine.world after.world)
+StepsLoseNames = (flow : Flow) (machine : Machine) (one : Step) →
+    IfSome (step flow machine one) (λ after. LosesNames (names_of_step flow one) machine.world after.world)
 
 abbrev pub ReplaysLoseNames : Type 0
 ReplaysLoseNames = (flow : Flow) (machine : Machine) (steps : List Step) →
@@ -238,7 +256,21 @@ ReplaysLoseNames = (flow : Flow) (machine : Machine) (steps : List Step) →
 -- of the connections that end at a processor one alone has a file of some active, and so all
 abbrev pub OneConnectionHas : Type 0
 OneConnectionHas = (flow : Flow) (state : State) (processor number : ℕ) (numbers : List ℕ) (source : ℕ × Connection) → IsValid flow state
-    → Contains (enumerate_from 0 flow.connections) source → has_all state processor (number ∷ numbers) source ≡ true → source_of flow state processor (number ∷ numbers) ≡ Some source
+    → Contains (enumerate_from 0 flow.connections) source →
+    has_all state processor (number ∷ numbers) source ≡ true →
+    source_of flow state processor (number ∷ numbers) ≡ Some source
+
+-- a session of a processor may take these files: those that its connection has under their numbers
+pub record IsTaking (flow : Flow) (state : State) (processor : ℕ) (rule : TakeRule) (moment : ℕ) (picked : List FileView) : Type 0 where
+  pub files : List QueuedFile
+  pub taken : taken_files flow state processor rule (numbers_of picked) moment ≡ Some files
+  pub seen : map view_of files ≡ picked
+
+-- what a rule picks of the eligible files of a connection may be taken by a session of the processor at its end
+abbrev pub PicksMayBeTaken : Type 0
+PicksMayBeTaken = (flow : Flow) (state : State) (place : ℕ) (connection : Connection) (rule : TakeRule) (moment : ℕ) → IsValid flow state
+    → slice_get flow.connections place ≡ Some connection
+    → IfSome (picks rule (eligible_files connection.order connection.limits moment (active_views (queue_at state place)))) (IsTaking flow state connection.target rule moment)
 
 -- ---- what is due has a step
 
@@ -252,9 +284,11 @@ DueSwapOutsHaveSteps = (flow : Flow) (machine : Machine) → IsValid flow machin
     IfSome (due_swap_out flow (queues_of machine.state)) (λ due. IsSome (step flow machine (SwapOut due.0 due.1 machine.state.next_batch)))
 
 abbrev pub DueSwapInsHaveSteps : Type 0
-DueSwapInsHaveSteps = (flow : Flow) (machine : Machine) → IfSome (due_swap_in flow (queues_of machine.state)) (λ due. IsSome (step flow machine (SwapIn due.0 due.1)))
+DueSwapInsHaveSteps = (flow : Flow) (machine : Machine) →
+    IfSome (due_swap_in flow (queues_of machine.state)) (λ due. IsSome (step flow machine (SwapIn due.0 due.1)))
 
 -- ---- lineages
 
 abbrev pub LineageIsOnly : Type 0
-LineageIsOnly = (events : List Event) (file : ℕ) (one other : Lineage) → IsLineage events file one → IsLineage events file other → one ≡ other
+LineageIsOnly = (events : List Event) (file : ℕ) (one other : Lineage) → IsLineage events file one →
+    IsLineage events file other → one ≡ other

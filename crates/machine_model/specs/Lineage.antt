@@ -12,12 +12,14 @@ NamesParent events child parent = Contains (kin_of_all events) (child, parent)
 -- the least set that has the parents of the file and of its members
 pub data IsAncestor (events : List Event) (file : ℕ) : ℕ → Type 0 where
   parent : (ancestor : ℕ) → NamesParent events file ancestor → IsAncestor events file ancestor
-  further : (member ancestor : ℕ) → IsAncestor events file member → NamesParent events member ancestor → IsAncestor events file ancestor
+  further : (member ancestor : ℕ) → IsAncestor events file member → NamesParent events member ancestor →
+      IsAncestor events file ancestor
 
 -- the least set that has the children of the file and of its members
 pub data IsDescendant (events : List Event) (file : ℕ) : ℕ → Type 0 where
   child : (descendant : ℕ) → NamesParent events descendant file → IsDescendant events file descendant
-  further : (member descendant : ℕ) → IsDescendant events file member → NamesParent events descendant member → IsDescendant events file descendant
+  further : (member descendant : ℕ) → IsDescendant events file member → NamesParent events descendant member →
+      IsDescendant events file descendant
 
 -- the event is of the file, of an ancestor or of a descendant
 abbrev pub TellsOf : List Event → (file : ℕ) → Event → Type 0

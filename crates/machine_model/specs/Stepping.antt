@@ -4,6 +4,7 @@ use Rattle.std.specs.Option.{option_map_or}
 use Rattle.std.specs.List.{list_all, enumerate_from, filter_map}
 use Rattle.sha2.specs.Sha256.{sha256}
 use Rattle.flowfile_record.specs.declared.TheConstants.{CONTENT_MAX}
+use Rattle.flowfile_record.specs.declared.limits.TheConstants.{TAKEN_MAX}
 use Rattle.flowfile_record.specs.declared.event.EventKind.TheVariants as kind
 use Rattle.prioritizer.specs.declared.prioritizer.Prioritizer.{Prioritizer}
 use Rattle.machine_model.specs.declared.pattern.Pattern.{Pattern}
@@ -61,7 +62,7 @@ abbrev pub admits : TakeRule → List Prioritizer → List FileView → Bool
 admits Source order files = length files == 0
 admits One order files = length files == 1
 admits (Bin min max) order files = nat_le 1 (length files) && nat_le (length files) max && is_in_turn order files
-admits Defragment order files = nat_le 1 (length files) && nat_le (length files) 1000
+admits Defragment order files = nat_le 1 (length files) && nat_le (length files) TAKEN_MAX
 
 -- the taken files, by place
 abbrev pub files_of : List QueuedFile → List ℕ → List QueuedFile

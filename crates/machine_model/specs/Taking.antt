@@ -3,6 +3,7 @@ use Rattle.std.specs.Prelude.{ℕ, zero, suc, ◌+◌, ◌-◌, ◌==◌, ◌&&�
 use Rattle.std.specs.FinMap.{get}
 use Rattle.flowfile_record.specs.Attributes.{AttributeMap}
 use Rattle.flowfile_record.specs.declared.TheConstants.{CONTENT_MAX}
+use Rattle.flowfile_record.specs.declared.limits.TheConstants.{TAKEN_MAX}
 use Rattle.expr_lang.specs.declared.error.EvalError.{EvalError}
 use Rattle.expr_lang.specs.Value.{text, as_number}
 use Rattle.machine_model.specs.declared.kind.TakeRule.{TakeRule}
@@ -45,7 +46,7 @@ pub record Fragment : Type 0 where
 
 abbrev pub within_count : Fragment → Option Fragment
 within_count fragment =
-    if nat_le fragment.index fragment.count && nat_le fragment.count 1000 then Some fragment else None
+    if nat_le fragment.index fragment.count && nat_le fragment.count TAKEN_MAX then Some fragment else None
 
 abbrev pub fragment_of : AttributeMap → Option Fragment
 fragment_of attributes =
@@ -81,15 +82,15 @@ abbrev pub whole_of : List FileView → FileView → Option Fragment → Option 
 whole_of files file None = Some (file ∷ [])
 whole_of files file (Some fragment) = fragments_from fragment 1 fragment.count files
 
+abbrev pub first_some : Option (List FileView) → Option (List FileView) → Option (List FileView)
+first_some (Some found) other = Some found
+first_some None other = other
+
 -- what the first file of some gives that gives anything
 abbrev pub first_whole : List FileView → List FileView → Option (List FileView)
 first_whole files [] = None
 first_whole files (file ∷ rest) =
     first_some (whole_of files file (fragment_of file.attributes)) (first_whole files rest)
-  where
-    first_some : Option (List FileView) → Option (List FileView) → Option (List FileView)
-    first_some (Some found) other = Some found
-    first_some None other = other
 
 -- the files that a session takes of the eligible ones, which stand in their order
 abbrev pub picks : TakeRule → List FileView → Option (List FileView)

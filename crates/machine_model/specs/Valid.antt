@@ -39,7 +39,8 @@ HasBatch queue batch = Contains (map (λ file. file.batch) queue) (Some batch)
 
 -- the files of a batch stand in one queue
 abbrev pub StandBatchesInOne : State → Type 0
-StandBatchesInOne state = (one other batch : ℕ) → HasBatch (queue_at state one) batch → HasBatch (queue_at state other) batch → one ≡ other
+StandBatchesInOne state = (one other batch : ℕ) → HasBatch (queue_at state one) batch →
+    HasBatch (queue_at state other) batch → one ≡ other
 
 -- ---- events and kin
 

@@ -23,7 +23,7 @@ pub use kind::{
 pub use laws::{
     acts_give_outcomes, best_is_first, counters_never_fall, due_has_a_step, lineage_is_only,
     names_are_lost_by_taking, one_connection_has_files, order_is_total, order_sorts,
-    replay_goes_on, replays_keep_numbers, replays_number_events, replays_tell_kin,
-    settling_keeps_numbers, states_stay_valid, views_count_all,
+    picks_may_be_taken, replay_goes_on, replays_keep_numbers, replays_number_events,
+    replays_tell_kin, settling_keeps_numbers, states_stay_valid, views_count_all,
 };
 pub use pattern::Pattern;
