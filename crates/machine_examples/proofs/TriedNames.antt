@@ -18,6 +18,16 @@ pub received-filename : (name : List ℕ) → get (received_attributes name) (co
 received-filename name = get-insert nat_list_cmp_total (insert empty (codes "filename") name) (codes "path") (codes "./") (codes "filename")
     ∙ get-insert nat_list_cmp_total empty (codes "filename") name (codes "filename")
 
+pub received-path : (name : List ℕ) → get (received_attributes name) (codes "path") ≡ Some (codes "./")
+received-path name = get-insert nat_list_cmp_total (insert empty (codes "filename") name) (codes "path") (codes "./") (codes "path")
+
+pub generated-index : (index : ℕ) → get (generated_attributes index) (codes "generate.index") ≡ Some (decimal index)
+generated-index index = get-insert nat_list_cmp_total (insert empty (codes "path") (codes "./")) (codes "generate.index") (decimal index) (codes "generate.index")
+
+pub generated-path : (index : ℕ) → get (generated_attributes index) (codes "path") ≡ Some (codes "./")
+generated-path index = get-insert nat_list_cmp_total (insert empty (codes "path") (codes "./")) (codes "generate.index") (decimal index) (codes "path")
+    ∙ get-insert nat_list_cmp_total empty (codes "path") (codes "./") (codes "path")
+
 pub generated-filename : (index : ℕ) → get (generated_attributes index) (codes "filename") ≡ None
 generated-filename index =
     get-insert nat_list_cmp_total (insert empty (codes "path") (codes "./")) (codes "generate.index") (decimal index) (codes "filename")

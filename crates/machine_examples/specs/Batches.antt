@@ -39,14 +39,17 @@ queued files next_batch = record (state_of (files ∷ []) 9 9 (0 ∷ 0 ∷ [])) 
 
 abbrev pub StepGives : State → Step → Option State → Type 0
 StepGives before entry None = step (get_to_put Replace four) (machine before nothing) entry ≡ None
-StepGives before entry (Some after) = step (get_to_put Replace four) (machine before nothing) entry ≡ Some (machine after nothing)
+StepGives before entry (Some after) =
+    step (get_to_put Replace four) (machine before nothing) entry ≡ Some (machine after nothing)
 
 abbrev pub two_gone : List QueuedFile
 two_gone = nth 1 ∷ nth 2 ∷ nth 3 ∷ nth 4 ∷ in_batch 7 (nth 5) ∷ in_batch 7 (nth 6) ∷ []
 
 -- batches 2 and 3, whose files stand among each other
 abbrev pub two_batches : List QueuedFile
-two_batches = nth 1 ∷ in_batch 3 (nth 2) ∷ in_batch 2 (nth 3) ∷ in_batch 3 (nth 4) ∷ in_batch 2 (nth 5) ∷ in_batch 3 (nth 6) ∷ []
+two_batches =
+    nth 1 ∷ in_batch 3 (nth 2) ∷ in_batch 2 (nth 3) ∷ in_batch 3 (nth 4) ∷ in_batch 2 (nth 5)
+    ∷ in_batch 3 (nth 6) ∷ []
 
 abbrev pub lower_back : List QueuedFile
 lower_back = nth 1 ∷ in_batch 3 (nth 2) ∷ nth 3 ∷ in_batch 3 (nth 4) ∷ nth 5 ∷ in_batch 3 (nth 6) ∷ []
@@ -58,7 +61,8 @@ abbrev pub batch : (number files size : ℕ) → BatchView
 batch number files size = record { number = number; files = files; size = size }
 
 abbrev pub FullWith : (objects bytes : ℕ) → List QueuedFile → Bool → Type 0
-FullWith objects bytes files answer = is_full (record four { objects = objects; bytes = bytes }) (queue_view files) ≡ answer
+FullWith objects bytes files answer =
+    is_full (record four { objects = objects; bytes = bytes }) (queue_view files) ≡ answer
 
 -- ---- with files in flight: they expire after 500 milliseconds, and are swapped past 2
 

@@ -1,5 +1,5 @@
 -- Tried: numbers, arrivals, connections and events of clones, and the names of made files.
-use Rattle.std.specs.Prelude.{◌≡◌, ℕ, true, Err, false, List, [], ◌∷◌, Some, None, codes}
+use Rattle.std.specs.Prelude.{◌≡◌, ℕ, true, Err, false, List, [], ◌∷◌, Some, None, codes, decimal}
 use Rattle.std.specs.FinMap.{get, insert}
 use Rattle.expr_lang.specs.declared.syntax.Expr.{Expr}
 use Rattle.expr_lang.specs.declared.error.EvalError.{EvalError}
@@ -53,11 +53,15 @@ abbrev pub clone : Worked
 clone = record { origin = origin.Cloned 0; attributes = received_attributes a_txt; body = Whole 0; end = To 0; written = false; penalised = false; routed = None }
 
 abbrev pub with_four_clones : Outcome
-with_four_clones = record { files = passed_on 0 (received_attributes a_txt) false 0 ∷ clone ∷ clone ∷ clone ∷ clone ∷ []; sent = None }
+with_four_clones =
+    record { files = passed_on 0 (received_attributes a_txt) false 0 ∷ clone ∷ clone ∷ clone ∷ clone ∷ []; sent = None }
 
 abbrev pub five_files : State
-five_files = record (state_of ([] ∷ (a_file 1 2 ∷ a_file 2 3 ∷ a_file 3 4 ∷ a_file 4 5 ∷ a_file 5 6 ∷ []) ∷ []) 6 7 (0 ∷ 0 ∷ 0 ∷ [])) {
-  events = clone_of 1 2000 (codes "dup") 1 2 hi ∷ clone_of 2 2000 (codes "dup") 1 3 hi ∷ clone_of 3 2000 (codes "dup") 1 4 hi
+five_files =
+    record (state_of ([] ∷ (a_file 1 2 ∷ a_file 2 3 ∷ a_file 3 4 ∷ a_file 4 5 ∷ a_file 5 6 ∷ []) ∷ []) 6 7 (0 ∷ 0 ∷ 0 ∷ [])) {
+  events =
+      clone_of 1 2000 (codes "dup") 1 2 hi ∷ clone_of 2 2000 (codes "dup") 1 3 hi
+      ∷ clone_of 3 2000 (codes "dup") 1 4 hi
       ∷ clone_of 4 2000 (codes "dup") 1 5 hi ∷ [];
   kin = kin_of ((2, 1) ∷ (3, 1) ∷ (4, 1) ∷ (5, 1) ∷ []);
 }
@@ -68,7 +72,8 @@ FourClonesFollow = settle ending with_four_clones ≡ five_files
 -- ---- a penalised file, whose relationship leads to two connections: its clone is penalised as long
 
 abbrev pub doubling : Flow
-doubling = record duplicating { connections = connection (codes "c1") 0 1 wide ∷ connection (codes "c2") 1 2 wide ∷ connection (codes "c3") 1 2 wide ∷ [] }
+doubling =
+    record duplicating { connections = connection (codes "c1") 0 1 wide ∷ connection (codes "c2") 1 2 wide ∷ connection (codes "c3") 1 2 wide ∷ [] }
 
 abbrev pub penalising : EndedSession
 penalising = record ending { flow = doubling; state = state_of ((a_file 1 1 ∷ []) ∷ [] ∷ [] ∷ []) 2 2 (0 ∷ 0 ∷ 0 ∷ []) }
@@ -99,7 +104,9 @@ abbrev pub TwoFanOut : Type 0
 TwoFanOut =
     settle ending_two (record { files = passed 0 ∷ passed 1 ∷ clone ∷ []; sent = None })
     ≡ record (state_of ([] ∷ (a_file 1 3 ∷ a_file 2 4 ∷ a_file 3 5 ∷ []) ∷ (a_file 4 6 ∷ a_file 5 7 ∷ a_file 6 8 ∷ []) ∷ []) 7 9 (0 ∷ 0 ∷ 0 ∷ [])) {
-      events = clone_of 1 2000 (codes "dup") 1 3 hi ∷ clone_of 2 2000 (codes "dup") 1 4 hi ∷ clone_of 3 2000 (codes "dup") 2 5 hi
+      events =
+          clone_of 1 2000 (codes "dup") 1 3 hi ∷ clone_of 2 2000 (codes "dup") 1 4 hi
+          ∷ clone_of 3 2000 (codes "dup") 2 5 hi
           ∷ clone_of 4 2000 (codes "dup") 3 6 hi ∷ [];
       kin = kin_of ((3, 1) ∷ (4, 1) ∷ (5, 2) ∷ (6, 3) ∷ []);
     }
@@ -116,7 +123,8 @@ abbrev pub upd : Processor
 upd = processor (codes "upd") (UpdateAttribute []) (codes "failure" ∷ [])
 
 abbrev pub fanning : Flow
-fanning = record doubling { processors = processor (codes "get") (GetFile None) [] ∷ upd ∷ processor (codes "put") (PutFile Replace) both ∷ [] }
+fanning =
+    record doubling { processors = processor (codes "get") (GetFile None) [] ∷ upd ∷ processor (codes "put") (PutFile Replace) both ∷ [] }
 
 abbrev pub BesideADrop : Type 0
 BesideADrop =
@@ -127,12 +135,32 @@ BesideADrop =
       kin = kin_of ((3, 2) ∷ []);
     }
 
+-- ---- two relationships that lead apart
+
+abbrev pub apart : Flow
+apart = record fanning {
+  processors =
+      processor (codes "get") (GetFile None) [] ∷ processor (codes "upd") (UpdateAttribute []) []
+      ∷ processor (codes "put") (PutFile Replace) both ∷ [];
+  connections =
+      connection (codes "c1") 0 1 wide ∷ connection (codes "c2") 1 2 wide
+      ∷ record (connection (codes "c3") 1 2 wide) { relationships = codes "failure" ∷ [] } ∷ [];
+}
+
+abbrev pub EachGoesItsWay : Type 0
+EachGoesItsWay =
+    settle (record ending_two { flow = apart; processor = processor (codes "upd") (UpdateAttribute []) [] })
+    (record { files = passed_on 0 (received_attributes a_txt) false 1 ∷ passed 1 ∷ []; sent = None })
+    ≡ record (state_of ([] ∷ (a_file 2 4 ∷ []) ∷ (a_file 1 3 ∷ []) ∷ []) 3 5 (0 ∷ 0 ∷ 0 ∷ [])) { kin = kin_of [] }
+
 -- ---- a file that a GenerateFlowFile made, whose relationship leads to three connections
 
 abbrev pub generating : Expr → Flow
 generating text = record {
-  processors = processor (codes "gen") (GenerateFlowFile 1 text) [] ∷ processor (codes "put") (PutFile Replace) both ∷ [];
-  connections = connection (codes "c1") 0 1 wide ∷ connection (codes "c2") 0 1 wide ∷ connection (codes "c3") 0 1 wide ∷ [];
+  processors =
+      processor (codes "gen") (GenerateFlowFile 1 text) [] ∷ processor (codes "put") (PutFile Replace) both ∷ [];
+  connections =
+      connection (codes "c1") 0 1 wide ∷ connection (codes "c2") 0 1 wide ∷ connection (codes "c3") 0 1 wide ∷ [];
   digest = [];
 }
 
@@ -146,7 +174,8 @@ named = insert (generated_attributes 1) (codes "filename") (uuid_text 0x12345678
 abbrev pub three_files : Expr → State
 three_files text =
     record (state_of ((waiting 1 1 named (content text) ∷ []) ∷ (waiting 2 2 named (content text) ∷ []) ∷ (waiting 3 3 named (content text) ∷ []) ∷ []) 4 4 (1 ∷ 0 ∷ [])) {
-      events = told 1 1000 kind.Create (codes "gen") 1 [] (content text) ∷ clone_of 2 1000 (codes "gen") 1 2 (content text)
+      events =
+          told 1 1000 kind.Create (codes "gen") 1 [] (content text) ∷ clone_of 2 1000 (codes "gen") 1 2 (content text)
           ∷ clone_of 3 1000 (codes "gen") 1 3 (content text) ∷ [];
       kin = kin_of ((2, 1) ∷ (3, 1) ∷ []);
     }
@@ -160,17 +189,36 @@ EachConnectionGetsOne =
 abbrev pub NoValueIsEmpty : Type 0
 NoValueIsEmpty =
     (text : Expr) (error : EvalError) → tree_value (get (generated_attributes 1)) (tree_of text) ≡ Err error →
-    act (GenerateFlowFile 1 text) [] (record (at_moment 1000) { index = 1 }) ≡ Some (alone (made_file origin.Created (generated_attributes 1) [] true 0))
+    act (GenerateFlowFile 1 text) [] (record (at_moment 1000) { index = 1 })
+        ≡ Some (alone (made_file origin.Created (generated_attributes 1) [] true 0))
+
+-- ---- the attributes of files that sources make
+
+abbrev pub ReceivedSays : Type 0
+ReceivedSays =
+    (name : List ℕ) → (get (received_attributes name) (codes "filename") ≡ Some name)
+    × (get (received_attributes name) (codes "path") ≡ Some (codes "./"))
+
+abbrev pub GeneratedSays : Type 0
+GeneratedSays = (index : ℕ) →
+    (get (generated_attributes index) (codes "generate.index") ≡ Some (decimal index))
+        × (get (generated_attributes index) (codes "path") ≡ Some (codes "./"))
 
 -- ---- names of made files
 
 abbrev pub MadeIsNamed : Type 0
-MadeIsNamed = (from : Origin) (store number : ℕ) (attributes : AttributeMap) → is_made from ≡ true → get attributes (codes "filename") ≡ None →
+MadeIsNamed =
+    (from : Origin) (store number : ℕ) (attributes : AttributeMap) → is_made from
+    ≡ true → get attributes (codes "filename") ≡ None →
     get (with_filename from store number attributes) (codes "filename") ≡ Some (uuid_text store number)
 
 abbrev pub NamedKeepsItsName : Type 0
-NamedKeepsItsName = (from : Origin) (store number : ℕ) (attributes : AttributeMap) (name : List ℕ) → get attributes (codes "filename") ≡ Some name →
+NamedKeepsItsName =
+    (from : Origin) (store number : ℕ) (attributes : AttributeMap) (name : List ℕ) → get attributes (codes "filename")
+    ≡ Some name →
     with_filename from store number attributes ≡ attributes
 
 abbrev pub TakenStaysNameless : Type 0
-TakenStaysNameless = (place store number : ℕ) (attributes : AttributeMap) → with_filename (origin.Taken place) store number attributes ≡ attributes
+TakenStaysNameless =
+    (place store number : ℕ) (attributes : AttributeMap) → with_filename (origin.Taken place) store number attributes
+    ≡ attributes

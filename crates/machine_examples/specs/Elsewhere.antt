@@ -5,12 +5,16 @@ use Rattle.machine_model.specs.declared.flow.Flow.{Flow}
 use Rattle.machine_model.specs.declared.flow.QueueLimits.{QueueLimits}
 use Rattle.machine_model.specs.declared.journal.Step.{Step}
 use Rattle.machine_model.specs.declared.journal.Step.TheVariants.{Expire, SwapOut, SwapIn}
+use Rattle.machine_model.specs.declared.kind.Conflict.TheVariants.{Replace}
+use Rattle.machine_model.specs.declared.kind.Kind.{Kind}
+use Rattle.machine_model.specs.declared.kind.Kind.TheVariants.{PutFile}
 use Rattle.machine_model.specs.declared.kind.TakeRule.TheVariants.{One}
 use Rattle.machine_model.specs.Due.{due_expiry, due_swap_in, due_swap_out, is_checkpoint_due, is_reclaim_due}
 use Rattle.machine_model.specs.Files.{queues_of}
+use Rattle.machine_model.specs.Quiet.{is_held_back, wants}
 use Rattle.machine_model.specs.State.{QueuedFile, State}
 use Rattle.machine_model.specs.Stepping.{step, taken_files}
-use Rattle.machine_examples.specs.Small.{hi, connection, a_file, machine, state_of, told, nothing}
+use Rattle.machine_examples.specs.Small.{hi, processor, connection, a_file, machine, state_of, told, nothing}
 use Rattle.machine_examples.specs.Clones.{duplicating}
 
 -- files expire after 500 milliseconds, and are swapped past 2
@@ -19,7 +23,8 @@ limits = record { expiration = 500; objects = 0; bytes = 0; swap = 2 }
 
 -- a GetFile, a DuplicateFlowFile and a PutFile, one behind the other
 abbrev pub chain : Flow
-chain = record duplicating { connections = connection (codes "c1") 0 1 limits ∷ connection (codes "c2") 1 2 limits ∷ [] }
+chain =
+    record duplicating { connections = connection (codes "c1") 0 1 limits ∷ connection (codes "c2") 1 2 limits ∷ [] }
 
 -- these files before the DuplicateFlowFile, and those before the PutFile
 abbrev pub chained : List QueuedFile → List QueuedFile → State
@@ -71,6 +76,23 @@ FirstsBatchIsNotSeconds = IsNoStep both_swapped (SwapIn 1 1)
 
 abbrev pub TakesOf : (processor number : ℕ) → Option (List QueuedFile) → Type 0
 TakesOf processor number taken = taken_files chain both_wait processor One (number ∷ []) 1000 ≡ taken
+
+-- ---- what waits before a processor makes it want, and what is full behind it holds it back
+
+abbrev pub WantsIs : State → (place : ℕ) → Kind → Bool → Type 0
+WantsIs state place kind answer = wants chain state nothing 1000 (place, processor (codes "p") kind []) ≡ answer
+
+-- a queue is full with one file
+abbrev pub narrow_chain : Flow
+narrow_chain = record chain {
+  connections =
+      connection (codes "c1") 0 1 (record limits { objects = 1 })
+      ∷ connection (codes "c2") 1 2 (record limits { objects = 1 }) ∷ [];
+}
+
+abbrev pub HeldBackIs : State → (place : ℕ) → Bool → Type 0
+HeldBackIs state place answer =
+    is_held_back narrow_chain (queues_of state) (place, processor (codes "p") (PutFile Replace) []) ≡ answer
 
 -- ---- what is due of both: the first that owes it, by the flow's order
 

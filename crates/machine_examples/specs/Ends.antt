@@ -36,15 +36,19 @@ narrow = record wide { objects = 1 }
 
 abbrev pub ring : Expr → Flow
 ring text = record {
-  processors = processor (codes "gen") (GenerateFlowFile 3 text) [] ∷ processor (codes "a") (UpdateAttribute []) (codes "failure" ∷ [])
+  processors =
+      processor (codes "gen") (GenerateFlowFile 3 text) []
+      ∷ processor (codes "a") (UpdateAttribute []) (codes "failure" ∷ [])
       ∷ processor (codes "b") (UpdateAttribute []) (codes "failure" ∷ []) ∷ [];
-  connections = connection (codes "in") 0 1 wide ∷ connection (codes "ab") 1 2 narrow ∷ connection (codes "ba") 2 1 narrow ∷ [];
+  connections =
+      connection (codes "in") 0 1 wide ∷ connection (codes "ab") 1 2 narrow ∷ connection (codes "ba") 2 1 narrow ∷ [];
   digest = [];
 }
 
 -- the ring whose generator's queue is full with one file too
 abbrev pub narrow_ring : Expr → Flow
-narrow_ring text = record (ring text) { connections = connection (codes "in") 0 1 narrow ∷ connection (codes "ab") 1 2 narrow ∷ connection (codes "ba") 2 1 narrow ∷ [] }
+narrow_ring text =
+    record (ring text) { connections = connection (codes "in") 0 1 narrow ∷ connection (codes "ab") 1 2 narrow ∷ connection (codes "ba") 2 1 narrow ∷ [] }
 
 -- the ring with these files, and so many made
 abbrev pub ringed : List QueuedFile → List QueuedFile → List QueuedFile → (made : ℕ) → State
@@ -64,7 +68,8 @@ NarrowIs state answer = (text : Expr) → blocked (narrow_ring text) state nothi
 
 abbrev pub filtering : Pattern → Flow
 filtering pattern = record (get_to_put Replace wide) {
-  processors = processor (codes "get") (GetFile (Some pattern)) [] ∷ processor (codes "put") (PutFile Replace) both ∷ [];
+  processors =
+      processor (codes "get") (GetFile (Some pattern)) [] ∷ processor (codes "put") (PutFile Replace) both ∷ [];
 }
 
 abbrev pub Finds : Pattern → Bool → Type 0
@@ -86,7 +91,8 @@ FoundIsWanted = (pattern : Pattern) → Finds pattern true → quiet (filtering 
 -- three files before a MergeContent that waits for five, swapped past so many
 abbrev pub binning : (swap : ℕ) → Flow
 binning swap = record (get_to_put Replace wide) {
-  processors = processor (codes "get") (GetFile None) [] ∷ processor (codes "merge") (MergeContent BinPacking 5 5) (codes "merged" ∷ codes "original" ∷ codes "failure" ∷ []) ∷ [];
+  processors =
+      processor (codes "get") (GetFile None) [] ∷ processor (codes "merge") (MergeContent BinPacking 5 5) (codes "merged" ∷ codes "original" ∷ codes "failure" ∷ []) ∷ [];
   connections = connection (codes "c1") 0 1 (record wide { swap = swap }) ∷ [];
 }
 

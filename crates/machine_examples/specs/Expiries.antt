@@ -35,7 +35,9 @@ abbrev pub flow : Flow
 flow = get_to_put Replace (limits 1 20_000)
 
 abbrev pub OneExpires : Type 0
-OneExpires = step flow (machine (queued (a_file 1 1 ∷ [])) nothing) (Expire 0 (1 ∷ []) 2000) ≡ Some (machine (record (queued []) { events = expiry 1 2000 1 ∷ [] }) nothing)
+OneExpires =
+    step flow (machine (queued (a_file 1 1 ∷ [])) nothing) (Expire 0 (1 ∷ []) 2000)
+    ≡ Some (machine (record (queued []) { events = expiry 1 2000 1 ∷ [] }) nothing)
 
 abbrev pub NoneExpiresAtOnce : Type 0
 NoneExpiresAtOnce = step flow (machine (queued (a_file 1 1 ∷ [])) nothing) (Expire 0 (1 ∷ []) 1000) ≡ None
@@ -86,4 +88,5 @@ GoesAndComesBack =
 -- what is due with these files in the queue
 abbrev pub SwapsDueAre : List QueuedFile → (out : Option (List ℕ)) (back : Option ℕ) → Type 0
 SwapsDueAre files out back =
-    (last_batch [] (limits 500 2) (queue_view files).active ≡ out) × (lowest_batch (limits 500 2) (queue_view files) ≡ back)
+    (last_batch [] (limits 500 2) (queue_view files).active ≡ out)
+        × (lowest_batch (limits 500 2) (queue_view files) ≡ back)

@@ -16,7 +16,9 @@ abbrev pub stranger : Event
 stranger = told 5 1000 kind.Receive (codes "get") 5 [] hi
 
 abbrev pub events : List Event
-events = told 1 1000 kind.Receive (codes "get") 1 [] hi ∷ told 2 1000 kind.Receive (codes "get") 3 [] hi ∷ cloned ∷ joined ∷ stranger ∷ []
+events =
+    told 1 1000 kind.Receive (codes "get") 1 [] hi ∷ told 2 1000 kind.Receive (codes "get") 3 [] hi ∷ cloned ∷ joined
+    ∷ stranger ∷ []
 
 abbrev pub IsAncestorOf : (file ancestor : ℕ) → Type 0
 IsAncestorOf file ancestor = IsAncestor events file ancestor

@@ -44,15 +44,18 @@ unconnected = flow_of (getting ∷ putting success ∷ []) (connection (codes "c
 
 -- success is terminated, and leads to the PutFile
 abbrev pub terminated : Flow
-terminated = flow_of (processor (codes "get") (GetFile None) success ∷ putting both ∷ []) (connection (codes "c1") 0 1 wide ∷ [])
+terminated =
+    flow_of (processor (codes "get") (GetFile None) success ∷ putting both ∷ []) (connection (codes "c1") 0 1 wide ∷ [])
 
 -- success leads to the GetFile too
 abbrev pub into_source : Flow
-into_source = flow_of (getting ∷ putting both ∷ []) (connection (codes "c1") 0 1 wide ∷ connection (codes "c2") 0 0 wide ∷ [])
+into_source =
+    flow_of (getting ∷ putting both ∷ []) (connection (codes "c1") 0 1 wide ∷ connection (codes "c2") 0 0 wide ∷ [])
 
 -- two processors of one id
 abbrev pub doubled : Flow
-doubled = flow_of (getting ∷ processor (codes "get") (PutFile Replace) both ∷ []) (connection (codes "c1") 0 1 wide ∷ [])
+doubled =
+    flow_of (getting ∷ processor (codes "get") (PutFile Replace) both ∷ []) (connection (codes "c1") 0 1 wide ∷ [])
 
 -- a threshold of 1, of which half is nothing
 abbrev pub tight : Flow
@@ -64,7 +67,8 @@ turned = through (processor (codes "merge") (MergeContent BinPacking 3 2) (codes
 
 -- an id with a blank
 abbrev pub blank : Flow
-blank = flow_of (processor (codes "get it") (GetFile None) [] ∷ putting both ∷ []) (connection (codes "c1") 0 1 wide ∷ [])
+blank =
+    flow_of (processor (codes "get it") (GetFile None) [] ∷ putting both ∷ []) (connection (codes "c1") 0 1 wide ∷ [])
 
 -- a connection to a processor that isn't there
 abbrev pub nowhere : Flow
@@ -74,7 +78,8 @@ nowhere = flow_of (getting ∷ putting both ∷ []) (connection (codes "c1") 0 2
 
 -- one embedded expression alone is no text that is joined
 abbrev pub AloneIsNotJoined : Type 0
-AloneIsNotJoined = (expression : Expr) (term : Term) → tree_of expression ≡ joined (embedded term ∷ []) → HasText expression → ⊥
+AloneIsNotJoined =
+    (expression : Expr) (term : Term) → tree_of expression ≡ joined (embedded term ∷ []) → HasText expression → ⊥
 
 -- a filter is marked, and one that isn't is unsound
 abbrev pub MarkedIsSound : Type 0
@@ -88,7 +93,8 @@ abbrev pub by : Pattern → OwnPattern
 by pattern = record { name = codes "red"; pattern = pattern }
 
 abbrev pub ExactIsMarked : Type 0
-ExactIsMarked = (pattern : Pattern) → pattern.text ≡ codes "a" → IsSoundKind (RouteOnContent Exactly (by pattern ∷ [])) → ⊥
+ExactIsMarked =
+    (pattern : Pattern) → pattern.text ≡ codes "a" → IsSoundKind (RouteOnContent Exactly (by pattern ∷ [])) → ⊥
 
 abbrev pub ContainedIsNot : Type 0
 ContainedIsNot = (pattern : Pattern) → IsSoundKind (RouteOnContent Contains (by pattern ∷ []))

@@ -40,7 +40,8 @@ since entered = record third { entered = entered }
 
 -- limits on files and on bytes
 abbrev pub FullIs : (objects bytes : ℕ) → List QueuedFile → Bool → Type 0
-FullIs objects bytes files answer = is_full (record wide { objects = objects; bytes = bytes }) (queue_view files) ≡ answer
+FullIs objects bytes files answer =
+    is_full (record wide { objects = objects; bytes = bytes }) (queue_view files) ≡ answer
 
 -- ---- by the attribute `priority`: by value, then what is no number, then what has none
 
@@ -48,9 +49,12 @@ abbrev pub HasPriority : FileView → Option (List ℕ) → Type 0
 HasPriority file text = get file.attributes (codes "priority") ≡ text
 
 abbrev pub GoesFirst : FileView → FileView → Type 0
-GoesFirst file other = (goes_before (PriorityAttribute ∷ []) file other ≡ true) × (goes_before (PriorityAttribute ∷ []) other file ≡ false)
+GoesFirst file other =
+    (goes_before (PriorityAttribute ∷ []) file other ≡ true)
+    × (goes_before (PriorityAttribute ∷ []) other file ≡ false)
 
 abbrev pub PrioritiesTell : Type 0
-PrioritiesTell = (ten nine word none : FileView) → HasPriority ten (Some (codes "10")) → HasPriority nine (Some (codes "9"))
+PrioritiesTell =
+    (ten nine word none : FileView) → HasPriority ten (Some (codes "10")) → HasPriority nine (Some (codes "9"))
     → HasPriority word (Some (codes "x")) → HasPriority none None
     → GoesFirst nine ten × GoesFirst ten word × GoesFirst word none

@@ -23,7 +23,8 @@ three = view_of (a_file 3 3)
 
 -- a first file that fills a content, with nothing, two bytes or none behind it
 abbrev pub FullPicks : (min : ℕ) → List FileView → (FileView → Option (List FileView)) → Type 0
-FullPicks min others answer = (full : FileView) → full.size ≡ 16_777_216 → picks (Bin min 5) (full ∷ others) ≡ answer full
+FullPicks min others answer =
+    (full : FileView) → full.size ≡ 16_777_216 → picks (Bin min 5) (full ∷ others) ≡ answer full
 
 abbrev pub no_bytes : FileView
 no_bytes = view_of (waiting 2 2 empty [])
@@ -50,7 +51,8 @@ pub record AreParts (a b c other : FileView) : Type 0 where
 
 abbrev pub PicksParts : (files : FileView → FileView → FileView → FileView → List FileView)
     (answer : FileView → FileView → FileView → FileView → Option (List FileView)) → Type 0
-PicksParts files answer = (a b c lone : FileView) → AreParts a b c lone → picks Defragment (files a b c lone) ≡ answer a b c lone
+PicksParts files answer =
+    (a b c lone : FileView) → AreParts a b c lone → picks Defragment (files a b c lone) ≡ answer a b c lone
 
 abbrev pub TwoAreNoWhole : Type 0
 TwoAreNoWhole = PicksParts (λ a b c lone. a ∷ c ∷ []) (λ a b c lone. None)
@@ -107,7 +109,11 @@ CountsTellWholes = OfWholes (λ a b c d again greater. a ∷ greater ∷ []) (λ
 
 -- an attribute of the three is missing
 abbrev pub NoCountIsNone : Type 0
-NoCountIsNone = fragment_of (insert (insert empty (codes "fragment.identifier") (codes "w")) (codes "fragment.index") (codes "1")) ≡ None
+NoCountIsNone =
+    fragment_of (insert (insert empty (codes "fragment.identifier") (codes "w")) (codes "fragment.index") (codes "1"))
+    ≡ None
 
 abbrev pub NoIdentifierIsNone : Type 0
-NoIdentifierIsNone = fragment_of (insert (insert empty (codes "fragment.index") (codes "1")) (codes "fragment.count") (codes "1")) ≡ None
+NoIdentifierIsNone =
+    fragment_of (insert (insert empty (codes "fragment.index") (codes "1")) (codes "fragment.count") (codes "1"))
+    ≡ None

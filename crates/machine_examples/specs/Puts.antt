@@ -16,7 +16,8 @@ use Rattle.machine_examples.specs.Small.{hi, wide, get_to_put, a_txt, a_file, st
 
 -- to success, and its bytes to the outbox; to success alone; penalised to failure
 abbrev pub sent : AttributeMap → Outcome
-sent attributes = record { files = passed_on 0 attributes false 0 ∷ []; sent = Some (record { place = 0; name = a_txt }) }
+sent attributes =
+    record { files = passed_on 0 attributes false 0 ∷ []; sent = Some (record { place = 0; name = a_txt }) }
 
 abbrev pub passed : AttributeMap → Outcome
 passed attributes = alone (passed_on 0 attributes false 0)
@@ -30,7 +31,8 @@ PutGives conflict there attributes outcome =
     (uuid bytes : List ℕ) → act (PutFile conflict) (record { attributes = attributes; uuid = uuid; bytes = bytes } ∷ []) (record (at_moment 1000) { there = there }) ≡ Some outcome
 
 abbrev pub PutsNamed : Conflict → (there : Bool) → (AttributeMap → Outcome) → Type 0
-PutsNamed conflict there outcome = PutGives conflict there (received_attributes a_txt) (outcome (received_attributes a_txt))
+PutsNamed conflict there outcome =
+    PutGives conflict there (received_attributes a_txt) (outcome (received_attributes a_txt))
 
 -- whatever the strategy and the outbox are
 abbrev pub FailsToPut : AttributeMap → Type 0
@@ -59,7 +61,8 @@ PutsOver conflict events world =
     ≡ Some (machine (emptied events) world)
 
 abbrev pub ReplacePutsOver : Type 0
-ReplacePutsOver = PutsOver Replace (put_event 1 ∷ drop_event 2 (codes "success") ∷ []) (record with_a { outbox = with_file no_file a_txt hi })
+ReplacePutsOver =
+    PutsOver Replace (put_event 1 ∷ drop_event 2 (codes "success") ∷ []) (record with_a { outbox = with_file no_file a_txt hi })
 
 abbrev pub IgnoreLeaves : Type 0
 IgnoreLeaves = PutsOver Ignore (drop_event 1 (codes "success") ∷ []) with_a

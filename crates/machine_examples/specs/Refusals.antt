@@ -21,7 +21,8 @@ abbrev pub limited : QueueLimits
 limited = record { expiration = 500; objects = 0; bytes = 0; swap = 2 }
 
 abbrev pub RefusesAt : List QueuedFile → Step → Type 0
-RefusesAt files entry = IsRefused (get_to_put Replace limited) (record (state_of (files ∷ []) 9 9 (0 ∷ 0 ∷ [])) { next_batch = 3 }) nothing entry
+RefusesAt files entry =
+    IsRefused (get_to_put Replace limited) (record (state_of (files ∷ []) 9 9 (0 ∷ 0 ∷ [])) { next_batch = 3 }) nothing entry
 
 -- the PutFile's session over these files
 abbrev pub RefusesToPut : List QueuedFile → List ℕ → (moment : ℕ) → Type 0
@@ -86,6 +87,13 @@ TwoDoNotGo = RefusesAt (a_file 1 1 ∷ a_file 2 2 ∷ a_file 3 3 ∷ []) (SwapOu
 abbrev pub FewDoNotGo : Type 0
 FewDoNotGo = RefusesAt (a_file 1 1 ∷ a_file 2 2 ∷ []) (SwapOut 0 (2 ∷ []) 3)
 
+-- a swapped file neither expires nor goes once more
+abbrev pub SwappedDoesNotExpire : Type 0
+SwappedDoesNotExpire = RefusesAt (swapped (a_file 1 1) 2 ∷ []) (Expire 0 (1 ∷ []) 2000)
+
+abbrev pub SwappedDoesNotGo : Type 0
+SwappedDoesNotGo = RefusesAt (a_file 1 1 ∷ a_file 2 2 ∷ a_file 3 3 ∷ swapped (a_file 4 4) 2 ∷ []) (SwapOut 0 (4 ∷ []) 3)
+
 -- batches 1 and 2 are swapped out
 abbrev pub HigherBatchDoesNotCome : Type 0
 HigherBatchDoesNotCome = RefusesAt (a_file 1 1 ∷ swapped (a_file 2 2) 1 ∷ swapped (a_file 3 3) 2 ∷ []) (SwapIn 0 2)
@@ -115,7 +123,8 @@ abbrev pub NamelessIsNotReceived : Type 0
 NamelessIsNotReceived = RefusesToGet (inbox_of a_txt hi) (session 0 [] 1000 (at_moment 1000))
 
 abbrev pub SourceTakesNone : Type 0
-SourceTakesNone = RefusesToGet (inbox_of a_txt hi) (session 0 (1 ∷ []) 1000 (record (at_moment 1000) { file = Some a_txt }))
+SourceTakesNone =
+    RefusesToGet (inbox_of a_txt hi) (session 0 (1 ∷ []) 1000 (record (at_moment 1000) { file = Some a_txt }))
 
 -- whether the outbox has the name is told wrongly
 abbrev pub RefusesAnswer : World → (there : Bool) → Type 0
@@ -131,7 +140,9 @@ RefusesIndex made index =
 -- ---- what is taken, where it may be
 
 abbrev pub TakesToPut : List QueuedFile → List ℕ → (moment : ℕ) → List QueuedFile → Type 0
-TakesToPut files numbers moment taken = taken_files (get_to_put Replace limited) (state_of (files ∷ []) 9 9 (0 ∷ 0 ∷ [])) 1 One numbers moment ≡ Some taken
+TakesToPut files numbers moment taken =
+    taken_files (get_to_put Replace limited) (state_of (files ∷ []) 9 9 (0 ∷ 0 ∷ [])) 1 One numbers moment
+    ≡ Some taken
 
 -- a bin of one to two files, of three that wait
 abbrev pub TakesToMerge : List ℕ → Option (List QueuedFile) → Type 0

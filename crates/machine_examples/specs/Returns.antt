@@ -29,7 +29,8 @@ ending_at moment = record {
 }
 
 abbrev pub back : (penalised : Bool) → Outcome
-back penalised = record { files = record (passed_on 0 (received_attributes a_txt) penalised 0) { end = Back } ∷ []; sent = None }
+back penalised =
+    record { files = record (passed_on 0 (received_attributes a_txt) penalised 0) { end = Back } ∷ []; sent = None }
 
 -- it stands where it stood, and nothing else has changed
 abbrev pub ReturnsUntil : (moment : ℕ) (penalised : Bool) (end : ℕ) → Type 0

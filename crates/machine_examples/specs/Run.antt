@@ -36,11 +36,14 @@ abbrev pub receive : List ℕ → Event
 receive bytes = told 1 1000 kind.Receive (codes "get") 1 a_txt bytes
 
 abbrev pub send_and_drop : List ℕ → List Event
-send_and_drop bytes = told 2 2000 kind.Send (codes "put") 1 a_txt bytes ∷ told 3 2000 kind.Drop (codes "put") 1 (codes "success") bytes ∷ []
+send_and_drop bytes =
+    told 2 2000 kind.Send (codes "put") 1 a_txt bytes
+    ∷ told 3 2000 kind.Drop (codes "put") 1 (codes "success") bytes ∷ []
 
 -- the file is queued, and no longer left in the inbox
 abbrev pub between : List ℕ → State
-between bytes = record (state_of ((waiting 1 1 (received_attributes a_txt) bytes ∷ []) ∷ []) 2 2 (0 ∷ 0 ∷ [])) { events = receive bytes ∷ [] }
+between bytes =
+    record (state_of ((waiting 1 1 (received_attributes a_txt) bytes ∷ []) ∷ []) 2 2 (0 ∷ 0 ∷ [])) { events = receive bytes ∷ [] }
 
 abbrev pub world_between : List ℕ → World
 world_between bytes = record (world_before bytes) { left = [] }
@@ -53,10 +56,15 @@ abbrev pub world_after : List ℕ → World
 world_after bytes = record (world_between bytes) { outbox = with_file no_file a_txt bytes }
 
 abbrev pub IsReceived : List ℕ → Type 0
-IsReceived bytes = step flow (machine before (world_before bytes)) getting ≡ Some (machine (between bytes) (world_between bytes))
+IsReceived bytes =
+    step flow (machine before (world_before bytes)) getting ≡ Some (machine (between bytes) (world_between bytes))
 
 abbrev pub IsSent : List ℕ → Type 0
-IsSent bytes = step flow (machine (between bytes) (world_between bytes)) putting ≡ Some (machine (after bytes) (world_after bytes))
+IsSent bytes =
+    step flow (machine (between bytes) (world_between bytes)) putting
+    ≡ Some (machine (after bytes) (world_after bytes))
 
 abbrev pub IsDelivered : List ℕ → Type 0
-IsDelivered bytes = replay flow (machine before (world_before bytes)) (steps journal) ≡ Some (machine (after bytes) (world_after bytes))
+IsDelivered bytes =
+    replay flow (machine before (world_before bytes)) (steps journal)
+    ≡ Some (machine (after bytes) (world_after bytes))

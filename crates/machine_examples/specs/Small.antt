@@ -34,7 +34,8 @@ processor id kind terminated = record { id = id; kind = kind; tasks = 1; penalty
 
 -- a connection from success, in the order of arrival of the oldest data
 abbrev pub connection : List ℕ → (source target : ℕ) → QueueLimits → Connection
-connection id source target limits = record { id = id; source = source; relationships = success; target = target; order = []; limits = limits }
+connection id source target limits =
+    record { id = id; source = source; relationships = success; target = target; order = []; limits = limits }
 
 abbrev pub wide : QueueLimits
 wide = record { expiration = 0; objects = 0; bytes = 0; swap = 20_000 }

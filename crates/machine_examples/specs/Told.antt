@@ -27,7 +27,9 @@ attributes = received_attributes a_txt
 abbrev pub through : Processor → (relationship : List ℕ) → Flow
 through middle relationship = record {
   processors = processor (codes "get") (GetFile None) [] ∷ middle ∷ processor (codes "put") (PutFile Replace) both ∷ [];
-  connections = connection (codes "c1") 0 1 wide ∷ record (connection (codes "c2") 1 2 wide) { relationships = relationship ∷ [] } ∷ [];
+  connections =
+      connection (codes "c1") 0 1 wide
+      ∷ record (connection (codes "c2") 1 2 wide) { relationships = relationship ∷ [] } ∷ [];
   digest = [];
 }
 
@@ -37,7 +39,8 @@ abbrev pub split : Processor
 split = processor (codes "split") (SplitText 1) (codes "original" ∷ codes "failure" ∷ [])
 
 abbrev pub part : (offset : ℕ) → Worked
-part offset = record { origin = origin.Part 0; attributes = attributes; body = body.Part 0 offset 1; end = To 1; written = false; penalised = false; routed = None }
+part offset =
+    record { origin = origin.Part 0; attributes = attributes; body = body.Part 0 offset 1; end = To 1; written = false; penalised = false; routed = None }
 
 abbrev pub splitting : EndedSession
 splitting = record {
@@ -50,14 +53,17 @@ splitting = record {
 }
 
 abbrev pub after_split : State
-after_split = record (state_of ([] ∷ (waiting 2 2 attributes (104 ∷ []) ∷ waiting 3 3 attributes (105 ∷ []) ∷ []) ∷ []) 4 4 (0 ∷ 0 ∷ 0 ∷ [])) {
+after_split =
+    record (state_of ([] ∷ (waiting 2 2 attributes (104 ∷ []) ∷ waiting 3 3 attributes (105 ∷ []) ∷ []) ∷ []) 4 4 (0 ∷ 0 ∷ 0 ∷ [])) {
   events = record (told 1 2000 kind.Fork (codes "split") 1 [] hi) { parents = 1 ∷ []; children = 2 ∷ 3 ∷ [] }
       ∷ told 2 2000 kind.Drop (codes "split") 1 (codes "original") hi ∷ [];
   kin = kin_of ((2, 1) ∷ (3, 1) ∷ []);
 }
 
 abbrev pub SplitTells : Type 0
-SplitTells = settle splitting (record { files = passed_on 0 attributes false 0 ∷ part 0 ∷ part 1 ∷ []; sent = None }) ≡ after_split
+SplitTells =
+    settle splitting (record { files = passed_on 0 attributes false 0 ∷ part 0 ∷ part 1 ∷ []; sent = None })
+    ≡ after_split
 
 -- ---- two files, 5 and 3, are joined to 6, and leave; the data of 3 entered earlier
 
@@ -78,9 +84,11 @@ joining = record {
 }
 
 abbrev pub after_join : State
-after_join = record (state_of ([] ∷ (record (waiting 6 3 attributes (hi ++ hi)) { entered = 900 } ∷ []) ∷ []) 7 4 (0 ∷ 0 ∷ 0 ∷ [])) {
+after_join =
+    record (state_of ([] ∷ (record (waiting 6 3 attributes (hi ++ hi)) { entered = 900 } ∷ []) ∷ []) 7 4 (0 ∷ 0 ∷ 0 ∷ [])) {
   events = record (told 1 2000 kind.Join (codes "merge") 6 [] (hi ++ hi)) { parents = 3 ∷ 5 ∷ []; children = 6 ∷ [] }
-      ∷ told 2 2000 kind.Drop (codes "merge") 5 (codes "original") hi ∷ told 3 2000 kind.Drop (codes "merge") 3 (codes "original") hi ∷ [];
+      ∷ told 2 2000 kind.Drop (codes "merge") 5 (codes "original") hi
+          ∷ told 3 2000 kind.Drop (codes "merge") 3 (codes "original") hi ∷ [];
   kin = kin_of ((6, 5) ∷ (6, 3) ∷ []);
 }
 
@@ -115,14 +123,17 @@ abbrev pub drop_of : (number : ℕ) → (detail bytes : List ℕ) → Event
 drop_of number detail bytes = told number 2000 kind.Drop (codes "put") 1 detail bytes
 
 abbrev pub WritingTells : Type 0
-WritingTells = Tells (changed true attributes [] (To 0)) (told 1 2000 kind.ContentModified (codes "put") 1 [] [] ∷ drop_of 2 (codes "success") [] ∷ [])
+WritingTells =
+    Tells (changed true attributes [] (To 0)) (told 1 2000 kind.ContentModified (codes "put") 1 [] [] ∷ drop_of 2 (codes "success") [] ∷ [])
 
 abbrev pub SettingTells : Type 0
-SettingTells = Tells (changed false other hi (To 0)) (told 1 2000 kind.AttributesModified (codes "put") 1 [] hi ∷ drop_of 2 (codes "success") hi ∷ [])
+SettingTells =
+    Tells (changed false other hi (To 0)) (told 1 2000 kind.AttributesModified (codes "put") 1 [] hi ∷ drop_of 2 (codes "success") hi ∷ [])
 
 -- of both only the writing is told; of a removed file neither; of one that was not changed its end alone
 abbrev pub BothTellOne : Type 0
-BothTellOne = Tells (changed true other [] (To 1)) (told 1 2000 kind.ContentModified (codes "put") 1 [] [] ∷ drop_of 2 (codes "failure") [] ∷ [])
+BothTellOne =
+    Tells (changed true other [] (To 1)) (told 1 2000 kind.ContentModified (codes "put") 1 [] [] ∷ drop_of 2 (codes "failure") [] ∷ [])
 
 abbrev pub RemovedTellsNone : Type 0
 RemovedTellsNone = Tells (changed true other [] Removed) (drop_of 1 [] [] ∷ [])

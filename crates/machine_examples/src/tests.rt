@@ -57,8 +57,17 @@ fn taken_by_threads<R: Threads + Sync>(
     )
 }
 
+fn by_color(alloc: Global) -> Result<Kind, AllocError> {
+    let mut own = Sequence::new(alloc);
+    own.push(OwnExpression {
+        name: Text::from_str(alloc, "red")?,
+        expression: Expr::Joined(Vec::new(alloc)),
+    })?;
+    Ok(Kind::RouteOnAttribute { own })
+}
+
 #[test]
-fn threads_share_a_pattern(rt: HostRuntime) -> Result<(), Fail> {
+fn threads_share_a_pattern_and_types_have_tables(rt: HostRuntime) -> Result<(), Fail> {
     let alloc = rt.alloc();
     let text = Text::from_str(alloc, r"\.csv$")?;
     let filter = Some(Pattern::new(alloc, text, SIZE_LIMIT)?);
@@ -67,41 +76,23 @@ fn threads_share_a_pattern(rt: HostRuntime) -> Result<(), Fail> {
     let taken = taken_by_threads(&rt, alloc, &flow, &names)?;
     let expected = [Ok(true), Ok(false), Ok(true), Ok(false)];
     assert_eq!(rt; taken.as_slice(), expected.as_slice());
-    Ok(())
-}
-
-#[test]
-fn without_a_filter_all_names_pass(rt: HostRuntime) -> Result<(), Fail> {
-    let alloc = rt.alloc();
-    let flow = alone(alloc, Kind::GetFile { filter: None })?;
-    assert!(rt; takes(alloc, &flow, "a.csv")?);
-    Ok(())
-}
-
-#[test]
-fn a_text_that_is_no_pattern_is_refused(rt: HostRuntime) -> Result<(), Fail> {
-    let alloc = rt.alloc();
+    let unfiltered = alone(alloc, Kind::GetFile { filter: None })?;
+    assert!(rt; takes(alloc, &unfiltered, "a.csv.gz")?);
     let text = Text::from_str(alloc, "(")?;
     assert!(rt; Pattern::new(alloc, text, SIZE_LIMIT).is_err());
-    Ok(())
-}
-
-#[test]
-fn relationships_stand_in_their_order(rt: HostRuntime) -> Result<(), Fail> {
-    let alloc = rt.alloc();
     let split = Kind::SplitText { lines: 1 };
-    assert_eq!(rt; split.relationship(0), Some("original"));
-    assert_eq!(rt; split.relationship(2), Some("failure"));
-    assert_eq!(rt; split.relationship(3), None);
-    let mut own = Sequence::new(alloc);
-    own.push(OwnExpression {
-        name: Text::from_str(alloc, "red")?,
-        expression: Expr::Joined(Vec::new(alloc)),
-    })?;
-    let route = Kind::RouteOnAttribute { own };
-    assert_eq!(rt; route.relationship(0), Some("red"));
-    assert_eq!(rt; route.relationship(1), Some("unmatched"));
-    assert_eq!(rt; route.relationship(2), None);
-    assert_eq!(rt; route.take_rule(), TakeRule::One);
+    let route = by_color(alloc)?;
+    let table = [
+        (&split, 0, Some("original")),
+        (&split, 2, Some("failure")),
+        (&split, 3, None),
+        (&route, 0, Some("red")),
+        (&route, 1, Some("unmatched")),
+        (&route, 2, None),
+    ];
+    for (kind, place, name) in table {
+        assert_eq!(rt; kind.relationship(place), name);
+        assert_eq!(rt; kind.take_rule(), TakeRule::One);
+    }
     Ok(())
 }

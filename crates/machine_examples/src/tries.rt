@@ -2,15 +2,16 @@
 //! that do nothing.
 ghost use Rattle.std.specs.Prelude.{◌-◌, [], ◌∷◌, true, false, Some, None, codes};
 ghost use Rattle.machine_model.specs.declared.kind.Conflict.TheVariants.{Replace, Ignore, Fail};
+ghost use Rattle.machine_model.specs.declared.kind.Kind.TheVariants.{PutFile};
 ghost use Rattle.machine_model.specs.declared.kind.TakeRule.TheVariants.{Source, One, Bin};
 ghost use Rattle.machine_model.specs.Sound.{IsSound};
 ghost use Rattle.machine_examples.specs.Small.{hi, nothing, with_a, a_file, get_to_put, wide};
 ghost use Rattle.machine_examples.specs.Acks.{AcknowledgedIs};
 ghost use Rattle.machine_examples.specs.Batches.{LastOf, OddGoes, six, nth, StepGives, queued, two_gone, two_batches, lower_back, BatchesAre, batch, FullWith, EligibleOf, ExpiredOf, GoesOf, ComesOf, FullOf, flying, still, waiting_penalised};
-ghost use Rattle.machine_examples.specs.Elsewhere.{SecondExpires, NotOfTheFirst, SecondSwapsOut, SecondSwapsIn, FirstsBatchIsNotSeconds, TakesOf, ExpiryIs, SwapOutIs, SwapInIs, CheckpointIs, ReclaimIs, chained, fresh, both_wait, both_swapped, three as first_three, three_more, in_batch, last_log};
+ghost use Rattle.machine_examples.specs.Elsewhere.{WantsIs, HeldBackIs, SecondExpires, NotOfTheFirst, SecondSwapsOut, SecondSwapsIn, FirstsBatchIsNotSeconds, TakesOf, ExpiryIs, SwapOutIs, SwapInIs, CheckpointIs, ReclaimIs, chained, fresh, both_wait, both_swapped, three as first_three, three_more, in_batch, last_log};
 ghost use Rattle.machine_model.specs.Files.{view_of};
 ghost use Rattle.machine_model.specs.declared.journal.Step.TheVariants.{SwapOut, SwapIn};
-ghost use Rattle.machine_examples.specs.Clones.{TwoFanOut, CopiesGoByOriginals, BesideADrop, NoValueIsEmpty, FourClonesFollow, ClonesArePenalisedToo, duplicating, EachConnectionGetsOne, MadeIsNamed, NamedKeepsItsName, TakenStaysNameless};
+ghost use Rattle.machine_examples.specs.Clones.{EachGoesItsWay, ReceivedSays, GeneratedSays, TwoFanOut, CopiesGoByOriginals, BesideADrop, NoValueIsEmpty, FourClonesFollow, ClonesArePenalisedToo, duplicating, EachConnectionGetsOne, MadeIsNamed, NamedKeepsItsName, TakenStaysNameless};
 ghost use Rattle.machine_examples.specs.Ends.{in_batch as swapped_out, NarrowIs, FilteredIsLeft, FoundIsWanted, SwappingIsQuiet, QuietIs, left_a, taken_a, penalised, BlockedIs, RingIsQuiet, ringed};
 ghost use Rattle.machine_examples.specs.Expiries.{ExpiredIs, OneExpires, NoneExpiresAtOnce, TwoExpire, BatchGoes, BatchMustWait, BatchComesBack, GoesAndComesBack, SwapsDueAre, late, late_in_batch};
 ghost use Rattle.machine_examples.specs.Families.{IsAncestorOf, IsNoAncestorOf, IsDescendantOf, IsNoDescendantOf, Tells, TellsNot, cloned, joined, stranger};
@@ -23,7 +24,7 @@ ghost use Rattle.machine_examples.specs.Picks.{WholeGoesBesideAPart, EarlierOfTw
 ghost use Rattle.machine_examples.specs.Outboxes.{PutReads};
 ghost use Rattle.machine_examples.specs.Puts.{PutsNamed, NamelessFails, BadNameFails, ReplacePutsOver, IgnoreLeaves, FailLeaves, sent, passed, failed};
 ghost use Rattle.machine_examples.specs.Returns.{ReturnsUntil, latest};
-ghost use Rattle.machine_examples.specs.Refusals.{ExpiredIsNotTaken, NoneIsTakenTwice, PenalisedIsNotTaken, SwappedIsNotTaken, StrangeIsNotTaken, TwoAreNotPut, NoneIsNotPut, NoSuchProcessor, NoSuchConnection, FreshDoesNotExpire, OneOfTwoIsFresh, NothingDoesNotExpire, NoneExpiresTwice, OtherBatchDoesNotGo, TwoDoNotGo, FewDoNotGo, HigherBatchDoesNotCome, StrangeBatchDoesNotCome, BatchWaitsWhileTwoAreActive, GoneIsNotReceived, MissingIsNotReceived, NamelessIsNotReceived, SourceTakesNone, RefusesAnswer, RefusesIndex, TakesToPut, TakesToMerge, penalised as penalty};
+ghost use Rattle.machine_examples.specs.Refusals.{SwappedDoesNotExpire, SwappedDoesNotGo, ExpiredIsNotTaken, NoneIsTakenTwice, PenalisedIsNotTaken, SwappedIsNotTaken, StrangeIsNotTaken, TwoAreNotPut, NoneIsNotPut, NoSuchProcessor, NoSuchConnection, FreshDoesNotExpire, OneOfTwoIsFresh, NothingDoesNotExpire, NoneExpiresTwice, OtherBatchDoesNotGo, TwoDoNotGo, FewDoNotGo, HigherBatchDoesNotCome, StrangeBatchDoesNotCome, BatchWaitsWhileTwoAreActive, GoneIsNotReceived, MissingIsNotReceived, NamelessIsNotReceived, SourceTakesNone, RefusesAnswer, RefusesIndex, TakesToPut, TakesToMerge, penalised as penalty};
 ghost use Rattle.machine_examples.specs.Run.{IsReceived, IsSent, IsDelivered};
 
 /// What is received and sent, from the inbox to the outbox.
@@ -58,8 +59,8 @@ pub fn sessions_are_refused()
     ensures given_past_count { RefusesIndex 2 3 }
 {}
 
-/// What a session may take: a fresh file, one whose penalty is over, and any of those that wait. A bin takes neither more
-/// than its greatest number, nor files out of turn, nor one twice, nor none; it may leave some out.
+/// What a session may take: a fresh file, one whose penalty is over, and any of those that wait. A bin takes
+/// neither more than its greatest number, nor files out of turn, nor one twice, nor none; it may leave some out.
 pub fn takes_are_allowed()
     ensures fresh { TakesToPut (a_file 1 1 ∷ []) (1 ∷ []) 1499 (a_file 1 1 ∷ []) }
     ensures free { TakesToPut (penalty (a_file 1 1) 1200 ∷ []) (1 ∷ []) 1200 (penalty (a_file 1 1) 1200 ∷ []) }
@@ -83,12 +84,14 @@ pub fn queue_steps_are_refused()
     ensures two { TwoDoNotGo }
     ensures few { FewDoNotGo }
     ensures higher { HigherBatchDoesNotCome }
+    ensures swapped_expires { SwappedDoesNotExpire }
+    ensures swapped_goes { SwappedDoesNotGo }
     ensures strange { StrangeBatchDoesNotCome }
     ensures waits { BatchWaitsWhileTwoAreActive }
 {}
 
-/// Files expire, and events tell of them by ascending numbers. A batch of one goes where three files are active at a
-/// threshold of two, and comes back once one is.
+/// Files expire, and events tell of them by ascending numbers. A batch of one goes where three files are active at
+/// a threshold of two, and comes back once one is.
 pub fn queue_steps_are_told()
     ensures at_limit { ExpiredIs 1 1001 true }
     ensures at_once { ExpiredIs 1 1000 false }
@@ -107,9 +110,9 @@ pub fn queue_steps_are_told()
     ensures batch_none { SwapsDueAre (a_file 2 2 ∷ []) None None }
 {}
 
-/// A DuplicateFlowFile's file and its four clones go to one connection, in turn; a penalised file's clone waits as long
-/// as the file; a made file goes to the first of three connections, and a clone of it to each of the others. A made file
-/// without `filename` is named by its uuid; any other keeps its attributes.
+/// A DuplicateFlowFile's file and its four clones go to one connection, in turn; a penalised file's clone waits as
+/// long as the file; a made file goes to the first of three connections, and a clone of it to each of the others. A
+/// made file without `filename` is named by its uuid; any other keeps its attributes.
 pub fn clones_are_told()
     ensures follow { FourClonesFollow }
     ensures penalised_too { ClonesArePenalisedToo }
@@ -121,10 +124,13 @@ pub fn clones_are_told()
     ensures copies { CopiesGoByOriginals }
     ensures beside_a_drop { BesideADrop }
     ensures no_value { NoValueIsEmpty }
+    ensures apart { EachGoesItsWay }
+    ensures received { ReceivedSays }
+    ensures generated { GeneratedSays }
 {}
 
-/// What a PutFile makes of a file, by its strategy, by whether the outbox has the name, and by whether the name can name
-/// a file; and what becomes of the outbox. A file that goes back stands where it stood.
+/// What a PutFile makes of a file, by its strategy, by whether the outbox has the name, and by whether the name can
+/// name a file; and what becomes of the outbox. A file that goes back stands where it stood.
 pub fn puts_are_told()
     ensures replace_new { PutsNamed Replace false sent }
     ensures ignore_new { PutsNamed Ignore false sent }
@@ -145,8 +151,9 @@ pub fn puts_are_told()
     ensures back_saturated { ReturnsUntil latest true latest }
 {}
 
-/// The best file, or none. A bin has at least its least number of files unless the next would not fit, and at most its
-/// greatest. All parts of a whole go, in their order, or none; a file that is no part goes alone; the earlier goes.
+/// The best file, or none. A bin has at least its least number of files unless the next would not fit, and at most
+/// its greatest. All parts of a whole go, in their order, or none; a file that is no part goes alone; the earlier
+/// goes.
 pub fn picks_are_told()
     ensures one { PicksOf One (two ∷ one ∷ []) (Some (two ∷ [])) }
     ensures none { PicksOf One [] None }
@@ -202,12 +209,14 @@ pub fn ends_are_told()
     ensures no_batch_comes { SwappingIsQuiet 2 (a_file 1 1 ∷ a_file 2 2 ∷ swapped_out (a_file 3 3) ∷ []) true }
 {}
 
-/// Which files are eligible, and in which order. A queue is full at a limit on its files or on its bytes, with swapped
-/// files counted; a limit of 0 is none.
+/// Which files are eligible, and in which order. A queue is full at a limit on its files or on its bytes, with
+/// swapped files counted; a limit of 0 is none.
 pub fn queues_are_seen()
     ensures default { EligibleAre [] (first ∷ second ∷ third ∷ []) (second ∷ third ∷ first ∷ []) }
-    ensures oldest { EligibleAre (OldestFlowFileFirst ∷ []) (first ∷ second ∷ third ∷ []) (second ∷ third ∷ first ∷ []) }
-    ensures newest { EligibleAre (NewestFlowFileFirst ∷ []) (first ∷ second ∷ third ∷ []) (first ∷ second ∷ third ∷ []) }
+    ensures oldest { EligibleAre (OldestFlowFileFirst ∷ []) (first ∷ second ∷ third ∷ [])
+        (second ∷ third ∷ first ∷ []) }
+    ensures newest { EligibleAre (NewestFlowFileFirst ∷ []) (first ∷ second ∷ third ∷ [])
+        (first ∷ second ∷ third ∷ []) }
     ensures arrival { EligibleAre (FirstInFirstOut ∷ []) (third ∷ second ∷ first ∷ []) (first ∷ second ∷ third ∷ []) }
     ensures under_penalty { EligibleAre [] (under_penalty 4001 ∷ second ∷ []) (second ∷ []) }
     ensures penalty_over { EligibleAre [] (under_penalty 4000 ∷ second ∷ []) (second ∷ under_penalty 4000 ∷ []) }
@@ -222,8 +231,9 @@ pub fn queues_are_seen()
     ensures priorities { PrioritiesTell }
 {}
 
-/// A split tells one FORK of all parts, and each part has its bytes; a join tells its parents by ascending numbers, and
-/// the child's data entered when the earliest of theirs did. What is told of a file goes by what a session did to it.
+/// A split tells one FORK of all parts, and each part has its bytes; a join tells its parents by ascending numbers,
+/// and the child's data entered when the earliest of theirs did. What is told of a file goes by what a session did
+/// to it.
 pub fn events_are_told()
     ensures split { SplitTells }
     ensures joined { JoinTells }
@@ -235,8 +245,8 @@ pub fn events_are_told()
     ensures change_routed { RoutedTells }
 {}
 
-/// Who came from whom, over a clone and a join; and of entries acknowledged at 3 and at 5 and one that never was, how
-/// many were by a moment.
+/// Who came from whom, over a clone and a join; and of entries acknowledged at 3 and at 5 and one that never was,
+/// how many were by a moment.
 pub fn families_are_told()
     ensures parent { IsAncestorOf 4 2 }
     ensures other_parent { IsAncestorOf 4 3 }
@@ -288,8 +298,8 @@ pub fn flows_are_unsound()
     ensures blank_end { ListIs (codes "a ") false }
 {}
 
-/// At the second of two connections: each step, whose files a session takes, and what is due of both. A checkpoint and a
-/// reclaim at their edges.
+/// At the second of two connections: each step, whose files a session takes, and what is due of both. A checkpoint
+/// and a reclaim at their edges.
 pub fn second_queues_are_told()
     ensures expires { SecondExpires }
     ensures not_first { NotOfTheFirst }
@@ -300,13 +310,21 @@ pub fn second_queues_are_told()
     ensures elsewhere { TakesOf 2 1 None }
     ensures before { TakesOf 1 1 (Some (a_file 1 1 ∷ [])) }
     ensures behind { TakesOf 1 2 None }
-    ensures expiry { ExpiryIs (chained (fresh ∷ []) (a_file 3 3 ∷ fresh ∷ a_file 1 4 ∷ [])) 2000 (Some (1, 1 ∷ 3 ∷ [])) }
+    ensures wants { WantsIs (chained (a_file 1 1 ∷ []) []) 1 (PutFile Replace) true }
+    ensures wants_not { WantsIs (chained (a_file 1 1 ∷ []) []) 2 (PutFile Replace) false }
+    ensures wants_second { WantsIs (chained [] (a_file 1 1 ∷ [])) 2 (PutFile Replace) true }
+    ensures held { HeldBackIs (chained [] (a_file 1 1 ∷ [])) 1 true }
+    ensures held_not { HeldBackIs (chained [] (a_file 1 1 ∷ [])) 0 false }
+    ensures held_by_none { HeldBackIs both_wait 2 false }
+    ensures expiry { ExpiryIs (chained (fresh ∷ []) (a_file 3 3 ∷ fresh ∷ a_file 1 4 ∷ [])) 2000
+        (Some (1, 1 ∷ 3 ∷ [])) }
     ensures expiry_first { ExpiryIs both_wait 2000 (Some (0, 1 ∷ [])) }
     ensures expiry_none { ExpiryIs both_wait 1499 None }
     ensures swap_out { SwapOutIs (chained (a_file 9 9 ∷ []) three_more) (Some (1, 6 ∷ [])) }
     ensures swap_out_first { SwapOutIs (chained first_three three_more) (Some (0, 3 ∷ [])) }
     ensures swap_out_none { SwapOutIs both_wait None }
-    ensures swap_in { SwapInIs (chained (a_file 1 1 ∷ []) (in_batch 2 (a_file 2 2) ∷ in_batch 1 (a_file 3 3) ∷ [])) (Some (1, 1)) }
+    ensures swap_in { SwapInIs
+        (chained (a_file 1 1 ∷ []) (in_batch 2 (a_file 2 2) ∷ in_batch 1 (a_file 3 3) ∷ [])) (Some (1, 1)) }
     ensures swap_in_first { SwapInIs both_swapped (Some (0, 1)) }
     ensures swap_in_none { SwapInIs both_wait None }
     ensures checkpoint { CheckpointIs 4096 1 true }
@@ -317,8 +335,8 @@ pub fn second_queues_are_told()
     ensures no_reclaim { ReclaimIs 255 false }
 {}
 
-/// Batches of two: which files go, by the queue's order, and which come back. Files in flight go nowhere, count as active
-/// where a batch may come back, and count towards full, with the swapped ones.
+/// Batches of two: which files go, by the queue's order, and which come back. Files in flight go nowhere, count as
+/// active where a batch may come back, and count towards full, with the swapped ones.
 pub fn batches_are_told()
     ensures last { LastOf [] six (Some (5 ∷ 6 ∷ [])) }
     ensures newest { LastOf (NewestFlowFileFirst ∷ []) six (Some (2 ∷ 1 ∷ [])) }
@@ -334,7 +352,8 @@ pub fn batches_are_told()
     ensures full_bytes { FullWith 0 12 two_batches true }
     ensures not_full_bytes { FullWith 0 13 two_batches false }
     ensures flight_is_not_eligible { EligibleOf (flying (a_file 1 1) ∷ still 2 ∷ []) (still 2 ∷ []) }
-    ensures flight_does_not_expire { ExpiredOf (still 3 ∷ flying (a_file 2 2) ∷ still 1 ∷ view_of late ∷ []) (1 ∷ 3 ∷ []) }
+    ensures flight_does_not_expire { ExpiredOf (still 3 ∷ flying (a_file 2 2) ∷ still 1 ∷ view_of late ∷ [])
+        (1 ∷ 3 ∷ []) }
     ensures flight_does_not_go { GoesOf (still 1 ∷ still 2 ∷ flying (a_file 3 3) ∷ []) None }
     ensures last_at_rest_goes { GoesOf (still 1 ∷ still 3 ∷ flying (a_file 4 4) ∷ still 2 ∷ []) (Some (3 ∷ [])) }
     ensures penalised_goes { GoesOf (still 1 ∷ still 2 ∷ waiting_penalised 3 ∷ []) (Some (3 ∷ [])) }

@@ -17,7 +17,8 @@ numbers_of files = map (λ file. file.number) files
 
 -- the expired files of a queue that no session works on, ascending
 abbrev pub expired_numbers : QueueLimits → ℕ → List FileView → List ℕ
-expired_numbers limits moment files = ascending (numbers_of (filter (is_expired limits.expiration moment) (at_rest files)))
+expired_numbers limits moment files =
+    ascending (numbers_of (filter (is_expired limits.expiration moment) (at_rest files)))
 
 -- how many files a batch has: half of the threshold, rounded down
 abbrev pub batch_size : QueueLimits → ℕ
@@ -29,7 +30,8 @@ abbrev pub last_batch : List Prioritizer → QueueLimits → List FileView → O
 last_batch order limits files =
     let ordered = in_order order (at_rest files) in
     let size = batch_size limits in
-    if nat_le (limits.swap + size) (length ordered) then Some (numbers_of (drop (length ordered - size) ordered)) else None
+    if nat_le (limits.swap + size) (length ordered)
+    then Some (numbers_of (drop (length ordered - size) ordered)) else None
 
 -- the batch that has to come back, where fewer files than the threshold are active: the lowest
 abbrev pub lowest_batch : QueueLimits → QueueView → Option ℕ
@@ -56,7 +58,8 @@ due_expiry flow queues moment =
 
 -- a connection, and the numbers of its files that are swapped out
 abbrev pub due_swap_out : Flow → (ℕ → QueueView) → Option (ℕ × List ℕ)
-due_swap_out flow queues = first_due (λ connection queue. last_batch connection.order connection.limits queue.active) flow queues
+due_swap_out flow queues =
+    first_due (λ connection queue. last_batch connection.order connection.limits queue.active) flow queues
 
 -- a connection, and its batch that comes back
 abbrev pub due_swap_in : Flow → (ℕ → QueueView) → Option (ℕ × ℕ)

@@ -10,7 +10,8 @@ use Rattle.machine_model.specs.View.{FileView, is_penalised, is_expired}
 
 -- what an order looks at in a file
 abbrev pub standing_of : FileView → Standing
-standing_of file = record { priority = get file.attributes (codes "priority"); entered = file.entered; arrival = file.arrival }
+standing_of file =
+    record { priority = get file.attributes (codes "priority"); entered = file.entered; arrival = file.arrival }
 
 -- one file goes before another
 abbrev pub goes_before : List Prioritizer → FileView → FileView → Bool

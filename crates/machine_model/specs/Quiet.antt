@@ -20,7 +20,8 @@ use Rattle.machine_model.specs.View.{QueueView, is_penalised, file_count, byte_c
 abbrev pub gives_a_pick : (ℕ → QueueView) → ℕ → ℕ → Processor → ℕ × Connection → Bool
 gives_a_pick queues moment place processor (c, connection) =
     (connection.target == place)
-    && is_some (picks (take_rule_of processor.kind) (eligible_files connection.order connection.limits moment (queues c).active))
+    && is_some (picks (take_rule_of processor.kind)
+    (eligible_files connection.order connection.limits moment (queues c).active))
 
 -- a source has something to make or to take
 abbrev pub has_source : Kind → (place : ℕ) → State → World → Bool
@@ -54,11 +55,13 @@ nothing_due flow queues moment = list_all (is_nothing_due_in queues moment) (enu
 -- nothing waits, and no processor wants to work
 abbrev pub quiet : Flow → State → World → ℕ → Bool
 quiet flow state world moment =
-    nothing_due flow (queues_of state) moment && not (list_any (wants flow state world moment) (enumerate_from 0 flow.processors))
+    nothing_due flow (queues_of state) moment
+    && not (list_any (wants flow state world moment) (enumerate_from 0 flow.processors))
 
 -- a full connection that leaves a processor
 abbrev pub holds_back : (ℕ → QueueView) → ℕ → ℕ × Connection → Bool
-holds_back queues processor (place, connection) = (connection.source == processor) && is_full connection.limits (queues place)
+holds_back queues processor (place, connection) =
+    (connection.source == processor) && is_full connection.limits (queues place)
 
 abbrev pub is_held_back : Flow → (ℕ → QueueView) → ℕ × Processor → Bool
 is_held_back flow queues (place, processor) = list_any (holds_back queues place) (enumerate_from 0 flow.connections)
@@ -67,12 +70,15 @@ abbrev pub wanting : Flow → State → World → ℕ → List (ℕ × Processor
 wanting flow state world moment = filter (wants flow state world moment) (enumerate_from 0 flow.processors)
 
 abbrev pub holds_back_any : (ℕ → QueueView) → List (ℕ × Processor) → ℕ × Connection → Bool
-holds_back_any queues processors connection = list_any (λ processor. holds_back queues processor.0 connection) processors
+holds_back_any queues processors connection =
+    list_any (λ processor. holds_back queues processor.0 connection) processors
 
 -- Nothing waits, some processor wants to work, and each that does is held back by a full connection. This is the place
 -- of the first connection that holds one back.
 abbrev pub blocked : Flow → State → World → ℕ → Option ℕ
 blocked flow state world moment =
     let processors = wanting flow state world moment in
-    if nothing_due flow (queues_of state) moment && nat_lt 0 (length processors) && list_all (is_held_back flow (queues_of state)) processors
-    then option_map (λ c. c.0) (find (holds_back_any (queues_of state) processors) (enumerate_from 0 flow.connections)) else None
+    if nothing_due flow (queues_of state) moment && nat_lt 0 (length processors)
+    && list_all (is_held_back flow (queues_of state)) processors
+    then option_map (λ c. c.0) (find (holds_back_any (queues_of state) processors) (enumerate_from 0 flow.connections))
+    else None

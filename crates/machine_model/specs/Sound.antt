@@ -46,7 +46,8 @@ are_ascending (name ∷ []) = true
 are_ascending (name ∷ next ∷ names) = is_lt (slice_cmp nat_cmp name next) && are_ascending (next ∷ names)
 
 abbrev pub are_own_names : List (List ℕ) → Bool
-are_own_names names = nat_le (length names) 64 && list_all (λ name. within 1 (length name) 255) names && are_ascending names
+are_own_names names =
+    nat_le (length names) 64 && list_all (λ name. within 1 (length name) 255) names && are_ascending names
 
 -- own relationships aren't named as the one that is there anyway
 abbrev pub are_own_relationships : List (List ℕ) → Bool
@@ -125,12 +126,14 @@ is_sound_processor processor =
 
 abbrev pub are_sound_limits : QueueLimits → Bool
 are_sound_limits limits =
-    nat_le limits.expiration (2 ^ 53) && nat_le limits.objects (2 ^ 53) && nat_le limits.bytes (2 ^ 53) && within 2 limits.swap 40_000
+    nat_le limits.expiration (2 ^ 53) && nat_le limits.objects (2 ^ 53) && nat_le limits.bytes (2 ^ 53)
+    && within 2 limits.swap 40_000
 
 -- its ends are processors, no source stands at its end, and its names are relationships of its source
 abbrev pub has_relationships : Connection → Option Processor → Bool
 has_relationships connection None = false
-has_relationships connection (Some source) = list_all (λ name. is_among name (relationships_of source.kind)) connection.relationships
+has_relationships connection (Some source) =
+    list_all (λ name. is_among name (relationships_of source.kind)) connection.relationships
 
 abbrev pub may_be_target : Option Processor → Bool
 may_be_target None = false
@@ -157,7 +160,8 @@ is_sound_relationship flow place processor name =
     else within 1 (connection_count flow place name) 8
 
 abbrev pub are_sound_relationships : Flow → ℕ × Processor → Bool
-are_sound_relationships flow (place, processor) = list_all (is_sound_relationship flow place processor) (relationships_of processor.kind)
+are_sound_relationships flow (place, processor) =
+    list_all (is_sound_relationship flow place processor) (relationships_of processor.kind)
 
 -- each prioritizer stands once
 abbrev pub EachOnce : List Prioritizer → Type 0

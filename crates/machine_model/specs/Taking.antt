@@ -27,7 +27,8 @@ next_would_pass (suc count) room (file ∷ files) = next_would_pass count (room 
 abbrev pub bin_of : (min max : ℕ) → List FileView → Option (List FileView)
 bin_of min max files =
     let bin = filling max CONTENT_MAX files in
-    if nat_lt 0 (length bin) && (nat_le min (length bin) || next_would_pass (length bin) CONTENT_MAX files) then Some bin else None
+    if nat_lt 0 (length bin) && (nat_le min (length bin) || next_would_pass (length bin) CONTENT_MAX files)
+    then Some bin else None
 
 -- the number that a text is, where it is one from 1 on
 abbrev pub positive : Result ℤ EvalError → Option ℕ
@@ -44,7 +45,8 @@ pub record Fragment : Type 0 where
   pub count : ℕ
 
 abbrev pub within_count : Fragment → Option Fragment
-within_count fragment = if nat_le fragment.index fragment.count && nat_le fragment.count TAKEN_MAX then Some fragment else None
+within_count fragment =
+    if nat_le fragment.index fragment.count && nat_le fragment.count TAKEN_MAX then Some fragment else None
 
 abbrev pub fragment_of : AttributeMap → Option Fragment
 fragment_of attributes =
@@ -87,7 +89,8 @@ first_some None other = other
 -- what the first file of some gives that gives anything
 abbrev pub first_whole : List FileView → List FileView → Option (List FileView)
 first_whole files [] = None
-first_whole files (file ∷ rest) = first_some (whole_of files file (fragment_of file.attributes)) (first_whole files rest)
+first_whole files (file ∷ rest) =
+    first_some (whole_of files file (fragment_of file.attributes)) (first_whole files rest)
 
 -- the files that a session takes of the eligible ones, which stand in their order
 abbrev pub picks : TakeRule → List FileView → Option (List FileView)

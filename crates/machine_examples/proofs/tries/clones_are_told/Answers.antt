@@ -1,4 +1,4 @@
-use Rattle.machine_examples.proofs.TriedNames.{received-filename, generated-filename, made-named, named-keeps}
+use Rattle.machine_examples.proofs.TriedNames.{received-path, generated-index, generated-path, received-filename, generated-filename, made-named, named-keeps}
 use Rattle.machine_examples.proofs.TriedParts.{same_attributes-self}
 use Rattle.machine_examples.specs.Small.{a_txt}
 use Rattle.machine_model.specs.Acting.{received_attributes}
@@ -17,4 +17,7 @@ returns c = record {
   copies = rw (same_attributes-self (received_attributes a_txt)) refl;
   beside_a_drop = rw (same_attributes-self (received_attributes a_txt)) refl;
   no_value = λ text error is. rw is refl;
+  apart = rw (same_attributes-self (received_attributes a_txt)) refl;
+  received = λ name. (received-filename name, received-path name);
+  generated = λ index. (generated-index index, generated-path index);
 }

@@ -12,6 +12,8 @@ returns c = record {
   two = refl;
   few = refl;
   higher = refl;
+  swapped_expires = refl;
+  swapped_goes = refl;
   strange = refl;
   waits = refl;
 }
