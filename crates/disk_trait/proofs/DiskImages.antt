@@ -13,7 +13,7 @@ use Rattle.disk_trait.specs.declared.memory.table.FileTable.{FileTable}
 use Rattle.disk_trait.specs.contracts.file_name.FileNameOrd.TheImpl as order
 use Rattle.disk_trait.specs.Files.{Files, At}
 use Rattle.disk_trait.specs.Memory.{same_name}
-use Rattle.disk_trait.specs.MemoryStop.{next_draw, next_seed, drawn, seed_after, Draws, IsDrawn, MarksPlaces}
+use Rattle.disk_trait.specs.MemoryStop.{next_draw, next_seed, drawn, seed_after, Draws, IsDrawn, MarksOffsets}
 use Rattle.disk_trait.specs.MemoryTable.{bytes_of, first_of, has_file}
 use Rattle.disk_trait.proofs.FileNames.{names_ordered, same_name_itself, same_name_is}
 use Rattle.disk_trait.proofs.FileLists.{contains_here, contains_there, has_key}
@@ -104,7 +104,7 @@ length-drawn t i x [] = refl
 length-drawn t i x (b ∷ bs) = ap (λ n. suc n) (length-drawn t (i + 1) (next_seed (t i) x) bs)
 
 -- a file is torn by marks of its places
-module _ (held items old new : List ℕ) (marks ms : List Bool) (picked : ℕ → Bool) (seed len : ℕ) (same : items ≡ held) (read : old ≡ items) (read' : ms ≡ marks) (long : length marks ≡ length items) (marked : MarksPlaces marks picked) where
+module _ (held items old new : List ℕ) (marks ms : List Bool) (picked : ℕ → Bool) (seed len : ℕ) (same : items ≡ held) (read : old ≡ items) (read' : ms ≡ marks) (long : length marks ≡ length items) (marked : MarksOffsets marks picked) where
   by_marks : (drawn (λ i. get_or ms i false) 0 seed old ≡ drawn picked 0 seed held) × (seed_after (λ i. get_or ms i false) 0 seed old ≡ seed_after picked 0 seed held)
   by_marks =
       let alike = drawn_same (λ i. get_or ms i false) picked 0 seed held (λ j le lt. ap (λ m. get_or m j false) read' ∙ marked j (omega (arith, lt, long, ap length same))) in (

@@ -16,7 +16,7 @@ pub record At (file : FileName) (step : List ℕ → List ℕ → Type 0) (old n
   pub here : step (old file) (new file)
   pub others : (f : FileName) → f ≢ file → new f ≡ old f
 
--- a file with these bytes written over it from a place on
+-- a file with these bytes written over it from an offset on
 abbrev pub Overwritten : ℕ → List ℕ → List ℕ → List ℕ → Type 0
 Overwritten at bytes old new = new ≡ take at old ++ bytes ++ drop (at + length bytes) old
 

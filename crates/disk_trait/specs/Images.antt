@@ -23,7 +23,8 @@ IsOnly files left = (c : Files) → left c → c ≡ files
 -- images of that moment have in them what a stop within the device's own call may leave. So wherever the call is
 -- stopped, what is left is an image of one of its moments, as that moment's images were then; all later parts of the
 -- call keep these images as they were, and so `each`, which is said of them at the call's end, tells of that stop.
-pub record SinceMoment {D : Type 0} (moment : D → ℕ) (images : D → ℕ → Files → Type 0) (start : ℕ) (old new : D) (P : ℕ → Files → Type 0) : Type 0 where
+pub record SinceMoment {D : Type 0} (moment : D → ℕ) (images : D → ℕ → Files → Type 0) (start : ℕ) (old new : D)
+    (P : ℕ → Files → Type 0) : Type 0 where
   pub later : moment old ≤ moment new
   pub begun : start ≤ moment new
   pub past : (k : ℕ) (c : Files) → k ≤ moment old → images new k c → images old k c
@@ -35,7 +36,8 @@ abbrev pub Since : {D : Type 0} → (D → ℕ) → (D → ℕ → Files → Typ
 Since moment images old new P = SinceMoment moment images (moment old) old new (λ k. P)
 
 -- a call that only reads
-pub record Stays {D : Type 0} (held : D → Files) (moment : D → ℕ) (images : D → ℕ → Files → Type 0) (old new : D) : Type 0 where
+pub record Stays {D : Type 0} (held : D → Files) (moment : D → ℕ) (images : D → ℕ → Files → Type 0)
+    (old new : D) : Type 0 where
   pub files : held new ≡ held old
   pub time : moment new ≡ moment old
   pub past : (k : ℕ) (c : Files) → images new k c → images old k c

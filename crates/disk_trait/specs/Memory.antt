@@ -6,7 +6,7 @@ use Rattle.disk_trait.specs.declared.memory.call.DiskCall.{DiskCall}
 use Rattle.disk_trait.specs.declared.memory.call.DiskCall.TheVariants.{Write, Cut, Sync}
 
 -- a file since the last sync: its bytes now and at that sync, its least and greatest length since, and
--- the places that may hold any byte after a stop
+-- the offsets that may hold any byte after a stop
 pub record FileState : Type 0 where
   pub held : List ℕ
   pub synced : List ℕ
@@ -16,9 +16,15 @@ pub record FileState : Type 0 where
 
 -- right after a sync
 unfoldable pub durable : List ℕ → FileState
-durable bytes = record { held = bytes; synced = bytes; least = length bytes; greatest = length bytes; pending = λ _. false }
+durable bytes = record {
+  held = bytes;
+  synced = bytes;
+  least = length bytes;
+  greatest = length bytes;
+  pending = λ _. false;
+}
 
--- after a call that made the file this and pending these places
+-- after a call that made the file this and left these offsets pending
 unfoldable pub changed : List ℕ → (ℕ → Bool) → FileState → FileState
 changed held touched state = record {
   held = held;
@@ -36,7 +42,8 @@ same_name = names.ghosts.eq
 unfoldable pub after_call : FileName → DiskCall → FileState → FileState
 after_call file (Write name at bytes) state =
     if same_name name file
-    then changed (take at state.held ++ bytes ++ drop (at + length bytes) state.held) (λ i. nat_le at i && nat_lt i (at + length bytes)) state
+    then changed (take at state.held ++ bytes ++ drop (at + length bytes) state.held)
+    (λ i. nat_le at i && nat_lt i (at + length bytes)) state
     else state
 after_call file (Cut name size) state =
     if same_name name file then changed (take size state.held) (λ i. nat_le size i) state else state

@@ -20,13 +20,18 @@ count_all k (t ∷ ts) passed =
 
 pub until_all : (p : Past) (k : ℕ) → IsPast p → p.now ≤ k → calls_until p k ≡ length p.calls
 unfolding calls_until
-until_all p k past late = count_all k p.moments (All-weaker (λ t. t ≤ p.now) (λ t. t ≤ k) (λ t h. omega (arith, h, late)) p.moments past.passed) ∙ past.paired
+until_all p k past late =
+    count_all k p.moments (All-weaker (λ t. t ≤ p.now) (λ t. t ≤ k) (λ t h. omega (arith, h, late)) p.moments past.passed)
+    ∙ past.paired
 
 pub held_is_left : (p : Past) → IsPast p → left_at p p.now (bytes_of p.table)
 unfolding left_at
-held_is_left p past = λ f. subst (λ m. IsImage (file_after p m f) (bytes_of p.table f)) (sym (until_all p p.now past (omega arith)))
+held_is_left p past = λ f. subst (λ m. IsImage (file_after p m f) (bytes_of p.table f))
+    (sym (until_all p p.now past (omega arith)))
     (subst (λ held. IsImage (file_after p (length p.calls) f) held) (sym (past.made f)) (past.sound (length p.calls) f))
 
-pub left_ends : (p : Past) → IsPast p → (k : ℕ) (c : Files) (f : FileName) → left_at p k c → 2 ^ 64 ≤ f.number → c f ≡ []
+pub left_ends : (p : Past) → IsPast p → (k : ℕ) (c : Files) (f : FileName)
+    → left_at p k c → 2 ^ 64 ≤ f.number → c f ≡ []
 unfolding left_at
-left_ends p past k c f left big = nil_from_length (c f) (omega (arith, (left f).no_longer, past.ends (calls_until p k) f big))
+left_ends p past k c f left big = nil_from_length (c f)
+    (omega (arith, (left f).no_longer, past.ends (calls_until p k) f big))

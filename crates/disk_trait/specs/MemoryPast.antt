@@ -38,7 +38,9 @@ pub record IsPast (past : Past) : Type 0 where
   pub paired : length past.moments ≡ length past.calls
   pub passed : All (λ moment. moment ≤ past.now) past.moments
   pub made : (f : FileName) → bytes_of past.table f ≡ (file_after past (length past.calls) f).held
-  pub inside : (n : ℕ) (f : FileName) → n < length past.calls → fits f (slice_index_or past.calls n Sync) (file_after past n f) ≡ true
+  pub inside : (n : ℕ) (f : FileName) → n < length past.calls
+      → fits f (slice_index_or past.calls n Sync) (file_after past n f) ≡ true
   pub sound : (n : ℕ) (f : FileName) → IsImage (file_after past n f) (file_after past n f).held
-  pub absent : (n : ℕ) (f : FileName) → has_file past.table f ≡ false → ((file_after past n f).held ≡ []) × ((file_after past n f).synced ≡ [])
+  pub absent : (n : ℕ) (f : FileName) → has_file past.table f ≡ false
+      → ((file_after past n f).held ≡ []) × ((file_after past n f).synced ≡ [])
   pub ends : (n : ℕ) (f : FileName) → 2 ^ 64 ≤ f.number → (file_after past n f).greatest ≡ 0

@@ -15,7 +15,7 @@ use Rattle.disk_trait.specs.declared.memory.call.Pick.{Pick}
 use Rattle.disk_trait.specs.declared.memory.call.Pick.TheVariants.{Old, New, Torn}
 use Rattle.disk_trait.specs.contracts.file_name.FileNameOrd.TheImpl as order
 
--- whether a call wrote over this place of a file, or cut it off
+-- whether a call wrote over this offset of a file, or cut it off
 unfoldable pub touches : FileName → DiskCall → ℕ → Bool
 touches file (Write name at bytes) i = same_name name file && (nat_le at i && nat_lt i (at + length bytes))
 touches file (Cut name size) i = same_name name file && nat_le size i
@@ -25,13 +25,15 @@ unfoldable pub touched_by : FileName → List DiskCall → ℕ → Bool
 touched_by file calls i = list_any (λ call. touches file call i) calls
 
 -- a list of marks that says of each of its places whether it passes the test
-abbrev pub MarksPlaces : List Bool → (ℕ → Bool) → Type 0
-MarksPlaces marks test = (i : ℕ) → i < length marks → slice_index_or marks i false ≡ test i
+abbrev pub MarksOffsets : List Bool → (ℕ → Bool) → Type 0
+MarksOffsets marks test = (i : ℕ) → i < length marks → slice_index_or marks i false ≡ test i
 
 -- the first so many calls are those up to the last sync
 pub record IsSyncedCount (calls : List DiskCall) (count : ℕ) : Type 0 where
-  pub synced : (f : FileName) (first : List ℕ) → (state_after f (durable first) calls).synced ≡ (state_after f (durable first) (take count calls)).held
-  pub pending : (f : FileName) (first : List ℕ) (i : ℕ) → (state_after f (durable first) calls).pending i ≡ touched_by f (drop count calls) i
+  pub synced : (f : FileName) (first : List ℕ) → (state_after f (durable first) calls).synced
+      ≡ (state_after f (durable first) (take count calls)).held
+  pub pending : (f : FileName) (first : List ℕ) (i : ℕ) → (state_after f (durable first) calls).pending i
+      ≡ touched_by f (drop count calls) i
 
 abbrev pub next_draw : ℕ → ℕ
 next_draw x = (x * 6364136223846793005 + 1442695040888963407) % 2 ^ 64
@@ -39,20 +41,22 @@ next_draw x = (x * 6364136223846793005 + 1442695040888963407) % 2 ^ 64
 abbrev pub next_seed : Bool → ℕ → ℕ
 next_seed draws x = if draws then next_draw x else x
 
--- the bytes from a place on, with those that a test picks drawn from the seed
+-- the bytes from an offset on, with those that a test picks drawn from the seed
 abbrev pub drawn : (ℕ → Bool) → ℕ → ℕ → List ℕ → List ℕ
 drawn picked i x [] = []
-drawn picked i x (b ∷ bs) = (if picked i then next_draw x / 2 ^ 56 else b) ∷ drawn picked (i + 1) (next_seed (picked i) x) bs
+drawn picked i x (b ∷ bs) =
+    (if picked i then next_draw x / 2 ^ 56 else b) ∷ drawn picked (i + 1) (next_seed (picked i) x) bs
 
 -- the seed after these draws
 abbrev pub seed_after : (ℕ → Bool) → ℕ → ℕ → List ℕ → ℕ
 seed_after picked i x [] = x
 seed_after picked i x (b ∷ bs) = seed_after picked (i + 1) (next_seed (picked i) x) bs
 
--- the files of these names are what was held, but each byte at a picked place is drawn, one name after another
+-- the files of these names are what was held, but each byte at a picked offset is drawn, one name after another
 abbrev pub Draws : Files → (FileName → ℕ → Bool) → List FileName → ℕ → Files → Type 0
 Draws held picked [] x files = Unit {0}
-Draws held picked (f ∷ names) x files = (files f ≡ drawn (picked f) 0 x (held f)) × Draws held picked names (seed_after (picked f) 0 x (held f)) files
+Draws held picked (f ∷ names) x files =
+    (files f ≡ drawn (picked f) 0 x (held f)) × Draws held picked names (seed_after (picked f) 0 x (held f)) files
 
 -- all files as held, but each pending byte drawn from the seed, in the order of their names
 pub record IsTorn (x : ℕ) (state : FileName → FileState) (files : Files) : Type 0 where
@@ -73,7 +77,8 @@ pub record IsPickedImage (past : Past) (at : ℕ) (pick : Pick) (files : Files) 
   pub left : left_at past at files
 
 -- the files of a table, torn: the names in their order, and nothing under others
-pub record IsDrawn (table : FileTable) (held : Files) (picked : FileName → ℕ → Bool) (x : ℕ) (files : Files) : Type 0 where
+pub record IsDrawn (table : FileTable) (held : Files) (picked : FileName → ℕ → Bool) (x : ℕ)
+    (files : Files) : Type 0 where
   pub ascending : IsStrictlySortedBy order.ghosts.cmp (keys table.files)
   pub draws : Draws held picked (keys table.files) x files
   pub others : (f : FileName) → has_file table f ≡ false → files f ≡ []

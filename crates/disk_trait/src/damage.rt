@@ -2,7 +2,7 @@
 use crate::FileName;
 use thiserror::Error;
 
-/// The first thing that is wrong with the files of a store. `at` is a place in bytes from the file's start.
+/// The first thing that is wrong with the files of a store. `at` is an offset in bytes.
 #[derive(Clone, Copy, Debug, PartialEq, Eq, Error)]
 pub enum Damage {
     /// The bytes have another SHA-256 digest (FIPS 180-4) than the one that is stored beside them.

@@ -35,7 +35,8 @@ pub trait Disk: Send {
         requires { list.old.items ≡ [] }
         ensures ascending { IsStrictlyIncreasing list.new.items }
         ensures below { All (λ n. n < 2 ^ 64) list.new.items }
-        ensures listed { OnOk result (IsTrue tells → (n : ℕ) → n < 2 ^ 64 → Contains list.new.items n ↔ (0 < length (held self.old (named kind n)))) }
+        ensures listed { OnOk result (IsTrue tells → (n : ℕ) → n < 2 ^ 64
+            → Contains list.new.items n ↔ (0 < length (held self.old (named kind n)))) }
         ensures emptied { OnErr result (list.new.items ≡ []) }
         ensures stays { Stays held moment images self.old self.new }
         ensures cause { CountsFaults (faults self.old) (faults self.new) (IsErrOf result DiskError.Failed) };
@@ -56,9 +57,11 @@ pub trait Disk: Send {
     /// Writes over what is there, and past the end. After a failure the range may hold anything.
     fn write(&mut self, file: FileName, at: u64, bytes: &[u8]) -> Result<(), Failed>
         requires { IsTrue tells → at ≤ length (held self.old file) }
-        ensures written { OnOk result (IsTrue tells → At file (Overwritten at bytes.now) (held self.old) (held self.new)) }
+        ensures written { OnOk result (IsTrue tells
+            → At file (Overwritten at bytes.now) (held self.old) (held self.new)) }
         ensures torn { IsTrue tells → At file (Torn at (length bytes.now)) (held self.old) (held self.new) }
-        ensures images { Since moment images self.old self.new (After (At file (Torn at (length bytes.now))) (images self.old (moment self.old))) }
+        ensures images { Since moment images self.old self.new
+            (After (At file (Torn at (length bytes.now))) (images self.old (moment self.old))) }
         ensures fits { OnOk result (at + length bytes.now < 2 ^ 64) }
         ensures moment { moment self.new ≡ next_moment (moment self.old) }
         ensures last { moment self.old ≡ 2 ^ 64 - 1 → IsErr result }
@@ -68,9 +71,11 @@ pub trait Disk: Send {
     /// lies between the two, and the bytes past the cut may be any.
     fn cut(&mut self, file: FileName, size: u64) -> Result<(), Failed>
         requires { IsTrue tells → size ≤ length (held self.old file) }
-        ensures cut { OnOk result (IsTrue tells → At file (λ old new. new ≡ take size old) (held self.old) (held self.new)) }
+        ensures cut { OnOk result (IsTrue tells
+            → At file (λ old new. new ≡ take size old) (held self.old) (held self.new)) }
         ensures shortened { IsTrue tells → At file (Shortened size) (held self.old) (held self.new) }
-        ensures images { Since moment images self.old self.new (After (At file (Shortened size)) (images self.old (moment self.old))) }
+        ensures images { Since moment images self.old self.new
+            (After (At file (Shortened size)) (images self.old (moment self.old))) }
         ensures moment { moment self.new ≡ next_moment (moment self.old) }
         ensures last { moment self.old ≡ 2 ^ 64 - 1 → IsErr result }
         ensures cause { CountsFaults (faults self.old) (faults self.new) (IsErr result) };
@@ -96,5 +101,6 @@ pub trait Disk: Send {
     ghost left_is_told: { (disk : Self) (k : ℕ) (c : Files) → images disk k c → IsTrue tells };
 
     /// Nothing stands under a number that no call can name.
-    ghost images_end: { (disk : Self) (k : ℕ) (c : Files) (file : TheName) → images disk k c → 2 ^ 64 ≤ file.number → c file ≡ [] };
+    ghost images_end: { (disk : Self) (k : ℕ) (c : Files) (file : TheName)
+        → images disk k c → 2 ^ 64 ≤ file.number → c file ≡ [] };
 }

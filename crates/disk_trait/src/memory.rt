@@ -61,10 +61,14 @@ impl MemoryDisk {
     /// no calls that fail, and nothing pending. An error is want of memory.
     pub fn stopped(&self, at: u64, pick: Pick) -> Result<MemoryDisk, AllocError>
         requires { at ≤ ⟦<MemoryDisk as Disk>⟧.moment self.now }
-        ensures image { IfOk result (λ stopped. ⟦<MemoryDisk as Disk>⟧.images self.now at (⟦<MemoryDisk as Disk>⟧.held stopped)) }
-        ensures picked { IfOk result (λ stopped. IsPicked pick (state_at self.now at) (⟦<MemoryDisk as Disk>⟧.held stopped)) }
-        ensures present { pick ≡ Pick.New → at ≡ ⟦<MemoryDisk as Disk>⟧.moment self.now → IfOk result (λ stopped. ⟦<MemoryDisk as Disk>⟧.held stopped ≡ ⟦<MemoryDisk as Disk>⟧.held self.now) }
-        ensures synced { IfOk result (λ stopped. IsOnly (⟦<MemoryDisk as Disk>⟧.held stopped) (⟦<MemoryDisk as Disk>⟧.images stopped 0)) }
+        ensures image { IfOk result (λ stopped. ⟦<MemoryDisk as Disk>⟧.images self.now at
+            (⟦<MemoryDisk as Disk>⟧.held stopped)) }
+        ensures picked { IfOk result (λ stopped. IsPicked pick (state_at self.now at)
+            (⟦<MemoryDisk as Disk>⟧.held stopped)) }
+        ensures present { pick ≡ Pick.New → at ≡ ⟦<MemoryDisk as Disk>⟧.moment self.now
+            → IfOk result (λ stopped. ⟦<MemoryDisk as Disk>⟧.held stopped ≡ ⟦<MemoryDisk as Disk>⟧.held self.now) }
+        ensures synced { IfOk result (λ stopped. IsOnly (⟦<MemoryDisk as Disk>⟧.held stopped)
+            (⟦<MemoryDisk as Disk>⟧.images stopped 0)) }
         ensures moment { IfOk result (λ stopped. ⟦<MemoryDisk as Disk>⟧.moment stopped ≡ 0) }
         ensures faults { IfOk result (λ stopped. ⟦<MemoryDisk as Disk>⟧.faults stopped ≡ 0) }
         ensures calls { IfOk result (λ stopped. recorded stopped ≡ []) }
@@ -104,13 +108,15 @@ impl Disk for MemoryDisk {
 
     ghost left_is_told = { λ disk k files left. refl };
 
-    ghost images_end = { λ disk k files file left big. left_ends (past_of disk.history) disk.history.past k files file left big };
+    ghost images_end = { λ disk k files file left big.
+        left_ends (past_of disk.history) disk.history.past k files file left big };
 
     fn files(&mut self, kind: FileKind, list: &mut Vec<u64>) -> Result<(), DiskError>
         requires { list.old.items ≡ [] }
         ensures ascending { IsStrictlyIncreasing list.new.items }
         ensures below { All (λ n. n < 2 ^ 64) list.new.items }
-        ensures listed { OnOk result ((n : ℕ) → n < 2 ^ 64 → Contains list.new.items n ↔ (0 < length (held_by self.old (named kind n)))) }
+        ensures listed { OnOk result ((n : ℕ) → n < 2 ^ 64
+            → Contains list.new.items n ↔ (0 < length (held_by self.old (named kind n)))) }
         ensures emptied { OnErr result (list.new.items ≡ []) }
         ensures stays { Stays held_by moment_of left_by self.old self.new }
         ensures calls { recorded self.new ≡ recorded self.old }
@@ -155,7 +161,8 @@ impl Disk for MemoryDisk {
         requires { at ≤ length (held_by self.old file) }
         ensures written { OnOk result (At file (Overwritten at bytes.now) (held_by self.old) (held_by self.new)) }
         ensures torn { At file (Torn at (length bytes.now)) (held_by self.old) (held_by self.new) }
-        ensures images { Since moment_of left_by self.old self.new (After (At file (Torn at (length bytes.now))) (left_by self.old (moment_of self.old))) }
+        ensures images { Since moment_of left_by self.old self.new
+            (After (At file (Torn at (length bytes.now))) (left_by self.old (moment_of self.old))) }
         ensures fits { OnOk result (at + length bytes.now < 2 ^ 64) }
         ensures moment { moment_of self.new ≡ next_moment (moment_of self.old) }
         ensures last { moment_of self.old ≡ 2 ^ 64 - 1 → IsErr result }
@@ -183,7 +190,8 @@ impl Disk for MemoryDisk {
         requires { size ≤ length (held_by self.old file) }
         ensures cut { OnOk result (At file (λ old new. new ≡ take size old) (held_by self.old) (held_by self.new)) }
         ensures shortened { At file (Shortened size) (held_by self.old) (held_by self.new) }
-        ensures images { Since moment_of left_by self.old self.new (After (At file (Shortened size)) (left_by self.old (moment_of self.old))) }
+        ensures images { Since moment_of left_by self.old self.new
+            (After (At file (Shortened size)) (left_by self.old (moment_of self.old))) }
         ensures moment { moment_of self.new ≡ next_moment (moment_of self.old) }
         ensures last { moment_of self.old ≡ 2 ^ 64 - 1 → IsErr result }
         ensures noted { OnOk result (recorded self.new ≡ recorded self.old ++ Cut file size ∷ []) }

@@ -15,8 +15,10 @@ pub fn write_synced<D: Disk>(
 ) -> Result<(), Failed>
     requires { IsTrue D.tells → at ≤ length (D.held disk.old file) }
     ensures synced { OnOk result (IsOnly (D.held disk.new) (D.images disk.new (D.moment disk.new))) }
-    ensures written { OnOk result (IsTrue D.tells → At file (Overwritten at bytes.now) (D.held disk.old) (D.held disk.new)) }
-    ensures images { Since D.moment D.images disk.old disk.new (After (At file (Torn at (length bytes.now))) (D.images disk.old (D.moment disk.old))) }
+    ensures written { OnOk result (IsTrue D.tells
+        → At file (Overwritten at bytes.now) (D.held disk.old) (D.held disk.new)) }
+    ensures images { Since D.moment D.images disk.old disk.new
+        (After (At file (Torn at (length bytes.now))) (D.images disk.old (D.moment disk.old))) }
     ensures fits { OnOk result (at + length bytes.now < 2 ^ 64) }
     ensures cause { CountsFaults (D.faults disk.old) (D.faults disk.new) (IsErr result) }
 {
@@ -28,8 +30,10 @@ pub fn write_synced<D: Disk>(
 pub fn cut_synced<D: Disk>(disk: &mut D, file: FileName, size: u64) -> Result<(), Failed>
     requires { IsTrue D.tells → size ≤ length (D.held disk.old file) }
     ensures synced { OnOk result (IsOnly (D.held disk.new) (D.images disk.new (D.moment disk.new))) }
-    ensures cut { OnOk result (IsTrue D.tells → At file (λ old new. new ≡ take size old) (D.held disk.old) (D.held disk.new)) }
-    ensures images { Since D.moment D.images disk.old disk.new (After (At file (Shortened size)) (D.images disk.old (D.moment disk.old))) }
+    ensures cut { OnOk result (IsTrue D.tells
+        → At file (λ old new. new ≡ take size old) (D.held disk.old) (D.held disk.new)) }
+    ensures images { Since D.moment D.images disk.old disk.new
+        (After (At file (Shortened size)) (D.images disk.old (D.moment disk.old))) }
     ensures cause { CountsFaults (D.faults disk.old) (D.faults disk.new) (IsErr result) }
 {
     disk.cut(file, size)?;

@@ -9,8 +9,7 @@ use Rattle.std.proofs.Math.Seq.{map-set_same}
 use Rattle.std.proofs.lemmas.Map.Keys.{IsDistinct-push}
 use Rattle.std.proofs.lemmas.Bool.Decides.{nat_tests}
 use Rattle.std.proofs.lemmas.Slice.Eq.{bytes_eq-Decides}
-use Rattle.flowfile_record.specs.NamedFile.{bytes_of}
-use Rattle.flowfile_record.specs.NamedFile.{with_file}
+use Rattle.flowfile_record.specs.NamedFile.{bytes_of, with_file}
 use Rattle.world_io.specs.Memory.{file_of, names_of, IsPlaceOf}
 use Rattle.world_io.proofs.Places.{Stored, is_of, bytes_of-none, bytes_of-place, place-of}
 

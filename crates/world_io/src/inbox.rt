@@ -31,7 +31,8 @@ pub trait Inbox: Send {
     /// The size of a file that is left, in bytes.
     fn size(&mut self, name: &Name) -> Result<u64, Failed>
         requires { IsTrue tells → IsSome (bytes_of (left self.old) name.now) }
-        ensures size { IfOk result (λ size. IsTrue tells → IfSome (bytes_of (left self.old) name.now) (λ bytes. size ≡ length bytes)) }
+        ensures size { IfOk result (λ size. IsTrue tells
+            → IfSome (bytes_of (left self.old) name.now) (λ bytes. size ≡ length bytes)) }
         ensures left { left self.new ≡ left self.old }
         ensures cause { CountsFaults (faults self.old) (faults self.new) (IsErr result) };
 
@@ -40,7 +41,8 @@ pub trait Inbox: Send {
     fn read(&mut self, name: &Name, into: &mut Vec<u8>) -> Result<(), WorldError>
         requires empty { into.old.items ≡ [] }
         requires left { IsTrue tells → IsSome (bytes_of (left self.old) name.now) }
-        requires size { IsTrue tells → IfSome (bytes_of (left self.old) name.now) (λ bytes. length bytes ≤ CONTENT_MAX) }
+        requires size { IsTrue tells → IfSome (bytes_of (left self.old) name.now)
+            (λ bytes. length bytes ≤ CONTENT_MAX) }
         ensures bytes { OnOk result (IsTrue tells → bytes_of (left self.old) name.now ≡ Some into.new.items) }
         ensures most { OnOk result (length into.new.items ≤ CONTENT_MAX) }
         ensures left { left self.new ≡ left self.old }
@@ -50,7 +52,8 @@ pub trait Inbox: Send {
     fn remove(&mut self, name: &Name) -> Result<(), Failed>
         requires { IsTrue tells → IsSome (bytes_of (left self.old) name.now) }
         ensures removed { OnOk result (IsTrue tells → left self.new ≡ without name.now (left self.old)) }
-        ensures failed { OnErr result (IsTrue tells → (left self.new ≡ left self.old) ⊎ (left self.new ≡ without name.now (left self.old))) }
+        ensures failed { OnErr result (IsTrue tells → (left self.new ≡ left self.old)
+            ⊎ (left self.new ≡ without name.now (left self.old))) }
         ensures cause { CountsFaults (faults self.old) (faults self.new) (IsErr result) };
 
     /// The names that are left ascend, each once.

@@ -26,7 +26,9 @@ pub trait Outbox: Send {
     /// Puts a file under a name, in place of what stands there. After a failure the name may hold
     /// anything.
     fn put(&mut self, name: &Name, bytes: &[u8]) -> Result<(), Failed>
-        ensures put { OnOk result (IsTrue tells → standing self.new ≡ with_file (standing self.old) name.now bytes.now) }
-        ensures others { IsTrue tells → (other : List ℕ) → other ≢ name.now → standing self.new other ≡ standing self.old other }
+        ensures put { OnOk result (IsTrue tells
+            → standing self.new ≡ with_file (standing self.old) name.now bytes.now) }
+        ensures others { IsTrue tells → (other : List ℕ) → other ≢ name.now
+            → standing self.new other ≡ standing self.old other }
         ensures cause { CountsFaults (faults self.old) (faults self.new) (IsErr result) };
 }

@@ -2,7 +2,7 @@
 use super::DiskBytes;
 use crate::FileName;
 
-/// A call that changes a disk or syncs it. Places and sizes are in bytes.
+/// A call that changes a disk or syncs it. Offsets and sizes are in bytes.
 #[derive(Debug, Drop)]
 pub enum DiskCall {
     Write {

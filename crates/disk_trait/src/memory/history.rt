@@ -14,7 +14,12 @@ pub(crate) struct History {
     pub(crate) table: FileTable,
     pub(crate) done: CallList,
     pub(crate) moment: u64,
-    ghost past: { IsPast (record { table = table; calls = done.calls.items; moments = done.moments.items; now = moment }) },
+    ghost past: { IsPast (record {
+      table = table;
+      calls = done.calls.items;
+      moments = done.moments.items;
+      now = moment;
+    }) },
 }
 
 impl History {
@@ -64,7 +69,8 @@ impl History {
         ensures moment { self.new.moment ≡ next_moment self.old.moment }
         ensures held { bytes_of self.new.table ≡ bytes_of self.old.table }
         ensures calls { self.new.done.calls.items ≡ self.old.done.calls.items }
-        ensures images { Since (λ past. past.now) left_at (past_of self.old) (past_of self.new) (left_at (past_of self.old) self.old.moment) }
+        ensures images { Since (λ past. past.now) left_at (past_of self.old) (past_of self.new)
+            (left_at (past_of self.old) self.old.moment) }
     {
         self.moment = self.moment.saturating_add(1);
     }
@@ -74,11 +80,14 @@ impl History {
         requires left { self.old.moment < 2 ^ 64 - 1 }
         requires inside { at ≤ length (bytes_of self.old.table file) }
         ensures moment { self.new.moment ≡ self.old.moment + 1 }
-        ensures noted { OnOk result (self.new.done.calls.items ≡ self.old.done.calls.items ++ Write file at bytes.now ∷ []) }
+        ensures noted { OnOk result
+            (self.new.done.calls.items ≡ self.old.done.calls.items ++ Write file at bytes.now ∷ []) }
         ensures unnoted { OnErr result (self.new.done.calls.items ≡ self.old.done.calls.items) }
-        ensures written { OnOk result (At file (Overwritten at bytes.now) (bytes_of self.old.table) (bytes_of self.new.table)) }
+        ensures written { OnOk result
+            (At file (Overwritten at bytes.now) (bytes_of self.old.table) (bytes_of self.new.table)) }
         ensures held { OnErr result ((f : FileName) → bytes_of self.new.table f ≡ bytes_of self.old.table f) }
-        ensures images { Since (λ past. past.now) left_at (past_of self.old) (past_of self.new) (After (At file (Torn at (length bytes.now))) (left_at (past_of self.old) self.old.moment)) }
+        ensures images { Since (λ past. past.now) left_at (past_of self.old) (past_of self.new)
+            (After (At file (Torn at (length bytes.now))) (left_at (past_of self.old) self.old.moment)) }
     {
         self.moment += 1;
         write_file(
@@ -98,9 +107,11 @@ impl History {
         ensures moment { self.new.moment ≡ self.old.moment + 1 }
         ensures noted { OnOk result (self.new.done.calls.items ≡ self.old.done.calls.items ++ Cut file size ∷ []) }
         ensures unnoted { OnErr result (self.new.done.calls.items ≡ self.old.done.calls.items) }
-        ensures cut { OnOk result (At file (λ old new. new ≡ take size old) (bytes_of self.old.table) (bytes_of self.new.table)) }
+        ensures cut { OnOk result
+            (At file (λ old new. new ≡ take size old) (bytes_of self.old.table) (bytes_of self.new.table)) }
         ensures held { OnErr result ((f : FileName) → bytes_of self.new.table f ≡ bytes_of self.old.table f) }
-        ensures images { Since (λ past. past.now) left_at (past_of self.old) (past_of self.new) (After (At file (Shortened size)) (left_at (past_of self.old) self.old.moment)) }
+        ensures images { Since (λ past. past.now) left_at (past_of self.old) (past_of self.new)
+            (After (At file (Shortened size)) (left_at (past_of self.old) self.old.moment)) }
     {
         self.moment += 1;
         cut_file(&mut self.table, &mut self.done, self.moment, file, size)
@@ -114,7 +125,8 @@ impl History {
         ensures unnoted { OnErr result (self.new.done.calls.items ≡ self.old.done.calls.items) }
         ensures synced { OnOk result (IsOnly (bytes_of self.new.table) (left_at (past_of self.new) self.new.moment)) }
         ensures held { bytes_of self.new.table ≡ bytes_of self.old.table }
-        ensures images { Since (λ past. past.now) left_at (past_of self.old) (past_of self.new) (left_at (past_of self.old) self.old.moment) }
+        ensures images { Since (λ past. past.now) left_at (past_of self.old) (past_of self.new)
+            (left_at (past_of self.old) self.old.moment) }
     {
         self.moment += 1;
         note_sync(&mut self.done, self.moment)

@@ -9,20 +9,24 @@ ghost use Rattle.disk_trait.specs.MemoryTable.{bytes_of, first_of};
 use super::DiskCall;
 use super::replay::replay;
 use super::table::FileTable;
-use super::tear::{tear, touched_places};
+use super::tear::{tear, touched_offsets};
 use crate::FileName;
 use std::alloc::AllocError;
 
 impl FileTable {
-    /// Each file as the calls left it, but for the places that the `torn` ones touched.
+    /// Each file as the calls left it, but for the bytes that the `torn` ones touched.
     pub(crate) fn image(
         &self,
         calls: &[DiskCall],
         torn: &[DiskCall],
         seed: u64,
     ) -> Result<FileTable, AllocError>
-        requires { (f : FileName) (n : ℕ) → n < length calls.now → fits f (slice_index_or calls.now n Sync) (state_after f (durable (first_of self.now f)) (take n calls.now)) ≡ true }
-        ensures drawn { IfOk result (λ image. IsDrawn self.now (λ f. (state_after f (durable (first_of self.now f)) calls.now).held) (λ f i. touched_by f torn.now i) seed (bytes_of image)) }
+        requires { (f : FileName) (n : ℕ) → n < length calls.now
+            → fits f (slice_index_or calls.now n Sync)
+            (state_after f (durable (first_of self.now f)) (take n calls.now)) ≡ true }
+        ensures drawn { IfOk result (λ image. IsDrawn self.now
+            (λ f. (state_after f (durable (first_of self.now f)) calls.now).held)
+            (λ f i. touched_by f torn.now i) seed (bytes_of image)) }
         ensures first { IfOk result (λ image. (f : FileName) → bytes_of image f ≡ first_of image f) }
     {
         let mut image = FileTable::new(self.alloc);
@@ -43,12 +47,18 @@ impl FileTable {
         torn: &[DiskCall],
         seed: u64,
     ) -> Result<(Vec<u8>, u64), AllocError>
-        requires { (n : ℕ) → n < length calls.now → fits name (slice_index_or calls.now n Sync) (state_after name (durable (first_of self.now name)) (take n calls.now)) ≡ true }
-        ensures bytes { IfOk result (λ file. file.0.items ≡ drawn (λ i. touched_by name torn.now i) 0 seed (state_after name (durable (first_of self.now name)) calls.now).held) }
-        ensures seed { IfOk result (λ file. file.1 ≡ seed_after (λ i. touched_by name torn.now i) 0 seed (state_after name (durable (first_of self.now name)) calls.now).held) }
+        requires { (n : ℕ) → n < length calls.now
+            → fits name (slice_index_or calls.now n Sync)
+            (state_after name (durable (first_of self.now name)) (take n calls.now)) ≡ true }
+        ensures bytes { IfOk result (λ file. file.0.items
+            ≡ drawn (λ i. touched_by name torn.now i) 0 seed
+            (state_after name (durable (first_of self.now name)) calls.now).held) }
+        ensures seed { IfOk result (λ file. file.1
+            ≡ seed_after (λ i. touched_by name torn.now i) 0 seed
+            (state_after name (durable (first_of self.now name)) calls.now).held) }
     {
         let mut bytes = replay(self.alloc, self.first(name), name, calls)?;
-        let marks = touched_places(self.alloc, name, torn, bytes.len())?;
+        let marks = touched_offsets(self.alloc, name, torn, bytes.len())?;
         let next = tear(&mut bytes, &marks, seed);
         Ok((bytes, next))
     }

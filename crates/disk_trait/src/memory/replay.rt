@@ -30,7 +30,8 @@ pub(crate) fn replay(
     name: FileName,
     calls: &[DiskCall],
 ) -> Result<Vec<u8>, AllocError>
-    requires { (n : ℕ) → n < length calls.now → fits name (slice_index_or calls.now n Sync) (state_after name (durable first.now) (take n calls.now)) ≡ true }
+    requires { (n : ℕ) → n < length calls.now
+        → fits name (slice_index_or calls.now n Sync) (state_after name (durable first.now) (take n calls.now)) ≡ true }
     ensures { IfOk result (λ bytes. bytes.items ≡ (state_after name (durable first.now) calls.now).held) }
 {
     let mut bytes = Vec::from_slice(alloc, first)?;

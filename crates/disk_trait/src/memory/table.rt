@@ -63,7 +63,8 @@ impl FileTable {
     pub(crate) fn list(&self, kind: FileKind, list: &mut Vec<u64>) -> Result<(), AllocError>
         requires { list.old.items ≡ [] }
         ensures ascending { IsStrictlyIncreasing list.new.items }
-        ensures listed { OnOk result ((n : ℕ) → Contains list.new.items n ↔ (0 < length (bytes_of self.now (named kind n)))) }
+        ensures listed { OnOk result
+            ((n : ℕ) → Contains list.new.items n ↔ (0 < length (bytes_of self.now (named kind n)))) }
         ensures emptied { OnErr result (list.new.items ≡ []) }
     {
         let filled = self.fill(kind, list);
@@ -76,7 +77,8 @@ impl FileTable {
     fn fill(&self, kind: FileKind, list: &mut Vec<u64>) -> Result<(), AllocError>
         requires { list.old.items ≡ [] }
         ensures ascending { OnOk result (IsStrictlyIncreasing list.new.items) }
-        ensures listed { OnOk result ((n : ℕ) → Contains list.new.items n ↔ (0 < length (bytes_of self.now (named kind n)))) }
+        ensures listed { OnOk result
+            ((n : ℕ) → Contains list.new.items n ↔ (0 < length (bytes_of self.now (named kind n)))) }
     {
         for name in self.files.keys() {
             if name.kind == kind && !self.bytes(*name).is_empty() {

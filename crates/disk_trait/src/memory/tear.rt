@@ -1,6 +1,6 @@
 //! The pending bytes of a file, drawn anew.
 ghost use Rattle.std.specs.Prelude.{◌≡◌, ℕ, ◌^◌, ◌<◌, ◌≤◌, ◌&&◌, ◌||◌, nat_le, nat_lt, length, false, IfOk, slice_index_or};
-ghost use Rattle.disk_trait.specs.MemoryStop.{touches, touched_by, drawn, seed_after, MarksPlaces};
+ghost use Rattle.disk_trait.specs.MemoryStop.{touches, touched_by, drawn, seed_after, MarksOffsets};
 
 use super::DiskCall;
 use crate::FileName;
@@ -10,15 +10,15 @@ const MULTIPLIER: u64 = 6364136223846793005;
 
 const INCREMENT: u64 = 1442695040888963407;
 
-/// For each place of a file of this length whether one of the calls wrote over it or cut it off.
-pub(crate) fn touched_places(
+/// For each offset of a file of this length whether one of the calls wrote over it or cut it off.
+pub(crate) fn touched_offsets(
     alloc: Global,
     name: FileName,
     calls: &[DiskCall],
     len: usize,
 ) -> Result<Vec<bool>, AllocError>
     ensures len { IfOk result (λ marks. length marks.items ≡ len) }
-    ensures marks { IfOk result (λ marks. MarksPlaces marks.items (touched_by name calls.now)) }
+    ensures marks { IfOk result (λ marks. MarksOffsets marks.items (touched_by name calls.now)) }
 {
     let mut marks = vec![in alloc; false; len]?;
     touch_all(&mut marks, name, calls);
@@ -26,8 +26,8 @@ pub(crate) fn touched_places(
 }
 
 fn touch_all(marks: &mut [bool], name: FileName, calls: &[DiskCall])
-    requires { MarksPlaces marks.old (λ _. false) }
-    ensures { MarksPlaces marks.new (touched_by name calls.now) }
+    requires { MarksOffsets marks.old (λ _. false) }
+    ensures { MarksOffsets marks.new (touched_by name calls.now) }
 {
     for call in calls {
         touch(marks, name, call);
@@ -35,7 +35,8 @@ fn touch_all(marks: &mut [bool], name: FileName, calls: &[DiskCall])
 }
 
 fn touch(marks: &mut [bool], name: FileName, call: &DiskCall)
-    ensures { (i : ℕ) → i < length marks.old → slice_index_or marks.new i false ≡ (touches name call.now i || slice_index_or marks.old i false) }
+    ensures { (i : ℕ) → i < length marks.old → slice_index_or marks.new i false
+        ≡ (touches name call.now i || slice_index_or marks.old i false) }
 {
     match call {
         DiskCall::Write { file, at, bytes } => {
@@ -54,7 +55,8 @@ fn touch(marks: &mut [bool], name: FileName, call: &DiskCall)
 }
 
 fn mark(marks: &mut [bool], from: usize, to: usize)
-    ensures marked { (i : ℕ) → i < length marks.old → slice_index_or marks.new i false ≡ ((nat_le from i && nat_lt i to) || slice_index_or marks.old i false) }
+    ensures marked { (i : ℕ) → i < length marks.old → slice_index_or marks.new i false
+        ≡ ((nat_le from i && nat_lt i to) || slice_index_or marks.old i false) }
     ensures short { length marks.old < 2 ^ 64 }
 {
     let to = to.min(marks.len());
@@ -63,7 +65,7 @@ fn mark(marks: &mut [bool], from: usize, to: usize)
     }
 }
 
-/// Draws the bytes at the marked places, and gives the seed for the next ones.
+/// Draws the bytes at the marked offsets, and gives the seed for the next ones.
 pub(crate) fn tear(bytes: &mut [u8], marks: &[bool], seed: u64) -> u64
     requires { length marks.now ≡ length bytes.old }
     ensures bytes { bytes.new ≡ drawn (λ i. slice_index_or marks.now i false) 0 seed bytes.old }

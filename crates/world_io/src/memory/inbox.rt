@@ -75,7 +75,8 @@ impl Inbox for MemoryInbox {
 
     fn size(&mut self, name: &Name) -> Result<u64, Failed>
         requires { IsSome (bytes_of (files_left self.old) name.now) }
-        ensures size { IfOk result (λ size. IfSome (bytes_of (files_left self.old) name.now) (λ bytes. size ≡ length bytes)) }
+        ensures size { IfOk result (λ size. IfSome (bytes_of (files_left self.old) name.now)
+            (λ bytes. size ≡ length bytes)) }
         ensures left { files_left self.new ≡ files_left self.old }
         ensures fails { IsErr result ↔ FailsNext self.old.calls }
         ensures called { Called self.old.calls self.new.calls (IsErr result) }

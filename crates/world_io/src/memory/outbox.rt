@@ -3,8 +3,7 @@ ghost use Rattle.std.specs.Prelude.{◌≡◌, ◌≢◌, ◌↔◌, true, ℕ, 
 ghost use Rattle.std.specs.List.{IsDistinct};
 ghost use Rattle.std.specs.Option.{option_copied};
 ghost use Rattle.std.proofs.lemmas.Map.Keys.{IsDistinct-prop};
-ghost use Rattle.flowfile_record.specs.NamedFile.{bytes_of};
-ghost use Rattle.flowfile_record.specs.NamedFile.{with_file};
+ghost use Rattle.flowfile_record.specs.NamedFile.{bytes_of, with_file};
 ghost use Rattle.world_io.specs.Memory.{EachOnce, file_of, names_of};
 
 use crate::memory::files::place_of;
@@ -96,7 +95,8 @@ impl Outbox for MemoryOutbox {
 // Puts a file in place of the one of its name, or behind the others.
 fn put_file(files: &mut Vec<(Name, Vec<u8>)>, name: &Name, bytes: &[u8]) -> Result<(), AllocError>
     requires { IsDistinct bytes_eq (names_of files.old.items) }
-    ensures put { OnOk result (bytes_of (map file_of files.new.items) ≡ with_file (bytes_of (map file_of files.old.items)) name.now bytes.now) }
+    ensures put { OnOk result (bytes_of (map file_of files.new.items)
+        ≡ with_file (bytes_of (map file_of files.old.items)) name.now bytes.now) }
     ensures once { IsDistinct bytes_eq (names_of files.new.items) }
     ensures err { OnErr result (files.new.items ≡ files.old.items) }
 {
