@@ -2,7 +2,11 @@
 use crate::json::{item, member, number, text, word};
 use anyhow::{Context, Result, bail};
 use flowfile_record::CodecError;
-use record_codec::{append_block, read_block, read_entry, read_file, read_head, write_entry, write_file, write_head};
+use record_codec::{
+    append_block, read_active_file, read_block, read_entry, read_file, read_head,
+    read_snapshot_end, read_swap_batch, write_active_file, write_entry, write_file, write_head,
+    write_snapshot_end, write_swap_batch,
+};
 use serde_json::Value;
 use std::alloc::Global;
 
@@ -34,7 +38,10 @@ pub fn block_read(alloc: Global, value: &Value, case: &Value) -> Result<String> 
 pub fn record(alloc: Global, form: &Value, case: &Value) -> Result<String> {
     let given = bytes(alloc, member(case, "bytes")?)?;
     match rewritten(alloc, word(form)?, given.as_slice())? {
-        Ok(out) if out.as_slice() == given.as_slice() => Ok(String::from_str(alloc, "read, and written the same")?),
+        Ok(out) if out.as_slice() == given.as_slice() => Ok(String::from_str(
+            alloc,
+            "read, and written the same",
+        )?),
         Ok(out) => Ok(hex::encode(alloc, out.as_slice())?),
         Err(error) => Ok(format!(in alloc; "{error}")?),
     }
@@ -44,6 +51,9 @@ pub fn record(alloc: Global, form: &Value, case: &Value) -> Result<String> {
 fn rewritten(alloc: Global, form: &str, given: &[u8]) -> Result<Result<Vec<u8>, CodecError>> {
     match form {
         "flow file" => file_rewritten(alloc, given),
+        "active file" => active_file_rewritten(alloc, given),
+        "batch" => batch_rewritten(alloc, given),
+        "end" => end_rewritten(alloc, given),
         "head" => head_rewritten(alloc, given),
         "entry" => entry_rewritten(alloc, given),
         _ => bail!("no form of a record"),
@@ -57,6 +67,36 @@ fn file_rewritten(alloc: Global, given: &[u8]) -> Result<Result<Vec<u8>, CodecEr
     };
     let mut out = Vec::new(alloc);
     write_file(&mut out, &file)?;
+    Ok(Ok(out))
+}
+
+fn active_file_rewritten(alloc: Global, given: &[u8]) -> Result<Result<Vec<u8>, CodecError>> {
+    let active = match read_active_file(alloc, given) {
+        Ok(active) => active,
+        Err(error) => return Ok(Err(error)),
+    };
+    let mut out = Vec::new(alloc);
+    write_active_file(&mut out, active.connection, &active.file)?;
+    Ok(Ok(out))
+}
+
+fn batch_rewritten(alloc: Global, given: &[u8]) -> Result<Result<Vec<u8>, CodecError>> {
+    let batch = match read_swap_batch(given) {
+        Ok(batch) => batch,
+        Err(error) => return Ok(Err(error)),
+    };
+    let mut out = Vec::new(alloc);
+    write_swap_batch(&mut out, &batch)?;
+    Ok(Ok(out))
+}
+
+fn end_rewritten(alloc: Global, given: &[u8]) -> Result<Result<Vec<u8>, CodecError>> {
+    let blocks = match read_snapshot_end(given) {
+        Ok(blocks) => blocks,
+        Err(error) => return Ok(Err(error)),
+    };
+    let mut out = Vec::new(alloc);
+    write_snapshot_end(&mut out, blocks)?;
     Ok(Ok(out))
 }
 

@@ -2,6 +2,7 @@
 //! the output says what came out of it.
 #![tactic(auto)]
 
+mod disks;
 mod encodings;
 mod expressions;
 mod json;
@@ -62,6 +63,9 @@ fn answer_of_records(alloc: Global, case: &Value) -> Result<String> {
     }
     if let Some(form) = case.get("record") {
         return encodings::record(alloc, form, case);
+    }
+    if let Some(failing) = case.get("disk") {
+        return disks::stopped(alloc, failing, case);
     }
     if let Some(content) = case.get("session") {
         return sessions::session(alloc, content, case);

@@ -100,7 +100,10 @@ fn changed(alloc: Global, session: &mut Session, call: &Value) -> Result<String>
     let place = place(item(call, 1)?)?;
     let given = text(alloc, item(call, 2)?)?;
     match word(item(call, 0)?)? {
-        "write" => done(alloc, session.write(place, content_of(alloc, item(call, 2)?)?)),
+        "write" => done(
+            alloc,
+            session.write(place, content_of(alloc, item(call, 2)?)?),
+        ),
         "append" => done(alloc, session.append(place, given.as_bytes())),
         "take" => match session.remove_attribute(place, given.as_str()) {
             Ok(was_there) => Ok(format!(in alloc; "{was_there}")?),
@@ -123,7 +126,10 @@ fn ended(alloc: Global, session: &mut Session, call: &Value) -> Result<String> {
         "back" => done(alloc, session.transfer_back(place)),
         "remove" => done(alloc, session.remove(place)),
         "route" => done(alloc, session.route(place, relationship(item(call, 2)?)?)),
-        "transfer" => done(alloc, session.transfer(place, relationship(item(call, 2)?)?)),
+        "transfer" => done(
+            alloc,
+            session.transfer(place, relationship(item(call, 2)?)?),
+        ),
         "send" => {
             let name = Name::read(alloc, word(item(call, 2)?)?)?;
             done(alloc, session.send(place, name))
