@@ -6,64 +6,28 @@ use Rattle.std.specs.Ordering.{nat_cmp, ordering_index, eq_by_cmp}
 use Rattle.std.specs.Cmp.{IsTotalOrder, tied_itself}
 use Rattle.std.specs.Cmp.Lexicographic.{slice_cmp, nat_list_cmp_total}
 use Rattle.std.specs.List.{All, AllWithin, HoldsAt, insert, remove, filter}
-use Rattle.std.specs.List.Sorted.{IsSearchInRange, IsBinarySearchResult}
 use Rattle.std.specs.FinMap as finite
 use Rattle.std.specs.FinMap.{IsAntisymmetric, slice_cmp-IsAntisymmetric, nat_cmp-IsAntisymmetric, entries, get, contains_key, len, retain_keys, entries-from_sorted, get-from_sorted, len-entries, from_sorted, put, is_sorted}
 use Rattle.std.specs.FinMap.Entries.{where_key, is_sorted-put, is_sorted-where_key}
-use Rattle.std.proofs.lemmas.List.{get_or-map, length-map, map-append, map-set, take-map, drop-map}
+use Rattle.std.proofs.lemmas.List.{get_or-map, length-map, map-append, take-map, drop-map}
 use Rattle.std.specs.Str.{IsUtf8}
-use Rattle.std.proofs.lemmas.Bool.{and_from, not_from_false, lt-ltb, le-ltb, le-leb}
-use Rattle.std.proofs.lemmas.Bool.Decides.{nat_tests}
 use Rattle.std.proofs.lemmas.Option.{slice_get-map, slice_get-get_or, slice_get_past}
 use Rattle.std.proofs.lemmas.List.Elements.{All-filter, All-head, All-tail}
 use Rattle.std.proofs.lemmas.List.Sums.{sum_by-cons, sum_by_more_le, sum_by-set, sum_by-insert, sum_by-remove, get_or-le-sum_by}
-use Rattle.flowfile_record.specs.Attributes.{AttributeMap, IsPair, IsWithinLimits, encoded_size, pair_size, shared, is_uuid, has_key_length, put_answer}
+use Rattle.flowfile_record.specs.Attributes.{AttributeMap, IsPair, IsWithinLimits, encoded_size, pair_size, shared}
 use Rattle.flowfile_record.specs.OptionalText.{same_text}
-use Rattle.flowfile_record.specs.HeldPairs.{key_and_value, map_of, IsHeld, IsPlaceOf, IsGapFor}
+use Rattle.flowfile_record.specs.HeldPairs.{key_and_value, map_of, IsHeld}
+use Rattle.flowfile_record.specs.Places.{IsAt, IsGap}
+use Rattle.flowfile_record.proofs.Search.{in_slots, key_at, put_over as put_there, put_new as put_between}
 use Rattle.flowfile_record.specs.declared.attributes.Pair.{Pair}
-use Rattle.flowfile_record.specs.declared.attributes.TheConstants.{ATTRIBUTES_MAX, KEY_MAX}
-use Rattle.flowfile_record.specs.declared.attributes.Put.TheVariants.{Stored}
-use Rattle.flowfile_record.specs.declared.attributes.AttrError.TheVariants.{TooLarge}
-use Rattle.flowfile_record.proofs.Entries.{T-from, T-to, comparisons_rise, around, put_in_gap, put_at, where_key_without, find_in_gap, find_at, finds_each, All-put, insert-from_sorted, retain_keys-from_sorted, remove-from_sorted}
+use Rattle.flowfile_record.specs.declared.attributes.TheConstants.{ATTRIBUTES_MAX, COUNT_SIZE}
+use Rattle.flowfile_record.proofs.Entries.{T-from, T-to, put_in_gap, put_at, where_key_without, find_in_gap, find_at, finds_each, All-put, insert-from_sorted, retain_keys-from_sorted, remove-from_sorted}
 
-abbrev order : IsTotalOrder (slice_cmp nat_cmp)
+abbrev pub order : IsTotalOrder (slice_cmp nat_cmp)
 order = nat_list_cmp_total
 
-same : IsAntisymmetric (slice_cmp nat_cmp)
+pub same : IsAntisymmetric (slice_cmp nat_cmp)
 same = slice_cmp-IsAntisymmetric nat_cmp-IsAntisymmetric
-
-abbrev pair_of : List ℕ × List ℕ → Pair
-pair_of e = record { key = e.0; value = e.1 }
-
-AllWithin-map : (P : List ℕ × List ℕ → Type 0) (pairs : List Pair) (lo hi : ℕ) → hi ≤ length pairs → AllWithin (λ pair. P (key_and_value pair)) pairs lo hi → AllWithin P (map key_and_value pairs) lo hi
-AllWithin-map P pairs lo hi le all j d l h = subst P (sym (get_or-map key_and_value pairs j (pair_of d) d (omega arith))) (all j (pair_of d) l h)
-
--- ---- what a search finds
-
-pub searched : (pairs : List Pair) (key : List ℕ) (r : Result ℕ ℕ) → IsTrue (is_sorted (slice_cmp nat_cmp) (map key_and_value pairs)) → IsSearchInRange r (length pairs) → IsBinarySearchResult (λ pair. slice_cmp nat_cmp pair.key key) pairs r → IfOk r (IsPlaceOf (map key_and_value pairs) key) × IfErr r (IsGapFor (map key_and_value pairs) key)
-searched pairs key (Ok place) h bound position =
-    let es = map key_and_value pairs in
-    let long : length es ≡ length pairs = length-map pairs key_and_value in
-    let within : place < length es = omega arith in
-    let at : HoldsAt (λ e. slice_cmp nat_cmp e.0 key ≡ Equal) es place = λ d. subst (λ (e : List ℕ × List ℕ). slice_cmp nat_cmp e.0 key ≡ Equal) (sym (get_or-map key_and_value pairs place (pair_of d) d bound)) (position (pair_of d)) in
-    let sides = around order key es place (T-from _ h) within at in
-    (record { within = within; before = sides.0; at = at; after = sides.1 }, tt)
-searched pairs key (Err place) h bound position =
-    let es = map key_and_value pairs in
-    let long : length es ≡ length pairs = length-map pairs key_and_value in
-    let rise = comparisons_rise order es key (T-from _ h) in
-    let sides = position (λ i j d le lt.
-    let a = get_or-map key_and_value pairs i d (key_and_value d) (omega arith) in
-    let b = get_or-map key_and_value pairs j d (key_and_value d) lt in
-    subst (λ (n : ℕ). n ≤ ordering_index (slice_cmp nat_cmp (get_or pairs j d).key key)) (ap (λ (e : List ℕ × List ℕ). ordering_index (slice_cmp nat_cmp e.0 key)) a)
-    (subst (λ (n : ℕ). ordering_index (slice_cmp nat_cmp (get_or es i (key_and_value d)).0 key) ≤ n) (ap (λ (e : List ℕ × List ℕ). ordering_index (slice_cmp nat_cmp e.0 key)) b) (rise i j (key_and_value d) le (omega arith)))) in (
-      tt,
-      record {
-        within = omega arith;
-        before = AllWithin-map (λ e. slice_cmp nat_cmp e.0 key ≡ Less) pairs 0 place bound sides.0;
-        after = subst (λ (n : ℕ). AllWithin (λ e. slice_cmp nat_cmp e.0 key ≡ Greater) es place n) (sym long) (AllWithin-map (λ e. slice_cmp nat_cmp e.0 key ≡ Greater) pairs place (length pairs) (omega arith) sides.1);
-      },
-    )
 
 -- ---- the attributes that pairs hold
 
@@ -76,7 +40,7 @@ module _ (pairs : List Pair) (size : ℕ) (held : IsHeld pairs size) where
 
   pub encoded_size-map_of : size ≡ encoded_size (map_of pairs)
   unfolding encoded_size
-  encoded_size-map_of = held.size_is ∙ ap (λ es. sum_by pair_size es + 2) (sym entries-map_of)
+  encoded_size-map_of = held.size_is ∙ ap (λ es. sum_by pair_size es + COUNT_SIZE) (sym entries-map_of)
 
   pub limits : IsWithinLimits (map_of pairs)
   limits = record { pairs = subst (All IsPair) (sym entries-map_of) held.each; size = subst (λ (n : ℕ). n ≤ ATTRIBUTES_MAX) encoded_size-map_of held.within }
@@ -84,12 +48,12 @@ module _ (pairs : List Pair) (size : ℕ) (held : IsHeld pairs size) where
   pub len-map_of : length pairs ≡ len (map_of pairs)
   len-map_of = sym (len-entries _ ∙ ap length entries-map_of ∙ length-map pairs key_and_value)
 
-  pub get_of_place : (key : List ℕ) (place : ℕ) (pair : Pair) → IsPlaceOf (map key_and_value pairs) key place → place < length pairs → pair ≡ get_or pairs place pair → get (map_of pairs) key ≡ Some pair.value
+  pub get_of_place : (key : List ℕ) (place : ℕ) (pair : Pair) → IsAt (slice_cmp nat_cmp) (map key_and_value pairs) key place → place < length pairs → pair ≡ get_or pairs place pair → get (map_of pairs) key ≡ Some pair.value
   get_of_place key place pair is lt read =
       get-from_sorted (slice_cmp nat_cmp) _ key sorted ∙ find_at order key _ place (key_and_value pair) is.within is.before is.at
       ∙ ap (λ (e : List ℕ × List ℕ). Some e.1) (get_or-map key_and_value pairs place pair (key_and_value pair) lt ∙ ap key_and_value (sym read))
 
-  pub get_of_gap : (key : List ℕ) (place : ℕ) → IsGapFor (map key_and_value pairs) key place → get (map_of pairs) key ≡ None
+  pub get_of_gap : (key : List ℕ) (place : ℕ) → IsGap (slice_cmp nat_cmp) (map key_and_value pairs) key place → get (map_of pairs) key ≡ None
   get_of_gap key place is = get-from_sorted (slice_cmp nat_cmp) _ key sorted ∙ find_in_gap order key _ place is.within is.before is.after
 
 pub slice_get-map_of : (pairs : List Pair) (size place : ℕ) → IsHeld pairs size → slice_get (entries (map_of pairs)) place ≡ option_map key_and_value (slice_get pairs place)
@@ -104,19 +68,16 @@ pair_past pairs size place held le = sym (slice_get-map_of pairs size place held
 -- ---- a put
 
 module _ (pairs : List Pair) (key value : List ℕ) (place : ℕ) where
-  same_key : (pair : Pair) → IsPlaceOf (map key_and_value pairs) key place → place < length pairs → pair ≡ get_or pairs place pair → pair.key ≡ key
-  same_key pair is lt read = ap (λ (p : Pair). p.key) read ∙ ap (λ (e : List ℕ × List ℕ). e.0) (sym (get_or-map key_and_value pairs place pair (key_and_value pair) lt)) ∙ same _ _ (is.at (key_and_value pair))
+  same_key : (pair : Pair) → IsAt (slice_cmp nat_cmp) (map key_and_value pairs) key place → place < length pairs → pair ≡ get_or pairs place pair → pair.key ≡ key
+  same_key pair is lt read = key_at order same key_and_value pairs key place pair is read
 
-  pub put_over : (pair : Pair) → IsPlaceOf (map key_and_value pairs) key place → place < length pairs → pair ≡ get_or pairs place pair → map key_and_value (set pairs place (record { key = pair.key; value = value })) ≡ put (slice_cmp nat_cmp) key value (map key_and_value pairs)
-  put_over pair is lt read =
-      map-set key_and_value pairs place _ ∙ ap (λ k. set (map key_and_value pairs) place (k, value)) (same_key pair is lt read) ∙ sym (put_at order same key value _ place is.within is.before is.at)
+  pub put_over : (pair : Pair) → IsAt (slice_cmp nat_cmp) (map key_and_value pairs) key place → place < length pairs → pair ≡ get_or pairs place pair → map key_and_value (set pairs place (record { key = pair.key; value = value })) ≡ put (slice_cmp nat_cmp) key value (map key_and_value pairs)
+  put_over pair is lt read = put_there order same key_and_value pairs key place pair _ value is read refl
 
-  pub put_new : IsGapFor (map key_and_value pairs) key place → map key_and_value (insert pairs place (record { key = key; value = value })) ≡ put (slice_cmp nat_cmp) key value (map key_and_value pairs)
-  put_new is =
-      map-append key_and_value (take place pairs) _ ∙ ap (λ l. l ++ (key, value) ∷ map key_and_value (drop place pairs)) (sym (take-map key_and_value place pairs)) ∙ ap (λ l. take place (map key_and_value pairs) ++ (key, value) ∷ l) (sym (drop-map key_and_value place pairs))
-      ∙ sym (put_in_gap order key value _ place is.within is.before is.after)
+  pub put_new : IsGap (slice_cmp nat_cmp) (map key_and_value pairs) key place → map key_and_value (insert pairs place (record { key = key; value = value })) ≡ put (slice_cmp nat_cmp) key value (map key_and_value pairs)
+  put_new is = put_between order same key_and_value pairs key place _ value is refl
 
-  pub size_over : (pair : Pair) → IsPlaceOf (map key_and_value pairs) key place → place < length pairs → pair ≡ get_or pairs place pair → sum_by pair_size (put (slice_cmp nat_cmp) key value (map key_and_value pairs)) + length pair.value ≡ sum_by pair_size (map key_and_value pairs) + length value
+  pub size_over : (pair : Pair) → IsAt (slice_cmp nat_cmp) (map key_and_value pairs) key place → place < length pairs → pair ≡ get_or pairs place pair → sum_by pair_size (put (slice_cmp nat_cmp) key value (map key_and_value pairs)) + length pair.value ≡ sum_by pair_size (map key_and_value pairs) + length value
   size_over pair is lt read =
       let es = map key_and_value pairs in
       let e = put_at order same key value es place is.within is.before is.at in
@@ -126,7 +87,7 @@ module _ (pairs : List Pair) (key value : List ℕ) (place : ℕ) where
       let keys : length pair.key ≡ length key = ap length (same_key pair is lt read) in
       subst (λ l. sum_by pair_size l + length pair.value ≡ sum_by pair_size es + length value) (sym e) (omega arith)
 
-  pub size_new : IsGapFor (map key_and_value pairs) key place → sum_by pair_size (put (slice_cmp nat_cmp) key value (map key_and_value pairs)) ≡ sum_by pair_size (map key_and_value pairs) + pair_size (key, value)
+  pub size_new : IsGap (slice_cmp nat_cmp) (map key_and_value pairs) key place → sum_by pair_size (put (slice_cmp nat_cmp) key value (map key_and_value pairs)) ≡ sum_by pair_size (map key_and_value pairs) + pair_size (key, value)
   size_new is =
       ap (sum_by pair_size) (put_in_gap order key value _ place is.within is.before is.after) ∙ sum_by-insert pair_size (map key_and_value pairs) place (key, value)
 
@@ -139,22 +100,22 @@ size_within pairs place pair lt read =
 pub insert-map_of : (pairs : List Pair) (size : ℕ) (key value : List ℕ) → IsHeld pairs size → finite.insert (map_of pairs) key value ≡ from_sorted (put (slice_cmp nat_cmp) key value (map key_and_value pairs))
 insert-map_of pairs size key value held = insert-from_sorted order key value _ (sorted pairs size held)
 
-pub size_of_put : (pairs : List Pair) (size : ℕ) (key value : List ℕ) → IsHeld pairs size → sum_by pair_size (put (slice_cmp nat_cmp) key value (map key_and_value pairs)) + 2 ≡ encoded_size (finite.insert (map_of pairs) key value)
+pub size_of_put : (pairs : List Pair) (size : ℕ) (key value : List ℕ) → IsHeld pairs size → sum_by pair_size (put (slice_cmp nat_cmp) key value (map key_and_value pairs)) + COUNT_SIZE ≡ encoded_size (finite.insert (map_of pairs) key value)
 unfolding encoded_size
 size_of_put pairs size key value held =
-    ap (λ es. sum_by pair_size es + 2) (sym (finite.entries-insert order (map_of pairs) key value ∙ ap (put (slice_cmp nat_cmp) key value) (entries-map_of pairs size held)))
+    ap (λ es. sum_by pair_size es + COUNT_SIZE) (sym (finite.entries-insert order (map_of pairs) key value ∙ ap (put (slice_cmp nat_cmp) key value) (entries-map_of pairs size held)))
 
-pub put_held : (pairs news : List Pair) (size more : ℕ) (key value : List ℕ) → IsHeld pairs size → IsPair (key, value) → map key_and_value news ≡ put (slice_cmp nat_cmp) key value (map key_and_value pairs) → more ≡ sum_by pair_size (put (slice_cmp nat_cmp) key value (map key_and_value pairs)) + 2 → more ≤ ATTRIBUTES_MAX → IsHeld news more
+pub put_held : (pairs news : List Pair) (size more : ℕ) (key value : List ℕ) → IsHeld pairs size → IsPair (key, value) → map key_and_value news ≡ put (slice_cmp nat_cmp) key value (map key_and_value pairs) → more ≡ sum_by pair_size (put (slice_cmp nat_cmp) key value (map key_and_value pairs)) + COUNT_SIZE → more ≤ ATTRIBUTES_MAX → IsHeld news more
 put_held pairs news size more key value held one are summed le = record {
   ascending = T-to _ (subst (λ es. T (is_sorted (slice_cmp nat_cmp) es)) (sym are) (is_sorted-put (slice_cmp nat_cmp) order key value _ (sorted pairs size held)));
   each = subst (All IsPair) (sym are) (All-put order same IsPair key value _ one held.each);
-  size_is = summed ∙ ap (λ es. sum_by pair_size es + 2) (sym are);
+  size_is = summed ∙ ap (λ es. sum_by pair_size es + COUNT_SIZE) (sym are);
   within = le;
 }
 
 -- ---- a removal
 
-module _ (pairs : List Pair) (size : ℕ) (held : IsHeld pairs size) (key : List ℕ) (place : ℕ) (is : IsPlaceOf (map key_and_value pairs) key place) where
+module _ (pairs : List Pair) (size : ℕ) (held : IsHeld pairs size) (key : List ℕ) (place : ℕ) (is : IsAt (slice_cmp nat_cmp) (map key_and_value pairs) key place) where
   left_by_remove : map key_and_value (remove pairs place) ≡ where_key (slice_cmp nat_cmp) (λ other. not (eq_by_cmp (slice_cmp nat_cmp) key other)) (map key_and_value pairs)
   left_by_remove =
       map-append key_and_value (take place pairs) _ ∙ ap (λ l. l ++ map key_and_value (drop (suc place) pairs)) (sym (take-map key_and_value place pairs)) ∙ ap (λ l. take place (map key_and_value pairs) ++ l) (sym (drop-map key_and_value (suc place) pairs))
@@ -170,12 +131,12 @@ module _ (pairs : List Pair) (size : ℕ) (held : IsHeld pairs size) (key : List
       let without = where_key_without order key es place is.within is.before is.at is.after in
       let old : get_or es place (key_and_value pair) ≡ key_and_value pair = get_or-map key_and_value pairs place pair (key_and_value pair) lt ∙ ap key_and_value (sym read) in
       let gone : sum_by pair_size (remove es place) + pair_size (key_and_value pair) ≡ sum_by pair_size es = subst (λ (d : List ℕ × List ℕ). sum_by pair_size (remove es place) + pair_size d ≡ sum_by pair_size es) old (sum_by-remove pair_size es place (key_and_value pair) is.within) in
-      let total : size ≡ sum_by pair_size es + 2 = held.size_is in
+      let total : size ≡ sum_by pair_size es + COUNT_SIZE = held.size_is in
       let most : size ≤ ATTRIBUTES_MAX = held.within in
       record {
         ascending = T-to _ (subst (λ l. T (is_sorted (slice_cmp nat_cmp) l)) (sym left) (is_sorted-where_key (slice_cmp nat_cmp) _ es (sorted pairs size held)));
         each = subst (All IsPair) (sym left) (All-filter _ IsPair es held.each);
-        size_is = subst (λ l. less ≡ sum_by pair_size l + 2) (sym (left ∙ without)) (omega arith);
+        size_is = subst (λ l. less ≡ sum_by pair_size l + COUNT_SIZE) (sym (left ∙ without)) (omega arith);
         within = omega arith;
       }
 
@@ -213,14 +174,14 @@ module _ (pairs : List Pair) (size : ℕ) (held : IsHeld pairs size) (others : f
   unfolding shared
   shared-map_of = sym (retain_keys-from_sorted order same _ _ (sorted pairs size held) ∙ ap from_sorted (sym kept))
 
-  pub kept_size : sum_by pair_size (map key_and_value (filter (stands_in others) pairs)) + 2 ≤ ATTRIBUTES_MAX
+  pub kept_size : sum_by pair_size (map key_and_value (filter (stands_in others) pairs)) + COUNT_SIZE ≤ ATTRIBUTES_MAX
   kept_size =
       let le = sum_by-filter-le (λ e. same_text (get (map_of pairs) e.0) (get others e.0)) (map key_and_value pairs) in
-      let total : size ≡ sum_by pair_size (map key_and_value pairs) + 2 = held.size_is in
+      let total : size ≡ sum_by pair_size (map key_and_value pairs) + COUNT_SIZE = held.size_is in
       let most : size ≤ ATTRIBUTES_MAX = held.within in
-      subst (λ es. sum_by pair_size es + 2 ≤ ATTRIBUTES_MAX) (sym kept) (omega arith)
+      subst (λ es. sum_by pair_size es + COUNT_SIZE ≤ ATTRIBUTES_MAX) (sym kept) (omega arith)
 
-  pub kept_held : (more : ℕ) → more ≡ sum_by pair_size (map key_and_value (filter (stands_in others) pairs)) + 2 → IsHeld (filter (stands_in others) pairs) more
+  pub kept_held : (more : ℕ) → more ≡ sum_by pair_size (map key_and_value (filter (stands_in others) pairs)) + COUNT_SIZE → IsHeld (filter (stands_in others) pairs) more
   kept_held more is = record {
     ascending = T-to _ (subst (λ l. T (is_sorted (slice_cmp nat_cmp) l)) (sym kept) (is_sorted-where_key (slice_cmp nat_cmp) (λ key. same_text (get (map_of pairs) key) (get others key)) (map key_and_value pairs) (sorted pairs size held)));
     each = subst (All IsPair) (sym kept) (All-filter _ IsPair _ held.each);
@@ -230,15 +191,8 @@ module _ (pairs : List Pair) (size : ℕ) (held : IsHeld pairs size) (others : f
 
 -- ---- a place, and a size so far
 
-pub in_pairs : (pairs : List Pair) (key : List ℕ) (place : ℕ) → IsPlaceOf (map key_and_value pairs) key place → place < length pairs
-in_pairs pairs key place is =
-    let within : place < length (map key_and_value pairs) = is.within in
-    omega (arith, length-map pairs key_and_value)
-
-pub gap_in_pairs : (pairs : List Pair) (key : List ℕ) (place : ℕ) → IsGapFor (map key_and_value pairs) key place → place ≤ length pairs
-gap_in_pairs pairs key place is =
-    let within : place ≤ length (map key_and_value pairs) = is.within in
-    omega (arith, length-map pairs key_and_value)
+pub in_pairs : (pairs : List Pair) (key : List ℕ) (place : ℕ) → IsAt (slice_cmp nat_cmp) (map key_and_value pairs) key place → place < length pairs
+in_pairs pairs key place is = in_slots order same key_and_value pairs key place is
 
 pub size_more : (pairs : List Pair) (i : ℕ) (pair : Pair) → i < length pairs → pair ≡ get_or pairs i pair → sum_by pair_size (map key_and_value (take i pairs)) + pair_size (key_and_value pair) ≤ sum_by pair_size (map key_and_value pairs)
 size_more pairs i pair lt read =
@@ -252,33 +206,15 @@ size_more pairs i pair lt read =
 pub map_of_none : (pairs : List Pair) → pairs ≡ [] → map_of pairs ≡ finite.empty
 map_of_none pairs e = finite.empty_of_len _ (len-entries _ ∙ ap length (ap (λ l. entries (map_of l)) e ∙ entries-from_sorted (slice_cmp nat_cmp) [] tt))
 
--- ---- the answer of a put
+-- ---- other pairs of the same attributes
 
 pub same_held : (pairs news : List Pair) (size : ℕ) → map key_and_value news ≡ map key_and_value pairs → IsHeld pairs size → IsHeld news size
 same_held pairs news size e held = record {
   ascending = subst (λ es. IsTrue (is_sorted (slice_cmp nat_cmp) es)) (sym e) held.ascending;
   each = subst (All IsPair) (sym e) held.each;
-  size_is = subst (λ es. size ≡ sum_by pair_size es + 2) (sym e) held.size_is;
+  size_is = subst (λ es. size ≡ sum_by pair_size es + COUNT_SIZE) (sym e) held.size_is;
   within = held.within;
 }
-
-pub key_fits : (key : List ℕ) → (length key == 0) ≡ false → length key ≤ KEY_MAX → has_key_length key ≡ true
-key_fits key some most =
-    let more : 0 < length key = grind (arith, nat_tests) in
-    and_from _ _ (lt-ltb 0 (length key) more) (le-leb (length key) KEY_MAX most)
-
-pub pair_fits : (key value : List ℕ) → is_uuid key ≡ false → (length key == 0) ≡ false → length key ≤ KEY_MAX → IsUtf8 key → IsUtf8 value → IsPair (key, value)
-pair_fits key value other some most k v = record { key = and_from _ _ (key_fits key some most) (not_from_false _ other); key_text = k; value_text = v }
-
-module _ (attributes : AttributeMap) (key value : List ℕ) (size : ℕ) (other : is_uuid key ≡ false) (some : (length key == 0) ≡ false) (most : length key ≤ KEY_MAX) (is : size ≡ encoded_size (finite.insert attributes key value)) where
-  put_fits : cond (nat_lt ATTRIBUTES_MAX size) (Err (TooLarge size)) (Ok Stored) ≡ put_answer attributes key value
-  put_fits = rw (is, other, key_fits key some most)
-
-  pub put_stores : size ≤ ATTRIBUTES_MAX → Ok Stored ≡ put_answer attributes key value
-  put_stores le = ap (λ b. cond b (Err (TooLarge size)) (Ok Stored)) (sym (le-ltb ATTRIBUTES_MAX size le)) ∙ put_fits
-
-  pub put_passes : ATTRIBUTES_MAX < size → Err (TooLarge size) ≡ put_answer attributes key value
-  put_passes lt = ap (λ b. cond b (Err (TooLarge size)) (Ok Stored)) (sym (lt-ltb ATTRIBUTES_MAX size lt)) ∙ put_fits
 
 -- to remove a key that isn't there changes nothing
 pub remove_missing : (m : AttributeMap) (key : List ℕ) → get m key ≡ None → m ≡ finite.remove m key

@@ -1,5 +1,5 @@
 -- Reading items one after the other, as a loop does, and writing them.
-use Rattle.std.proofs.Common.{◌≡◌, ℕ, suc, ◌-◌, ◌+◌, ◌≤◌, ◌<◌, List, [], ◌∷◌, ◌++◌, Result, Ok, Err, refl, sym, ap, ◌∙◌, append_assoc, arith}
+use Rattle.std.proofs.Common.{◌≡◌, ℕ, zero, suc, ◌-◌, ◌+◌, ◌≤◌, ◌<◌, true, List, [], ◌∷◌, ◌++◌, Result, Ok, Err, is_ok, refl, sym, ap, ◌∙◌, append_assoc, arith}
 use Rattle.std.proofs.lemmas.List.{append-nil}
 use Rattle.flowfile_record.specs.declared.fields.fault.FieldError.{FieldError}
 use Rattle.flowfile_record.specs.declared.fields.fault.FieldError.TheVariants as fields
@@ -41,3 +41,8 @@ is_done item front count i bytes total le so_far =
     let k : count - i ≡ 0 = omega arith in
     let one : with_front front (items_at item (count - i) bytes) ≡ Ok (front, bytes) = rw k (ap (λ xs. Ok (xs, bytes)) (append-nil front)) in
     sym so_far ∙ one
+
+-- what was read from the start on begins with a first item
+pub first_read : {A : Type 0} (item : Reading A) (bytes rest : List ℕ) (k : ℕ) (x : A × List ℕ) → item rest ≡ Ok x → (k ≡ 0 → rest ≡ bytes) → (0 < k → is_ok (item bytes) ≡ true) → is_ok (item bytes) ≡ true
+first_read item bytes rest zero x e none some = ap (λ (b : List ℕ). is_ok (item b)) (sym (none refl)) ∙ ap is_ok e
+first_read item bytes rest (suc k) x e none some = some (omega arith)

@@ -1,6 +1,10 @@
+pub mod Crosses
 pub mod Entries
 pub mod FieldLaws
 pub mod Held
 pub mod Identifiers
 pub mod Items
+pub mod Numbers
 pub mod Wholes
+pub mod Same
+pub mod Search

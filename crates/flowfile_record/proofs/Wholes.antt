@@ -1,20 +1,10 @@
 -- What a reader of all of some bytes owes, from the laws of the reading.
-use Rattle.std.proofs.Common.{◌≡◌, ℕ, List, length, Result, Ok, Err, sym, ap, subst, ◌∙◌}
+use Rattle.std.proofs.Common.{◌≡◌, ℕ, List, length, Result, Ok, Err, ap, subst, ◌∙◌}
 use Rattle.std.specs.Prelude.{IfOk}
 use Rattle.flowfile_record.specs.declared.error.CodecError.{CodecError}
-use Rattle.flowfile_record.specs.declared.fields.fault.FieldError.{FieldError}
-use Rattle.flowfile_record.specs.declared.fields.fault.FieldError.TheVariants as fields
 use Rattle.flowfile_record.specs.Field.{IsBytes, IsField}
-use Rattle.flowfile_record.specs.Reading.{Reading, Fails, placed, answer, Answers, whole}
+use Rattle.flowfile_record.specs.Reading.{Reading, answer, Answers, whole}
 use Rattle.flowfile_record.proofs.FieldLaws.{whole_takes, whole_again}
-
--- the answer of a reader of fields, with its place
-pub answers_ok : {A : Type 0} (size : ℕ) (x : A) (read : Result A ℕ) → read ≡ Ok x → Answers (Ok x) (answer size read)
-answers_ok size x read e = sym (ap (answer size) e)
-
-pub answers_err : {A : Type 0} (size : ℕ) (e : FieldError) (read : Result A ℕ) → Fails e read → Answers (Err (placed size e)) (answer size read)
-answers_err size fields.Memory read given = tt
-answers_err size (fields.Form left) read given = sym (ap (answer size) given)
 
 abbrev done : {A : Type 0} → A → Result A CodecError
 done x = Ok x

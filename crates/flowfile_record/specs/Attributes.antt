@@ -5,7 +5,7 @@ use Rattle.std.specs.Cmp.Lexicographic.{slice_cmp}
 use Rattle.std.specs.Str.{IsUtf8}
 use Rattle.std.specs.FinMap.{FinMap, entries, get, insert, retain_keys}
 use Rattle.flowfile_record.specs.OptionalText.{same_text}
-use Rattle.flowfile_record.specs.declared.attributes.TheConstants.{ATTRIBUTES_MAX, KEY_MAX}
+use Rattle.flowfile_record.specs.declared.attributes.TheConstants.{ATTRIBUTES_MAX, KEY_MAX, COUNT_SIZE, PAIR_SIZE}
 use Rattle.flowfile_record.specs.declared.attributes.Put.{Put}
 use Rattle.flowfile_record.specs.declared.attributes.Put.TheVariants.{Stored, Ignored}
 use Rattle.flowfile_record.specs.declared.attributes.AttrError.{AttrError}
@@ -17,11 +17,11 @@ AttributeMap = FinMap (slice_cmp nat_cmp) (List ℕ)
 
 -- the key's length in two bytes, the key, the value's length in four bytes, and the value
 abbrev pub pair_size : List ℕ × List ℕ → ℕ
-pair_size pair = length pair.0 + length pair.1 + 6
+pair_size pair = length pair.0 + length pair.1 + PAIR_SIZE
 
 -- the count of the pairs in two bytes, and the pairs
 unfoldable pub encoded_size : AttributeMap → ℕ
-encoded_size attributes = sum_by pair_size (entries attributes) + 2
+encoded_size attributes = sum_by pair_size (entries attributes) + COUNT_SIZE
 
 -- `uuid` is no attribute of its own: it follows from the flow file's number
 abbrev pub is_uuid : List ℕ → Bool
@@ -56,9 +56,9 @@ after_put (Ok Stored) attributes key value = insert attributes key value
 after_put (Ok Ignored) attributes key value = attributes
 after_put (Err error) attributes key value = attributes
 
--- a put's answer is this one, unless memory ran out
+-- A put's answer is this one. Only where it is to store may memory run out.
 abbrev pub IsPutAnswer : Result Put AttrError → Result Put AttrError → Type 0
-IsPutAnswer (Err AttrError.Memory) answer = Unit {0}
+IsPutAnswer (Err AttrError.Memory) answer = answer ≡ Ok Stored
 IsPutAnswer result answer = result ≡ answer
 
 -- the pairs of both

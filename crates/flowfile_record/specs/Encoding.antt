@@ -3,6 +3,7 @@ use Rattle.std.specs.Prelude.{◌≡◌, ℕ, ◌<◌, ◌^◌, List, [], ◌∷
 use Rattle.std.specs.List.{flat_map}
 use Rattle.std.specs.Int.{w16, w32, w64, to_be_bytes}
 use Rattle.std.specs.Str.{IsUtf8}
+use Rattle.flowfile_record.specs.declared.limits.TheConstants.{NUMBER_LIMIT, DIGEST_SIZE}
 
 abbrev pub byte : ℕ → List ℕ
 byte n = n ∷ []
@@ -26,7 +27,7 @@ numbers ns = listed (to_be_bytes w64) ns
 
 -- of a file, an arrival, an event, a batch or a log, a counter of these, and a count
 abbrev pub IsNumber : ℕ → Type 0
-IsNumber n = n < 2 ^ 62
+IsNumber n = n < NUMBER_LIMIT
 
 abbrev pub IsText : List ℕ → Type 0
 IsText bytes = (length bytes < 2 ^ 16) × IsUtf8 bytes
@@ -41,7 +42,7 @@ abbrev pub AreNumbers : List ℕ → Type 0
 AreNumbers ns = AreListed IsNumber ns
 
 abbrev pub IsDigest : List ℕ → Type 0
-IsDigest digest = length digest ≡ 32
+IsDigest digest = length digest ≡ DIGEST_SIZE
 
 -- ---- writing
 

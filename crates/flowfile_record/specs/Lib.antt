@@ -8,6 +8,11 @@ pub mod Name
 pub mod NameLemmas
 pub mod NamedFile
 pub mod OptionalText
+pub mod NumberedItems
 pub mod Outcome
+pub mod Places
+pub mod Slots
+pub mod Stored
+pub mod StoredCode
 pub mod Reading
 pub mod Encoding

@@ -1,9 +1,10 @@
 -- Reading fields from left to right, up to the first one that can't be read.
-use Rattle.std.specs.Prelude.{◌≡◌, ℕ, zero, suc, ◌-◌, ◌^◌, ◌&&◌, Bool, List, [], ◌∷◌, length, take, drop, Result, Ok, Err, nat_lt, nat_le, ◌==◌, if◌then◌else◌}
+use Rattle.std.specs.Prelude.{◌≡◌, ℕ, zero, suc, ◌-◌, ◌&&◌, Bool, List, [], ◌∷◌, length, take, drop, Result, Ok, Err, nat_lt, nat_le, ◌==◌, if◌then◌else◌}
 use Rattle.std.specs.Int.{Width, w16, w32, w64, byte_len, from_be_bytes}
 use Rattle.std.specs.Str.{is_utf8}
 use Rattle.flowfile_record.specs.declared.error.CodecError.{CodecError}
 use Rattle.flowfile_record.specs.declared.error.CodecError.TheVariants as codec
+use Rattle.flowfile_record.specs.declared.limits.TheConstants.{NUMBER_LIMIT}
 use Rattle.flowfile_record.specs.declared.fields.fault.Unread.{Unread}
 use Rattle.flowfile_record.specs.declared.fields.fault.FieldError.{FieldError}
 use Rattle.flowfile_record.specs.declared.fields.fault.FieldError.TheVariants as fields
@@ -99,7 +100,7 @@ uint_at w bytes = if nat_lt (length bytes) (byte_len w) then Err (length bytes) 
 
 -- a number of a file, an arrival, an event, a batch or a log, a counter of these, or a count
 unfoldable pub number_at : Reading ℕ
-number_at = such (λ n. nat_lt n (2 ^ 62)) (uint_at w64)
+number_at = such (λ n. nat_lt n NUMBER_LIMIT) (uint_at w64)
 
 -- so many bytes of UTF-8, of a field that begins where so many are left
 unfoldable pub chars_at : ℕ → ℕ → Reading (List ℕ)
@@ -122,6 +123,12 @@ unfoldable pub listed_at : {A : Type 0} → Reading A → Reading (List A)
 listed_at item bytes = do
   count ← uint_at w32 bytes
   items_at item count.0 count.1
+
+-- the first item of a list
+abbrev pub first_at : {A : Type 0} → Reading A → Reading A
+first_at item bytes = do
+  count ← uint_at w32 bytes
+  if count.0 == 0 then Err (length count.1) else item count.1
 
 abbrev pub numbers_at : Reading (List ℕ)
 numbers_at = listed_at number_at

@@ -1,14 +1,16 @@
 //! The attributes of a flow file, held in the order of their keys' bytes.
-ghost use Rattle.std.specs.Prelude.{◌≡◌, ◌==◌, ◌+◌, ◌≤◌, length, sum_by, IsTrue, IfOk, IfErr, is_ok, Some, slice_get, if◌then◌else◌};
+ghost use Rattle.std.specs.Prelude.{◌≡◌, ◌==◌, ◌+◌, ◌≤◌, length, sum_by, IsTrue, IfOk, IfErr, OnOk, OnErr, is_ok, Some, slice_get, not, ◌&&◌, ◌↔◌, if◌then◌else◌};
 ghost use Rattle.std.specs.Prelude.{map as each};
 ghost use Rattle.std.specs.List.{filter};
 ghost use Rattle.std.specs.Option.{option_map};
 ghost use Rattle.std.specs.Ordering.{nat_cmp};
 ghost use Rattle.std.specs.Cmp.Lexicographic.{slice_cmp};
 ghost use Rattle.std.specs.FinMap as map;
-ghost use Rattle.std.specs.FinMap.{put, is_sorted};
-ghost use Rattle.flowfile_record.specs.Attributes.{encoded_size, pair_size, IsWithinLimits, IsPutAnswer, put_answer, after_put, shared};
-ghost use Rattle.flowfile_record.specs.HeldPairs.{key_and_value, IsPlaceOf, IsGapFor};
+ghost use Rattle.std.specs.FinMap.{put, insert, is_sorted};
+ghost use Rattle.flowfile_record.specs.Attributes.{encoded_size, pair_size, has_key_length, is_uuid, IsWithinLimits, IsPutAnswer, put_answer, after_put, shared};
+ghost use Rattle.flowfile_record.specs.Outcome.{same_attributes};
+ghost use Rattle.flowfile_record.specs.HeldPairs.{key_and_value};
+ghost use Rattle.flowfile_record.specs.Places.{IsAt, IsGap};
 ghost use Rattle.flowfile_record.specs.OptionalText.{same_text};
 
 use crate::Text;
@@ -32,7 +34,7 @@ pub struct Attributes {
     size: u64,
 }
 
-#[derive(Clone, Debug, Drop)]
+#[derive(Clone, Debug, PartialEq, Drop)]
 struct Pair {
     key: Text,
     value: Text,
@@ -131,7 +133,7 @@ impl Attributes {
 
     /// Puts a value under a key, in place of the one that stands there. The answer is `Ignored` exactly where the key
     /// is `uuid`; `BadKey` where the key is empty or longer than 255 bytes; `TooLarge` where the encoded size would
-    /// pass 65,536 bytes; `Memory` where there is no memory for a copy. Nothing changes unless it is `Stored`.
+    /// pass 65,536 bytes; `Memory` only where it is none of these. Nothing changes unless it is `Stored`.
     pub fn put(&mut self, key: &str, value: &str) -> Result<Put, AttrError>
         ensures answer { IsPutAnswer result (put_answer self.old key.now value.now) }
         ensures after { self.new ≡ after_put result self.old key.now value.now }
@@ -142,14 +144,45 @@ impl Attributes {
         if key.is_empty() || key.len() as u64 > KEY_MAX {
             return Err(AttrError::BadKey);
         }
-        let place = place_of(&self.pairs, key);
-        let size = size_with(&self.pairs, self.size, place, key, value);
+        let size = self.size_with(key, value);
         if size > ATTRIBUTES_MAX {
             return Err(AttrError::TooLarge { size });
         }
+        self.store(key, value)?;
+        Ok(Put::Stored)
+    }
+
+    /// Puts a value under a key that can be put. Memory alone refuses, and then nothing changes.
+    pub fn store(&mut self, key: &str, value: &str) -> Result<(), AllocError>
+        requires key { IsTrue (has_key_length key.now && not (is_uuid key.now)) }
+        requires size { encoded_size (insert self.old key.now value.now) ≤ ATTRIBUTES_MAX }
+        ensures ok { OnOk result (self.new ≡ insert self.old key.now value.now) }
+        ensures err { OnErr result (self.new ≡ self.old) }
+    {
+        let place = place_of(&self.pairs, key);
+        let size = size_with(&self.pairs, self.size, place, key, value);
         store(&mut self.pairs, place, key, value)?;
         self.size = size;
-        Ok(Put::Stored)
+        Ok(())
+    }
+
+    /// The encoded size that a put of the value under the key would leave, in bytes.
+    pub fn size_with(&self, key: &str, value: &str) -> u64
+        requires { length key.now ≤ KEY_MAX }
+        ensures { result ≡ encoded_size (insert self.now key.now value.now) }
+    {
+        let place = place_of(&self.pairs, key);
+        size_with(&self.pairs, self.size, place, key, value)
+    }
+
+    /// The encoded size that a removal of the key would leave, in bytes.
+    pub fn size_without(&self, key: &str) -> u64
+        ensures { result ≡ encoded_size (map.remove self.now key.now) }
+    {
+        match place_of(&self.pairs, key) {
+            Ok(place) => self.size - self.pairs[place].size(),
+            Err(_) => self.size,
+        }
     }
 
     /// Takes the pair of a key away, and says whether it was there.
@@ -175,6 +208,14 @@ impl Attributes {
         self.size = size_of_all(&self.pairs);
     }
 
+    /// Whether both are the same pairs.
+    pub fn equals(&self, other: &Attributes) -> bool
+        ensures same { result ≡ same_attributes self.now other.now }
+        ensures equal { IsTrue result ↔ (self.now ≡ other.now) }
+    {
+        self.pairs == other.pairs
+    }
+
     /// A copy of these attributes.
     pub fn copy(&self) -> Result<Attributes, AllocError>
         ensures { IfOk result (λ copy. copy ≡ self.now) }
@@ -188,9 +229,9 @@ impl Attributes {
 }
 
 // The bytes of the count, and those of a pair beside its key and its value.
-const COUNT_SIZE: u64 = 2;
+pub const COUNT_SIZE: u64 = 2;
 
-const PAIR_SIZE: u64 = 6;
+pub const PAIR_SIZE: u64 = 6;
 
 impl Pair {
     fn size(&self) -> u64
@@ -202,8 +243,8 @@ impl Pair {
 }
 
 fn size_of_all(pairs: &[Pair]) -> u64
-    requires { sum_by pair_size (each key_and_value pairs.now) + 2 ≤ ATTRIBUTES_MAX }
-    ensures { result ≡ sum_by pair_size (each key_and_value pairs.now) + 2 }
+    requires { sum_by pair_size (each key_and_value pairs.now) + COUNT_SIZE ≤ ATTRIBUTES_MAX }
+    ensures { result ≡ sum_by pair_size (each key_and_value pairs.now) + COUNT_SIZE }
 {
     let mut size = COUNT_SIZE;
     for pair in pairs {
@@ -215,8 +256,8 @@ fn size_of_all(pairs: &[Pair]) -> u64
 // Where the pair of a key stands, or where it would.
 fn place_of(pairs: &[Pair], key: &str) -> Result<usize, usize>
     requires { IsTrue (is_sorted (slice_cmp nat_cmp) (each key_and_value pairs.now)) }
-    ensures found { IfOk result (IsPlaceOf (each key_and_value pairs.now) key.now) }
-    ensures absent { IfErr result (IsGapFor (each key_and_value pairs.now) key.now) }
+    ensures found { IfOk result (IsAt (slice_cmp nat_cmp) (each key_and_value pairs.now) key.now) }
+    ensures absent { IfErr result (IsGap (slice_cmp nat_cmp) (each key_and_value pairs.now) key.now) }
 {
     pairs.binary_search_by(
         |pair: &Pair| -> Ordering
@@ -227,12 +268,12 @@ fn place_of(pairs: &[Pair], key: &str) -> Result<usize, usize>
 
 // The encoded size with a value under a key, whose place `place_of` gave.
 fn size_with(pairs: &[Pair], size: u64, place: Result<usize, usize>, key: &str, value: &str) -> u64
-    requires size_is { size ≡ sum_by pair_size (each key_and_value pairs.now) + 2 }
+    requires size_is { size ≡ sum_by pair_size (each key_and_value pairs.now) + COUNT_SIZE }
     requires size_within { size ≤ ATTRIBUTES_MAX }
     requires key_within { length key.now ≤ KEY_MAX }
-    requires found { IfOk place (IsPlaceOf (each key_and_value pairs.now) key.now) }
-    requires absent { IfErr place (IsGapFor (each key_and_value pairs.now) key.now) }
-    ensures { result ≡ sum_by pair_size (put (slice_cmp nat_cmp) key.now value.now (each key_and_value pairs.now)) + 2 }
+    requires found { IfOk place (IsAt (slice_cmp nat_cmp) (each key_and_value pairs.now) key.now) }
+    requires absent { IfErr place (IsGap (slice_cmp nat_cmp) (each key_and_value pairs.now) key.now) }
+    ensures { result ≡ sum_by pair_size (put (slice_cmp nat_cmp) key.now value.now (each key_and_value pairs.now)) + COUNT_SIZE }
 {
     match place {
         Ok(place) => size - pairs[place].value.as_str().len() as u64 + value.len() as u64,
@@ -247,8 +288,8 @@ fn store(
     key: &str,
     value: &str,
 ) -> Result<(), AllocError>
-    requires found { IfOk place (IsPlaceOf (each key_and_value pairs.old.items) key.now) }
-    requires absent { IfErr place (IsGapFor (each key_and_value pairs.old.items) key.now) }
+    requires found { IfOk place (IsAt (slice_cmp nat_cmp) (each key_and_value pairs.old.items) key.now) }
+    requires absent { IfErr place (IsGap (slice_cmp nat_cmp) (each key_and_value pairs.old.items) key.now) }
     ensures { each key_and_value pairs.new.items ≡ (if is_ok result then put (slice_cmp nat_cmp) key.now value.now (each key_and_value pairs.old.items) else each key_and_value pairs.old.items) }
 {
     let alloc = *pairs.allocator();
@@ -300,108 +341,5 @@ impl<T: Drop> From<AllocFailed<T>> for AttrError {
 
     fn from(_: AllocFailed<T>) -> AttrError {
         AttrError::Memory
-    }
-}
-
-#[cfg(test)]
-mod tests {
-    use super::*;
-    use std::test::Fail;
-
-    #[test]
-    fn a_pair_is_put_read_and_removed(rt: HostRuntime) -> Result<(), Fail> {
-        let mut attributes = Attributes::new(rt.alloc());
-        assert!(rt; attributes.is_empty());
-        assert_eq!(rt; attributes.put("filename", "a.txt"), Ok(Put::Stored));
-        assert_eq!(rt; attributes.len(), 1);
-        assert_eq!(rt; attributes.size(), 21);
-        assert_eq!(rt; attributes.get("filename"), Some("a.txt"));
-        assert_eq!(rt; attributes.get("path"), None);
-        assert_eq!(rt; attributes.pair(0), Some(("filename", "a.txt")));
-        assert_eq!(rt; attributes.pair(1), None);
-        assert!(rt; attributes.remove("filename"));
-        assert!(rt; !attributes.remove("filename"));
-        assert_eq!(rt; attributes.size(), 2);
-        Ok(())
-    }
-
-    #[test]
-    fn keys_stand_in_the_order_of_their_bytes(rt: HostRuntime) -> Result<(), Fail> {
-        let mut attributes = Attributes::new(rt.alloc());
-        for (key, value) in [("é", "1"), ("b", "2"), ("Z", "3"), ("ab", "4"), ("a", "5")] {
-            assert_eq!(rt; attributes.put(key, value), Ok(Put::Stored));
-        }
-        assert_eq!(rt; attributes.put("ab", "longer"), Ok(Put::Stored));
-        let pairs = [
-            ("Z", "3"),
-            ("a", "5"),
-            ("ab", "longer"),
-            ("b", "2"),
-            ("é", "1"),
-        ];
-        for (place, pair) in pairs.iter().enumerate() {
-            assert_eq!(rt; attributes.pair(place as u64), Some(*pair));
-        }
-        assert_eq!(rt; attributes.len(), 5);
-        assert_eq!(rt; attributes.size(), 2 + 7 + 10 + 30);
-        Ok(())
-    }
-
-    #[test]
-    fn a_key_has_1_to_255_bytes_and_is_not_uuid(rt: HostRuntime) -> Result<(), Fail> {
-        let longest = "k".repeat(rt.alloc(), 255)?;
-        let too_long = "k".repeat(rt.alloc(), 256)?;
-        let mut attributes = Attributes::new(rt.alloc());
-        assert_eq!(rt; attributes.put("", "v"), Err(AttrError::BadKey));
-        assert_eq!(rt;
-            attributes.put(too_long.as_str(), "v"),
-            Err(AttrError::BadKey)
-        );
-        assert_eq!(rt; attributes.put("uuid", "v"), Ok(Put::Ignored));
-        assert!(rt; attributes.is_empty());
-        assert_eq!(rt; attributes.put(longest.as_str(), "v"), Ok(Put::Stored));
-        assert_eq!(rt; attributes.put("UUID", ""), Ok(Put::Stored));
-        assert_eq!(rt; attributes.len(), 2);
-        Ok(())
-    }
-
-    #[test]
-    fn the_size_stops_at_65_536(rt: HostRuntime) -> Result<(), Fail> {
-        let fills = "v".repeat(rt.alloc(), 65_527)?;
-        let passes = "v".repeat(rt.alloc(), 65_528)?;
-        let mut attributes = Attributes::new(rt.alloc());
-        assert_eq!(rt;
-            attributes.put("k", passes.as_str()),
-            Err(AttrError::TooLarge { size: 65_537 })
-        );
-        assert_eq!(rt; attributes.put("k", fills.as_str()), Ok(Put::Stored));
-        assert_eq!(rt; attributes.size(), 65_536);
-        assert_eq!(rt;
-            attributes.put("k", passes.as_str()),
-            Err(AttrError::TooLarge { size: 65_537 })
-        );
-        assert_eq!(rt;
-            attributes.put("l", ""),
-            Err(AttrError::TooLarge { size: 65_543 })
-        );
-        assert_eq!(rt; attributes.put("k", ""), Ok(Put::Stored));
-        assert_eq!(rt; attributes.size(), 9);
-        Ok(())
-    }
-
-    #[test]
-    fn what_both_hold_is_kept(rt: HostRuntime) -> Result<(), Fail> {
-        let mut attributes = Attributes::new(rt.alloc());
-        for (key, value) in [("a", "1"), ("b", "2"), ("c", "3")] {
-            assert_eq!(rt; attributes.put(key, value), Ok(Put::Stored));
-        }
-        let mut others = attributes.copy()?;
-        assert_eq!(rt; others.put("b", "other"), Ok(Put::Stored));
-        assert!(rt; others.remove("a"));
-        attributes.keep_shared(&others);
-        assert_eq!(rt; attributes.pair(0), Some(("c", "3")));
-        assert_eq!(rt; attributes.len(), 1);
-        assert_eq!(rt; attributes.size(), 10);
-        Ok(())
     }
 }

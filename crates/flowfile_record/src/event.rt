@@ -3,7 +3,7 @@ ghost use Rattle.std.specs.Prelude.{◌≡◌, ◌≢◌, IfSome, IfNone};
 ghost use Rattle.flowfile_record.specs.Events.{code_of};
 ghost use Rattle.flowfile_record.specs.declared.event.EventKind.{EventKind as Kind};
 
-use crate::{Numbers, Text};
+use crate::{DIGEST_SIZE, Numbers, Text};
 
 /// What happened to a flow file, by NiFi's names of provenance events.
 #[derive(Clone, Copy, Debug, PartialEq, Eq)]
@@ -67,7 +67,7 @@ pub struct Event {
     pub children: Numbers,
     pub detail: Text,
     pub size: u64,
-    pub digest: [u8; 32],
+    pub digest: [u8; DIGEST_SIZE],
 }
 
 /// How many events there are of each kind, at the place of the kind's code less 1.

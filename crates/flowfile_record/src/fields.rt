@@ -16,6 +16,3 @@ pub use read::{
 pub use write::{
     write_digest, write_long, write_numbers, write_text, write_u8, write_u16, write_u32, write_u64,
 };
-
-#[cfg(test)]
-mod tests;

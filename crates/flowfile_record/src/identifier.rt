@@ -5,6 +5,7 @@ ghost use Rattle.uuid.specs.Parts.{variant_of};
 ghost use Rattle.uuid.specs.declared.Variant.TheVariants as variant;
 ghost use Rattle.flowfile_record.specs.Identifier.{identifier, IsOneOfAKind};
 
+use crate::{NUMBER_LIMIT, STORE_LIMIT};
 use uuid::Uuid;
 
 /// The identifier of a store's flow file by its number: version 8 of RFC 9562. It holds the low 60 bits of the
@@ -26,25 +27,3 @@ pub fn uuid_of(store: u64, number: u64) -> Uuid
 const VERSION: u64 = 8;
 
 const VARIANT: u64 = 2;
-
-// Past what an identifier holds of a store's id, and of a number.
-const STORE_LIMIT: u64 = 1 << 60;
-
-const NUMBER_LIMIT: u64 = 1 << 62;
-
-#[cfg(test)]
-mod tests {
-    use super::*;
-
-    #[test]
-    fn the_bits_lie_as_in_the_standard(rt: HostRuntime) {
-        let first = 0x0123_4567_89ab_8cde_8000_0000_0000_0001;
-        assert_eq!(rt; uuid_of(0x0012_3456_789a_bcde, 1).as_u128(), first);
-        let last = 0xffff_ffff_ffff_8fff_bfff_ffff_ffff_ffff;
-        assert_eq!(rt;
-            uuid_of(0x0fff_ffff_ffff_ffff, 0x3fff_ffff_ffff_ffff).as_u128(),
-            last
-        );
-        assert_eq!(rt; uuid_of(u64::MAX, u64::MAX).as_u128(), last);
-    }
-}

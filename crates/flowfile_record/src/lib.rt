@@ -12,8 +12,11 @@ mod event;
 pub mod fields;
 mod flow_file;
 mod identifier;
+mod law;
 mod limits;
 mod name;
+mod numbered;
+mod numbered_list;
 mod sequence;
 mod stored;
 mod text;
@@ -25,8 +28,14 @@ pub use error::CodecError;
 pub use event::{Event, EventCounts, EventKind};
 pub use flow_file::FlowFile;
 pub use identifier::uuid_of;
-pub use limits::{FILENAME_SIZE, FILES_MAX, SESSION_ATTRIBUTES_MAX, TAKEN_MAX, WRITTEN_MAX};
-pub use name::{Name, NameError};
+pub use law::{limits_of_a_file, limits_of_a_session};
+pub use limits::{
+    DIGEST_SIZE, FILENAME_SIZE, FILES_MAX, NUMBER_LIMIT, SESSION_ATTRIBUTES_MAX, STORE_LIMIT,
+    TAKEN_MAX, WRITTEN_MAX,
+};
+pub use name::{NAME_MAX, Name, NameError};
+pub use numbered::Numbered;
+pub use numbered_list::{NumberedIter, NumberedList};
 pub use sequence::{Bytes, Numbers, Sequence};
 pub use stored::{
     ActiveFile, ActiveList, BatchList, Counted, EventList, FileList, Placed, PlacedList, Stored,

@@ -1,4 +1,13 @@
-//! How much a session may hold.
+//! The limits of numbers, and how much a session may hold.
+
+/// Past the numbers of files, arrivals, events, batches and logs, past the counters of these, and past counts: 2^62.
+pub const NUMBER_LIMIT: u64 = 1 << 62;
+
+/// Past the ids of stores: 2^60.
+pub const STORE_LIMIT: u64 = 1 << 60;
+
+/// The size of a SHA-256 digest, in bytes.
+pub const DIGEST_SIZE: usize = 32;
 
 /// The greatest number of files of a session, the taken ones and the removed ones too.
 pub const FILES_MAX: u64 = 10_000;

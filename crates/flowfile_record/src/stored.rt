@@ -1,5 +1,7 @@
 //! The state of a flow that a store keeps.
-use crate::{Bytes, Event, FlowFile, Numbers, Sequence, TextList};
+use crate::{
+    Bytes, DIGEST_SIZE, Event, FlowFile, Numbered, NumberedList, Numbers, Sequence, TextList,
+};
 
 /// What a store keeps: its id, the digest of its flow's text, the flow's connections, how many files each processor
 /// has generated, the numbers that come next (0 for the last event means none yet), the active flow files and the
@@ -7,7 +9,7 @@ use crate::{Bytes, Event, FlowFile, Numbers, Sequence, TextList};
 #[derive(Debug, Drop)]
 pub struct Stored {
     pub store: u64,
-    pub flow: [u8; 32],
+    pub flow: [u8; DIGEST_SIZE],
     pub connections: TextList,
     pub counts: Numbers,
     pub next_number: u64,
@@ -25,7 +27,16 @@ pub struct ActiveFile {
     pub file: FlowFile,
 }
 
-pub type ActiveList = Sequence<ActiveFile>;
+/// The active files by their numbers.
+pub type ActiveList = NumberedList<ActiveFile>;
+
+impl Numbered for ActiveFile {
+    ghost number = { λ active. active.file.number };
+
+    fn number(&self) -> u64 {
+        self.file.number
+    }
+}
 
 /// A batch of flow files that is swapped out of a connection's queue: its number, how many files it has, and the
 /// sums, in bytes, of their contents and of their encoded records.
@@ -38,7 +49,16 @@ pub struct SwapBatch {
     pub encoded: u64,
 }
 
-pub type BatchList = Sequence<SwapBatch>;
+/// The batches by their numbers.
+pub type BatchList = NumberedList<SwapBatch>;
+
+impl Numbered for SwapBatch {
+    ghost number = { λ batch. batch.batch };
+
+    fn number(&self) -> u64 {
+        self.batch
+    }
+}
 
 /// A flow file that a session places into the queue of a connection. `fresh` is its content where that isn't in the
 /// store yet; then the slot and the offset of its reference mean nothing.

@@ -4,7 +4,7 @@ use Rattle.std.specs.Prelude.{All, IfSome, Option, Some, None, codes, decimal, s
 use Rattle.std.specs.declared.cmp.Ordering.TheVariants.{Less, Equal, Greater}
 use Rattle.std.specs.Ordering.{nat_cmp}
 use Rattle.std.specs.Cmp.Lexicographic.{slice_cmp, nat_list_cmp_total}
-use Rattle.std.specs.FinMap.{empty, insert, entries, contains_key, entries-insert, len-entries, len-empty, slice_cmp-IsAntisymmetric, nat_cmp-IsAntisymmetric}
+use Rattle.std.specs.FinMap.{empty, get, insert, entries, contains_key, entries-insert, len-entries, len-empty, slice_cmp-IsAntisymmetric, nat_cmp-IsAntisymmetric}
 use Rattle.std.specs.FinMap.Entries.{by_order, put as put_entry}
 use Rattle.std.specs.List.{list_all}
 use Rattle.std.specs.Str.{IsUtf8}
@@ -26,6 +26,7 @@ use Rattle.flowfile_record.specs.declared.worked.Origin.{Origin}
 use Rattle.flowfile_record.specs.declared.worked.Origin.TheVariants.{Created, Received}
 use Rattle.flowfile_record.specs.declared.worked.Sent.{Sent}
 use Rattle.flowfile_record.specs.declared.worked.Worked.{Worked}
+use Rattle.expr_lang.specs.View.{tree_of}
 use Rattle.expr_lang.specs.declared.syntax.Expr.{Expr}
 use Rattle.machine_model.specs.declared.given.Given.{Given}
 use Rattle.machine_model.specs.declared.kind.Conflict.{Conflict}
@@ -34,6 +35,7 @@ use Rattle.machine_model.specs.declared.kind.Kind.TheVariants.{GetFile, Generate
 use Rattle.machine_model.specs.Acting.{TakenFile, act, received, received_attributes, generated, generated_text, generated_attributes, made_file, passed_on, put, put_unless_there, name_in}
 use Rattle.machine_model.specs.Laws.{ActsGiveOutcomes}
 use Rattle.machine_model.proofs.Acted.{passed_alone}
+use Rattle.machine_model.proofs.ShortTexts.{text-short}
 
 -- ---- attributes of which one is set
 
@@ -184,6 +186,7 @@ pub act-gives : ActsGiveOutcomes
 act-gives (GetFile pattern) taken given handed =
     received-gives (map (λ file. length file.bytes) taken) given.file given.bytes (length-map taken (λ (file : TakenFile). length file.bytes) ∙ handed.count) handed.name handed.bytes
 act-gives (GenerateFlowFile count text) taken given handed =
-    generated-gives (map (λ file. length file.bytes) taken) text given.index (length-map taken (λ (file : TakenFile). length file.bytes) ∙ handed.count) handed.index handed.text
+    generated-gives (map (λ file. length file.bytes) taken) text given.index (length-map taken (λ (file : TakenFile). length file.bytes) ∙ handed.count) handed.index
+    (omega (arith, text-short (get (generated_attributes given.index)) handed.sound.texts.0 (tree_of text) handed.sound.texts.1))
 act-gives (PutFile conflict) taken given handed = put-file conflict taken given handed.count handed.attributes
 act-gives _ taken given handed = tt

@@ -31,6 +31,7 @@ pub mod Seen
 pub mod Settled
 pub mod SettledNumbers
 pub mod SettlingKeeps
+pub mod ShortTexts
 pub mod Stepped
 pub mod Tally
 pub mod Took

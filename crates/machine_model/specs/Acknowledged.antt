@@ -21,4 +21,5 @@ acknowledged journal moment = count_by (λ entry. is_acknowledged_by moment entr
 abbrev pub IsInOrder : (low high : ℕ) → List Entry → Type 0
 IsInOrder low high [] = Unit {0}
 IsInOrder low high (entry ∷ journal) =
-    MatchOption entry.acked (AllByRecursion (λ later. later.acked ≡ None) journal) (λ moment. (low ≤ moment) × (moment ≤ high) × IsInOrder moment high journal)
+    MatchOption entry.acked (AllByRecursion (λ later. later.acked ≡ None) journal)
+    (λ moment. (low ≤ moment) × (moment ≤ high) × IsInOrder moment high journal)

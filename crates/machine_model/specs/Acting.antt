@@ -31,12 +31,28 @@ pub record TakenFile : Type 0 where
 -- a file that is made, with these bytes, and goes to a relationship
 abbrev pub made_file : Origin → AttributeMap → List ℕ → (written : Bool) → ℕ → Worked
 made_file origin attributes bytes written relationship =
-    record { origin = origin; attributes = attributes; body = New bytes; end = To relationship; written = written; penalised = false; routed = None }
+    record {
+      origin = origin;
+      attributes = attributes;
+      body = New bytes;
+      end = To relationship;
+      written = written;
+      penalised = false;
+      routed = None;
+    }
 
 -- a taken file that goes to a relationship as it is
 abbrev pub passed_on : ℕ → AttributeMap → (penalised : Bool) → ℕ → Worked
 passed_on place attributes penalised relationship =
-    record { origin = Taken place; attributes = attributes; body = Whole place; end = To relationship; written = false; penalised = penalised; routed = None }
+    record {
+      origin = Taken place;
+      attributes = attributes;
+      body = Whole place;
+      end = To relationship;
+      written = false;
+      penalised = penalised;
+      routed = None;
+    }
 
 abbrev pub alone : Worked → Outcome
 alone file = record { files = file ∷ []; sent = None }
@@ -54,7 +70,8 @@ abbrev pub passes : Option Pattern → List ℕ → Bool
 passes None name = true
 passes (Some pattern) name = is_some (find_str (regex_pattern pattern.regex.value) name 0)
 
--- GenerateFlowFile: the custom text over `path` and `generate.index`, or nothing where it can't be evaluated; to success
+-- GenerateFlowFile: the custom text over `path` and `generate.index`, or nothing where it can't be evaluated; to
+-- success
 abbrev pub generated_attributes : ℕ → AttributeMap
 generated_attributes index = insert (insert empty (codes "path") (codes "./")) (codes "generate.index") (decimal index)
 
@@ -66,18 +83,22 @@ abbrev pub generated_text : Expr → ℕ → List ℕ
 generated_text custom_text index = text_or_nothing (tree_value (get (generated_attributes index)) (tree_of custom_text))
 
 abbrev pub generated : Expr → ℕ → Outcome
-generated custom_text index = alone (made_file Created (generated_attributes index) (generated_text custom_text index) true 0)
+generated custom_text index =
+    alone (made_file Created (generated_attributes index) (generated_text custom_text index) true 0)
 
 -- PutFile: success is 0, failure 1
 abbrev pub put_unless_there : Conflict → (there : Bool) → TakenFile → List ℕ → Outcome
-put_unless_there conflict false file name = record { files = passed_on 0 file.attributes false 0 ∷ []; sent = Some (record { place = 0; name = name }) }
-put_unless_there Replace true file name = record { files = passed_on 0 file.attributes false 0 ∷ []; sent = Some (record { place = 0; name = name }) }
+put_unless_there conflict false file name =
+    record { files = passed_on 0 file.attributes false 0 ∷ []; sent = Some (record { place = 0; name = name }) }
+put_unless_there Replace true file name =
+    record { files = passed_on 0 file.attributes false 0 ∷ []; sent = Some (record { place = 0; name = name }) }
 put_unless_there Ignore true file name = alone (passed_on 0 file.attributes false 0)
 put_unless_there Fail true file name = alone (passed_on 0 file.attributes true 1)
 
 -- the attribute `filename`, where it may name a file
 abbrev pub name_in : AttributeMap → Option (List ℕ)
-name_in attributes = option_and_then (λ name. if is_name name then Some name else None) (get attributes (codes "filename"))
+name_in attributes =
+    option_and_then (λ name. if is_name name then Some name else None) (get attributes (codes "filename"))
 
 abbrev pub put : Conflict → (there : Bool) → TakenFile → Option (List ℕ) → Outcome
 put conflict there file None = alone (passed_on 0 file.attributes true 1)
@@ -87,5 +108,6 @@ put conflict there file (Some name) = put_unless_there conflict there file name
 abbrev pub act : Kind → List TakenFile → Given → Option Outcome
 act (GetFile filter) taken given = received given.file given.bytes
 act (GenerateFlowFile count custom_text) taken given = Some (generated custom_text given.index)
-act (PutFile conflict) taken given = option_map (λ file. put conflict given.there file (name_in file.attributes)) (slice_get taken 0)
+act (PutFile conflict) taken given =
+    option_map (λ file. put conflict given.there file (name_in file.attributes)) (slice_get taken 0)
 act _ taken given = None

@@ -70,7 +70,8 @@ forked_children files place = map (λ file. file.number) (filter (λ file. is_fo
 
 abbrev pub fork_of : EndedSession → SettledFile → List ℕ → List Draft
 fork_of session parent [] = []
-fork_of session parent (child ∷ children) = of_file session kind.Fork parent (parent.number ∷ []) (child ∷ children) [] ∷ []
+fork_of session parent (child ∷ children) =
+    of_file session kind.Fork parent (parent.number ∷ []) (child ∷ children) [] ∷ []
 
 abbrev pub forks : EndedSession → List SettledFile → List Draft
 forks session files = flat_map (λ f. fork_of session f.1 (forked_children files f.0)) (enumerate_from 0 files)
@@ -93,7 +94,8 @@ copies files place = filter (λ file. is_cloned_from place file.worked.origin) f
 
 -- of each file its copies, by their places
 abbrev pub clonings : EndedSession → List SettledFile → List Draft
-clonings session files = flat_map (λ f. map (λ copy. clone_event session f.1 copy.number) (copies files f.0)) (enumerate_from 0 files)
+clonings session files =
+    flat_map (λ f. map (λ copy. clone_event session f.1 copy.number) (copies files f.0)) (enumerate_from 0 files)
 
 abbrev pub is_removed : End → Bool
 is_removed Removed = true
@@ -110,15 +112,20 @@ modified session file _ = []
 abbrev pub attributes_modified : EndedSession → SettledFile → Origin → List Draft
 attributes_modified session file (origin.Taken place) =
     if is_removed file.worked.end || file.worked.written then []
-    else option_map_or (λ taken. if same_attributes taken.attributes file.attributes then [] else alone session kind.AttributesModified file [] ∷ []) (slice_get session.taken place) []
+    else option_map_or
+    (λ taken. if same_attributes taken.attributes file.attributes then []
+    else alone session kind.AttributesModified file [] ∷ [])
+    (slice_get session.taken place) []
 attributes_modified session file _ = []
 
 abbrev pub routed : EndedSession → SettledFile → Option ℕ → List Draft
-routed session file (Some relationship) = alone session kind.Route file (relationship_at session.processor relationship) ∷ []
+routed session file (Some relationship) =
+    alone session kind.Route file (relationship_at session.processor relationship) ∷ []
 routed session file None = []
 
 abbrev pub sent : EndedSession → List SettledFile → Option Sent → List Draft
-sent session files (Some put) = option_map_or (λ file. alone session kind.Send file put.name ∷ []) (slice_get files put.place) []
+sent session files (Some put) =
+    option_map_or (λ file. alone session kind.Send file put.name ∷ []) (slice_get files put.place) []
 sent session files None = []
 
 abbrev pub dropped : EndedSession → SettledFile → Destination → List Draft
@@ -126,8 +133,8 @@ dropped session file (Drops relationship) = alone session kind.Drop file relatio
 dropped session file Leaves = alone session kind.Drop file [] ∷ []
 dropped session file _ = []
 
--- one kind behind the other; of each kind by the place of the file that the event is of, and then by that of the copy, or
--- by connection
+-- one kind behind the other; of each kind by the place of the file that the event is of, and then by that of the copy,
+-- or by connection
 abbrev pub drafts : EndedSession → Outcome → List Draft
 drafts session outcome =
     let files = settled_files session outcome.files in

@@ -21,15 +21,16 @@ use Rattle.machine_model.specs.declared.journal.Step.TheVariants as entry
 use Rattle.machine_model.specs.Due.{numbers_of, due_expiry, due_swap_out, due_swap_in}
 use Rattle.machine_model.specs.Files.{active_views, content_bytes, queue_at, queue_view, queues_of, view_of}
 use Rattle.machine_model.specs.declared.kind.Kind.{Kind}
-use Rattle.machine_model.specs.declared.kind.Kind.TheVariants.{GetFile, GenerateFlowFile}
+use Rattle.machine_model.specs.declared.kind.Kind.TheVariants.{GetFile}
 use Rattle.machine_model.specs.declared.kind.TakeRule.{TakeRule}
 use Rattle.machine_model.specs.declared.kind.TakeRule.TheVariants.{Source, One, Bin, Defragment}
 use Rattle.machine_model.specs.State.{QueuedFile, State, World, Machine}
-use Rattle.machine_model.specs.Acting.{TakenFile, act, generated_text}
+use Rattle.machine_model.specs.Acting.{TakenFile, act}
 use Rattle.machine_model.specs.Kinds.{take_rule_of, relationships_of, is_among}
 use Rattle.machine_model.specs.Lineage.{Lineage, IsLineage}
 use Rattle.machine_model.specs.Order.{goes_before, in_order, is_eligible, eligible_files, best}
 use Rattle.machine_model.specs.Placing.{EndedSession}
+use Rattle.machine_model.specs.Sound.{IsSoundKind}
 use Rattle.machine_model.specs.Settling.{settle}
 use Rattle.machine_model.specs.View.{file_count, byte_count, FileView}
 use Rattle.machine_model.specs.Valid.{files_of_all, IsWellNumbered, AreEventsInRow, EventsTellKin, IsValid, new_state}
@@ -69,7 +70,8 @@ OrderIsOnly = (order : List Prioritizer) (files sorted : List FileView) → Arri
     → AllPairs (λ earlier later. goes_before order later earlier ≡ false) sorted → sorted ≡ in_order order files
 
 -- the file is an eligible one of these files, and no eligible one goes before it
-pub record IsBest (order : List Prioritizer) (limits : QueueLimits) (moment : ℕ) (files : List FileView) (file : FileView) : Type 0 where
+pub record IsBest (order : List Prioritizer) (limits : QueueLimits) (moment : ℕ) (files : List FileView)
+    (file : FileView) : Type 0 where
   pub stands_there : Contains files file
   pub eligible : is_eligible limits moment file ≡ true
   pub first : All (λ other. is_eligible limits moment other ≡ true → goes_before order other file ≡ false) files
@@ -77,11 +79,13 @@ pub record IsBest (order : List Prioritizer) (limits : QueueLimits) (moment : �
 -- there is a best file exactly where any is eligible
 abbrev pub BestIsBest : Type 0
 BestIsBest = (order : List Prioritizer) (limits : QueueLimits) (moment : ℕ) (files : List FileView) →
-    MatchOption (best order limits moment files) (All (λ file. is_eligible limits moment file ≡ false) files) (IsBest order limits moment files)
+    MatchOption (best order limits moment files) (All (λ file. is_eligible limits moment file ≡ false) files)
+    (IsBest order limits moment files)
 
 -- where no two have one arrival, no other is that good
 abbrev pub BestIsOnly : Type 0
-BestIsOnly = (order : List Prioritizer) (limits : QueueLimits) (moment : ℕ) (files : List FileView) (file : FileView) → ArrivalsDiffer files
+BestIsOnly = (order : List Prioritizer) (limits : QueueLimits) (moment : ℕ) (files : List FileView) (file : FileView)
+    → ArrivalsDiffer files
     → IsBest order limits moment files file → best order limits moment files ≡ Some file
 
 -- ---- how a queue is seen: with all of its files and bytes, the swapped ones by their batches
@@ -94,7 +98,8 @@ ViewsCountAll = (files : List QueuedFile) →
 
 abbrev pub ReplayOfOneMore : Type 0
 ReplayOfOneMore = (flow : Flow) (machine : Machine) (steps : List Step) (last : Step) →
-    replay flow machine (steps ++ last ∷ []) ≡ option_and_then (λ after. step flow after last) (replay flow machine steps)
+    replay flow machine (steps ++ last ∷ [])
+    ≡ option_and_then (λ after. step flow after last) (replay flow machine steps)
 
 abbrev pub ReplayOfJoined : Type 0
 ReplayOfJoined = (flow : Flow) (machine : Machine) (front back : List Step) →
@@ -117,21 +122,16 @@ abbrev pub ActsEndAllInTurn : Type 0
 ActsEndAllInTurn = (kind : Kind) (taken : List TakenFile) (given : Given) → MayTake (take_rule_of kind) (length taken) →
     IfSome (act kind taken given) (EndsAllInTurn (length taken))
 
--- what a generator's text is worth is no longer than a content
-abbrev pub HasTextWithin : Kind → (index : ℕ) → Type 0
-HasTextWithin (GenerateFlowFile count custom_text) index = length (generated_text custom_text index) ≤ CONTENT_MAX
-HasTextWithin _ index = Unit {0}
-
--- What a processor may be handed: as many files as its rule takes, each within the limits of a flow file; an index of 64
--- bits; the name of a file of the inbox, and bytes that a content may have.
+-- What a sound processor may be handed: as many files as its rule takes, each within the limits of a flow file; an
+-- index of 64 bits; the name of a file of the inbox, and bytes that a content may have.
 pub record MayBeHanded (kind : Kind) (taken : List TakenFile) (given : Given) : Type 0 where
+  pub sound : IsSoundKind kind
   pub count : MayTake (take_rule_of kind) (length taken)
   pub contents : All (λ file. length file.bytes ≤ CONTENT_MAX) taken
   pub attributes : All (λ file. IsWithinLimits file.attributes) taken
   pub index : given.index < 2 ^ 64
   pub name : IfSome given.file IsName
   pub bytes : IfSome given.bytes (λ bytes. length bytes ≤ CONTENT_MAX)
-  pub text : HasTextWithin kind given.index
 
 -- the outcome is one of a session with the processor's relationships, over the contents that were taken
 abbrev pub ActsGiveOutcomes : Type 0
@@ -231,7 +231,8 @@ received_name (GetFile filter) (Some name) = name ∷ []
 received_name _ _ = []
 
 abbrev pub names_of_step : Flow → Step → List (List ℕ)
-names_of_step flow (entry.Session processor numbers moment given) = option_map_or (λ found. received_name found.kind given.file) (slice_get flow.processors processor) []
+names_of_step flow (entry.Session processor numbers moment given) =
+    option_map_or (λ found. received_name found.kind given.file) (slice_get flow.processors processor) []
 names_of_step flow _ = []
 
 -- the names that the sessions of GetFile took
@@ -255,33 +256,40 @@ ReplaysLoseNames = (flow : Flow) (machine : Machine) (steps : List Step) →
 
 -- of the connections that end at a processor one alone has a file of some active, and so all
 abbrev pub OneConnectionHas : Type 0
-OneConnectionHas = (flow : Flow) (state : State) (processor number : ℕ) (numbers : List ℕ) (source : ℕ × Connection) → IsValid flow state
+OneConnectionHas = (flow : Flow) (state : State) (processor number : ℕ) (numbers : List ℕ)
+    (source : ℕ × Connection) → IsValid flow state
     → Contains (enumerate_from 0 flow.connections) source →
     has_all state processor (number ∷ numbers) source ≡ true →
     source_of flow state processor (number ∷ numbers) ≡ Some source
 
 -- a session of a processor may take these files: those that its connection has under their numbers
-pub record IsTaking (flow : Flow) (state : State) (processor : ℕ) (rule : TakeRule) (moment : ℕ) (picked : List FileView) : Type 0 where
+pub record IsTaking (flow : Flow) (state : State) (processor : ℕ) (rule : TakeRule) (moment : ℕ)
+    (picked : List FileView) : Type 0 where
   pub files : List QueuedFile
   pub taken : taken_files flow state processor rule (numbers_of picked) moment ≡ Some files
   pub seen : map view_of files ≡ picked
 
 -- what a rule picks of the eligible files of a connection may be taken by a session of the processor at its end
 abbrev pub PicksMayBeTaken : Type 0
-PicksMayBeTaken = (flow : Flow) (state : State) (place : ℕ) (connection : Connection) (rule : TakeRule) (moment : ℕ) → IsValid flow state
+PicksMayBeTaken = (flow : Flow) (state : State) (place : ℕ) (connection : Connection) (rule : TakeRule) (moment : ℕ)
+    → IsValid flow state
     → slice_get flow.connections place ≡ Some connection
-    → IfSome (picks rule (eligible_files connection.order connection.limits moment (active_views (queue_at state place)))) (IsTaking flow state connection.target rule moment)
+    → IfSome
+    (picks rule (eligible_files connection.order connection.limits moment (active_views (queue_at state place))))
+    (IsTaking flow state connection.target rule moment)
 
 -- ---- what is due has a step
 
 abbrev pub DueExpiriesHaveSteps : Type 0
 DueExpiriesHaveSteps = (flow : Flow) (machine : Machine) (moment : ℕ) → IsValid flow machine.state →
-    IfSome (due_expiry flow (queues_of machine.state) moment) (λ due. IsSome (step flow machine (Expire due.0 due.1 moment)))
+    IfSome (due_expiry flow (queues_of machine.state) moment)
+    (λ due. IsSome (step flow machine (Expire due.0 due.1 moment)))
 
 -- as the next batch
 abbrev pub DueSwapOutsHaveSteps : Type 0
 DueSwapOutsHaveSteps = (flow : Flow) (machine : Machine) → IsValid flow machine.state →
-    IfSome (due_swap_out flow (queues_of machine.state)) (λ due. IsSome (step flow machine (SwapOut due.0 due.1 machine.state.next_batch)))
+    IfSome (due_swap_out flow (queues_of machine.state))
+    (λ due. IsSome (step flow machine (SwapOut due.0 due.1 machine.state.next_batch)))
 
 abbrev pub DueSwapInsHaveSteps : Type 0
 DueSwapInsHaveSteps = (flow : Flow) (machine : Machine) →

@@ -23,7 +23,8 @@ pub data IsDescendant (events : List Event) (file : ℕ) : ℕ → Type 0 where
 
 -- the event is of the file, of an ancestor or of a descendant
 abbrev pub TellsOf : List Event → (file : ℕ) → Event → Type 0
-TellsOf events file event = (event.file ≡ file) ⊎ (IsAncestor events file event.file ⊎ IsDescendant events file event.file)
+TellsOf events file event =
+    (event.file ≡ file) ⊎ (IsAncestor events file event.file ⊎ IsDescendant events file event.file)
 
 -- an event with this number tells of the file
 pub record HasTold (events : List Event) (file number : ℕ) : Type 0 where

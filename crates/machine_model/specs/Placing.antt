@@ -35,10 +35,12 @@ pub data Destination : Type 0 where
 
 -- the places of the connections that a relationship of a processor leads to, in the flow's order
 abbrev pub leads : ℕ → List ℕ → ℕ × Connection → Bool
-leads processor relationship (place, connection) = (connection.source == processor) && is_among relationship connection.relationships
+leads processor relationship (place, connection) =
+    (connection.source == processor) && is_among relationship connection.relationships
 
 abbrev pub connections_of : Flow → ℕ → List ℕ → List ℕ
-connections_of flow processor relationship = map (λ c. c.0) (filter (leads processor relationship) (enumerate_from 0 flow.connections))
+connections_of flow processor relationship =
+    map (λ c. c.0) (filter (leads processor relationship) (enumerate_from 0 flow.connections))
 
 abbrev pub to_connections : List ℕ → List ℕ → Destination
 to_connections relationship [] = Drops relationship
@@ -54,7 +56,8 @@ abbrev pub relationship_at : Processor → ℕ → List ℕ
 relationship_at processor place = unwrap_or (slice_get (relationships_of processor.kind) place) []
 
 abbrev pub goes : Flow → ℕ → Processor → End → Destination
-goes flow place processor (To relationship) = to_relationship flow place processor (relationship_at processor relationship)
+goes flow place processor (To relationship) =
+    to_relationship flow place processor (relationship_at processor relationship)
 goes flow place processor Back = Returns
 goes flow place processor Removed = Leaves
 
@@ -157,7 +160,8 @@ wanted_clones files = flat_map (λ file. map (λ connection. (file, connection))
 
 abbrev pub clones_from : ℕ → List (SettledFile × ℕ) → List SettlementClone
 clones_from next [] = []
-clones_from next (clone ∷ clones) = record { number = next; original = clone.0; connection = clone.1 } ∷ clones_from (next + 1) clones
+clones_from next (clone ∷ clones) =
+    record { number = next; original = clone.0; connection = clone.1 } ∷ clones_from (next + 1) clones
 
 abbrev pub count_made : List Worked → ℕ
 count_made files = count_by (λ file. is_made file.origin) files

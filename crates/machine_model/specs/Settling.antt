@@ -72,7 +72,9 @@ settle session outcome =
     let arriving_files = newcomers files clones in
     let state = session.state in
     record state {
-      queues = map (λ queue. staying files queue.1 ++ arriving state.next_arrival queue.0 arriving_files) (enumerate_from 0 state.queues);
+      queues =
+          map (λ queue. staying files queue.1 ++ arriving state.next_arrival queue.0 arriving_files)
+          (enumerate_from 0 state.queues);
       events = state.events ++ numbered_from (length state.events + 1) (drafts session outcome);
       kin = union state.kin (from_list (kin_of_files files clones));
       next_number = state.next_number + count_made outcome.files + length clones;

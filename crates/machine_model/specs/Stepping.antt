@@ -42,14 +42,16 @@ without_name names name = filter (λ other. not (bytes_eq other name)) names
 
 -- the first connection that ends at a processor and has these numbers active
 abbrev pub has_all : State → ℕ → List ℕ → ℕ × Connection → Bool
-has_all state processor numbers (place, connection) = (connection.target == processor) && are_active (queue_at state place) numbers
+has_all state processor numbers (place, connection) =
+    (connection.target == processor) && are_active (queue_at state place) numbers
 
 abbrev pub source_of : Flow → State → ℕ → List ℕ → Option (ℕ × Connection)
 source_of flow state processor numbers = find (has_all state processor numbers) (enumerate_from 0 flow.connections)
 
 -- neither penalised nor expired
 abbrev pub may_be_taken : Connection → ℕ → FileView → Bool
-may_be_taken connection moment file = not (is_penalised moment file) && not (is_expired connection.limits.expiration moment file)
+may_be_taken connection moment file =
+    not (is_penalised moment file) && not (is_expired connection.limits.expiration moment file)
 
 -- each of these files goes before the next
 abbrev pub is_in_turn : List Prioritizer → List FileView → Bool
@@ -72,7 +74,8 @@ abbrev pub taken_from : State → TakeRule → List ℕ → ℕ → ℕ × Conne
 taken_from state rule numbers moment (place, connection) =
     let files = files_of (queue_at state place) numbers in
     let views = map view_of files in
-    if are_distinct numbers && list_all (may_be_taken connection moment) views && admits rule connection.order views then Some files else None
+    if are_distinct numbers && list_all (may_be_taken connection moment) views && admits rule connection.order views
+    then Some files else None
 
 -- the files that a session takes, where it may take these
 abbrev pub taken_files : Flow → State → ℕ → TakeRule → List ℕ → ℕ → Option (List QueuedFile)
@@ -94,7 +97,8 @@ may_get filter world name =
 -- the outbox has the file's name
 abbrev pub is_there : World → List QueuedFile → Bool
 is_there world files =
-    option_map_or (λ file. option_map_or (λ name. is_some (world.outbox name)) (name_in file.attributes) false) (slice_get files 0) false
+    option_map_or (λ file. option_map_or (λ name. is_some (world.outbox name)) (name_in file.attributes) false)
+    (slice_get files 0) false
 
 abbrev pub same_bool : Bool → Bool → Bool
 same_bool true b = b
@@ -107,7 +111,9 @@ given_at moment given = if is_none given.bytes then Some (record given { moment 
 -- what a session is given stands in the state and the world; a GetFile is given the file's bytes beside its name
 abbrev pub given_in : Kind → (place : ℕ) → State → World → List QueuedFile → Given → Option Given
 given_in (GetFile filter) place state world taken given =
-    option_and_then (λ name. if may_get filter world name then Some (record given { bytes = bytes_of world.inbox name }) else None) given.file
+    option_and_then
+    (λ name. if may_get filter world name then Some (record given { bytes = bytes_of world.inbox name }) else None)
+    given.file
 given_in (GenerateFlowFile count text) place state world taken given =
     if may_generate count (slice_index state.counts place) given.index then Some given else None
 given_in (PutFile conflict) place state world taken given =
@@ -126,11 +132,14 @@ world_after kind world session outcome = record world {
     left_after _ = world.left
 
     outbox_after : Option Sent → List ℕ → Option (List ℕ)
-    outbox_after (Some sent) = with_file world.outbox sent.name (option_map_or (λ file. file.bytes) (slice_get (settled_files session outcome.files) sent.place) [])
+    outbox_after (Some sent) =
+        with_file world.outbox sent.name
+        (option_map_or (λ file. file.bytes) (slice_get (settled_files session outcome.files) sent.place) [])
     outbox_after None = world.outbox
 
 abbrev pub as_taken : State → QueuedFile → TakenFile
-as_taken state file = record { attributes = file.attributes; uuid = uuid_text state.store file.number; bytes = file.bytes }
+as_taken state file =
+    record { attributes = file.attributes; uuid = uuid_text state.store file.number; bytes = file.bytes }
 
 abbrev pub session_after : Machine → EndedSession → Outcome → Machine
 session_after machine session outcome = record {
@@ -140,7 +149,8 @@ session_after machine session outcome = record {
 
 abbrev pub after_session : Machine → EndedSession → Option Machine
 after_session machine session =
-    option_map (session_after machine session) (act session.processor.kind (map (as_taken machine.state) session.taken) session.given)
+    option_map (session_after machine session)
+    (act session.processor.kind (map (as_taken machine.state) session.taken) session.given)
 
 abbrev pub session_of : Flow → Machine → (place : ℕ) → Processor → List QueuedFile → Given → EndedSession
 session_of flow machine place processor taken given = record {
@@ -186,7 +196,9 @@ abbrev pub expired : State → (place : ℕ) → Connection → List ℕ → ℕ
 expired state place connection numbers moment =
     let queue = queue_at state place in
     record (with_queue state place (without_files queue numbers)) {
-      events = state.events ++ numbered_from (length state.events + 1) (map (expiry_of connection moment) (files_of queue (ascending numbers)));
+      events = state.events
+          ++ numbered_from (length state.events + 1)
+          (map (expiry_of connection moment) (files_of queue (ascending numbers)));
     }
 
 abbrev pub expire_step : State → (place : ℕ) → List ℕ → ℕ → Connection → Option State
@@ -197,7 +209,8 @@ expire_step state place numbers moment connection =
     then Some (expired state place connection numbers moment) else None
 
 abbrev pub swapped_out : List ℕ → ℕ → QueuedFile → QueuedFile
-swapped_out numbers batch file = if is_number_among numbers file.number then record file { batch = Some batch } else file
+swapped_out numbers batch file =
+    if is_number_among numbers file.number then record file { batch = Some batch } else file
 
 abbrev pub swap_out_step : State → (place : ℕ) → List ℕ → (batch : ℕ) → Connection → Option State
 swap_out_step state place numbers batch connection =
@@ -205,7 +218,8 @@ swap_out_step state place numbers batch connection =
     let size = batch_size connection.limits in
     if are_distinct numbers && are_active queue numbers && (length numbers == size)
     && nat_le (connection.limits.swap + size) (length (active_files queue)) && (batch == state.next_batch)
-    then Some (record (with_queue state place (map (swapped_out numbers batch) queue)) { next_batch = batch + 1 }) else None
+    then Some (record (with_queue state place (map (swapped_out numbers batch) queue)) { next_batch = batch + 1 })
+    else None
 
 abbrev pub swapped_in : ℕ → QueuedFile → QueuedFile
 swapped_in batch file = if is_in_batch batch file then record file { batch = None } else file
@@ -225,11 +239,14 @@ abbrev pub step : Flow → Machine → Step → Option Machine
 step flow machine (entry.Session processor numbers moment given) =
     option_and_then (session_step flow machine processor numbers moment given) (slice_get flow.processors processor)
 step flow machine (Expire connection numbers moment) =
-    same_world machine.world (option_and_then (expire_step machine.state connection numbers moment) (slice_get flow.connections connection))
+    same_world machine.world
+    (option_and_then (expire_step machine.state connection numbers moment) (slice_get flow.connections connection))
 step flow machine (SwapOut connection numbers batch) =
-    same_world machine.world (option_and_then (swap_out_step machine.state connection numbers batch) (slice_get flow.connections connection))
+    same_world machine.world
+    (option_and_then (swap_out_step machine.state connection numbers batch) (slice_get flow.connections connection))
 step flow machine (SwapIn connection batch) =
-    same_world machine.world (option_and_then (swap_in_step machine.state connection batch) (slice_get flow.connections connection))
+    same_world machine.world
+    (option_and_then (swap_in_step machine.state connection batch) (slice_get flow.connections connection))
 
 -- one step after the other
 abbrev pub replay : Flow → Machine → List Step → Option Machine

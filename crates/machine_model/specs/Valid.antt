@@ -1,8 +1,9 @@
 -- In which states a flow can be.
-use Rattle.std.specs.Prelude.{◌≡◌, ◌≢◌, ℕ, ◌%◌, ◌^◌, ◌<◌, ◌≤◌, List, [], length, map, All, Contains, IfSome, Some}
+use Rattle.std.specs.Prelude.{◌≡◌, ◌≢◌, ℕ, ◌%◌, ◌<◌, ◌≤◌, List, [], length, map, All, Contains, IfSome, Some}
 use Rattle.std.specs.FinSet.{empty, from_list}
 use Rattle.std.specs.List.{range_with_len, AllPairs, flat_map}
 use Rattle.flowfile_record.specs.Kin.{kin_of_all}
+use Rattle.flowfile_record.specs.declared.limits.TheConstants.{STORE_LIMIT}
 use Rattle.machine_model.specs.declared.flow.Flow.{Flow}
 use Rattle.machine_model.specs.Files.{queue_at}
 use Rattle.machine_model.specs.State.{QueuedFile, State}
@@ -67,7 +68,7 @@ pub record IsValid (flow : Flow) (state : State) : Type 0 where
 -- that of a new store, whose id is the lower 60 bits of a lot
 abbrev pub new_state : Flow → (lot : ℕ) → State
 new_state flow lot = record {
-  store = lot % 2 ^ 60;
+  store = lot % STORE_LIMIT;
   queues = map (λ connection. []) flow.connections;
   events = [];
   kin = empty;

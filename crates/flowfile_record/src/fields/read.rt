@@ -1,14 +1,12 @@
 //! A field from the front of some bytes.
-ghost use Rattle.std.specs.Prelude.{◌≡◌, length, IfOk};
+ghost use Rattle.std.specs.Prelude.{◌≡◌, ◌<◌, length, IsTrue, is_ok, IfOk, IsErrOf};
 ghost use Rattle.std.specs.Int.{w16, w32, w64};
-ghost use Rattle.flowfile_record.specs.Reading.{Reads, Gives, byte_at, raw_at, uint_at, number_at, text_at, long_at, chars_at, items_at, numbers_at};
+ghost use Rattle.flowfile_record.specs.Reading.{Reads, Gives, byte_at, raw_at, uint_at, number_at, text_at, long_at, chars_at, items_at, numbers_at, first_at};
+ghost use Rattle.flowfile_record.specs.declared.fields.fault.FieldError.TheVariants.{Memory};
 
-use crate::Numbers;
 use crate::fields::{FieldError, Unread};
+use crate::{DIGEST_SIZE, NUMBER_LIMIT, Numbers};
 use std::alloc::Global;
-
-/// Numbers of files, arrivals, events, batches and logs, and counts, are below it.
-const NUMBERS_END: u64 = 1 << 62;
 
 fn unread(bytes: &[u8]) -> Unread
     ensures { result.left ≡ length bytes.now }
@@ -77,13 +75,14 @@ pub fn read_u64(bytes: &[u8]) -> Result<(u64, &[u8]), Unread>
     Ok((number, rest))
 }
 
-/// A number of a file, an arrival, an event, a batch or a log, a counter of these, or a count: one below 2^62.
+/// A number of a file, an arrival, an event, a batch or a log, a counter of these, or a count: one below
+/// `NUMBER_LIMIT`.
 #[tactic(auto, unfolding(crate::specs::Reading::number_at))]
 pub fn read_number(bytes: &[u8]) -> Result<(u64, &[u8]), Unread>
     ensures { Reads (λ x. (x.0, x.1.now)) result (number_at bytes.now) }
 {
     let (number, rest) = read_u64(bytes)?;
-    if number >= NUMBERS_END {
+    if number >= NUMBER_LIMIT {
         return Err(unread(bytes));
     }
     Ok((number, rest))
@@ -122,20 +121,22 @@ fn read_utf8(left: u64, size: usize, bytes: &[u8]) -> Result<(&str, &[u8]), Unre
     }
 }
 
-/// 32 bytes.
-pub fn read_digest(bytes: &[u8]) -> Result<([u8; 32], &[u8]), Unread>
-    ensures { Reads (λ x. (x.0, x.1.now)) result (raw_at 32 bytes.now) }
+/// The bytes of a digest.
+pub fn read_digest(bytes: &[u8]) -> Result<([u8; DIGEST_SIZE], &[u8]), Unread>
+    ensures { Reads (λ x. (x.0, x.1.now)) result (raw_at DIGEST_SIZE bytes.now) }
 {
-    let (front, rest) = read_bytes(bytes, 32)?;
-    let mut digest = [0; 32];
+    let (front, rest) = read_bytes(bytes, DIGEST_SIZE)?;
+    let mut digest = [0; DIGEST_SIZE];
     digest.copy_from_slice(front);
     Ok((digest, rest))
 }
 
-/// A list of numbers below 2^62, behind its count in four bytes. An item that can't be read is a field of its own.
+/// A list of numbers below `NUMBER_LIMIT`, behind its count in four bytes. An item that can't be read is a field of its own.
+/// Memory is taken only where a first item can be read.
 #[tactic(auto, unfolding(crate::specs::Reading::listed_at))]
 pub fn read_numbers(alloc: Global, bytes: &[u8]) -> Result<(Numbers, &[u8]), FieldError>
-    ensures { Gives (λ x. (x.0, x.1.now)) result (numbers_at bytes.now) }
+    ensures read { Gives (λ x. (x.0, x.1.now)) result (numbers_at bytes.now) }
+    ensures memory { IsErrOf result Memory → IsTrue (is_ok (first_at number_at bytes.now)) }
 {
     let (count, rest) = read_u32(bytes)?;
     let (items, rest) = read_items(alloc, count, rest)?;
@@ -143,7 +144,8 @@ pub fn read_numbers(alloc: Global, bytes: &[u8]) -> Result<(Numbers, &[u8]), Fie
 }
 
 fn read_items(alloc: Global, count: u32, bytes: &[u8]) -> Result<(Vec<u64>, &[u8]), FieldError>
-    ensures { Gives (λ x. (x.0.items, x.1.now)) result (items_at number_at count bytes.now) }
+    ensures read { Gives (λ x. (x.0.items, x.1.now)) result (items_at number_at count bytes.now) }
+    ensures memory { IsErrOf result Memory → (0 < count) × IsTrue (is_ok (number_at bytes.now)) }
 {
     let mut items = Vec::new(alloc);
     let mut rest = bytes;

@@ -4,6 +4,7 @@ ghost use Rattle.std.specs.Int.{w16, w32, w64, to_be_bytes};
 ghost use Rattle.flowfile_record.specs.Encoding.{Keeps};
 ghost use Rattle.flowfile_record.specs.Encoding as encoding;
 
+use crate::DIGEST_SIZE;
 use std::alloc::AllocError;
 
 pub fn write_u8(out: &mut Vec<u8>, byte: u8) -> Result<(), AllocError>
@@ -55,7 +56,7 @@ pub fn write_long(out: &mut Vec<u8>, text: &str) -> Result<(), AllocError>
     out.extend_from_slice(text.as_bytes())
 }
 
-pub fn write_digest(out: &mut Vec<u8>, digest: &[u8; 32]) -> Result<(), AllocError>
+pub fn write_digest(out: &mut Vec<u8>, digest: &[u8; DIGEST_SIZE]) -> Result<(), AllocError>
     ensures ok { OnOk result (out.new.items ≡ out.old.items ++ digest.now) }
     ensures err { OnErr result (Keeps out.old.items out.new.items) }
 {
