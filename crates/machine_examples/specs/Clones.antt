@@ -59,12 +59,12 @@ with_four_clones =
 abbrev pub five_files : State
 five_files =
     record (state_of ([] ∷ (a_file 1 2 ∷ a_file 2 3 ∷ a_file 3 4 ∷ a_file 4 5 ∷ a_file 5 6 ∷ []) ∷ []) 6 7 (0 ∷ 0 ∷ 0 ∷ [])) {
-  events =
-      clone_of 1 2000 (codes "dup") 1 2 hi ∷ clone_of 2 2000 (codes "dup") 1 3 hi
-      ∷ clone_of 3 2000 (codes "dup") 1 4 hi
-      ∷ clone_of 4 2000 (codes "dup") 1 5 hi ∷ [];
-  kin = kin_of ((2, 1) ∷ (3, 1) ∷ (4, 1) ∷ (5, 1) ∷ []);
-}
+      events =
+          clone_of 1 2000 (codes "dup") 1 2 hi ∷ clone_of 2 2000 (codes "dup") 1 3 hi
+          ∷ clone_of 3 2000 (codes "dup") 1 4 hi
+          ∷ clone_of 4 2000 (codes "dup") 1 5 hi ∷ [];
+      kin = kin_of ((2, 1) ∷ (3, 1) ∷ (4, 1) ∷ (5, 1) ∷ []);
+    }
 
 abbrev pub FourClonesFollow : Type 0
 FourClonesFollow = settle ending with_four_clones ≡ five_files
@@ -190,7 +190,7 @@ abbrev pub NoValueIsEmpty : Type 0
 NoValueIsEmpty =
     (text : Expr) (error : EvalError) → tree_value (get (generated_attributes 1)) (tree_of text) ≡ Err error →
     act (GenerateFlowFile 1 text) [] (record (at_moment 1000) { index = 1 })
-        ≡ Some (alone (made_file origin.Created (generated_attributes 1) [] true 0))
+    ≡ Some (alone (made_file origin.Created (generated_attributes 1) [] true 0))
 
 -- ---- the attributes of files that sources make
 
@@ -202,7 +202,7 @@ ReceivedSays =
 abbrev pub GeneratedSays : Type 0
 GeneratedSays = (index : ℕ) →
     (get (generated_attributes index) (codes "generate.index") ≡ Some (decimal index))
-        × (get (generated_attributes index) (codes "path") ≡ Some (codes "./"))
+    × (get (generated_attributes index) (codes "path") ≡ Some (codes "./"))
 
 -- ---- names of made files
 

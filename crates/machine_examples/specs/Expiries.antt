@@ -4,8 +4,6 @@ use Rattle.flowfile_record.specs.declared.event.Event.{Event}
 use Rattle.flowfile_record.specs.declared.event.EventKind.TheVariants as kind
 use Rattle.machine_model.specs.declared.flow.Flow.{Flow}
 use Rattle.machine_model.specs.declared.flow.QueueLimits.{QueueLimits}
-use Rattle.machine_model.specs.declared.journal.Entry.{Entry}
-use Rattle.machine_model.specs.declared.journal.Step.{Step}
 use Rattle.machine_model.specs.declared.journal.Step.TheVariants.{Expire, SwapOut, SwapIn}
 use Rattle.machine_model.specs.declared.kind.Conflict.TheVariants.{Replace}
 use Rattle.machine_model.specs.State.{QueuedFile, State}
@@ -89,4 +87,4 @@ GoesAndComesBack =
 abbrev pub SwapsDueAre : List QueuedFile → (out : Option (List ℕ)) (back : Option ℕ) → Type 0
 SwapsDueAre files out back =
     (last_batch [] (limits 500 2) (queue_view files).active ≡ out)
-        × (lowest_batch (limits 500 2) (queue_view files) ≡ back)
+    × (lowest_batch (limits 500 2) (queue_view files) ≡ back)

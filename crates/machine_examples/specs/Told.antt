@@ -55,10 +55,10 @@ splitting = record {
 abbrev pub after_split : State
 after_split =
     record (state_of ([] ∷ (waiting 2 2 attributes (104 ∷ []) ∷ waiting 3 3 attributes (105 ∷ []) ∷ []) ∷ []) 4 4 (0 ∷ 0 ∷ 0 ∷ [])) {
-  events = record (told 1 2000 kind.Fork (codes "split") 1 [] hi) { parents = 1 ∷ []; children = 2 ∷ 3 ∷ [] }
-      ∷ told 2 2000 kind.Drop (codes "split") 1 (codes "original") hi ∷ [];
-  kin = kin_of ((2, 1) ∷ (3, 1) ∷ []);
-}
+      events = record (told 1 2000 kind.Fork (codes "split") 1 [] hi) { parents = 1 ∷ []; children = 2 ∷ 3 ∷ [] }
+          ∷ told 2 2000 kind.Drop (codes "split") 1 (codes "original") hi ∷ [];
+      kin = kin_of ((2, 1) ∷ (3, 1) ∷ []);
+    }
 
 abbrev pub SplitTells : Type 0
 SplitTells =
@@ -86,11 +86,11 @@ joining = record {
 abbrev pub after_join : State
 after_join =
     record (state_of ([] ∷ (record (waiting 6 3 attributes (hi ++ hi)) { entered = 900 } ∷ []) ∷ []) 7 4 (0 ∷ 0 ∷ 0 ∷ [])) {
-  events = record (told 1 2000 kind.Join (codes "merge") 6 [] (hi ++ hi)) { parents = 3 ∷ 5 ∷ []; children = 6 ∷ [] }
-      ∷ told 2 2000 kind.Drop (codes "merge") 5 (codes "original") hi
+      events = record (told 1 2000 kind.Join (codes "merge") 6 [] (hi ++ hi)) { parents = 3 ∷ 5 ∷ []; children = 6 ∷ [] }
+          ∷ told 2 2000 kind.Drop (codes "merge") 5 (codes "original") hi
           ∷ told 3 2000 kind.Drop (codes "merge") 3 (codes "original") hi ∷ [];
-  kin = kin_of ((6, 5) ∷ (6, 3) ∷ []);
-}
+      kin = kin_of ((6, 5) ∷ (6, 3) ∷ []);
+    }
 
 abbrev pub JoinTells : Type 0
 JoinTells =

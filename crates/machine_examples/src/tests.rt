@@ -1,6 +1,6 @@
-use machine_model::{Filter, Flow, Kind, OwnExpression, Pattern, Processor, TakeRule};
 use expr_lang::Expr;
 use flowfile_record::{Sequence, Text};
+use machine_model::{Filter, Flow, Kind, OwnExpression, Pattern, Processor, TakeRule};
 use std::alloc::{AllocError, Global};
 use std::test::Fail;
 use std::thread;

@@ -1,7 +1,8 @@
 -- What the engine owes its queues before any session, and what it owes itself.
-use Rattle.std.specs.Prelude.{ℕ, ◌+◌, ◌-◌, ◌^◌, ◌/◌, ◌==◌, ◌&&◌, nat_lt, nat_le, Bool, List, length, map, filter, drop, Option, Some, None, option_map, slice_get, if◌then◌else◌}
+use Rattle.std.specs.Prelude.{ℕ, ◌+◌, ◌-◌, ◌/◌, ◌==◌, ◌&&◌, nat_lt, nat_le, Bool, List, length, map, filter, drop, Option, Some, None, option_map, slice_get, if◌then◌else◌}
 use Rattle.std.specs.List.{enumerate_from, filter_map}
 use Rattle.prioritizer.specs.declared.prioritizer.Prioritizer.{Prioritizer}
+use Rattle.flowfile_record.specs.declared.limits.TheConstants.{NUMBER_LIMIT}
 use Rattle.machine_model.specs.declared.journal.TheConstants.{RECLAIM_ENTRIES}
 use Rattle.machine_model.specs.declared.flow.Connection.{Connection}
 use Rattle.machine_model.specs.declared.flow.Flow.{Flow}
@@ -69,7 +70,7 @@ due_swap_in flow queues = first_due (λ connection queue. lowest_batch connectio
 
 -- the log of this number has so many entries behind its beginning, and another log can follow it
 abbrev pub is_checkpoint_due : (checkpoint entries number : ℕ) → Bool
-is_checkpoint_due checkpoint entries number = nat_le checkpoint entries && nat_lt number (2 ^ 62 - 1)
+is_checkpoint_due checkpoint entries number = nat_le checkpoint entries && nat_lt number (NUMBER_LIMIT - 1)
 
 -- so many entries were journaled since the last reclaim
 abbrev pub is_reclaim_due : (entries : ℕ) → Bool

@@ -34,8 +34,8 @@ pub fn replay_goes_on()
     ensures joined { ReplayOfJoined }
 {}
 
-/// A processor ends all files that it took, each once and in turn, and then files whose parents stand before them. Where
-/// what it is handed is within the limits of flow files, what it makes is an outcome of its relationships.
+/// A processor ends all files that it took, each once and in turn, and then files whose parents stand before them. A
+/// sound one that is handed what is within the limits of flow files makes an outcome of its relationships.
 pub fn acts_give_outcomes()
     ensures in_turn { ActsEndAllInTurn }
     ensures whole { ActsGiveOutcomes }
@@ -104,7 +104,7 @@ pub fn picks_may_be_taken()
     ensures { PicksMayBeTaken }
 {}
 
-/// A file has one lineage.
+/// No file has two lineages.
 pub fn lineage_is_only()
     ensures { LineageIsOnly }
 {}
