@@ -1,5 +1,5 @@
 //! How contents and attributes change.
-ghost use Rattle.std.specs.Prelude.{◌≡◌, ◌+◌, ◌<◌, ◌≤◌, ◌++◌, ◌∷◌, ◌&&◌, [], length, is_ok, not, true, IfOk, IsTrue, OnOk, OnErr, All, unwrap_or, if◌then◌else◌};
+ghost use Rattle.std.specs.Prelude.{◌≡◌, ◌+◌, ◌<◌, ◌≤◌, ◌++◌, ◌∷◌, ◌&&◌, [], length, is_ok, not, true, IfOk, Ok, None, IsTrue, OnOk, OnErr, All, unwrap_or, if◌then◌else◌};
 ghost use Rattle.std.specs.Result.{result_err};
 ghost use Rattle.std.specs.FinMap.{contains_key, insert, remove};
 ghost use Rattle.flowfile_record.specs.Attributes.{IsWithinLimits, encoded_size, has_key_length, is_uuid};
@@ -69,6 +69,8 @@ impl Session {
     pub fn put_attribute(&mut self, place: u32, key: &str, value: &str) -> Result<Put, SessionError>
         ensures refusal { IsRefusal result (refusal_of_put self.old place key.now value.now) }
         ensures put { IfOk result (λ put. put ≡ (if is_uuid key.now then Put.Ignored else Put.Stored)) }
+        ensures ignored { is_uuid key.now ≡ true → refusal_of_put self.old place key.now value.now ≡ None
+            → result ≡ Ok Put.Ignored }
         ensures after { self.new ≡ (if is_ok result then with_put self.old place key.now value.now else self.old) }
     {
         self.check_known(place)?;
