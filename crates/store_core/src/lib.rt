@@ -16,6 +16,3 @@ pub use entry::{ADD_KIND, BEGIN_KIND, BEGIN_PAYLOAD, DROP_KIND, LogEntry, append
 pub use error::StoreError;
 pub use queued::Queued;
 pub use store::Store;
-
-#[cfg(test)]
-mod tests;
