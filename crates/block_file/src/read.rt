@@ -1,5 +1,5 @@
 //! The block at an offset of a file.
-ghost use Rattle.std.specs.Prelude.{◌≡◌, ℕ, ◌+◌, ◌≤◌, [], length, take, drop, slice_range, IsTrue, IfOk, OnOk, IsErrOf, Some};
+ghost use Rattle.std.specs.Prelude.{◌≡◌, ℕ, ◌+◌, ◌<◌, ◌≤◌, [], length, vec_capacity, take, drop, slice_range, IsTrue, IfOk, OnOk, IsErrOf, Some};
 ghost use Rattle.disk_trait.specs.Images.{Stays};
 ghost use Rattle.disk_trait.specs.Faults.{CountsFaults};
 ghost use Rattle.disk_trait.specs.declared.damage.Damage.{Damage as TheDamage};
@@ -25,7 +25,7 @@ pub struct BlockAddress {
 }
 
 /// Reads the block that stands there into the buffer, in place of what the buffer holds. The answer's offsets are those
-/// of the buffer; `next` is the block's size.
+/// of the buffer; `next` is the block's size. The buffer keeps the capacity that it has once got.
 pub fn read_block_at<D: Disk>(
     disk: &mut D,
     address: BlockAddress,
@@ -38,8 +38,11 @@ pub fn read_block_at<D: Disk>(
     ensures within { IfOk result (λ block. (block.start ≡ HEADER_SIZE) × (block.start ≤ block.end) × (block.end + DIGEST_SIZE ≡ block.next) × (block.next ≤ length buffer.new.items) × (address.offset + block.next ≤ address.size)) }
     // What is damaged is told as it is.
     ensures damaged { (damage : TheDamage) → IsErrOf result (BlockError.Damaged damage) → IsTrue D.tells → damage_in address.file address.at (reading_of (drop address.offset (D.held disk.old address.file))) ≡ Some damage }
-    // Memory is taken only for a block that its header lets stand there whole.
-    ensures memory { IsErrOf result BlockError.Memory → IsTrue D.tells → (n : ℕ) × IsWholeHead n (drop address.offset (D.held disk.old address.file)) }
+    // Memory is taken only for a block that its header lets stand there whole, and that the buffer has no room for.
+    ensures memory { IsErrOf result BlockError.Memory → IsTrue D.tells → (n : ℕ) × IsWholeHead n (drop address.offset (D.held disk.old address.file)) × (vec_capacity buffer.old < n) }
+    // Whatever the disk tells, a buffer with room for the rest of the file takes none.
+    ensures room { IsErrOf result BlockError.Memory → address.offset + vec_capacity buffer.old < address.size }
+    ensures capacity { vec_capacity buffer.old ≤ vec_capacity buffer.new }
     ensures stays { Stays D.held D.moment D.images disk.old disk.new }
     ensures cause { CountsFaults (D.faults disk.old) (D.faults disk.new) (IsErrOf result BlockError.Disk) }
 {
@@ -90,6 +93,8 @@ fn read_bytes<D: Disk>(
     ensures bytes { OnOk result (IsTrue D.tells → buffer.new.items ≡ take size (drop address.offset (D.held disk.old address.file))) }
     ensures len { OnOk result (length buffer.new.items ≡ size) }
     ensures kinds { (damage : TheDamage) → IsErrOf result (BlockError.Damaged damage) → ⊥ }
+    ensures memory { IsErrOf result BlockError.Memory → vec_capacity buffer.old < size }
+    ensures capacity { vec_capacity buffer.old ≤ vec_capacity buffer.new }
     ensures stays { Stays D.held D.moment D.images disk.old disk.new }
     ensures cause { CountsFaults (D.faults disk.old) (D.faults disk.new) (IsErrOf result BlockError.Disk) }
 {

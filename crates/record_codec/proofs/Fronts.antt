@@ -1,18 +1,15 @@
 -- What is read before memory is taken.
 use Rattle.std.proofs.Common.{◌≡◌, ℕ, zero, suc, ◌<◌, eqb, cond, ◌||◌, Bool, true, false, List, length, Ok, Err, refl, sym, ap, ◌∙◌, arith}
 use Rattle.std.specs.Prelude.{Result, is_ok}
-use Rattle.std.specs.Int.{w16, w32, w64}
+use Rattle.std.specs.FinMap.{empty}
+use Rattle.std.specs.Int.{w32}
 use Rattle.std.proofs.lemmas.Bool.{ne_eqb}
-use Rattle.flowfile_record.specs.Reading.{Reading, ◌>>=◌, ◌then◌, uint_at, number_at, first_at}
-use Rattle.record_codec.specs.ActiveFile.{active_file_at, active_front_at}
-use Rattle.record_codec.specs.FileReading.{attributes_at, content_ref_at, file_number_at, file_front_at, flow_file_at}
+use Rattle.flowfile_record.specs.Attributes.{AttributeMap}
+use Rattle.flowfile_record.specs.Reading.{Reading, ◌>>=◌, ◌then◌, uint_at, first_at}
+use Rattle.record_codec.specs.FileReading.{pair_at}
 
 abbrev Read : Type 0 → Type 0
 Read A = Result (A × List ℕ) ℕ
-
-ok_first : {A B : Type 0} (r : Read A) (f : A × List ℕ → Read B) → is_ok (r >>= f) ≡ true → is_ok r ≡ true
-ok_first (Ok x) f e = refl
-ok_first (Err left) f e = e
 
 abbrev pair : {A B : Type 0} → A → B × List ℕ → Read (A × B)
 pair a b = Ok ((a, b.0), b.1)
@@ -37,10 +34,21 @@ first_ok {A = A} item bytes count rest e some read =
     unread : List ℕ → Read A
     unread rest = Err (length rest)
 
+-- A test passes on all bytes where it passes on what is left, if nothing was read before, or else passed on all before.
+pub first_test : (test : List ℕ → Bool) (bytes rest : List ℕ) (k : ℕ) → test rest ≡ true → (k ≡ 0 → rest ≡ bytes) → (0 < k → test bytes ≡ true) → test bytes ≡ true
+first_test test bytes rest zero e none some = ap test (sym (none refl)) ∙ e
+first_test test bytes rest (suc k) e none some = some (omega arith)
+
 -- what begins with a first front begins with the front of all
 pub first_front : {A : Type 0} (front : Reading A) (bytes rest : List ℕ) (k : ℕ) → is_ok (front rest) ≡ true → (k ≡ 0 → rest ≡ bytes) → (0 < k → is_ok (front bytes) ≡ true) → is_ok (front bytes) ≡ true
-first_front front bytes rest zero e none some = ap (λ (b : List ℕ). is_ok (front b)) (sym (none refl)) ∙ e
-first_front front bytes rest (suc k) e none some = some (omega arith)
+first_front front bytes rest k e none some = first_test (λ b. is_ok (front b)) bytes rest k e none some
+
+-- pairs of attributes begin with the first
+pub first_pair : (bytes rest : List ℕ) (m : AttributeMap) (k : ℕ) → is_ok (pair_at m rest) ≡ true → (k ≡ 0 → (m ≡ empty) × (rest ≡ bytes)) → (0 < k → is_ok (pair_at empty bytes) ≡ true) → is_ok (pair_at empty bytes) ≡ true
+first_pair bytes rest m zero e none some =
+    let start = none refl in
+    ap (λ (b : List ℕ). is_ok (pair_at empty b)) (sym start.1) ∙ ap (λ (a : AttributeMap). is_ok (pair_at a rest)) (sym start.0) ∙ e
+first_pair bytes rest m (suc k) e none some = some (omega arith)
 
 pub or_left : (a b : Bool) → a ≡ true → (a || b) ≡ true
 or_left true b e = refl
@@ -50,28 +58,7 @@ pub or_right : (a b : Bool) → b ≡ true → (a || b) ≡ true
 or_right true b e = refl
 or_right false b e = e
 
--- ---- an active file that is read has a front
-
-then_first : {A B : Type 0} (first : Reading A) (second : Reading B) (bytes : List ℕ) → is_ok ((first then second) bytes) ≡ true → is_ok (first bytes) ≡ true
-then_first first second bytes e = ok_first (first bytes) _ e
-
-weaker_after : {A B C : Type 0} (r : Read A) (second : Reading B) (front : Reading C) → ((bytes : List ℕ) → is_ok (second bytes) ≡ true → is_ok (front bytes) ≡ true)
-    → is_ok (r >>= λ x. second x.1 >>= λ b. pair x.0 b) ≡ true → is_ok (r >>= λ x. front x.1 >>= λ c. pair x.0 c) ≡ true
-weaker_after (Ok x) second front less e = ok_after x.0 (front x.1) (less x.1 (ok_first (second x.1) (λ b. pair x.0 b) e))
-weaker_after (Err left) second front less e = e
-
-attributes_counted : (bytes : List ℕ) → is_ok (attributes_at bytes) ≡ true → is_ok (uint_at w16 bytes) ≡ true
-unfolding attributes_at
-attributes_counted bytes e = ok_first (uint_at w16 bytes) _ e
-
-file_has_front : (bytes : List ℕ) → is_ok (flow_file_at bytes) ≡ true → is_ok (file_front_at bytes) ≡ true
-unfolding flow_file_at
-file_has_front bytes e =
-    weaker_after (file_number_at bytes) (attributes_at then content_ref_at then uint_at w64 then uint_at w64 then number_at) (uint_at w16)
-    (λ rest read. attributes_counted rest (then_first attributes_at (content_ref_at then uint_at w64 then uint_at w64 then number_at) rest read))
-    (ok_first ((file_number_at then attributes_at then content_ref_at then uint_at w64 then uint_at w64 then number_at) bytes) _ e)
-
-pub active_has_front : (bytes : List ℕ) → is_ok (active_file_at bytes) ≡ true → is_ok (active_front_at bytes) ≡ true
-unfolding active_file_at
-active_has_front bytes e =
-    weaker_after (uint_at w16 bytes) flow_file_at file_front_at file_has_front (ok_first ((uint_at w16 then flow_file_at) bytes) _ e)
+-- one of two, of one of two
+pub or_each : (a b : Bool) {c d : Bool} → (a ≡ true → c ≡ true) → (b ≡ true → d ≡ true) → (a || b) ≡ true → (c || d) ≡ true
+or_each true b {c = c} {d = d} left right e = or_left c d (left refl)
+or_each false b {c = c} {d = d} left right e = or_right c d (right e)

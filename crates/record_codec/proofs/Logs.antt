@@ -1,9 +1,9 @@
 -- How a log is read, gate by gate.
-use Rattle.std.proofs.Common.{◌≡◌, ◌≢◌, ℕ, zero, suc, ◌+◌, ◌<◌, ◌≤◌, ◌==◌, ◌&&◌, ltb, cond, Bool, true, false, List, [], ◌∷◌, ◌++◌, length, length-append, take, drop, get_or, refl, sym, ap, subst, ◌∙◌, arith}
+use Rattle.std.proofs.Common.{◌≡◌, ◌≢◌, ℕ, zero, suc, ◌+◌, ◌<◌, ◌≤◌, ◌==◌, ◌&&◌, ltb, cond, Bool, true, false, List, [], ◌∷◌, ◌++◌, length, length-append, length-drop, take, drop, get_or, refl, sym, ap, subst, ◌∙◌, arith}
 use Rattle.std.specs.Prelude.{Result, Ok, Err}
 use Rattle.std.proofs.lemmas.Bool.{and_parts, eqb-true, ltb-true}
 use Rattle.std.proofs.lemmas.Bool.Decides.{nat_tests}
-use Rattle.std.proofs.lemmas.List.{append-nil, drop_at, length-take-le}
+use Rattle.std.proofs.lemmas.List.{append-nil, drop_at, drop_more, length-take-le, take-take, take-append-drop}
 use Rattle.flowfile_record.specs.Reading.{whole}
 use Rattle.flowfile_record.proofs.FieldLaws.{whole_again}
 use Rattle.record_codec.specs.Block.{Reading, Whole, Cut, Long, Differs, block, reading_of}
@@ -299,3 +299,28 @@ is_first bytes d is =
       behind = omega (arith, place, it.behind);
       cause = ap (λ (n : ℕ). entry_in (reading_of (drop (n + 1) bytes))) (sym place) ∙ it.cause;
     }
+
+-- the bytes from an open gate on that no entry stands behind
+damaged_from : (at : ℕ) (bytes : List ℕ) (cause : Cause) → at + 1 < length bytes → get_or bytes at 0 ≡ OPEN_GATE → entry_in (reading_of (drop (at + 1) bytes)) ≡ Err cause
+    → log_from 0 at (drop at bytes) ≡ err (record { at = at; cause = cause })
+unfolding err
+damaged_from at bytes cause behind gate e =
+    let rest = drop (at + 1) bytes in
+    let some : 0 < length rest = omega (arith, length-drop (at + 1) bytes) in
+    ap (log_from 0 at) (drop_more bytes at 0 (omega arith))
+    ∙ ap (λ (g : ℕ). log_from 0 at (g ∷ rest)) gate
+    ∙ opened at rest some
+    ∙ ap (λ (f : Result (LogEntry × ℕ) Cause). behind_gate at f (λ size. log_from size (at + 1) rest)) e
+
+-- The first damage is what the log says.
+pub first_is_told : (bytes : List ℕ) (d : LogDamage) → IsFirstDamage bytes d → log_of bytes ≡ Err d
+unfolding err
+first_is_told bytes d is =
+    let at = d.at in
+    let front = take at bytes in
+    let whole : take is.before.end front ++ drop at bytes ≡ bytes =
+    ap (λ (n : ℕ). take n front ++ drop at bytes) is.ends ∙ ap (λ (l : List ℕ). l ++ drop at bytes) (take-take at at bytes (omega arith)) ∙ take-append-drop at bytes in
+    ap log_of (sym whole)
+    ∙ goes_on_with front (drop at bytes) is.before is.sound
+    ∙ ap (λ (n : ℕ). after is.before.entries (log_from 0 n (drop at bytes))) is.ends
+    ∙ ap (after is.before.entries) (damaged_from at bytes d.cause is.behind is.gate is.cause)

@@ -2,6 +2,7 @@
 -- they are read.
 use Rattle.std.specs.Prelude.{ℕ, ◌<◌, ◌^◌, List, ◌++◌}
 use Rattle.std.specs.Int.{w16, to_be_bytes}
+use Rattle.flowfile_record.specs.Attributes.{AttributeMap}
 use Rattle.flowfile_record.specs.Reading.{Reading, ◌then◌, made, uint_at}
 use Rattle.flowfile_record.specs.declared.flow_file.FlowFile.{FlowFile}
 use Rattle.flowfile_record.specs.declared.stored.ActiveFile.{ActiveFile}
@@ -23,6 +24,6 @@ pub record IsActiveFile (a : ActiveFile) : Type 0 where
 unfoldable pub active_file_at : Reading ActiveFile
 active_file_at = made (λ a. record { connection = a.0; file = a.1 }) (uint_at w16 then flow_file_at)
 
--- the fields before the pairs of attributes
-abbrev pub active_front_at : Reading (ℕ × (ℕ × ℕ))
+-- up to the first pair of attributes
+abbrev pub active_front_at : Reading (ℕ × (ℕ × AttributeMap))
 active_front_at = uint_at w16 then file_front_at

@@ -58,12 +58,13 @@ entry_at kind bytes =
     else if kind == 5 then swap_in_at bytes
     else Err (length bytes)
 
--- ---- where memory is taken: for the first item of a list
+-- ---- where memory is taken: for the first item of a list, and in a placed file for its first pair of attributes
 
 abbrev pub session_takes_memory : List ℕ → Bool
 session_takes_memory bytes =
     is_ok ((uint_at w16 then uint_at w64 then first_at number_at) bytes)
     || is_ok ((uint_at w16 then uint_at w64 then numbers_at then first_at active_front_at) bytes)
+    || is_ok ((uint_at w16 then uint_at w64 then numbers_at then first_at active_file_at) bytes)
 
 abbrev pub expire_takes_memory : List ℕ → Bool
 expire_takes_memory bytes = is_ok ((uint_at w16 then uint_at w64 then first_at number_at) bytes)

@@ -1,5 +1,5 @@
 -- Reading a flow file from left to right, up to the first field that can't be read.
-use Rattle.std.specs.Prelude.{ℕ, zero, suc, ◌&&◌, nat_lt, nat_le, Bool, not, List, Ok, if◌then◌else◌}
+use Rattle.std.specs.Prelude.{ℕ, zero, suc, ◌&&◌, ◌==◌, nat_lt, nat_le, Bool, not, List, length, Ok, Err, if◌then◌else◌}
 use Rattle.std.specs.List.{list_all}
 use Rattle.std.specs.Int.{w16, w32, w64}
 use Rattle.std.specs.Ordering.{nat_cmp, is_lt}
@@ -43,6 +43,12 @@ attributes_at bytes = do
   count ← uint_at w16 bytes
   pairs_at count.0 empty count.1
 
+-- the first pair behind the count
+abbrev pub first_pair_at : Reading AttributeMap
+first_pair_at bytes = do
+  count ← uint_at w16 bytes
+  if count.0 == 0 then Err (length count.1) else pair_at empty count.1
+
 -- ---- content reference
 
 unfoldable pub slot_at : Reading ℕ
@@ -61,9 +67,9 @@ content_ref_at = made (λ c. record { slot = c.0; offset = c.1.0; size = c.1.1.0
 unfoldable pub file_number_at : Reading ℕ
 file_number_at = such (λ number. nat_le 1 number) number_at
 
--- the fields of a flow file before its pairs of attributes
-abbrev pub file_front_at : Reading (ℕ × ℕ)
-file_front_at = file_number_at then uint_at w16
+-- a flow file up to its first pair of attributes
+abbrev pub file_front_at : Reading (ℕ × AttributeMap)
+file_front_at = file_number_at then first_pair_at
 
 unfoldable pub flow_file_at : Reading FlowFile
 flow_file_at = made (λ f. record { number = f.0; attributes = f.1.0; content = f.1.1.0; entered = f.1.1.1.0; penalty_end = f.1.1.1.1.0; arrival = f.1.1.1.1.1 })

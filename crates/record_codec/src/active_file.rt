@@ -48,7 +48,7 @@ pub fn read_active_file(alloc: Global, bytes: &[u8]) -> Result<ActiveFile, Codec
     ensures only { (active : Active) → IsActiveFile active → bytes.now ≡ active_file active → Answers result (Ok active) }
     // Which offset can't be read.
     ensures exact { Answers result (answer (length bytes.now) (whole active_file_at bytes.now)) }
-    // Memory is taken only behind the file's number and its count of attributes.
+    // Memory is taken only for attributes, behind a first pair that can be read.
     ensures memory { IsErrOf result CodecError.Memory → IsTrue (is_ok (active_front_at bytes.now)) }
 {
     read_answer(alloc, bytes)

@@ -1,11 +1,10 @@
 //! The attributes of a flow file.
 ghost use Rattle.std.specs.Prelude.{◌≡◌, ◌+◌, ◌-◌, ◌<◌, ◌≤◌, ◌^◌, ◌++◌, length, vec_len, vec_capacity, IsTrue, is_ok, IsErrOf, slice_get};
-ghost use Rattle.std.specs.Int.{w16};
 ghost use Rattle.std.specs.Option.{option_map};
 ghost use Rattle.std.specs.FinMap.{empty, entries, len};
 ghost use Rattle.flowfile_record.specs.Attributes.{IsWithinLimits};
-ghost use Rattle.flowfile_record.specs.Reading.{Gives, uint_at};
-ghost use Rattle.record_codec.specs.FileReading.{may_follow, pair_at, pairs_at, attributes_at};
+ghost use Rattle.flowfile_record.specs.Reading.{Gives};
+ghost use Rattle.record_codec.specs.FileReading.{may_follow, pair_at, pairs_at, first_pair_at, attributes_at};
 ghost use Rattle.record_codec.specs.FileEncoding as encoding;
 
 use crate::put::{put_long, put_text, put_u16};
@@ -19,14 +18,15 @@ pub(crate) fn read_attributes(
     bytes: &[u8],
 ) -> Result<(Attributes, &[u8]), FieldError>
     ensures read { Gives (λ x. (x.0, x.1.now)) result (attributes_at bytes.now) }
-    ensures memory { IsErrOf result FieldError.Memory → IsTrue (is_ok (uint_at w16 bytes.now)) }
+    ensures memory { IsErrOf result FieldError.Memory → IsTrue (is_ok (first_pair_at bytes.now)) }
 {
     let (count, rest) = read_u16(bytes)?;
     read_pairs(alloc, count, rest)
 }
 
 fn read_pairs(alloc: Global, count: u16, bytes: &[u8]) -> Result<(Attributes, &[u8]), FieldError>
-    ensures { Gives (λ x. (x.0, x.1.now)) result (pairs_at count empty bytes.now) }
+    ensures read { Gives (λ x. (x.0, x.1.now)) result (pairs_at count empty bytes.now) }
+    ensures memory { IsErrOf result FieldError.Memory → (0 < count) × IsTrue (is_ok (pair_at empty bytes.now)) }
 {
     let mut attributes = Attributes::new(alloc);
     let mut rest = bytes;
@@ -39,7 +39,8 @@ fn read_pairs(alloc: Global, count: u16, bytes: &[u8]) -> Result<(Attributes, &[
 // A pair whose key comes behind those that are there.
 #[tactic(auto, unfolding(crate::specs::FileReading::pair_at, crate::specs::FileReading::may_hold), using(crate::proofs::Puts::may_be_stored))]
 fn read_pair<'a>(attributes: &mut Attributes, bytes: &'a [u8]) -> Result<&'a [u8], FieldError>
-    ensures { Gives (λ rest. (attributes.new, rest.now)) result (pair_at attributes.old bytes.now) }
+    ensures read { Gives (λ rest. (attributes.new, rest.now)) result (pair_at attributes.old bytes.now) }
+    ensures memory { IsErrOf result FieldError.Memory → IsTrue (is_ok (pair_at attributes.old bytes.now)) }
 {
     let (key, value_bytes) = read_text(bytes)?;
     if !may_follow(attributes, key) {

@@ -107,7 +107,7 @@ pub fn read_entry(alloc: Global, kind: u8, bytes: &[u8]) -> Result<LogEntry, Cod
     ensures only { (entry : Entry) → IsEntryOf kind entry → bytes.now ≡ encoding entry → Answers result (Ok entry) }
     // Which offset can't be read.
     ensures exact { Answers result (answer (length bytes.now) (whole (entry_at kind) bytes.now)) }
-    // Memory is taken only for the first item of a list, and so for the kinds 2 to 4 alone.
+    // Memory is taken only for the first item of a list, or for its attributes, and so for the kinds 2 to 4 alone.
     ensures memory { IsErrOf result CodecError.Memory → IsTrue (takes_memory kind bytes.now) }
 {
     read::read_answer(alloc, kind, bytes)

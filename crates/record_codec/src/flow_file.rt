@@ -47,7 +47,7 @@ pub fn read_file(alloc: Global, bytes: &[u8]) -> Result<FlowFile, CodecError>
     ensures only { (file : File) → IsFlowFile file → bytes.now ≡ flow_file file → Answers result (Ok file) }
     // Which offset can't be read.
     ensures exact { Answers result (answer (length bytes.now) (whole flow_file_at bytes.now)) }
-    // Memory is taken only behind the number and the count of attributes.
+    // Memory is taken only for attributes, behind a first pair that can be read.
     ensures memory { IsErrOf result CodecError.Memory → IsTrue (is_ok (file_front_at bytes.now)) }
 {
     read_answer(alloc, bytes)

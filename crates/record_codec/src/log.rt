@@ -27,7 +27,8 @@ pub fn an_open_gate_adds_an_entry()
     ensures { (bytes : List ℕ) (read : LogRead) (entry : Entry) → log_of bytes ≡ Ok read → IsEntry entry → length (encoding entry) ≤ PAYLOAD_MAX → log_of (take read.end bytes ++ OPEN_GATE ∷ (block (kind_of entry) (encoding entry) ++ CLOSED_GATE ∷ [])) ≡ Ok (one_more read entry (length (block (kind_of entry) (encoding entry)))) }
 {}
 
-/// The damage of a log is the first one.
+/// The damage of a log is the first one, and where there is a first damage, the log has it.
 pub fn the_first_damage_is_told()
-    ensures { (bytes : List ℕ) (damage : LogDamage) → log_of bytes ≡ Err damage → IsFirstDamage bytes damage }
+    ensures told { (bytes : List ℕ) (damage : LogDamage) → log_of bytes ≡ Err damage → IsFirstDamage bytes damage }
+    ensures only { (bytes : List ℕ) (damage : LogDamage) → IsFirstDamage bytes damage → log_of bytes ≡ Err damage }
 {}

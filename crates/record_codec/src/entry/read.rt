@@ -1,5 +1,5 @@
 //! Reading the entries of a log.
-ghost use Rattle.std.specs.Prelude.{◌≡◌, ◌<◌, length, IsTrue, is_ok, IsErrOf};
+ghost use Rattle.std.specs.Prelude.{◌≡◌, ◌<◌, ◌||◌, length, IsTrue, is_ok, IsErrOf};
 ghost use Rattle.flowfile_record.specs.Reading.{Reads, Gives, Answers, answer, whole, items_at, listed_at, first_at};
 ghost use Rattle.record_codec.specs.ActiveFile.{active_file_at, active_front_at};
 ghost use Rattle.record_codec.specs.EntryReading.{begin_at, count_at, generator_at, session_at, expire_at, swap_out_at, swap_in_at, entry_at, session_takes_memory, expire_takes_memory, swap_out_takes_memory, takes_memory};
@@ -103,7 +103,7 @@ fn read_placed_list(
     bytes: &[u8],
 ) -> Result<(Sequence<ActiveFile>, &[u8]), FieldError>
     ensures read { Gives (λ x. (x.0, x.1.now)) result (listed_at active_file_at bytes.now) }
-    ensures memory { IsErrOf result FieldError.Memory → IsTrue (is_ok (first_at active_front_at bytes.now)) }
+    ensures memory { IsErrOf result FieldError.Memory → IsTrue (is_ok (first_at active_front_at bytes.now) || is_ok (first_at active_file_at bytes.now)) }
 {
     let (count, rest) = read_u32(bytes)?;
     let (items, rest) = read_placed_items(alloc, count, rest)?;
@@ -116,7 +116,7 @@ fn read_placed_items(
     bytes: &[u8],
 ) -> Result<(Vec<ActiveFile>, &[u8]), FieldError>
     ensures read { Gives (λ x. (x.0.items, x.1.now)) result (items_at active_file_at count bytes.now) }
-    ensures memory { IsErrOf result FieldError.Memory → (0 < count) × IsTrue (is_ok (active_front_at bytes.now)) }
+    ensures memory { IsErrOf result FieldError.Memory → (0 < count) × IsTrue (is_ok (active_front_at bytes.now) || is_ok (active_file_at bytes.now)) }
 {
     let mut items = Vec::new(alloc);
     let mut rest = bytes;

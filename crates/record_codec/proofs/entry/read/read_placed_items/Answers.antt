@@ -1,12 +1,17 @@
-use Rattle.std.proofs.Common.{◌≡◌, ap, Err, arith}
+use Rattle.std.proofs.Common.{◌≡◌, ℕ, ◌<◌, ◌||◌, true, List, ap, Err, arith}
 use Rattle.std.specs.Prelude.{is_ok}
 use Rattle.std.proofs.lemmas.Result.{err_from_is_err_and}
 use Rattle.flowfile_record.specs.Reading.{items_at}
 use Rattle.flowfile_record.specs.declared.fields.fault.FieldError.TheVariants.{Memory}
 use Rattle.flowfile_record.proofs.Items.{goes_on, fails, is_done}
 use Rattle.record_codec.specs.ActiveFile.{active_file_at, active_front_at}
-use Rattle.record_codec.proofs.Fronts.{first_front, active_has_front}
+use Rattle.record_codec.proofs.Fronts.{first_test, or_left, or_right}
 use Rattle.record_codec.proofs.entry.read.read_placed_items.Goals as goal
+
+-- A file takes memory for its first pair of attributes, or once it is read.
+first_takes : (bytes rest : List ℕ) (k : ℕ) → (is_ok (active_front_at rest) || is_ok (active_file_at rest)) ≡ true → (k ≡ 0 → rest ≡ bytes)
+    → (0 < k → (is_ok (active_front_at bytes) || is_ok (active_file_at bytes)) ≡ true) → (is_ok (active_front_at bytes) || is_ok (active_file_at bytes)) ≡ true
+first_takes = first_test (λ b. is_ok (active_front_at b) || is_ok (active_file_at b))
 
 pub returns-in_err-item-clause-read : goal.returns-in_err-item-clause-read
 returns-in_err-item-clause-read c =
@@ -17,17 +22,21 @@ pub returns-in_err-item-clause-memory : goal.returns-in_err-item-clause-memory
 returns-in_err-item-clause-memory c memory =
     let p = err_from_is_err_and c.from_residual.result c.from_residual.ensures.1 in
     let same : c.in_err-item.field-0.0 ≡ Memory = cc (p.1, p.2, memory) in
-    (omega arith, first_front active_front_at c.args.bytes.now c.loop.rest.now c.loop.counter (c.in_err-item.ensures.memory (ap Err same)) c.loop.invariant.none c.loop.invariant.some)
+    let taken = or_left (is_ok (active_front_at c.loop.rest.now)) (is_ok (active_file_at c.loop.rest.now)) (c.in_err-item.ensures.memory (ap Err same)) in
+    (omega arith, first_takes c.args.bytes.now c.loop.rest.now c.loop.counter taken c.loop.invariant.none c.loop.invariant.some)
 
 pub returns-in_err-push-clause-memory : goal.returns-in_err-push-clause-memory
 returns-in_err-push-clause-memory c memory =
-    (omega arith, first_front active_front_at c.args.bytes.now c.loop.rest.now c.loop.counter (active_has_front c.loop.rest.now (ap is_ok c.in_ok-item.ensures.read)) c.loop.invariant.none c.loop.invariant.some)
+    let taken = or_right (is_ok (active_front_at c.loop.rest.now)) (is_ok (active_file_at c.loop.rest.now)) (ap is_ok c.in_ok-item.ensures.read) in
+    (omega arith, first_takes c.args.bytes.now c.loop.rest.now c.loop.counter taken c.loop.invariant.none c.loop.invariant.some)
 
 pub loop-preserved : goal.loop-preserved
 loop-preserved c = record {
   reads = rw c.in_ok-push.ensures.items (goes_on active_file_at c.loop.items.items c.args.count c.loop.counter c.loop.rest.now c.in_ok-item.item c.in_ok-item.after.now (items_at active_file_at c.args.count c.args.bytes.now) c.loop-test.true c.in_ok-item.ensures.read c.loop.invariant.reads);
   none = λ e. absurd (omega arith);
-  some = λ _. first_front active_front_at c.args.bytes.now c.loop.rest.now c.loop.counter (active_has_front c.loop.rest.now (ap is_ok c.in_ok-item.ensures.read)) c.loop.invariant.none c.loop.invariant.some;
+  some = λ _. first_takes c.args.bytes.now c.loop.rest.now c.loop.counter
+      (or_right (is_ok (active_front_at c.loop.rest.now)) (is_ok (active_file_at c.loop.rest.now)) (ap is_ok c.in_ok-item.ensures.read))
+      c.loop.invariant.none c.loop.invariant.some;
 }
 
 pub returns-clause-read : goal.returns-clause-read
