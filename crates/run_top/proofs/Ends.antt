@@ -3,8 +3,9 @@ use Rattle.std.proofs.Common.{◌≡◌, ◌⊎◌, inl, inr, ⊎_elim, ℕ, ◌
 use Rattle.std.proofs.lemmas.Bool.Decides.{nat_tests}
 use Rattle.std.specs.Prelude.{Option, None, Some, Ok, Err, IsSome, IsNone, IfSome, nat_le}
 use Rattle.disk_trait.specs.Files.{Files}
+use Rattle.disk_trait.specs.Images.{next_moment}
 use Rattle.disk_trait.specs.declared.damage.Damage.{Damage}
-use Rattle.disk_trait.proofs.Moments.{left_at_the_end, wider_at_each}
+use Rattle.disk_trait.proofs.Moments.{wider_at_each}
 use Rattle.flowfile_record.specs.NamedFile.{NamedFile, bytes_of}
 use Rattle.flowfile_record.specs.declared.TheConstants.{CONTENT_MAX}
 use Rattle.store_core.specs.Opening.{SinceSync}
@@ -52,12 +53,13 @@ told_by (StoreError.Damaged damage) status is = inl is
 
 -- an opening that was refused on files that stand for damage
 pub leaves_damage : {D I O : Type 0} (held : D → Files) (moment : D → ℕ) (images : D → ℕ → Files → Type 0) (damage : Damage) (old new : D) (inbox : I) (outbox : O) (failure : StoreError) (status : ℕ)
-    → status ≡ status_of (error_of failure) → SinceSync moment images old new (λ c. stands_for c ≡ stands_for (held old)) → stands_for (held old) ≡ Err damage → images new (moment new) (held new)
+    → status ≡ status_of (error_of failure) → SinceSync moment images old new (λ c. stands_for c ≡ stands_for (held old)) → stands_for (held old) ≡ Err damage → held new ≡ held old → moment new ≡ next_moment (moment old)
     → IsLeftDamaged status held moment images damage old new inbox inbox outbox outbox
-leaves_damage held moment images damage old new inbox outbox failure status is since stands there = record {
+leaves_damage held moment images damage old new inbox outbox failure status is since stands same once = record {
   told = told_by failure status is;
   since = wider_at_each moment images (moment old + 1) old new (λ k c. stands_for c ≡ stands_for (held old)) (λ k c. stands_for c ≡ Err damage) since (λ k c from up left same. same ∙ stands);
-  stands = left_at_the_end moment images (moment old + 1) old new (λ k c. stands_for c ≡ stands_for (held old)) since (held new) there ∙ stands;
+  same = same;
+  one_sync = once;
   inbox = refl;
   outbox = refl;
 }

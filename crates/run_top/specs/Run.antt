@@ -93,14 +93,15 @@ pub record IsNotOpened {D I O : Type 0} (status : ℕ) (moment : D → ℕ) (ima
   pub inbox : inbox_new ≡ inbox_old
   pub outbox : outbox_new ≡ outbox_old
 
--- Files that stand for this damage are left so: what the disk holds and, from behind the opening's first sync on,
--- whatever a stop may leave.
+-- Files that stand for this damage are left so: what the disk holds is as before, of the calls that change something
+-- there was the opening's first sync alone, and from behind it on whatever a stop may leave stands for the damage.
 pub record IsLeftDamaged {D I O : Type 0} (status : ℕ) (held : D → Files) (moment : D → ℕ)
     (images : D → ℕ → Files → Type 0) (damage : Damage) (old new : D)
     (inbox_old inbox_new : I) (outbox_old outbox_new : O) : Type 0 where
   pub told : (status ≡ DAMAGED) ⊎ (status ≡ DISK_FAULT) ⊎ (status ≡ OUT_OF_MEMORY)
   pub since : SinceSync moment images old new (λ c. stands_for c ≡ Err damage)
-  pub stands : stands_for (held new) ≡ Err damage
+  pub same : held new ≡ held old
+  pub one_sync : moment new ≡ next_moment (moment old)
   pub inbox : inbox_new ≡ inbox_old
   pub outbox : outbox_new ≡ outbox_old
 

@@ -3,6 +3,7 @@ ghost use Rattle.std.specs.Prelude.{◌≡◌, ◌⊎◌, ◌↔◌, true, false
 ghost use Rattle.disk_trait.specs.Images.{next_moment};
 ghost use Rattle.disk_trait.specs.Faults.{CountsFaults};
 ghost use Rattle.disk_trait.specs.declared.damage.Damage.{Damage as TheDamage};
+ghost use Rattle.store_core.specs.Others.{ChangesLogAlone};
 ghost use Rattle.store_core.specs.State.{stands_for};
 ghost use Rattle.store_core.specs.declared.queued.Queued.{Queued};
 ghost use Rattle.run_top.specs.Run.{HasRun, IsNotOpened, IsLeftDamaged, IsToldDamaged, CountsEachFault, status_at};
@@ -42,12 +43,16 @@ pub fn run<R, D: Disk, I: Inbox, O: Outbox, F: Source, S: Sink, C: Clock, G: Gat
         disk.old disk.new (I.left inbox.new) (O.standing outbox.new)
         ⊎ IsNotOpened result D.moment D.images disk.old disk.new inbox.old inbox.new outbox.old outbox.new }
 
-    // Where the files stand for no queue, nothing is done, whatever the status.
+    // Where the files stand for no queue, the disk is synced once and nothing else is done, whatever the status; or
+    // that sync failed.
     ensures damage_left { IsTrue D.tells → is_run words.now ≡ true
         → (damage : TheDamage) → stands_for (D.held disk.old) ≡ Err damage
         → IsLeftDamaged result D.held D.moment D.images damage
         disk.old disk.new inbox.old inbox.new outbox.old outbox.new
         ⊎ IsNotOpened result D.moment D.images disk.old disk.new inbox.old inbox.new outbox.old outbox.new }
+
+    // Of the disk's files the log alone is changed, whatever the words, the files and the status.
+    ensures alone { ChangesLogAlone D.moment D.images disk.old disk.new }
 
     // Each status has its cause.
     ensures usage { result ≡ USAGE ↔ (is_run words.now ≡ false) }
@@ -104,6 +109,7 @@ fn run_flow<D: Disk, I: Inbox, O: Outbox>(
     ensures damaged_untouched { (damage : TheDamage) → IsErrOf result (RunError.Damaged damage)
         → (D.held disk.new ≡ D.held disk.old) × (D.moment disk.new ≡ next_moment (D.moment disk.old))
         × (inbox.new ≡ inbox.old) × (outbox.new ≡ outbox.old) }
+    ensures alone { ChangesLogAlone D.moment D.images disk.old disk.new }
     ensures disk_cause { CountsFaults (D.faults disk.old) (D.faults disk.new) (IsErrOf result RunError.Disk) }
     ensures inbox_cause { CountsFaults (I.faults inbox.old) (I.faults inbox.new) (IsErrOf result RunError.Inbox) }
     ensures outbox_cause { CountsFaults (O.faults outbox.old) (O.faults outbox.new) (IsErrOf result RunError.Outbox) }

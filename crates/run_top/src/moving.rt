@@ -7,6 +7,7 @@ ghost use Rattle.disk_trait.specs.declared.damage.Damage.{Damage as TheDamage};
 ghost use Rattle.flowfile_record.specs.NamedFile.{NamedFile, bytes_of};
 ghost use Rattle.world_io.specs.Inbox.{IsAscending};
 ghost use Rattle.store_core.specs.Kept.{IsKeptOn};
+ghost use Rattle.store_core.specs.Others.{ChangesLogAlone};
 ghost use Rattle.run_top.specs.Machine.{Machine};
 ghost use Rattle.run_top.specs.Run.{HasRun};
 ghost use Rattle.run_top.specs.Running.{IsRunning, TakesOrLeaves, IsLeftBut};
@@ -40,6 +41,7 @@ fn put_first<D: Disk, O: Outbox>(
     ensures works { OnOk result (store.new.failed ≡ false) }
     ensures kept { OnOk result (IsKeptOn D.moment D.images store.new disk.new) }
     ensures shorter { OnOk result (length store.new.files + 1 ≡ length store.old.files) }
+    ensures alone { ChangesLogAlone D.moment D.images disk.old disk.new }
     ensures disk_cause { CountsFaults (D.faults disk.old) (D.faults disk.new) (IsErrOf result RunError.Disk) }
     ensures outbox_cause { CountsFaults (O.faults outbox.old) (O.faults outbox.new) (IsErrOf result RunError.Outbox) }
     ensures kinds { (error : TheError) → IsErrOf result error
@@ -79,6 +81,7 @@ fn take<D: Disk, I: Inbox>(
 
     ensures works { OnOk result (store.new.failed ≡ false) }
     ensures kept { OnOk result (IsKeptOn D.moment D.images store.new disk.new) }
+    ensures alone { ChangesLogAlone D.moment D.images disk.old disk.new }
     ensures disk_cause { CountsFaults (D.faults disk.old) (D.faults disk.new) (IsErrOf result RunError.Disk) }
     ensures inbox_cause { CountsFaults (I.faults inbox.old) (I.faults inbox.new) (IsErrOf result RunError.Inbox) }
     ensures kinds { (error : TheError) → IsErrOf result error
@@ -123,6 +126,7 @@ fn put_all<D: Disk, O: Outbox>(
     ensures empty { OnOk result (store.new.files ≡ []) }
     ensures works { OnOk result (store.new.failed ≡ false) }
     ensures kept { OnOk result (IsKeptOn D.moment D.images store.new disk.new) }
+    ensures alone { ChangesLogAlone D.moment D.images disk.old disk.new }
     ensures disk_cause { CountsFaults (D.faults disk.old) (D.faults disk.new) (IsErrOf result RunError.Disk) }
     ensures outbox_cause { CountsFaults (O.faults outbox.old) (O.faults outbox.new) (IsErrOf result RunError.Outbox) }
     ensures kinds { (error : TheError) → IsErrOf result error
@@ -164,6 +168,7 @@ pub fn move_all<D: Disk, I: Inbox, O: Outbox>(
     ensures none_to_take { OnOk result (IsTrue I.tells → IsLeftBut [] (I.left inbox.new)) }
     ensures works { OnOk result (store.new.failed ≡ false) }
     ensures kept { OnOk result (IsKeptOn D.moment D.images store.new disk.new) }
+    ensures alone { ChangesLogAlone D.moment D.images disk.old disk.new }
     ensures disk_cause { CountsFaults (D.faults disk.old) (D.faults disk.new) (IsErrOf result RunError.Disk) }
     ensures inbox_cause { CountsFaults (I.faults inbox.old) (I.faults inbox.new) (IsErrOf result RunError.Inbox) }
     ensures outbox_cause { CountsFaults (O.faults outbox.old) (O.faults outbox.new) (IsErrOf result RunError.Outbox) }

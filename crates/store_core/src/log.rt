@@ -10,6 +10,7 @@ ghost use Rattle.disk_trait.specs.Faults.{CountsFaults};
 ghost use Rattle.store_core.specs.Log.{closed_gate, the_log};
 ghost use Rattle.store_core.specs.State.{stands_for, queue_after};
 ghost use Rattle.store_core.specs.Kept.{IsAtRest, IsBlockOf, EachAtRest};
+ghost use Rattle.store_core.specs.Others.{ChangesLogAlone};
 ghost use Rattle.store_core.specs.declared.queued.Queued.{Queued};
 ghost use Rattle.store_core.specs.declared.entry.LogEntry.{LogEntry};
 
@@ -41,6 +42,7 @@ pub fn append<D: Disk>(disk: &mut D, end: u64, frame: &[u8]) -> Result<(), Faile
         → EachAtRest end queue (D.images disk.old (D.moment disk.old)) → IsBlockOf end entry block → frame.now ≡ block ++ closed_gate ∷ []
         → queue_after queue end entry ≡ Ok after
         → EachAtRest (end + length frame.now) after (D.images disk.new (D.moment disk.new))) }
+    ensures alone { ChangesLogAlone D.moment D.images disk.old disk.new }
     ensures room { OnOk result (end + length frame.now + 1 < 2 ^ 64) }
     ensures cause { CountsFaults (D.faults disk.old) (D.faults disk.new) (IsErr result) }
 {

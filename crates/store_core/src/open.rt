@@ -7,6 +7,7 @@ ghost use Rattle.store_core.specs.Entry.{begin_kind, begin_payload};
 ghost use Rattle.store_core.specs.Log.{closed_gate, the_log};
 ghost use Rattle.store_core.specs.State.{stands_for};
 ghost use Rattle.store_core.specs.Kept.{EachAtRest};
+ghost use Rattle.store_core.specs.Others.{ChangesLogAlone};
 ghost use Rattle.store_core.specs.Scan.{IsRead};
 ghost use Rattle.store_core.specs.declared.queued.Queued.{Queued as TheFile};
 
@@ -26,6 +27,7 @@ pub fn cut_tail<D: Disk>(disk: &mut D, end: u64, size: u64) -> Result<(), Failed
     ensures short { OnOk result (IsTrue D.tells → length (D.held disk.new the_log) ≤ end + 1) }
     ensures same { size ≤ end + 1 → D.held disk.new ≡ D.held disk.old }
     ensures synced { OnOk result (IsOnly (D.held disk.new) (D.images disk.new (D.moment disk.new))) }
+    ensures alone { ChangesLogAlone D.moment D.images disk.old disk.new }
     ensures cause { CountsFaults (D.faults disk.old) (D.faults disk.new) (IsErr result) }
 {
     if size - end > 1 {
@@ -45,6 +47,7 @@ pub fn close_gate<D: Disk>(disk: &mut D, end: u64, closed: bool) -> Result<(), F
     ensures at_rest { OnOk result ((queue : List TheFile) → (IsTrue D.tells → IsRead end queue closed (D.held disk.old the_log))
         → EachAtRest end queue (D.images disk.new (D.moment disk.new))) }
     ensures room { OnOk result (end + 1 < 2 ^ 64) }
+    ensures alone { ChangesLogAlone D.moment D.images disk.old disk.new }
     ensures cause { CountsFaults (D.faults disk.old) (D.faults disk.new) (IsErr result) }
 {
     if !closed {
@@ -61,6 +64,7 @@ pub fn clear<D: Disk>(disk: &mut D, size: u64) -> Result<(), Failed>
     ensures images { Since D.moment D.images disk.old disk.new (λ c. stands_for c ≡ Ok []) }
     ensures empty { OnOk result (IsTrue D.tells → D.held disk.new the_log ≡ []) }
     ensures synced { OnOk result (IsOnly (D.held disk.new) (D.images disk.new (D.moment disk.new))) }
+    ensures alone { ChangesLogAlone D.moment D.images disk.old disk.new }
     ensures cause { CountsFaults (D.faults disk.old) (D.faults disk.new) (IsErr result) }
 {
     if size > 0 {
@@ -79,6 +83,7 @@ fn begin<D: Disk>(disk: &mut D, size: u64, frame: &[u8]) -> Result<u64, Failed>
     ensures images { Since D.moment D.images disk.old disk.new (λ c. stands_for c ≡ Ok []) }
     ensures at_rest { IfOk result (λ end. EachAtRest end [] (D.images disk.new (D.moment disk.new))) }
     ensures offset { IfOk result (λ end. (0 < end) × (end + 1 < 2 ^ 64)) }
+    ensures alone { ChangesLogAlone D.moment D.images disk.old disk.new }
     ensures cause { CountsFaults (D.faults disk.old) (D.faults disk.new) (IsErr result) }
 {
     clear(disk, size)?;
@@ -98,6 +103,7 @@ pub fn mend<D: Disk>(disk: &mut D, scan: &Scan, frame: &[u8]) -> Result<u64, Fai
     ensures images { Since D.moment D.images disk.old disk.new (λ c. stands_for c ≡ Ok scan.now.queue) }
     ensures at_rest { IfOk result (λ end. EachAtRest end scan.now.queue (D.images disk.new (D.moment disk.new))) }
     ensures offset { IfOk result (λ end. (0 < end) × (end + 1 < 2 ^ 64)) }
+    ensures alone { ChangesLogAlone D.moment D.images disk.old disk.new }
     ensures cause { CountsFaults (D.faults disk.old) (D.faults disk.new) (IsErr result) }
 {
     cut_tail(disk, scan.end, scan.size)?;

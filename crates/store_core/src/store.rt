@@ -12,6 +12,7 @@ ghost use Rattle.store_core.specs.Log.{closed_gate};
 ghost use Rattle.store_core.specs.State.{stands_for};
 ghost use Rattle.store_core.specs.Opening.{SinceSync};
 ghost use Rattle.store_core.specs.Kept.{IsOpened, IsKeptOn};
+ghost use Rattle.store_core.specs.Others.{ChangesLogAlone};
 
 use crate::log::{CLOSED_GATE, append};
 use crate::open::mend;
@@ -84,7 +85,10 @@ fn restore<D: Disk>(alloc: Global, disk: &mut D) -> Result<Store, StoreError>
     ensures damaged { (damage : TheDamage) → IsErrOf result (StoreError.Damaged damage) → IsTrue D.tells → stands_for (D.held disk.old) ≡ Err damage }
     ensures unwritten { (damage : TheDamage) → IsErrOf result (StoreError.Damaged damage) → Stays D.held D.moment D.images disk.old disk.new }
     ensures spared { IsErrOf result StoreError.Memory → Stays D.held D.moment D.images disk.old disk.new }
+    ensures damage_kept { IsTrue D.tells → (damage : TheDamage) → stands_for (D.held disk.old) ≡ Err damage
+        → Stays D.held D.moment D.images disk.old disk.new }
     ensures kinds { IsErrOf result StoreError.MustReopen → ⊥ }
+    ensures alone { ChangesLogAlone D.moment D.images disk.old disk.new }
     ensures cause { CountsFaults (D.faults disk.old) (D.faults disk.new) (IsErrOf result StoreError.Disk) }
 {
     let scan = read_log(alloc, disk)?;
@@ -123,7 +127,13 @@ impl Store {
             → (D.held disk.new ≡ D.held disk.old) × (D.moment disk.new ≡ next_moment (D.moment disk.old)) }
         ensures spared { IsErrOf result StoreError.Memory
             → (D.held disk.new ≡ D.held disk.old) × (D.moment disk.new ≡ next_moment (D.moment disk.old)) }
+        // Files that stand for damage are only read, unless the first sync failed.
+        ensures damage_kept { IsTrue D.tells → (damage : TheDamage) → stands_for (D.held disk.old) ≡ Err damage
+            → ((D.held disk.new ≡ D.held disk.old) × (D.moment disk.new ≡ next_moment (D.moment disk.old)))
+            ⊎ ((result ≡ Err StoreError.Disk) × Since D.moment D.images disk.old disk.new (D.images disk.old (D.moment disk.old))) }
         ensures kinds { IsErrOf result StoreError.MustReopen → ⊥ }
+        // The other files of the disk are as they were, whatever the answer.
+        ensures alone { ChangesLogAlone D.moment D.images disk.old disk.new }
         ensures cause { CountsFaults (D.faults disk.old) (D.faults disk.new) (IsErrOf result StoreError.Disk) }
     {
         disk.sync()?;
@@ -162,6 +172,7 @@ impl Store {
         ensures reopen { IsErrOf result StoreError.MustReopen ↔ (self.old.failed ≡ true) }
         ensures untouched { (IsErrOf result StoreError.MustReopen ⊎ IsErrOf result StoreError.Memory) → (self.new ≡ self.old) × (disk.new ≡ disk.old) }
         ensures kinds { (damage : TheDamage) → IsErrOf result (StoreError.Damaged damage) → ⊥ }
+        ensures alone { ChangesLogAlone D.moment D.images disk.old disk.new }
         ensures cause { CountsFaults (D.faults disk.old) (D.faults disk.new) (IsErrOf result StoreError.Disk) }
     {
         if self.failed {
@@ -195,6 +206,7 @@ impl Store {
         ensures untouched { IsErrOf result StoreError.MustReopen → (self.new ≡ self.old) × (disk.new ≡ disk.old) }
         ensures kinds { IsErrOf result StoreError.Memory → ⊥ }
         ensures undamaged { (damage : TheDamage) → IsErrOf result (StoreError.Damaged damage) → ⊥ }
+        ensures alone { ChangesLogAlone D.moment D.images disk.old disk.new }
         ensures cause { CountsFaults (D.faults disk.old) (D.faults disk.new) (IsErrOf result StoreError.Disk) }
     {
         if self.failed {

@@ -9,6 +9,7 @@ use Rattle.store_core.specs.declared.error.StoreError.TheVariants as StoreError
 use Rattle.run_top.specs.Status.{status_of, error_of}
 use Rattle.run_top.specs.Run.{HasRun, status_at}
 use Rattle.run_top.specs.Running.{IsRunning}
+use Rattle.store_core.proofs.Others.{alone_then}
 use Rattle.run_top.proofs.Steps.{stops_between}
 use Rattle.run_top.proofs.Ends.{begins, ends, leaves_damage}
 use Rattle.run_top.proofs.command.run_flow.Goals as goal
@@ -23,15 +24,18 @@ returns-in-Err-clause-headline g c disk_told in_told out_told queue stands = ⊎
     c.load.ensures.images
 
 pub returns-in-Err-clause-damage_left : goal.returns-in-Err-clause-damage_left
-returns-in-Err-clause-damage_left g c disk_told damage stands =
-    let laws = g.met.D.Disk g.world.𝓛 g.world.𝓜 g.world.𝓡 ((λ s x. x), (λ x. x), (λ x. x), λ x. x) in
-    ⊎_elim
+returns-in-Err-clause-damage_left g c disk_told damage stands = ⊎_elim
+    (λ kept. ⊎_elim
     (λ since. inl (leaves_damage g.D.Disk.held g.D.Disk.moment g.D.Disk.images damage c.args.disk.now c.load.new.disk c.args.inbox.now c.args.outbox.now c.in-Err.error (status_of c.from.result)
-    (ap status_of c.from.ensures) since stands (laws.held_is_left c.load.new.disk disk_told)))
+    (ap status_of c.from.ensures) since stands kept.0 kept.1))
     (λ failed.
     let is_disk : c.in-Err.error ≡ StoreError.Disk = cc (failed.0, c.in-Err.is) in
     inr (record { fault = ap status_of (c.from.ensures ∙ ap error_of is_disk); since = failed.1; inbox = refl; outbox = refl }))
-    c.load.ensures.images
+    c.load.ensures.images)
+    (λ failed.
+    let is_disk : c.in-Err.error ≡ StoreError.Disk = cc (failed.0, c.in-Err.is) in
+    inr (record { fault = ap status_of (c.from.ensures ∙ ap error_of is_disk); since = failed.1; inbox = refl; outbox = refl }))
+    (c.load.ensures.damage_kept disk_told damage stands)
 
 pub returns-in-Err-list-clause-headline : goal.returns-in-Err-list-clause-headline
 returns-in-Err-list-clause-headline g c disk_told in_told out_told queue stands = ⊎_elim
@@ -83,3 +87,11 @@ returns-clause-headline g c disk_told in_told out_told queue stands =
     (c.in_ok-move_all.ensures.moved _ _ in_told out_told (run since)) (c.in_ok-move_all.ensures.none_to_take in_told) at_end))
     (λ failed. absurd (cc (failed.0, c.in-Ok.is)))
     c.load.ensures.images
+
+pub returns-in_err-move_all-clause-alone : goal.returns-in_err-move_all-clause-alone
+returns-in_err-move_all-clause-alone g c =
+    alone_then g.D.Disk.moment g.D.Disk.images c.args.disk.now c.load.new.disk c.move_all.new.disk c.load.ensures.alone c.move_all.ensures.alone
+
+pub returns-clause-alone : goal.returns-clause-alone
+returns-clause-alone g c =
+    alone_then g.D.Disk.moment g.D.Disk.images c.args.disk.now c.load.new.disk c.move_all.new.disk c.load.ensures.alone c.move_all.ensures.alone

@@ -1,6 +1,7 @@
 use Rattle.std.proofs.Common.{◌≡◌, ◌+◌, ℕ, List, ◌∷◌, drop, arith, sym, ◌∙◌, ap, subst}
 use Rattle.std.proofs.lemmas.List.{drop_more}
 use Rattle.world_io.specs.Inbox.{IsAscending}
+use Rattle.store_core.proofs.Others.{alone_then}
 use Rattle.run_top.specs.Running.{IsLeftBut}
 use Rattle.run_top.proofs.Names.{left_at_first, left_after, ascends_behind}
 use Rattle.run_top.proofs.moving.move_all.Goals as goal
@@ -12,6 +13,7 @@ loop-name-init g c = record {
   empty = c.in_ok-put_all.ensures.empty;
   goes_on = λ opened first in_told out_told run. c.in_ok-put_all.ensures.goes_on opened first (g.I.Inbox.left c.args.inbox.now) out_told run;
   left = λ told. left_at_first c.args.names.now (g.I.Inbox.left c.args.inbox.now) (c.requires.names told);
+  alone = c.put_all.ensures.alone;
   disk_faults = c.put_all.ensures.disk_cause.never_falls;
   inbox_faults = omega arith;
   outbox_faults = c.put_all.ensures.outbox_cause.never_falls;
@@ -35,7 +37,20 @@ loop-name-preserved g c = record {
       (subst (λ (l : List (List ℕ)). IsAscending l) split (ascends_behind c.loop-name.name-index names c.requires.ascending))
       (subst (λ (l : List (List ℕ)). IsLeftBut l (g.I.Inbox.left c.loop-name.inbox)) split (c.loop-name.invariant.left told))
       (c.in_ok-take.ensures.left told);
+  alone = alone_then g.D.Disk.moment g.D.Disk.images c.args.disk.now c.take.new.disk c.put_all-in-loop-name.new.disk
+      (alone_then g.D.Disk.moment g.D.Disk.images c.args.disk.now c.loop-name.disk c.take.new.disk c.loop-name.invariant.alone c.take.ensures.alone)
+      c.put_all-in-loop-name.ensures.alone;
   disk_faults = omega (arith, c.loop-name.invariant.disk_faults, c.take.ensures.disk_cause.never_falls, c.put_all-in-loop-name.ensures.disk_cause.never_falls);
   inbox_faults = omega (arith, c.loop-name.invariant.inbox_faults, c.take.ensures.inbox_cause.never_falls);
   outbox_faults = omega (arith, c.loop-name.invariant.outbox_faults, c.put_all-in-loop-name.ensures.outbox_cause.never_falls);
 }
+
+pub returns-in_err-take-clause-alone : goal.returns-in_err-take-clause-alone
+returns-in_err-take-clause-alone g c =
+    alone_then g.D.Disk.moment g.D.Disk.images c.args.disk.now c.loop-name.disk c.take.new.disk c.loop-name.invariant.alone c.take.ensures.alone
+
+pub returns-in_err-put_all-2-clause-alone : goal.returns-in_err-put_all-2-clause-alone
+returns-in_err-put_all-2-clause-alone g c =
+    alone_then g.D.Disk.moment g.D.Disk.images c.args.disk.now c.take.new.disk c.put_all-in-loop-name.new.disk
+    (alone_then g.D.Disk.moment g.D.Disk.images c.args.disk.now c.loop-name.disk c.take.new.disk c.loop-name.invariant.alone c.take.ensures.alone)
+    c.put_all-in-loop-name.ensures.alone

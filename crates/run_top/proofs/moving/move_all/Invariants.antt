@@ -1,5 +1,6 @@
 use Rattle.std.proofs.Common.{◌≡◌, ◌≤◌, false, [], drop, IsTrue}
 use Rattle.store_core.specs.Kept.{IsKeptOn}
+use Rattle.store_core.specs.Others.{ChangesLogAlone}
 use Rattle.run_top.specs.Machine.{Machine}
 use Rattle.run_top.specs.Running.{IsRunning, IsLeftBut}
 use Rattle.run_top.proofs.moving.move_all.Given as goal
@@ -13,6 +14,7 @@ invariant-loop-name g l = record {
       → IsRunning g.D.Disk.moment g.D.Disk.images opened first l.fn.disk l.fn.store.files (g.I.Inbox.left l.fn.inbox) (g.O.Outbox.standing l.fn.outbox)
       → IsRunning g.D.Disk.moment g.D.Disk.images opened first l.disk l.store.files (g.I.Inbox.left l.inbox) (g.O.Outbox.standing l.outbox);
   left : IsTrue g.I.Inbox.tells → IsLeftBut (drop l.name-index l.names) (g.I.Inbox.left l.inbox);
+  alone : ChangesLogAlone g.D.Disk.moment g.D.Disk.images l.fn.disk l.disk;
   disk_faults : g.D.Disk.faults l.fn.disk ≤ g.D.Disk.faults l.disk;
   inbox_faults : g.I.Inbox.faults l.fn.inbox ≤ g.I.Inbox.faults l.inbox;
   outbox_faults : g.O.Outbox.faults l.fn.outbox ≤ g.O.Outbox.faults l.outbox;

@@ -1,6 +1,7 @@
 use Rattle.std.proofs.Common.{◌≡◌, ◌≤◌, false, List, length, IsTrue}
 use Rattle.flowfile_record.specs.NamedFile.{NamedFile}
 use Rattle.store_core.specs.Kept.{IsKeptOn}
+use Rattle.store_core.specs.Others.{ChangesLogAlone}
 use Rattle.run_top.specs.Machine.{Machine}
 use Rattle.run_top.specs.Running.{IsRunning}
 use Rattle.run_top.proofs.moving.put_all.Given as goal
@@ -12,6 +13,7 @@ invariant-loop-store g l = record {
   goes_on : (opened : Machine) (first : g.row.D.Denot) (left : List NamedFile) → IsTrue g.O.Outbox.tells
       → IsRunning g.D.Disk.moment g.D.Disk.images opened first l.fn.disk l.fn.store.files left (g.O.Outbox.standing l.fn.outbox)
       → IsRunning g.D.Disk.moment g.D.Disk.images opened first l.disk l.store.files left (g.O.Outbox.standing l.outbox);
+  alone : ChangesLogAlone g.D.Disk.moment g.D.Disk.images l.fn.disk l.disk;
   disk_faults : g.D.Disk.faults l.fn.disk ≤ g.D.Disk.faults l.disk;
   outbox_faults : g.O.Outbox.faults l.fn.outbox ≤ g.O.Outbox.faults l.outbox;
 }

@@ -4,7 +4,20 @@ use Rattle.disk_trait.proofs.Moments.{wider}
 use Rattle.store_core.specs.Log.{closed_gate, open_gate, the_log}
 use Rattle.store_core.specs.Kept.{IsAtRest}
 use Rattle.store_core.proofs.Stops.{torn_behind, written_gate, stands_for-log, staged_log, entry_or_none}
+use Rattle.store_core.proofs.Others.{alone_changed, alone_then}
 use Rattle.store_core.proofs.log.append.Goals as goal
+
+pub returns-in_err-write_synced-2-clause-alone : goal.returns-in_err-write_synced-2-clause-alone
+returns-in_err-write_synced-2-clause-alone g c =
+    alone_then g.D.Disk.moment g.D.Disk.images c.args.disk.now c.write_synced.new.disk c.write_synced-2.new.disk
+    (alone_changed g.D.Disk.moment g.D.Disk.images _ c.args.disk.now c.write_synced.new.disk c.write_synced.ensures.images)
+    (alone_changed g.D.Disk.moment g.D.Disk.images _ c.write_synced.new.disk c.write_synced-2.new.disk c.write_synced-2.ensures.images)
+
+pub returns-clause-alone : goal.returns-clause-alone
+returns-clause-alone g c =
+    alone_then g.D.Disk.moment g.D.Disk.images c.args.disk.now c.write_synced.new.disk c.write_synced-2.new.disk
+    (alone_changed g.D.Disk.moment g.D.Disk.images _ c.args.disk.now c.write_synced.new.disk c.write_synced.ensures.images)
+    (alone_changed g.D.Disk.moment g.D.Disk.images _ c.write_synced.new.disk c.write_synced-2.new.disk c.write_synced-2.ensures.images)
 
 pub returns-in_err-write_synced-clause-images : goal.returns-in_err-write_synced-clause-images
 returns-in_err-write_synced-clause-images g c queue entry block rest is frame_is =

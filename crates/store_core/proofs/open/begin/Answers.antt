@@ -11,7 +11,20 @@ use Rattle.store_core.specs.Kept.{IsAtRest}
 use Rattle.store_core.specs.declared.entry.LogEntry.TheVariants.{Begin}
 use Rattle.store_core.proofs.Mending.{nothing_there}
 use Rattle.store_core.proofs.Encoded.{encodes_begin}
+use Rattle.store_core.proofs.Others.{alone_then}
 use Rattle.store_core.proofs.open.begin.Goals as goal
+
+pub returns-in_err-append-clause-alone : goal.returns-in_err-append-clause-alone
+returns-in_err-append-clause-alone g c =
+    alone_then g.D.Disk.moment g.D.Disk.images c.args.disk.now c.close_gate.new.disk c.append.new.disk
+    (alone_then g.D.Disk.moment g.D.Disk.images c.args.disk.now c.clear.new.disk c.close_gate.new.disk c.clear.ensures.alone c.close_gate.ensures.alone)
+    c.append.ensures.alone
+
+pub returns-clause-alone : goal.returns-clause-alone
+returns-clause-alone g c =
+    alone_then g.D.Disk.moment g.D.Disk.images c.args.disk.now c.close_gate.new.disk c.append.new.disk
+    (alone_then g.D.Disk.moment g.D.Disk.images c.args.disk.now c.clear.new.disk c.close_gate.new.disk c.clear.ensures.alone c.close_gate.ensures.alone)
+    c.append.ensures.alone
 
 pub returns-in_err-close_gate-clause-images : goal.returns-in_err-close_gate-clause-images
 returns-in_err-close_gate-clause-images g c =
