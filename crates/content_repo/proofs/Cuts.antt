@@ -1,0 +1,135 @@
+-- Claims that are cut one after another: all of them to their ends, and the idle ones to nothing.
+use Rattle.std.proofs.Common.{◌≡◌, ◌≢◌, ◌⊎◌, ℕ, zero, ◌+◌, ◌<◌, ◌≤◌, min, Bool, true, false, MatchBool, List, [], ◌∷◌, ◌++◌, length, get_or, set, map, take, drop, count_by, refl, sym, ap, subst, ◌∙◌, inl, inr, arith, length-take, length-set, get_or-set_same, get_or-set_other}
+use Rattle.std.proofs.lemmas.Bool.{cases_eq, cases_lt, cases_Bool}
+use Rattle.std.proofs.lemmas.List.{take-take, take_all, same_lists, get_or-map, get_or_default, length-map, nil_from_length}
+use Rattle.disk_trait.specs.Files.{Files, At, Shortened}
+use Rattle.disk_trait.specs.declared.file_name.FileName.{FileName}
+use Rattle.content_repo.specs.declared.slot.Slot.{Slot}
+use Rattle.content_repo.specs.Claims.{claim, OnClaims, CutTo, HasSizes, IdleEmptied, IdleShortened}
+use Rattle.content_repo.specs.Slots.{unused, slot_at, size_of, is_idle, reclaimed}
+use Rattle.content_repo.proofs.ClaimFiles.{Shortened-refl, Shortened-trans, MaybeCut, MaybeCut-trans, OnClaims-refl, OnClaims-one, OnClaims-trans}
+
+module _ (ends : ℕ → ℕ) (old now : Files) (fit : (k : ℕ) → ends k ≤ length (old (claim k))) (so_far : OnClaims (λ k. MaybeCut (ends k)) old now) where
+  -- each file is as long as its end still
+  pub still_fits : (k : ℕ) → ends k ≤ length (now (claim k))
+  still_fits k = by_cut (so_far.claims k)
+    where
+      by_cut : MaybeCut (ends k) (old (claim k)) (now (claim k)) → ends k ≤ length (now (claim k))
+      by_cut (inl e) = omega (arith, fit k, ap length e)
+      by_cut (inr e) = omega (arith, fit k, ap length e, length-take (ends k) (old (claim k)))
+
+  pub cut_here : (k : ℕ) (bytes : List ℕ) → bytes ≡ take (ends k) (now (claim k)) → bytes ≡ take (ends k) (old (claim k))
+  cut_here k bytes is = by_cut (so_far.claims k)
+    where
+      by_cut : MaybeCut (ends k) (old (claim k)) (now (claim k)) → bytes ≡ take (ends k) (old (claim k))
+      by_cut (inl e) = is ∙ ap (take (ends k)) e
+      by_cut (inr e) = is ∙ ap (take (ends k)) e ∙ take-take (ends k) (ends k) (old (claim k)) (omega arith)
+
+  pub cut_kept : (k j : ℕ) (new : Files) → At (claim k) (λ a b. b ≡ take (ends k) a) now new
+      → now (claim j) ≡ take (ends j) (old (claim j)) → new (claim j) ≡ take (ends j) (old (claim j))
+  cut_kept k j new at is =
+      elim (cases_eq j k) [
+        | inl same ↦ subst (λ (i : ℕ). new (claim i) ≡ take (ends i) (old (claim i))) (sym same) (cut_here k (new (claim k)) at.here)
+        | inr differs ↦ at.others (claim j) (λ e. differs (ap (λ (f : FileName). f.number) e)) ∙ is
+      ]
+
+  pub cut_onward : (k : ℕ) (new : Files) → At (claim k) (λ a b. b ≡ take (ends k) a) now new → OnClaims (λ j. MaybeCut (ends j)) old new
+  cut_onward k new at =
+      OnClaims-trans (λ j. MaybeCut (ends j)) (λ j a. inl refl) (λ j. MaybeCut-trans (ends j)) old now new so_far
+      (OnClaims-one (λ j. MaybeCut (ends j)) (λ j a. inl refl) k now new (record { here = inr at.here; others = at.others }))
+
+  pub cut_whole : ((k : ℕ) → 0 < length (old (claim k)) → now (claim k) ≡ take (ends k) (old (claim k))) → CutTo ends old now
+  cut_whole done = record {
+    claims = λ k.
+        elim (cases_lt 0 (length (old (claim k)))) [
+          | inl some ↦ done k some
+          | inr none ↦
+              let end : length (now (claim k)) ≡ 0 = by_cut k none (so_far.claims k) in
+              nil_from_length (now (claim k)) end ∙ sym (nil_from_length (take (ends k) (old (claim k))) (omega (arith, none, length-take (ends k) (old (claim k)))))
+        ];
+    others = so_far.others;
+  }
+    where
+      by_cut : (k : ℕ) → length (old (claim k)) ≤ 0 → MaybeCut (ends k) (old (claim k)) (now (claim k)) → length (now (claim k)) ≡ 0
+      by_cut k none (inl e) = omega (arith, none, ap length e)
+      by_cut k none (inr e) = omega (arith, none, ap length e, length-take (ends k) (old (claim k)))
+
+-- ---- idle slots
+
+matched : (b : Bool) (P Q : Type 0) → (b ≡ true → P) → (b ≡ false → Q) → MatchBool b P Q
+matched true P Q yes no_ = yes refl
+matched false P Q yes no_ = no_ refl
+
+abbrev pub IdleStep : List Slot → ℕ → List ℕ → List ℕ → Type 0
+IdleStep slots k old new = MatchBool (is_idle (slot_at slots k)) (Shortened 0 old new) (new ≡ old)
+
+pub idle_same : (slots : List Slot) (k : ℕ) (a : List ℕ) → IdleStep slots k a a
+idle_same slots k a = matched (is_idle (slot_at slots k)) (Shortened 0 a a) (a ≡ a) (λ idle. Shortened-refl 0 a) (λ used. refl)
+
+both_idle : (v : Bool) (a b c : List ℕ) → MatchBool v (Shortened 0 a b) (b ≡ a) → MatchBool v (Shortened 0 b c) (c ≡ b) → MatchBool v (Shortened 0 a c) (c ≡ a)
+both_idle true a b c p q = Shortened-trans 0 a b c p q
+both_idle false a b c p q = q ∙ p
+
+pub idle_onward : (slots : List Slot) (k : ℕ) (a b c : List ℕ) → IdleStep slots k a b → IdleStep slots k b c → IdleStep slots k a c
+idle_onward slots k a b c p q = both_idle (is_idle (slot_at slots k)) a b c p q
+
+pub idle_step : (slots : List Slot) (k : ℕ) (a b : List ℕ) → is_idle (slot_at slots k) ≡ true → Shortened 0 a b → IdleStep slots k a b
+idle_step slots k a b idle step = rw idle step
+
+unidle : (v : Bool) (a b : List ℕ) → v ≡ false → MatchBool v (Shortened 0 a b) (b ≡ a) → b ≡ a
+unidle true a b e m = absurd cc
+unidle false a b e m = m
+
+pub idle_more : (slots : List Slot) (k : ℕ) (old now new : Files) → is_idle (slot_at slots k) ≡ true → IdleShortened slots old now → At (claim k) (Shortened 0) now new
+    → IdleShortened slots old new
+idle_more slots k old now new idle so_far at =
+    OnClaims-trans (IdleStep slots) (idle_same slots) (idle_onward slots) old now new so_far
+    (OnClaims-one (IdleStep slots) (idle_same slots) k now new (record { here = idle_step slots k (now (claim k)) (new (claim k)) idle at.here; others = at.others }))
+
+pub emptied_kept : (k j : ℕ) (now new : Files) → At (claim k) (λ a b. b ≡ []) now new → now (claim j) ≡ [] → new (claim j) ≡ []
+emptied_kept k j now new at is =
+    elim (cases_eq j k) [
+      | inl same ↦ subst (λ (i : ℕ). new (claim i) ≡ []) (sym same) at.here
+      | inr differs ↦ at.others (claim j) (λ e. differs (ap (λ (f : FileName). f.number) e)) ∙ is
+    ]
+
+pub all_emptied : (slots : List Slot) (old new : Files) → IdleShortened slots old new
+    → ((k : ℕ) → is_idle (slot_at slots k) ≡ true → new (claim k) ≡ []) → IdleEmptied slots old new
+all_emptied slots old new so_far done = record {
+  claims = λ k. matched (is_idle (slot_at slots k)) (new (claim k) ≡ []) (new (claim k) ≡ old (claim k)) (done k)
+      (λ used. unidle (is_idle (slot_at slots k)) (old (claim k)) (new (claim k)) used (so_far.claims k));
+  others = so_far.others;
+}
+
+is_reclaimed : (v : Bool) (slot : Slot) → v ≡ is_idle slot → v ≡ true → reclaimed slot ≡ unused
+is_reclaimed v slot same idle = rw (sym same ∙ idle) refl
+
+is_left : (slot : Slot) → is_idle slot ≡ false → reclaimed slot ≡ slot
+is_left slot used = rw used refl
+
+pub reclaimed_sizes : (slots new : List Slot) (before after : Files) → ((k : ℕ) → k < 65536 → slot_at new k ≡ reclaimed (slot_at slots k))
+    → HasSizes slots before → IdleEmptied slots before after → HasSizes new after
+reclaimed_sizes slots new before after each sizes emptied k below =
+    elim (cases_Bool (is_idle (slot_at slots k))) [
+      | inl idle ↦
+          let gone : after (claim k) ≡ [] = first (is_idle (slot_at slots k)) (before (claim k)) (after (claim k)) idle (emptied.claims k) in
+          ap length gone ∙ sym (ap (λ (s : Slot). s.size) (each k below ∙ is_reclaimed (is_idle (slot_at slots k)) (slot_at slots k) refl idle))
+      | inr used ↦
+          let kept : after (claim k) ≡ before (claim k) = second (is_idle (slot_at slots k)) (before (claim k)) (after (claim k)) used (emptied.claims k) in
+          ap length kept ∙ sizes k below ∙ sym (ap (λ (s : Slot). s.size) (each k below ∙ is_left (slot_at slots k) used))
+    ]
+  where
+    first : (v : Bool) (a b : List ℕ) → v ≡ true → MatchBool v (b ≡ []) (b ≡ a) → b ≡ []
+    first true a b e m = m
+    first false a b e m = absurd cc
+    second : (v : Bool) (a b : List ℕ) → v ≡ false → MatchBool v (b ≡ []) (b ≡ a) → b ≡ a
+    second true a b e m = absurd cc
+    second false a b e m = m
+
+-- the list that is left
+pub reclaimed_list : (slots new : List Slot) → length new ≡ length slots → ((k : ℕ) → k < length slots → slot_at new k ≡ reclaimed (slot_at slots k)) → new ≡ map reclaimed slots
+reclaimed_list slots new long each =
+    same_lists new (map reclaimed slots) (long ∙ sym (length-map slots reclaimed))
+    (λ k d within.
+    get_or_default new k d unused within ∙ each k (omega (arith, within, long))
+    ∙ sym (get_or-map reclaimed slots k unused d (omega (arith, within, long))))

@@ -1,0 +1,4 @@
+pub mod ClaimFiles
+pub mod Cuts
+pub mod SlotLists
+pub mod SlotSets
