@@ -1,12 +1,18 @@
 -- Claims that are cut one after another: all of them to their ends, and the idle ones to nothing.
-use Rattle.std.proofs.Common.{◌≡◌, ◌≢◌, ◌⊎◌, ℕ, zero, ◌+◌, ◌<◌, ◌≤◌, min, Bool, true, false, MatchBool, List, [], ◌∷◌, ◌++◌, length, get_or, set, map, take, drop, count_by, refl, sym, ap, subst, ◌∙◌, inl, inr, arith, length-take, length-set, get_or-set_same, get_or-set_other}
-use Rattle.std.proofs.lemmas.Bool.{cases_eq, cases_lt, cases_Bool}
-use Rattle.std.proofs.lemmas.List.{take-take, take_all, same_lists, get_or-map, get_or_default, length-map, nil_from_length}
+use Rattle.std.proofs.Common.{◌≡◌, ◌≢◌, ◌⊎◌, ℕ, zero, ◌+◌, ◌<◌, ◌≤◌, min, max, eqb, All, Bool, true, false, cond, MatchBool, List, [], ◌∷◌, ◌++◌, length, get_or, set, map, take, drop, count_by, refl, sym, ap, subst, ◌∙◌, inl, inr, arith, length-take, length-set, get_or-set_same, get_or-set_other}
+use Rattle.std.proofs.lemmas.Bool.{cases_eq, cases_lt, cases_Bool, eqb-true}
+use Rattle.std.proofs.lemmas.List.{take-take, take_all, take_more, same_lists, get_or-map, get_or_default, length-map, nil_from_length}
+use Rattle.std.proofs.lemmas.List.Sums.{sum_by-append}
 use Rattle.disk_trait.specs.Files.{Files, At, Shortened}
+use Rattle.disk_trait.specs.Images.{After, Since}
+use Rattle.disk_trait.proofs.Moments.{step_after_step}
 use Rattle.disk_trait.specs.declared.file_name.FileName.{FileName}
+use Rattle.std.proofs.lemmas.List.Elements.{All-head, All-tail}
+use Rattle.flowfile_record.specs.declared.content.ContentRef.{ContentRef}
 use Rattle.content_repo.specs.declared.slot.Slot.{Slot}
-use Rattle.content_repo.specs.Claims.{claim, OnClaims, CutTo, HasSizes, IdleEmptied, IdleShortened}
-use Rattle.content_repo.specs.Slots.{unused, slot_at, size_of, is_idle, reclaimed}
+use Rattle.content_repo.specs.Claims.{claim, OnClaims, CutTo, HasSizes, IdleEmptied, IdleShortened, EmptiedAt, ShortenedAt}
+use Rattle.content_repo.specs.SlotSet.{bit_of}
+use Rattle.content_repo.specs.Slots.{unused, slot_at, size_of, is_idle, reclaimed, end_of, covered}
 use Rattle.content_repo.proofs.ClaimFiles.{Shortened-refl, Shortened-trans, MaybeCut, MaybeCut-trans, OnClaims-refl, OnClaims-one, OnClaims-trans}
 
 module _ (ends : ℕ → ℕ) (old now : Files) (fit : (k : ℕ) → ends k ≤ length (old (claim k))) (so_far : OnClaims (λ k. MaybeCut (ends k)) old now) where
@@ -57,8 +63,8 @@ module _ (ends : ℕ → ℕ) (old now : Files) (fit : (k : ℕ) → ends k ≤ 
 -- ---- idle slots
 
 matched : (b : Bool) (P Q : Type 0) → (b ≡ true → P) → (b ≡ false → Q) → MatchBool b P Q
-matched true P Q yes no_ = yes refl
-matched false P Q yes no_ = no_ refl
+matched true P Q first second = first refl
+matched false P Q first second = second refl
 
 abbrev pub IdleStep : List Slot → ℕ → List ℕ → List ℕ → Type 0
 IdleStep slots k old new = MatchBool (is_idle (slot_at slots k)) (Shortened 0 old new) (new ≡ old)
@@ -80,18 +86,46 @@ unidle : (v : Bool) (a b : List ℕ) → v ≡ false → MatchBool v (Shortened 
 unidle true a b e m = absurd cc
 unidle false a b e m = m
 
-pub idle_more : (slots : List Slot) (k : ℕ) (old now new : Files) → is_idle (slot_at slots k) ≡ true → IdleShortened slots old now → At (claim k) (Shortened 0) now new
-    → IdleShortened slots old new
-idle_more slots k old now new idle so_far at =
-    OnClaims-trans (IdleStep slots) (idle_same slots) (idle_onward slots) old now new so_far
-    (OnClaims-one (IdleStep slots) (idle_same slots) k now new (record { here = idle_step slots k (now (claim k)) (new (claim k)) idle at.here; others = at.others }))
-
 pub emptied_kept : (k j : ℕ) (now new : Files) → At (claim k) (λ a b. b ≡ []) now new → now (claim j) ≡ [] → new (claim j) ≡ []
 emptied_kept k j now new at is =
     elim (cases_eq j k) [
       | inl same ↦ subst (λ (i : ℕ). new (claim i) ≡ []) (sym same) at.here
       | inr differs ↦ at.others (claim j) (λ e. differs (ap (λ (f : FileName). f.number) e)) ∙ is
     ]
+
+-- what one slot's turn does
+pub turn_step : (slots : List Slot) (k : ℕ) (old new : Files) → ShortenedAt (slot_at slots k) k old new → IdleShortened slots old new
+turn_step slots k old new turn = by_idle (is_idle (slot_at slots k)) refl turn
+  where
+    by_idle : (v : Bool) → is_idle (slot_at slots k) ≡ v → MatchBool v (At (claim k) (Shortened 0) old new) (new ≡ old) → IdleShortened slots old new
+    by_idle true idle at =
+        OnClaims-one (IdleStep slots) (idle_same slots) k old new (record { here = idle_step slots k (old (claim k)) (new (claim k)) idle at.here; others = at.others })
+    by_idle false used same = subst (λ (files : Files). IdleShortened slots old files) (sym same) (OnClaims-refl (IdleStep slots) (idle_same slots) old)
+
+pub turns : (slots : List Slot) (slot : Slot) (k : ℕ) (old now new : Files) → slot ≡ slot_at slots k → IdleShortened slots old now → ShortenedAt slot k now new → IdleShortened slots old new
+turns slots slot k old now new same so_far turn =
+    OnClaims-trans (IdleStep slots) (idle_same slots) (idle_onward slots) old now new so_far
+    (turn_step slots k now new (subst (λ (s : Slot). ShortenedAt s k now new) same turn))
+
+pub turn_emptied : (slot : Slot) (k j : ℕ) (now new : Files) → EmptiedAt slot k now new → now (claim j) ≡ [] → new (claim j) ≡ []
+turn_emptied slot k j now new turn is = by_idle (is_idle slot) turn
+  where
+    by_idle : (v : Bool) → MatchBool v (At (claim k) (λ a b. b ≡ []) now new) (new ≡ now) → new (claim j) ≡ []
+    by_idle true at = emptied_kept k j now new at is
+    by_idle false same = ap (λ (files : Files). files (claim j)) same ∙ is
+
+pub turn_here : (slot : Slot) (k : ℕ) (now new : Files) → EmptiedAt slot k now new → is_idle slot ≡ true → new (claim k) ≡ []
+turn_here slot k now new turn idle = by_idle (is_idle slot) idle turn
+  where
+    by_idle : (v : Bool) → v ≡ true → MatchBool v (At (claim k) (λ a b. b ≡ []) now new) (new ≡ now) → new (claim k) ≡ []
+    by_idle true e at = at.here
+    by_idle false e same = absurd cc
+
+pub count_more : (slots : List Slot) (k : ℕ) → k < length slots → count_by is_idle (take (k + 1) slots) ≡ count_by is_idle (take k slots) + bit_of (is_idle (slot_at slots k))
+count_more slots k within =
+    ap (count_by is_idle) (take_more slots k unused within)
+    ∙ sum_by-append (λ (s : Slot). cond (is_idle s) 1 0) (take k slots) (slot_at slots k ∷ [])
+    ∙ omega arith
 
 pub all_emptied : (slots : List Slot) (old new : Files) → IdleShortened slots old new
     → ((k : ℕ) → is_idle (slot_at slots k) ≡ true → new (claim k) ≡ []) → IdleEmptied slots old new
@@ -133,3 +167,23 @@ reclaimed_list slots new long each =
     (λ k d within.
     get_or_default new k d unused within ∙ each k (omega (arith, within, long))
     ∙ sym (get_or-map reclaimed slots k unused d (omega (arith, within, long))))
+
+-- the greatest end of references that lie in their files
+pub covered_within : (k : ℕ) (refs : List ContentRef) (files : Files) → All (λ at. end_of at ≤ length (files (claim at.slot))) refs → covered k refs ≤ length (files (claim k))
+covered_within k [] files all = omega arith
+covered_within k (at ∷ refs) files all = by_slot (eqb at.slot k) refl (covered_within k refs files (All-tail (λ (r : ContentRef). end_of r ≤ length (files (claim r.slot))) at refs all))
+  where
+    by_slot : (b : Bool) → eqb at.slot k ≡ b → covered k refs ≤ length (files (claim k)) → cond b (max (end_of at) (covered k refs)) (covered k refs) ≤ length (files (claim k))
+    by_slot true same rest =
+        let here = All-head (λ (r : ContentRef). end_of r ≤ length (files (claim r.slot))) at refs all in
+        let here_too : end_of at ≤ length (files (claim k)) = subst (λ (j : ℕ). end_of at ≤ length (files (claim j))) (eqb-true at.slot k same) here in
+        omega (arith, here_too, rest)
+    by_slot false differs rest = rest
+
+pub since_turn : {D : Type 0} (moment : D → ℕ) (images : D → ℕ → Files → Type 0) (slots : List Slot) (slot : Slot) (k : ℕ) (old mid new : D) → slot ≡ slot_at slots k
+    → Since moment images old mid (After (IdleShortened slots) (images old (moment old)))
+    → Since moment images mid new (After (ShortenedAt slot k) (images mid (moment mid)))
+    → Since moment images old new (After (IdleShortened slots) (images old (moment old)))
+since_turn moment images slots slot k old mid new same first second =
+    step_after_step moment images old mid new (IdleShortened slots) (ShortenedAt slot k) (IdleShortened slots) (images old (moment old)) first second
+    (λ d c r. r) (λ d e c r s. turns slots slot k d e c same r s)

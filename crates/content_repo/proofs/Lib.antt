@@ -1,4 +1,5 @@
 pub mod ClaimFiles
 pub mod Cuts
+pub mod Rooms
 pub mod SlotLists
 pub mod SlotSets

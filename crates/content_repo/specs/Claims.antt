@@ -1,7 +1,7 @@
 -- The files of the claims.
 use Rattle.std.specs.Prelude.{◌≡◌, ◌≢◌, ℕ, ◌+◌, ◌<◌, ◌≤◌, List, [], length, take, drop, MatchBool}
 use Rattle.sha2.specs.Sha256.{sha256}
-use Rattle.disk_trait.specs.Files.{Files, named, Shortened}
+use Rattle.disk_trait.specs.Files.{Files, named, At, Shortened}
 use Rattle.disk_trait.specs.declared.damage.Damage.{Damage}
 use Rattle.disk_trait.specs.declared.damage.Damage.TheVariants.{Digest, Short, Form}
 use Rattle.disk_trait.specs.declared.file_name.FileKind.TheVariants.{Claim}
@@ -42,6 +42,13 @@ IdleEmptied slots = OnClaims (λ k old new. MatchBool (is_idle (slot_at slots k)
 
 abbrev pub IdleShortened : List Slot → Files → Files → Type 0
 IdleShortened slots = OnClaims (λ k old new. MatchBool (is_idle (slot_at slots k)) (Shortened 0 old new) (new ≡ old))
+
+-- a slot's file is emptied where it is idle
+abbrev pub EmptiedAt : Slot → ℕ → Files → Files → Type 0
+EmptiedAt slot k old new = MatchBool (is_idle slot) (At (claim k) (λ a b. b ≡ []) old new) (new ≡ old)
+
+abbrev pub ShortenedAt : Slot → ℕ → Files → Files → Type 0
+ShortenedAt slot k old new = MatchBool (is_idle slot) (At (claim k) (Shortened 0) old new) (new ≡ old)
 
 -- what is wrong with a content where the bytes of its claim are these
 abbrev pub IsDamage : ContentRef → List ℕ → Damage → Type 0

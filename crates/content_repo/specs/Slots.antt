@@ -98,3 +98,7 @@ pub record AreSorted (slots : List Slot) (open_slots free_slots : List ℕ) : Ty
 -- a reference names a slot, and its end is a number of bytes
 abbrev pub IsNamed : ContentRef → Type 0
 IsNamed at = (at.slot < SLOTS) × (end_of at < 2 ^ 64)
+
+-- the file of a free slot is empty, and nothing refers to it
+abbrev pub HasUnused : List Slot → Type 0
+HasUnused slots = (k : ℕ) → is_live slots k ≡ false → slot_at slots k ≡ unused

@@ -51,6 +51,14 @@ impl Content {
         })
     }
 
+    /// How many slots there are.
+    pub(crate) fn len(&self) -> u32
+        ensures len { result ≡ length self.now }
+        ensures slots { result ≡ SLOTS }
+    {
+        self.slots.len() as u32
+    }
+
     pub(crate) fn slot(&self, number: u32) -> Slot
         requires { number < SLOTS }
         ensures slot { result ≡ slot_at self.now number }
@@ -161,7 +169,7 @@ fn unused_slots(alloc: Global) -> Result<Vec<Slot>, AllocError>
     ensures unused { IfOk result (λ slots. (k : ℕ) → slot_at slots.items k ≡ unused) }
 {
     let mut slots = Vec::with_capacity(alloc, SLOTS as usize)?;
-    for _number in 0..SLOTS {
+    for number in 0..SLOTS {
         slots.push(Slot::unused())?;
     }
     Ok(slots)

@@ -10,6 +10,7 @@ mod error;
 mod load;
 mod read;
 mod reclaim;
+mod room;
 mod slot;
 mod slot_set;
 

@@ -68,7 +68,7 @@ impl Content {
     {
         let mut numbers = Vec::new(alloc);
         disk.files(FileKind::Claim, &mut numbers)?;
-        for number in numbers.as_slice() {
+        for number in &numbers {
             cut_claim(disk, *number, self.size_at(*number))?;
         }
         Ok(())
