@@ -2,9 +2,9 @@
 use Rattle.std.proofs.Common.{◌≡◌, ◌≢◌, ◌⊎◌, ℕ, zero, suc, ◌+◌, ◌<◌, ◌≤◌, min, Bool, true, false, cond, not, nat_lt, ◌&&◌, List, [], ◌∷◌, ◌++◌, length, get_or, set, drop, take, position, count_by, sum_by, Option, None, Some, refl, sym, ap, subst, ◌∙◌, inl, inr, arith, length-set, get_or-set_same, get_or-set_other}
 use Rattle.std.specs.List.{position_or_len}
 use Rattle.std.proofs.lemmas.Bool.{cases_eq, cases_lt, lt-ltb, le-ltb, ltb-true, ltb-false, not-true}
-use Rattle.std.proofs.lemmas.List.{get_or_past, get_or_default}
+use Rattle.std.proofs.lemmas.List.{get_or_past, take_more}
 use Rattle.std.proofs.lemmas.List.Quantifiers.{position-Some}
-use Rattle.std.proofs.lemmas.List.Sums.{fails_before_first, sum_by-cons, sum_by-set}
+use Rattle.std.proofs.lemmas.List.Sums.{fails_before_first, sum_by-cons, sum_by-set, sum_by-append}
 use Rattle.content_repo.specs.declared.slot.Slot.{Slot}
 use Rattle.content_repo.specs.Slots.{unused, slot_at, count_of, size_of, is_live, is_open, is_free, open_slot, free_slot, or_else, next_slot, taken, HasRoom, HasUnused}
 use Rattle.content_repo.specs.Room.{left_behind, left_by_slot, left_by_live, left_by_new, left_by_all}
@@ -197,3 +197,9 @@ left_by_new-more (suc count) ns = left_by_new-more count (left_behind 0 ns)
 pub left_by_live-more : (slots : List Slot) (slot : Slot) (ns : List ℕ) → left_by_live (slots ++ slot ∷ []) ns ≡ left_by_slot slot (left_by_live slots ns)
 left_by_live-more [] slot ns = refl
 left_by_live-more (s ∷ slots) slot ns = left_by_live-more slots slot (left_by_slot s ns)
+
+pub free_more : (slots : List Slot) (k : ℕ) → k < length slots → count_by is_free (take (k + 1) slots) ≡ count_by is_free (take k slots) + cond (is_free (slot_at slots k)) 1 0
+free_more slots k within =
+    ap (count_by is_free) (take_more slots k unused within)
+    ∙ sum_by-append (λ (s : Slot). cond (is_free s) 1 0) (take k slots) (slot_at slots k ∷ [])
+    ∙ omega arith

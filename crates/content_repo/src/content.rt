@@ -2,7 +2,7 @@
 ghost use Rattle.std.specs.Prelude.{◌≡◌, ◌≢◌, ℕ, ◌+◌, ◌-◌, ◌^◌, ◌<◌, ◌≤◌, true, false, length, slice_set, Some, IfOk, IfSome};
 ghost use Rattle.content_repo.specs.SlotSet.{has};
 ghost use Rattle.content_repo.specs.declared.slot.TheConstants.{OPEN_SIZE};
-ghost use Rattle.content_repo.specs.Slots.{unused, slot_at, count_of, size_of, is_live, held_in, next_slot, taken, with_count};
+ghost use Rattle.content_repo.specs.Slots.{unused, slot_at, count_of, size_of, is_live, held_in, next_slot, taken, with_count, HasUnused};
 
 use crate::slot_set::SlotSet;
 use crate::{SLOTS, Slot};
@@ -55,6 +55,7 @@ impl Content {
     pub(crate) fn len(&self) -> u32
         ensures len { result ≡ length self.now }
         ensures slots { result ≡ SLOTS }
+        ensures unused { HasUnused self.now }
     {
         self.slots.len() as u32
     }

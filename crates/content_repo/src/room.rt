@@ -1,10 +1,10 @@
 //! Whether contents find a slot each.
 ghost use Rattle.std.specs.Prelude.{◌≡◌, ℕ, ◌+◌, ◌≤◌, length, drop, count_by, OnOk, OnErr, IfErr};
 ghost use Rattle.content_repo.specs.declared.error.ContentError.TheVariants.{SlotsFull as Full};
-ghost use Rattle.content_repo.specs.Room.{left_behind, left_by_live, left_by_new};
+ghost use Rattle.content_repo.specs.Room.{left_behind, left_by_slot, left_by_live, left_by_new};
 ghost use Rattle.content_repo.specs.Slots.{HasRoom, HasUnused, is_free};
 
-use crate::{Content, ContentError, OPEN_SIZE};
+use crate::{Content, ContentError, OPEN_SIZE, Slot};
 
 impl Content {
     /// Whether contents of these sizes, appended in this order, find a slot each. It takes no memory.
@@ -31,13 +31,23 @@ impl Content {
         let mut free = 0;
         for number in 0..self.len() {
             let slot = self.slot(number);
-            if slot.live {
-                next = fill(sizes, next, slot.size);
-            } else {
-                free += 1;
-            }
+            next = fill_slot(sizes, next, slot);
+            free += u32::from(!slot.live);
         }
         (next, free)
+    }
+}
+
+// How many of the sizes go into a slot where it is live, and the slots before.
+fn fill_slot(sizes: &[u64], from: usize, slot: Slot) -> usize
+    requires { from ≤ length sizes.now }
+    ensures within { result ≤ length sizes.now }
+    ensures left { drop result sizes.now ≡ left_by_slot slot (drop from sizes.now) }
+{
+    if slot.live {
+        fill(sizes, from, slot.size)
+    } else {
+        from
     }
 }
 

@@ -9,7 +9,7 @@ use Rattle.content_repo.proofs.Cuts.{covered_within}
 use Rattle.content_repo.proofs.content.Content.load.Goals as goal
 
 pub cut_claims-requires-after_bounds : goal.cut_claims-requires-after_bounds
-cut_claims-requires-after_bounds g c bounds told k =
+cut_claims-requires-after_bounds g c first second told k =
     rw (c.hold_all.ensures.size k) (covered_within k c.args.live.now (g.D.Disk.held c.args.disk.now) (c.requires.within told))
 
 pub returns-in_err-cut_claims-clause-images : goal.returns-in_err-cut_claims-clause-images
