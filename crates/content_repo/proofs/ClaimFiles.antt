@@ -1,12 +1,11 @@
 -- Steps on the files of claims, one after another.
-use Rattle.std.proofs.Common.{◌≡◌, ◌≢◌, ◌⊎◌, ℕ, ◌+◌, ◌<◌, ◌≤◌, min, Bool, true, false, List, [], length, take, drop, refl, sym, ap, subst, ◌∙◌, inl, inr, arith}
+use Rattle.std.proofs.Common.{◌≡◌, ◌⊎◌, ℕ, List, take, refl, sym, ap, subst, ◌∙◌, inl, inr, arith}
 use Rattle.std.proofs.lemmas.Bool.{cases_eq}
 use Rattle.std.proofs.lemmas.List.{take-take}
 use Rattle.disk_trait.specs.Files.{Files, At, Shortened}
 use Rattle.disk_trait.specs.Images.{After, Since, Stays}
 use Rattle.disk_trait.proofs.Moments.{wider, nothing, only_read, step_after_step}
 use Rattle.disk_trait.specs.declared.file_name.FileName.{FileName}
-use Rattle.disk_trait.specs.declared.file_name.FileKind.TheVariants.{Claim}
 use Rattle.content_repo.specs.Claims.{claim, OnClaims}
 
 pub Shortened-refl : (n : ℕ) (bytes : List ℕ) → Shortened n bytes bytes

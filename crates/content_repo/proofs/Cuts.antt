@@ -1,7 +1,7 @@
 -- Claims that are cut one after another: all of them to their ends, and the idle ones to nothing.
-use Rattle.std.proofs.Common.{◌≡◌, ◌≢◌, ◌⊎◌, ℕ, zero, ◌+◌, ◌<◌, ◌≤◌, min, max, eqb, All, Bool, true, false, cond, MatchBool, List, [], ◌∷◌, ◌++◌, length, get_or, set, map, take, drop, count_by, refl, sym, ap, subst, ◌∙◌, inl, inr, arith, length-take, length-set, get_or-set_same, get_or-set_other}
+use Rattle.std.proofs.Common.{◌≡◌, ℕ, ◌+◌, ◌<◌, ◌≤◌, max, eqb, All, Bool, true, false, cond, MatchBool, List, [], ◌∷◌, length, map, take, count_by, refl, sym, ap, subst, ◌∙◌, inl, inr, arith, length-take}
 use Rattle.std.proofs.lemmas.Bool.{cases_eq, cases_lt, cases_Bool, eqb-true}
-use Rattle.std.proofs.lemmas.List.{take-take, take_all, take_more, same_lists, get_or-map, get_or_default, length-map, nil_from_length}
+use Rattle.std.proofs.lemmas.List.{take-take, take_more, same_lists, get_or-map, get_or_default, length-map, nil_from_length}
 use Rattle.std.proofs.lemmas.List.Sums.{sum_by-append}
 use Rattle.disk_trait.specs.Files.{Files, At, Shortened}
 use Rattle.disk_trait.specs.Images.{After, Since}
@@ -12,7 +12,7 @@ use Rattle.flowfile_record.specs.declared.content.ContentRef.{ContentRef}
 use Rattle.content_repo.specs.declared.slot.Slot.{Slot}
 use Rattle.content_repo.specs.Claims.{claim, OnClaims, CutTo, HasSizes, IdleEmptied, IdleShortened, EmptiedAt, ShortenedAt}
 use Rattle.content_repo.specs.SlotSet.{bit_of}
-use Rattle.content_repo.specs.Slots.{unused, slot_at, size_of, is_idle, reclaimed, end_of, covered}
+use Rattle.content_repo.specs.Slots.{unused, slot_at, is_idle, reclaimed, end_of, covered}
 use Rattle.content_repo.proofs.ClaimFiles.{Shortened-refl, Shortened-trans, MaybeCut, MaybeCut-trans, OnClaims-refl, OnClaims-one, OnClaims-trans}
 
 module _ (ends : ℕ → ℕ) (old now : Files) (fit : (k : ℕ) → ends k ≤ length (old (claim k))) (so_far : OnClaims (λ k. MaybeCut (ends k)) old now) where
@@ -82,10 +82,6 @@ idle_onward slots k a b c p q = both_idle (is_idle (slot_at slots k)) a b c p q
 pub idle_step : (slots : List Slot) (k : ℕ) (a b : List ℕ) → is_idle (slot_at slots k) ≡ true → Shortened 0 a b → IdleStep slots k a b
 idle_step slots k a b idle step = rw idle step
 
-unidle : (v : Bool) (a b : List ℕ) → v ≡ false → MatchBool v (Shortened 0 a b) (b ≡ a) → b ≡ a
-unidle true a b e m = absurd cc
-unidle false a b e m = m
-
 pub emptied_kept : (k j : ℕ) (now new : Files) → At (claim k) (λ a b. b ≡ []) now new → now (claim j) ≡ [] → new (claim j) ≡ []
 emptied_kept k j now new at is =
     elim (cases_eq j k) [
@@ -126,39 +122,6 @@ count_more slots k within =
     ap (count_by is_idle) (take_more slots k unused within)
     ∙ sum_by-append (λ (s : Slot). cond (is_idle s) 1 0) (take k slots) (slot_at slots k ∷ [])
     ∙ omega arith
-
-pub all_emptied : (slots : List Slot) (old new : Files) → IdleShortened slots old new
-    → ((k : ℕ) → is_idle (slot_at slots k) ≡ true → new (claim k) ≡ []) → IdleEmptied slots old new
-all_emptied slots old new so_far done = record {
-  claims = λ k. matched (is_idle (slot_at slots k)) (new (claim k) ≡ []) (new (claim k) ≡ old (claim k)) (done k)
-      (λ used. unidle (is_idle (slot_at slots k)) (old (claim k)) (new (claim k)) used (so_far.claims k));
-  others = so_far.others;
-}
-
-is_reclaimed : (v : Bool) (slot : Slot) → v ≡ is_idle slot → v ≡ true → reclaimed slot ≡ unused
-is_reclaimed v slot same idle = rw (sym same ∙ idle) refl
-
-is_left : (slot : Slot) → is_idle slot ≡ false → reclaimed slot ≡ slot
-is_left slot used = rw used refl
-
-pub reclaimed_sizes : (slots new : List Slot) (before after : Files) → ((k : ℕ) → k < 65536 → slot_at new k ≡ reclaimed (slot_at slots k))
-    → HasSizes slots before → IdleEmptied slots before after → HasSizes new after
-reclaimed_sizes slots new before after each sizes emptied k below =
-    elim (cases_Bool (is_idle (slot_at slots k))) [
-      | inl idle ↦
-          let gone : after (claim k) ≡ [] = first (is_idle (slot_at slots k)) (before (claim k)) (after (claim k)) idle (emptied.claims k) in
-          ap length gone ∙ sym (ap (λ (s : Slot). s.size) (each k below ∙ is_reclaimed (is_idle (slot_at slots k)) (slot_at slots k) refl idle))
-      | inr used ↦
-          let kept : after (claim k) ≡ before (claim k) = second (is_idle (slot_at slots k)) (before (claim k)) (after (claim k)) used (emptied.claims k) in
-          ap length kept ∙ sizes k below ∙ sym (ap (λ (s : Slot). s.size) (each k below ∙ is_left (slot_at slots k) used))
-    ]
-  where
-    first : (v : Bool) (a b : List ℕ) → v ≡ true → MatchBool v (b ≡ []) (b ≡ a) → b ≡ []
-    first true a b e m = m
-    first false a b e m = absurd cc
-    second : (v : Bool) (a b : List ℕ) → v ≡ false → MatchBool v (b ≡ []) (b ≡ a) → b ≡ a
-    second true a b e m = absurd cc
-    second false a b e m = m
 
 -- the list that is left
 pub reclaimed_list : (slots new : List Slot) → length new ≡ length slots → ((k : ℕ) → k < length slots → slot_at new k ≡ reclaimed (slot_at slots k)) → new ≡ map reclaimed slots

@@ -1,3 +1,4 @@
+pub mod Appends
 pub mod ClaimFiles
 pub mod Cuts
 pub mod Rooms

@@ -1,5 +1,5 @@
 -- What is left of the sizes of contents says whether there is room for them.
-use Rattle.std.proofs.Common.{◌≡◌, ◌≢◌, ◌⊎◌, ℕ, zero, suc, ◌+◌, ◌<◌, ◌≤◌, min, Bool, true, false, cond, not, nat_lt, ◌&&◌, List, [], ◌∷◌, ◌++◌, length, get_or, set, drop, take, position, count_by, sum_by, Option, None, Some, refl, sym, ap, subst, ◌∙◌, inl, inr, arith, length-set, get_or-set_same, get_or-set_other}
+use Rattle.std.proofs.Common.{◌≡◌, ◌⊎◌, ℕ, zero, suc, ◌+◌, ◌<◌, ◌≤◌, min, Bool, true, false, cond, not, nat_lt, ◌&&◌, List, [], ◌∷◌, ◌++◌, length, set, take, position, count_by, Option, None, Some, refl, sym, ap, subst, ◌∙◌, inl, inr, arith, length-set, get_or-set_same, get_or-set_other}
 use Rattle.std.specs.List.{position_or_len}
 use Rattle.std.proofs.lemmas.Bool.{cases_eq, cases_lt, lt-ltb, le-ltb, ltb-true, ltb-false, not-true}
 use Rattle.std.proofs.lemmas.List.{get_or_past, take_more}
@@ -181,6 +181,7 @@ room_for (n ∷ ns) slots fresh none = by_next (λ k. room_for ns (taken slots k
   where
     clash : [] ≡ n ∷ ns → ⊥
     clash e = absurd cc
+
     by_next : ((k : ℕ) → HasUnused (taken slots k (size_of slots k + n)) → left_by_all (taken slots k (size_of slots k + n)) ns ≡ [] → HasRoom (taken slots k (size_of slots k + n)) ns)
         → (next : Option ℕ) → next_slot slots ≡ next → HasRoom slots (n ∷ ns)
     by_next rest None e = absurd (clash (sym none ∙ out_of_slots slots n ns fresh (open_slot slots) (free_slot slots) refl refl e))

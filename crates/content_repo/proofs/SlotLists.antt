@@ -1,13 +1,13 @@
 -- Lists of slots: the first that passes a test, one that is put in place of another, and how references are held.
-use Rattle.std.proofs.Common.{◌≡◌, ◌≢◌, ◌==◌, ℕ, zero, suc, ◌+◌, ◌<◌, ◌≤◌, max, Bool, true, false, cond, not, nat_lt, ltb, eqb, List, [], ◌∷◌, ◌++◌, length, get_or, set, map, take, position, count_by, Option, None, Some, IfSome, IfNone, refl, sym, ap, subst, ◌∙◌, inl, inr, arith, length-set, get_or-set_same, get_or-set_other}
+use Rattle.std.proofs.Common.{◌≡◌, ◌≢◌, ℕ, zero, suc, ◌+◌, ◌<◌, max, Bool, true, false, cond, nat_lt, eqb, List, [], ◌∷◌, ◌++◌, length, get_or, set, position, Option, None, Some, IfSome, IfNone, refl, sym, ap, subst, ◌∙◌, inl, inr, arith, length-set, get_or-set_same, get_or-set_other}
 use Rattle.std.specs.List.{position_or_len}
 use Rattle.std.proofs.lemmas.Bool.{cases_eq, cases_lt, lt-ltb, eq-eqb, ne_eqb}
-use Rattle.std.proofs.lemmas.List.{get_or_past, get_or_default}
+use Rattle.std.proofs.lemmas.List.{get_or_past}
 use Rattle.std.proofs.lemmas.List.Sums.{position_or_len_is, sum_by-append}
 use Rattle.flowfile_record.specs.declared.content.ContentRef.{ContentRef}
 use Rattle.content_repo.specs.declared.slot.Slot.{Slot}
 use Rattle.content_repo.specs.SlotSet.{has, bit_of, IsLeast}
-use Rattle.content_repo.specs.Slots.{unused, slot_at, count_of, size_of, is_live, is_open, is_free, open_slot, free_slot, or_else, next_slot, taken, references_to, covered, end_of, IsLoaded, AreSorted}
+use Rattle.content_repo.specs.Slots.{unused, slot_at, count_of, size_of, is_live, is_open, is_free, open_slot, free_slot, next_slot, taken, references_to, covered, end_of, IsLoaded, AreSorted}
 
 pub bit_true : (b : Bool) → bit_of b ≡ 1 → b ≡ true
 bit_true true e = refl
@@ -65,48 +65,6 @@ module _ (slots : List Slot) (open_slots free_slots : List ℕ) (sorted : AreSor
 
 -- ---- a slot in place of another
 
-pub sorted-put : (slots : List Slot) (opens frees opens' frees' : List ℕ) (k : ℕ) (slot : Slot) → AreSorted slots opens frees → k < 65536
-    → (slot.live ≡ false → slot ≡ unused)
-    → has opens' k ≡ bit_of (is_open slot) → ((j : ℕ) → j ≢ k → has opens' j ≡ has opens j)
-    → has frees' k ≡ bit_of (is_free slot) → ((j : ℕ) → j ≢ k → has frees' j ≡ has frees j)
-    → AreSorted (set slots k slot) opens' frees'
-sorted-put slots opens frees opens' frees' k slot sorted below known open_here open_others free_here free_others =
-    let within : k < length slots = omega (arith, below, sorted.long) in
-    let here : slot_at (set slots k slot) k ≡ slot = get_or-set_same slots k slot unused within in
-    record {
-      long = length-set slots k slot ∙ sorted.long;
-      opened = λ j j_below.
-          elim (cases_eq j k) [
-            | inl same ↦ rw (same, here) open_here
-            | inr differs ↦ rw (get_or-set_other slots k j slot unused differs) (open_others j differs ∙ sorted.opened j j_below)
-          ];
-      free = λ j j_below.
-          elim (cases_eq j k) [
-            | inl same ↦ rw (same, here) free_here
-            | inr differs ↦ rw (get_or-set_other slots k j slot unused differs) (free_others j differs ∙ sorted.free j j_below)
-          ];
-      unused = λ j.
-          elim (cases_eq j k) [
-            | inl same ↦ subst (λ (s : Slot). s.live ≡ false → s ≡ unused) (sym (ap (slot_at (set slots k slot)) same ∙ here)) known
-            | inr differs ↦ subst (λ (s : Slot). s.live ≡ false → s ≡ unused) (sym (get_or-set_other slots k j slot unused differs)) (sorted.unused j)
-          ];
-    }
-
--- a slot to which a reference is held is one of them
-pub held_within : (slots : List Slot) (k : ℕ) → 0 < count_of slots k → k < length slots
-held_within slots k held =
-    elim (cases_lt k (length slots)) [
-      | inl within ↦ within
-      | inr past ↦ absurd (omega (arith, held, ap (λ (slot : Slot). slot.count) (get_or_past slots k unused past)))
-    ]
-
-pub held_live : (slots : List Slot) (opens frees : List ℕ) (k : ℕ) → AreSorted slots opens frees → 0 < count_of slots k → is_live slots k ≡ true
-held_live slots opens frees k sorted held = by_live (is_live slots k) refl
-  where
-    by_live : (live : Bool) → is_live slots k ≡ live → live ≡ true
-    by_live true e = refl
-    by_live false e = absurd (omega (arith, held, ap (λ (slot : Slot). slot.count) (sorted.unused k e)))
-
 -- ---- references that are held one after another
 
 references-more : (k : ℕ) (at : ContentRef) (refs : List ContentRef) → references_to k (refs ++ at ∷ []) ≡ references_to k refs + (0 + cond (eqb at.slot k) 1 0)
@@ -130,13 +88,6 @@ covered-more_yes k at (r ∷ refs) same = let more = covered-more_yes k at refs 
 pub covered-more_no : (k : ℕ) (at : ContentRef) (refs : List ContentRef) → at.slot ≢ k → covered k (refs ++ at ∷ []) ≡ covered k refs
 covered-more_no k at [] differs = rw (ne_eqb at.slot k differs) refl
 covered-more_no k at (r ∷ refs) differs = ap (λ (n : ℕ). cond (eqb r.slot k) (max (end_of r) n) n) (covered-more_no k at refs differs)
-
-pub loaded_none : (slots : List Slot) → ((k : ℕ) → slot_at slots k ≡ unused) → IsLoaded [] slots
-loaded_none slots none = record {
-  count = λ k. ap (λ (slot : Slot). slot.count) (none k);
-  size = λ k. ap (λ (slot : Slot). slot.size) (none k);
-  live = λ k. ap (λ (slot : Slot). slot.live) (none k);
-}
 
 pub loaded_more : (refs : List ContentRef) (at : ContentRef) (slots : List Slot) (size : ℕ) → IsLoaded refs slots → at.slot < length slots
     → size ≡ max (size_of slots at.slot) (end_of at) → IsLoaded (refs ++ at ∷ []) (taken slots at.slot size)
@@ -180,9 +131,3 @@ sorted_none slots opens frees long none closed free = record {
   free = λ k below. free k below ∙ sym (ap (λ (s : Slot). bit_of (is_free s)) (none k));
   unused = λ k free. none k;
 }
-
-pub unused_more : (slots : List Slot) → ((k : ℕ) → slot_at slots k ≡ unused) → (k : ℕ) → slot_at (slots ++ unused ∷ []) k ≡ unused
-unused_more [] none zero = refl
-unused_more [] none (suc k) = refl
-unused_more (slot ∷ slots) none zero = none zero
-unused_more (slot ∷ slots) none (suc k) = unused_more slots (λ j. none (suc j)) k

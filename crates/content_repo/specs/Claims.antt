@@ -1,5 +1,5 @@
 -- The files of the claims.
-use Rattle.std.specs.Prelude.{◌≡◌, ◌≢◌, ℕ, ◌+◌, ◌<◌, ◌≤◌, List, [], length, take, drop, MatchBool}
+use Rattle.std.specs.Prelude.{◌≡◌, ◌≢◌, ℕ, ◌<◌, ◌≤◌, List, [], length, take, drop, MatchBool}
 use Rattle.sha2.specs.Sha256.{sha256}
 use Rattle.disk_trait.specs.Files.{Files, named, At, Shortened}
 use Rattle.disk_trait.specs.declared.damage.Damage.{Damage}

@@ -32,6 +32,7 @@ impl Content {
         ensures slot { IfOk result (λ at. next_slot self.old ≡ Some at.slot) }
         ensures at { IfOk result (λ at. at ≡ record { slot = at.slot; offset = size_of self.old at.slot; size = length bytes.now; digest = digest }) }
         ensures value { IfOk result (λ at. self.new ≡ taken self.old at.slot (size_of self.old at.slot + length bytes.now)) }
+        ensures held { OnOk result (held_in self.new ≡ held_in self.old + 1) }
         // What the disk holds.
         ensures written { IfOk result (λ at. IsTrue D.tells
             → At (claim at.slot) (λ old new. new ≡ old ++ bytes.now) (D.held disk.old) (D.held disk.new)) }

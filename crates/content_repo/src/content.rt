@@ -39,7 +39,8 @@ impl Model for Content {
 impl Content {
     /// No contents.
     pub(crate) fn new(alloc: Global) -> Result<Content, AllocError>
-        ensures { IfOk result (λ content. (k : ℕ) → slot_at content k ≡ unused) }
+        ensures none { IfOk result (λ content. (k : ℕ) → slot_at content k ≡ unused) }
+        ensures held { IfOk result (λ content. held_in content ≡ 0) }
     {
         let slots = unused_slots(alloc)?;
         let open_slots = SlotSet::new(alloc)?;
@@ -107,47 +108,60 @@ impl Content {
     pub(crate) fn take(&mut self, number: u32, size: u64)
         requires within { number < SLOTS }
         requires few { count_of self.old number + 1 < 2 ^ 32 }
-        ensures { self.new ≡ taken self.old number size }
+        ensures value { self.new ≡ taken self.old number size }
+        ensures held { held_in self.new ≡ held_in self.old + 1 }
     {
         let count = self.slot(number).count + 1;
-        self.put(number, Slot {
-            live: true,
-            count,
-            size,
-        });
+        self.put(
+            number,
+            Slot {
+                live: true,
+                count,
+                size,
+            },
+        );
     }
 
     /// One more reference to the slot of one that is held.
     pub fn hold(&mut self, at: &ContentRef)
         requires held { 0 < count_of self.old at.now.slot }
         requires few { held_in self.old < HELD_MAX }
-        ensures { self.new ≡ with_count self.old at.now.slot (count_of self.old at.now.slot + 1) }
+        ensures value { self.new ≡ with_count self.old at.now.slot (count_of self.old at.now.slot + 1) }
+        ensures held { held_in self.new ≡ held_in self.old + 1 }
     {
         let slot = self.held_slot(at.slot);
-        self.put(at.slot, Slot {
-            live: slot.live,
-            count: slot.count + 1,
-            size: slot.size,
-        });
+        self.put(
+            at.slot,
+            Slot {
+                live: slot.live,
+                count: slot.count + 1,
+                size: slot.size,
+            },
+        );
     }
 
     /// One reference less to a slot.
     pub fn unhold(&mut self, at: &ContentRef)
         requires { 0 < count_of self.old at.now.slot }
-        ensures { self.new ≡ with_count self.old at.now.slot (count_of self.old at.now.slot - 1) }
+        ensures value { self.new ≡ with_count self.old at.now.slot (count_of self.old at.now.slot - 1) }
+        ensures held { held_in self.new + 1 ≡ held_in self.old }
     {
         let slot = self.held_slot(at.slot);
-        self.put(at.slot, Slot {
-            live: slot.live,
-            count: slot.count - 1,
-            size: slot.size,
-        });
+        self.put(
+            at.slot,
+            Slot {
+                live: slot.live,
+                count: slot.count - 1,
+                size: slot.size,
+            },
+        );
     }
 
     /// Makes a slot free.
     pub(crate) fn retire(&mut self, number: u32)
         requires { number < SLOTS }
-        ensures { self.new ≡ slice_set self.old number unused }
+        ensures value { self.new ≡ slice_set self.old number unused }
+        ensures held { held_in self.new + count_of self.old number ≡ held_in self.old }
     {
         self.put(number, Slot::unused());
     }
@@ -156,7 +170,8 @@ impl Content {
     fn put(&mut self, number: u32, slot: Slot)
         requires within { number < SLOTS }
         requires known { slot.live ≡ false → slot ≡ unused }
-        ensures { self.new ≡ slice_set self.old number slot }
+        ensures value { self.new ≡ slice_set self.old number slot }
+        ensures held { held_in self.new + count_of self.old number ≡ held_in self.old + slot.count }
     {
         self.open_slots.put(number, slot.is_open());
         self.free_slots.put(number, !slot.live);
@@ -168,6 +183,7 @@ impl Content {
 fn unused_slots(alloc: Global) -> Result<Vec<Slot>, AllocError>
     ensures long { IfOk result (λ slots. length slots.items ≡ SLOTS) }
     ensures unused { IfOk result (λ slots. (k : ℕ) → slot_at slots.items k ≡ unused) }
+    ensures held { IfOk result (λ slots. held_in slots.items ≡ 0) }
 {
     let mut slots = Vec::with_capacity(alloc, SLOTS as usize)?;
     for number in 0..SLOTS {

@@ -7,7 +7,7 @@ ghost use Rattle.disk_trait.specs.declared.damage.Damage.{Damage as TheDamage};
 ghost use Rattle.flowfile_record.specs.declared.content.ContentRef.{ContentRef as TheRef};
 ghost use Rattle.content_repo.specs.declared.slot_set.TheConstants.{SLOTS};
 ghost use Rattle.content_repo.specs.Claims.{claim, HasSizes, ShortenedTo, CutTo};
-ghost use Rattle.content_repo.specs.Slots.{count_of, size_of, end_of, covered, IsLoaded, IsNamed, slot_at, unused};
+ghost use Rattle.content_repo.specs.Slots.{count_of, size_of, end_of, held_in, covered, IsLoaded, IsNamed, slot_at, unused};
 
 use crate::{Content, ContentError};
 use disk_trait::{Disk, Failed, FileKind, FileName};
@@ -29,6 +29,7 @@ impl Content {
         requires named { All IsNamed live.now }
         requires within { IsTrue D.tells → All (λ at. end_of at ≤ length (D.held disk.old (claim at.slot))) live.now }
         ensures loaded { IfOk result (IsLoaded live.now) }
+        ensures held { IfOk result (λ content. held_in content ≡ length live.now) }
         ensures sizes { IfOk result (λ content. IsTrue D.tells → HasSizes content (D.held disk.new)) }
         ensures cut { OnOk result (IsTrue D.tells → CutTo (λ k. covered k live.now) (D.held disk.old) (D.held disk.new)) }
         // A stop leaves what it would have left, but for bytes that no reference covers.
@@ -48,7 +49,9 @@ impl Content {
         requires few { length live.now ≤ LIVE_MAX }
         requires named { All IsNamed live.now }
         requires none { (k : ℕ) → slot_at self.old k ≡ unused }
-        ensures { IsLoaded live.now self.new }
+        requires unheld { held_in self.old ≡ 0 }
+        ensures loaded { IsLoaded live.now self.new }
+        ensures held { held_in self.new ≡ length live.now }
     {
         for at in live {
             let end = at.offset + at.size;

@@ -5,7 +5,7 @@ ghost use Rattle.disk_trait.specs.Faults.{CountsFaults};
 ghost use Rattle.content_repo.specs.declared.error.ContentError.TheVariants.{Disk as DiskFault};
 ghost use Rattle.content_repo.specs.Claims.{HasSizes, IdleEmptied, IdleShortened, EmptiedAt, ShortenedAt};
 ghost use Rattle.content_repo.specs.SlotSet.{bit_of};
-ghost use Rattle.content_repo.specs.Slots.{slot_at, is_idle, reclaimed};
+ghost use Rattle.content_repo.specs.Slots.{held_in, slot_at, is_idle, reclaimed};
 
 use crate::append::claim_file;
 use crate::{Content, ContentError, SLOTS};
@@ -26,6 +26,7 @@ impl Content {
         requires { IsTrue D.tells → HasSizes self.old (D.held disk.old) }
         ensures answer { IfOk result (λ answer. answer ≡ record { emptied = count_by is_idle self.old; claimed = 0 }) }
         ensures value { OnOk result (self.new ≡ map reclaimed self.old) }
+        ensures held { OnOk result (held_in self.new ≡ held_in self.old) }
         ensures sizes { OnOk result (IsTrue D.tells → HasSizes self.new (D.held disk.new)) }
         ensures emptied { OnOk result (IsTrue D.tells → IdleEmptied self.old (D.held disk.old) (D.held disk.new)) }
         ensures shortened { IsTrue D.tells → IdleShortened self.old (D.held disk.old) (D.held disk.new) }
@@ -49,6 +50,7 @@ impl Content {
         requires { number < SLOTS }
         ensures emptied { IfOk result (λ emptied. emptied ≡ bit_of (is_idle (slot_at self.old number))) }
         ensures value { OnOk result (self.new ≡ slice_set self.old number (reclaimed (slot_at self.old number))) }
+        ensures count { OnOk result (held_in self.new ≡ held_in self.old) }
         ensures held { OnOk result (IsTrue D.tells → EmptiedAt (slot_at self.old number) number (D.held disk.old) (D.held disk.new)) }
         ensures shortened { IsTrue D.tells → ShortenedAt (slot_at self.old number) number (D.held disk.old) (D.held disk.new) }
         ensures images { Since D.moment D.images disk.old disk.new

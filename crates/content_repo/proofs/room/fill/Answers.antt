@@ -1,4 +1,4 @@
-use Rattle.std.proofs.Common.{◌≡◌, ℕ, ◌+◌, ◌∷◌, suc, List, drop, min, slice_index, sym, ap, ◌∙◌, add-one, arith, drop-cons}
+use Rattle.std.proofs.Common.{◌≡◌, ℕ, ◌+◌, ◌∷◌, drop, min, slice_index, sym, ap, ◌∙◌, add-one, arith, drop-cons}
 use Rattle.content_repo.specs.Room.{left_behind}
 use Rattle.content_repo.proofs.Rooms.{left_full, left_open, left_capped}
 use Rattle.content_repo.proofs.room.fill.Goals as goal

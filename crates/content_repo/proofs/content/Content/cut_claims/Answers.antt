@@ -1,8 +1,7 @@
-use Rattle.std.proofs.Common.{◌≡◌, ℕ, ◌+◌, ◌^◌, ◌<◌, ◌≤◌, List, length, take, slice_index, get_or, subst, sym, ap, ◌∙◌, inl, inr, arith}
+use Rattle.std.proofs.Common.{◌≡◌, ℕ, ◌^◌, ◌<◌, List, length, take, slice_index, subst, sym, ap, ◌∙◌, inl, inr, arith}
 use Rattle.std.proofs.lemmas.Bool.{cases_lt}
 use Rattle.std.proofs.lemmas.List.{get_or_default}
-use Rattle.disk_trait.specs.Files.{Files, At, Shortened}
-use Rattle.disk_trait.specs.Images.{After, Since}
+use Rattle.disk_trait.specs.Files.{At, Shortened}
 use Rattle.content_repo.specs.Claims.{claim}
 use Rattle.content_repo.specs.Slots.{size_of}
 use Rattle.content_repo.proofs.ClaimFiles.{Shortened-refl, Shortened-trans, since_more}

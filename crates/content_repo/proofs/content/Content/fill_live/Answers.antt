@@ -1,4 +1,4 @@
-use Rattle.std.proofs.Common.{◌≡◌, ℕ, cond, Bool, true, false, refl, ◌+◌, ◌<◌, List, length, take, count_by, sym, ap, ◌∙◌, arith}
+use Rattle.std.proofs.Common.{◌≡◌, ℕ, cond, Bool, true, false, refl, ◌<◌, List, length, take, sym, ap, ◌∙◌, arith}
 use mir.Val.{bool_byte}
 use Rattle.std.proofs.lemmas.List.{take_more}
 use Rattle.content_repo.specs.declared.slot.Slot.{Slot}

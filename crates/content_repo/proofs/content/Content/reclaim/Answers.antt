@@ -1,6 +1,5 @@
-use Rattle.std.proofs.Common.{◌≡◌, ℕ, ◌+◌, ◌<◌, ◌≤◌, [], true, List, length, take, set, count_by, subst, sym, ap, ◌∙◌, inl, inr, arith, length-set, get_or-set_same, get_or-set_other}
+use Rattle.std.proofs.Common.{◌≡◌, ℕ, ◌<◌, [], true, List, length, set, subst, sym, ap, ◌∙◌, inl, inr, arith, length-set, get_or-set_same, get_or-set_other}
 use Rattle.std.proofs.lemmas.Bool.{cases_lt, cases_eq}
-use Rattle.disk_trait.specs.Files.{Files}
 use Rattle.content_repo.specs.declared.slot.Slot.{Slot}
 use Rattle.content_repo.specs.Claims.{claim}
 use Rattle.content_repo.specs.SlotSet.{bit_of}
@@ -41,14 +40,15 @@ loop-number-preserved g c =
                 subst (λ (i : ℕ). new (claim i) ≡ []) (sym here)
                 (turn_here slot k now new (c.in_ok-emptied.ensures.held told) (ap is_idle same ∙ subst (λ (i : ℕ). is_idle (slot_at slots i) ≡ true) here idle))
           ];
+      held = c.in_ok-emptied.ensures.count ∙ inv.held;
       long = ap length value ∙ length-set left k (reclaimed slot) ∙ long;
       before = λ j below.
           ap (λ (l : List Slot). slot_at l j) value
           ∙ elim (cases_eq j k) as (λ _. slot_at (set left k (reclaimed slot)) j ≡ reclaimed (slot_at slots j)) [
-              | inl here ↦
-                  ap (slot_at (set left k (reclaimed slot))) here ∙ get_or-set_same left k (reclaimed slot) unused (omega (arith, in_slots, long))
-                  ∙ ap reclaimed same ∙ ap (λ (i : ℕ). reclaimed (slot_at slots i)) (sym here)
-              | inr differs ↦ get_or-set_other left k j (reclaimed slot) unused differs ∙ inv.before j (omega (arith, below, differs))
+            | inl here ↦
+                ap (slot_at (set left k (reclaimed slot))) here ∙ get_or-set_same left k (reclaimed slot) unused (omega (arith, in_slots, long))
+                ∙ ap reclaimed same ∙ ap (λ (i : ℕ). reclaimed (slot_at slots i)) (sym here)
+            | inr differs ↦ get_or-set_other left k j (reclaimed slot) unused differs ∙ inv.before j (omega (arith, below, differs))
           ];
       behind = λ j past.
           ap (λ (l : List Slot). slot_at l j) value

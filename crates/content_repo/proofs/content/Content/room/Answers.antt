@@ -1,7 +1,6 @@
-use Rattle.std.proofs.Common.{◌≡◌, ℕ, ◌≤◌, [], List, length, drop, count_by, sym, ap, ◌∙◌, arith, length-drop}
+use Rattle.std.proofs.Common.{◌≡◌, ℕ, [], length, drop, sym, ap, ◌∙◌, arith, length-drop}
 use Rattle.std.proofs.lemmas.List.{nil_from_length}
 use Rattle.content_repo.specs.Room.{left_by_live, left_by_new, left_by_all}
-use Rattle.content_repo.specs.Slots.{is_free}
 use Rattle.content_repo.proofs.Rooms.{nothing_left, room_for}
 use Rattle.content_repo.proofs.content.Content.room.Goals as goal
 

@@ -1,6 +1,6 @@
 use Rattle.std.proofs.Common.{◌≡◌, ◌/◌, ◌<◌, length, get_or, ◌∙◌, sym, arith}
 use Rattle.std.proofs.lemmas.List.{get_or_default}
-use Rattle.content_repo.proofs.SlotSets.{has-without_same, has-without_other, levels-without, levels-left}
+use Rattle.content_repo.proofs.SlotSets.{has-without_same, has-without_other, levels-without}
 use Rattle.content_repo.proofs.slot_set.SlotSet.remove.Goals as goal
 
 pub invariant_of-self : goal.invariant_of-self
