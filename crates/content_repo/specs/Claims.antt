@@ -19,6 +19,10 @@ claim k = named Claim k
 abbrev pub content_in : Files → ContentRef → List ℕ
 content_in files at = take at.size (drop at.offset (files (claim at.slot)))
 
+-- the claim of a content reaches to its end
+abbrev pub IsCovered : Files → ContentRef → Type 0
+IsCovered files at = end_of at ≤ length (files (claim at.slot))
+
 -- each file is as long as is known
 abbrev pub HasSizes : List Slot → Files → Type 0
 HasSizes slots files = (k : ℕ) → k < SLOTS → length (files (claim k)) ≡ size_of slots k
@@ -53,8 +57,9 @@ ShortenedAt slot k old new = MatchBool (is_idle slot) (At (claim k) (Shortened 0
 -- what is wrong with a content where the bytes of its claim are these
 abbrev pub IsDamage : ContentRef → List ℕ → Damage → Type 0
 IsDamage at bytes (Digest file offset stored found) =
-    (file ≡ claim at.slot) × (offset ≡ at.offset) × (stored ≡ at.digest) × (found ≡ sha256 (take at.size (drop at.offset bytes)))
-    × (stored ≢ found) × (end_of at ≤ length bytes)
+    (file ≡ claim at.slot) × (offset ≡ at.offset) × (end_of at ≤ length bytes)
+    × (stored ≡ at.digest) × (found ≡ sha256 (take at.size (drop at.offset bytes))) × (stored ≢ found)
 IsDamage at bytes (Short file offset need have) =
-    (file ≡ claim at.slot) × (offset ≡ at.offset) × (need ≡ end_of at) × (have ≡ length bytes) × (length bytes < end_of at)
+    (file ≡ claim at.slot) × (offset ≡ at.offset) × (length bytes < end_of at)
+    × (need ≡ end_of at) × (have ≡ length bytes)
 IsDamage at bytes (Form file offset) = ⊥

@@ -15,8 +15,8 @@ use disk_trait::{Disk, FileKind, FileName};
 use flowfile_record::{CONTENT_MAX, ContentRef, DIGEST_SIZE};
 
 impl Content {
-    /// Writes a content at the end of the live claim of lowest number that is shorter than `OPEN_SIZE`, or where none is
-    /// into the lowest free slot, and holds one reference to it. It takes no memory.
+    /// Writes a content at the end of the live claim of lowest number that is shorter than `OPEN_SIZE`, or where none
+    /// is into the lowest free slot, and holds one reference to it. It takes no memory.
     pub fn append<D: Disk>(
         &mut self,
         disk: &mut D,
@@ -30,8 +30,10 @@ impl Content {
         requires sizes { IsTrue D.tells → HasSizes self.old (D.held disk.old) }
         // Where it stands.
         ensures slot { IfOk result (λ at. next_slot self.old ≡ Some at.slot) }
-        ensures at { IfOk result (λ at. at ≡ record { slot = at.slot; offset = size_of self.old at.slot; size = length bytes.now; digest = digest }) }
-        ensures value { IfOk result (λ at. self.new ≡ taken self.old at.slot (size_of self.old at.slot + length bytes.now)) }
+        ensures offset { IfOk result (λ at. at.offset ≡ size_of self.old at.slot) }
+        ensures size { IfOk result (λ at. at.size ≡ length bytes.now) }
+        ensures digest { IfOk result (λ at. at.digest ≡ digest) }
+        ensures value { IfOk result (λ at. self.new ≡ taken self.old at.slot (end_of at)) }
         ensures held { OnOk result (held_in self.new ≡ held_in self.old + 1) }
         // What the disk holds.
         ensures written { IfOk result (λ at. IsTrue D.tells
@@ -44,7 +46,8 @@ impl Content {
         ensures torn { (k : ℕ) → next_slot self.old ≡ Some k → IsTrue D.tells
             → At (claim k) (Torn (size_of self.old k) (length bytes.now)) (D.held disk.old) (D.held disk.new) }
         ensures images { (k : ℕ) → next_slot self.old ≡ Some k → Since D.moment D.images disk.old disk.new
-            (After (At (claim k) (Torn (size_of self.old k) (length bytes.now))) (D.images disk.old (D.moment disk.old))) }
+            (After (At (claim k) (Torn (size_of self.old k) (length bytes.now)))
+            (D.images disk.old (D.moment disk.old))) }
         // There is one write.
         ensures moment { D.moment disk.new ≡ next_moment (D.moment disk.old) }
         ensures refusal { IfErr result (λ error. error ≡ DiskFault) }

@@ -6,7 +6,7 @@ ghost use Rattle.disk_trait.specs.Faults.{CountsFaults};
 ghost use Rattle.disk_trait.specs.declared.damage.Damage.{Damage as TheDamage};
 ghost use Rattle.flowfile_record.specs.declared.content.ContentRef.{ContentRef as TheRef};
 ghost use Rattle.content_repo.specs.declared.slot_set.TheConstants.{SLOTS};
-ghost use Rattle.content_repo.specs.Claims.{claim, HasSizes, ShortenedTo, CutTo};
+ghost use Rattle.content_repo.specs.Claims.{claim, IsCovered, HasSizes, ShortenedTo, CutTo};
 ghost use Rattle.content_repo.specs.Slots.{count_of, size_of, end_of, held_in, covered, IsLoaded, IsNamed, slot_at, unused};
 
 use crate::{Content, ContentError};
@@ -18,8 +18,8 @@ use std::alloc::Global;
 pub const LIVE_MAX: u64 = 1_048_576;
 
 impl Content {
-    /// A repository of the contents that these references name, each held once. Each claim is cut to the greatest end of
-    /// the references to it, or to nothing.
+    /// A repository of the contents that these references name, each held once. Each claim is cut to the greatest end
+    /// of the references to it, or to nothing.
     pub fn load<D: Disk>(
         alloc: Global,
         disk: &mut D,
@@ -27,15 +27,17 @@ impl Content {
     ) -> Result<Content, ContentError>
         requires few { length live.now ≤ LIVE_MAX }
         requires named { All IsNamed live.now }
-        requires within { IsTrue D.tells → All (λ at. end_of at ≤ length (D.held disk.old (claim at.slot))) live.now }
+        requires within { IsTrue D.tells → All (IsCovered (D.held disk.old)) live.now }
         ensures loaded { IfOk result (IsLoaded live.now) }
         ensures held { IfOk result (λ content. held_in content ≡ length live.now) }
         ensures sizes { IfOk result (λ content. IsTrue D.tells → HasSizes content (D.held disk.new)) }
-        ensures cut { OnOk result (IsTrue D.tells → CutTo (λ k. covered k live.now) (D.held disk.old) (D.held disk.new)) }
+        ensures cut { OnOk result (IsTrue D.tells
+            → CutTo (λ k. covered k live.now) (D.held disk.old) (D.held disk.new)) }
         // A stop leaves what it would have left, but for bytes that no reference covers.
         ensures images { Since D.moment D.images disk.old disk.new
             (After (ShortenedTo (λ k. covered k live.now)) (D.images disk.old (D.moment disk.old))) }
-        ensures kinds { (IsErrOf result ContentError.SlotsFull → ⊥) × ((damage : TheDamage) → IsErrOf result (ContentError.Damaged damage) → ⊥) }
+        ensures not_full { IsErrOf result ContentError.SlotsFull → ⊥ }
+        ensures not_damaged { (damage : TheDamage) → IsErrOf result (ContentError.Damaged damage) → ⊥ }
         ensures cause { CountsFaults (D.faults disk.old) (D.faults disk.new) (IsErrOf result ContentError.Disk) }
     {
         let mut content = Content::new(alloc)?;
@@ -66,7 +68,8 @@ impl Content {
         ensures cut { OnOk result (IsTrue D.tells → CutTo (size_of self.now) (D.held disk.old) (D.held disk.new)) }
         ensures images { Since D.moment D.images disk.old disk.new
             (After (ShortenedTo (size_of self.now)) (D.images disk.old (D.moment disk.old))) }
-        ensures kinds { (IsErrOf result ContentError.SlotsFull → ⊥) × ((damage : TheDamage) → IsErrOf result (ContentError.Damaged damage) → ⊥) }
+        ensures not_full { IsErrOf result ContentError.SlotsFull → ⊥ }
+        ensures not_damaged { (damage : TheDamage) → IsErrOf result (ContentError.Damaged damage) → ⊥ }
         ensures cause { CountsFaults (D.faults disk.old) (D.faults disk.new) (IsErrOf result ContentError.Disk) }
     {
         let mut numbers = Vec::new(alloc);
@@ -81,7 +84,8 @@ impl Content {
 // Cuts a claim to its end, unless it is no longer.
 fn cut_claim<D: Disk>(disk: &mut D, number: u64, end: u64) -> Result<(), Failed>
     requires { IsTrue D.tells → end ≤ length (D.held disk.old (claim number)) }
-    ensures cut { OnOk result (IsTrue D.tells → At (claim number) (λ old new. new ≡ take end old) (D.held disk.old) (D.held disk.new)) }
+    ensures cut { OnOk result (IsTrue D.tells
+        → At (claim number) (λ old new. new ≡ take end old) (D.held disk.old) (D.held disk.new)) }
     ensures images { Since D.moment D.images disk.old disk.new
         (After (At (claim number) (Shortened end)) (D.images disk.old (D.moment disk.old))) }
     ensures cause { CountsFaults (D.faults disk.old) (D.faults disk.new) (IsErr result) }

@@ -51,8 +51,10 @@ impl Content {
         ensures emptied { IfOk result (λ emptied. emptied ≡ bit_of (is_idle (slot_at self.old number))) }
         ensures value { OnOk result (self.new ≡ slice_set self.old number (reclaimed (slot_at self.old number))) }
         ensures count { OnOk result (held_in self.new ≡ held_in self.old) }
-        ensures held { OnOk result (IsTrue D.tells → EmptiedAt (slot_at self.old number) number (D.held disk.old) (D.held disk.new)) }
-        ensures shortened { IsTrue D.tells → ShortenedAt (slot_at self.old number) number (D.held disk.old) (D.held disk.new) }
+        ensures held { OnOk result (IsTrue D.tells
+            → EmptiedAt (slot_at self.old number) number (D.held disk.old) (D.held disk.new)) }
+        ensures shortened { IsTrue D.tells
+            → ShortenedAt (slot_at self.old number) number (D.held disk.old) (D.held disk.new) }
         ensures images { Since D.moment D.images disk.old disk.new
             (After (ShortenedAt (slot_at self.old number) number) (D.images disk.old (D.moment disk.old))) }
         ensures cause { CountsFaults (D.faults disk.old) (D.faults disk.new) (IsErr result) }
