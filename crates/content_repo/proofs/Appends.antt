@@ -1,5 +1,5 @@
 -- What stands in a claim when a content is written at its end.
-use Rattle.std.proofs.Common.{◌≡◌, ◌≢◌, ℕ, ◌+◌, ◌<◌, ◌≤◌, true, List, [], ◌++◌, length, take, drop, set, sym, ap, subst, ◌∙◌, inl, inr, arith, length-append, length-drop, get_or-set_same, get_or-set_other}
+use Rattle.std.proofs.Common.{◌≡◌, ℕ, ◌+◌, ◌<◌, ◌≤◌, true, List, [], ◌++◌, length, take, drop, sym, ap, subst, ◌∙◌, inl, inr, arith, length-append, length-drop, get_or-set_same, get_or-set_other}
 use Rattle.std.proofs.lemmas.Bool.{cases_eq}
 use Rattle.std.proofs.lemmas.List.{take_all, take-take, drop-take, nil_from_length, append-nil}
 use Rattle.disk_trait.specs.Files.{Files, At, Overwritten, Torn}
@@ -7,7 +7,7 @@ use Rattle.disk_trait.specs.declared.file_name.FileName.{FileName}
 use Rattle.flowfile_record.specs.declared.content.ContentRef.{ContentRef}
 use Rattle.content_repo.specs.declared.slot.Slot.{Slot}
 use Rattle.content_repo.specs.Claims.{claim, content_in, HasSizes}
-use Rattle.content_repo.specs.Slots.{unused, slot_at, count_of, size_of, end_of, taken}
+use Rattle.content_repo.specs.Slots.{unused, count_of, size_of, end_of, taken}
 
 -- what is read of bytes with the same front
 same_front : (z offset size : ℕ) (a b : List ℕ) → offset + size ≤ z → take z a ≡ take z b → take size (drop offset a) ≡ take size (drop offset b)

@@ -1,6 +1,6 @@
 -- Claims that are cut one after another: all of them to their ends, and the idle ones to nothing.
 use Rattle.std.proofs.Common.{◌≡◌, ℕ, ◌+◌, ◌<◌, ◌≤◌, max, eqb, All, Bool, true, false, cond, MatchBool, List, [], ◌∷◌, length, map, take, count_by, refl, sym, ap, subst, ◌∙◌, inl, inr, arith, length-take}
-use Rattle.std.proofs.lemmas.Bool.{cases_eq, cases_lt, cases_Bool, eqb-true}
+use Rattle.std.proofs.lemmas.Bool.{cases_eq, cases_lt, eqb-true}
 use Rattle.std.proofs.lemmas.List.{take-take, take_more, same_lists, get_or-map, get_or_default, length-map, nil_from_length}
 use Rattle.std.proofs.lemmas.List.Sums.{sum_by-append}
 use Rattle.disk_trait.specs.Files.{Files, At, Shortened}
@@ -10,7 +10,7 @@ use Rattle.disk_trait.specs.declared.file_name.FileName.{FileName}
 use Rattle.std.proofs.lemmas.List.Elements.{All-head, All-tail}
 use Rattle.flowfile_record.specs.declared.content.ContentRef.{ContentRef}
 use Rattle.content_repo.specs.declared.slot.Slot.{Slot}
-use Rattle.content_repo.specs.Claims.{claim, OnClaims, CutTo, HasSizes, IdleEmptied, IdleShortened, EmptiedAt, ShortenedAt}
+use Rattle.content_repo.specs.Claims.{claim, OnClaims, CutTo, IdleShortened, EmptiedAt, ShortenedAt}
 use Rattle.content_repo.specs.SlotSet.{bit_of}
 use Rattle.content_repo.specs.Slots.{unused, slot_at, is_idle, reclaimed, end_of, covered}
 use Rattle.content_repo.proofs.ClaimFiles.{Shortened-refl, Shortened-trans, MaybeCut, MaybeCut-trans, OnClaims-refl, OnClaims-one, OnClaims-trans}

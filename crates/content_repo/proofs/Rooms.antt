@@ -1,7 +1,7 @@
 -- What is left of the sizes of contents says whether there is room for them.
 use Rattle.std.proofs.Common.{◌≡◌, ◌⊎◌, ℕ, zero, suc, ◌+◌, ◌<◌, ◌≤◌, min, Bool, true, false, cond, not, nat_lt, ◌&&◌, List, [], ◌∷◌, ◌++◌, length, set, take, position, count_by, Option, None, Some, refl, sym, ap, subst, ◌∙◌, inl, inr, arith, length-set, get_or-set_same, get_or-set_other}
 use Rattle.std.specs.List.{position_or_len}
-use Rattle.std.proofs.lemmas.Bool.{cases_eq, cases_lt, lt-ltb, le-ltb, ltb-true, ltb-false, not-true}
+use Rattle.std.proofs.lemmas.Bool.{cases_eq, cases_lt, lt-ltb, le-ltb, ltb-true, ltb-false, not-true, and_parts}
 use Rattle.std.proofs.lemmas.List.{get_or_past, take_more}
 use Rattle.std.proofs.lemmas.List.Quantifiers.{position-Some}
 use Rattle.std.proofs.lemmas.List.Sums.{fails_before_first, sum_by-cons, sum_by-set, sum_by-append}
@@ -188,6 +188,34 @@ room_for (n ∷ ns) slots fresh none = by_next (λ k. room_for ns (taken slots k
     by_next rest (Some k) e =
         let step = into_next slots n ns fresh k (open_slot slots) (free_slot slots) refl refl e in
         (k, e, rest k (unused_after slots n ns fresh k) (sym step ∙ none))
+
+-- ---- one slot takes all
+
+into_first_open : (slots : List Slot) (k : ℕ) (ns : List ℕ) → is_open (slot_at slots k) ≡ true → ((j : ℕ) → j < k → is_open (slot_at slots j) ≡ false)
+    → left_behind (size_of slots k) ns ≡ [] → left_by_live slots ns ≡ []
+into_first_open [] k ns is before none = absurd cc
+into_first_open (slot ∷ slots) zero ns is before none =
+    ap (left_by_live slots) (live_slot slot ns (and_parts slot.live (nat_lt slot.size 1048576) is).0 ∙ none) ∙ left_none_live slots
+into_first_open (slot ∷ slots) (suc k) ns is before none =
+    ap (left_by_live slots) (shut_slot slot ns (before zero (omega arith))) ∙ into_first_open slots k ns is (λ j lt. before (suc j) (omega arith)) none
+
+into_one : (slots : List Slot) (ns : List ℕ) (k : ℕ) (first second : Option ℕ) → HasUnused slots → open_slot slots ≡ first → free_slot slots ≡ second
+    → or_else first second ≡ Some k → left_behind (size_of slots k) ns ≡ [] → left_by_all slots ns ≡ []
+into_one slots ns k None second fresh shut is e none =
+    let found = position-Some is_free slots k unused (is ∙ e) in
+    let after : Slot = record { live = true; count = 0; size = 0 } in
+    let empty : size_of slots k ≡ 0 = ap (λ (s : Slot). s.size) (fresh k (not-true (is_live slots k) found.1)) in
+    let one : count_by is_free slots ≡ suc (count_by is_free (set slots k after)) =
+    omega (arith, counts_set slots k after found.0, ap {B = ℕ} (λ (b : Bool). cond b 1 0) found.1) in
+    ap (left_by_new (count_by is_free slots)) (all_shut slots ns (shut_all slots shut)) ∙ ap (λ (c : ℕ). left_by_new c ns) one
+    ∙ ap (left_by_new (count_by is_free (set slots k after))) (ap (λ (a : ℕ). left_behind a ns) (sym empty) ∙ none)
+    ∙ left_none_new (count_by is_free (set slots k after))
+into_one slots ns k (Some j) second fresh is other e none =
+    let found = position-Some is_open slots k unused (is ∙ e) in
+    ap (left_by_new (count_by is_free slots)) (into_first_open slots k ns found.1 found.2 none) ∙ left_none_new (count_by is_free slots)
+
+pub one_takes_all : (slots : List Slot) (ns : List ℕ) (k : ℕ) → HasUnused slots → next_slot slots ≡ Some k → left_behind (size_of slots k) ns ≡ [] → HasRoom slots ns
+one_takes_all slots ns k fresh is none = room_for ns slots fresh (into_one slots ns k (open_slot slots) (free_slot slots) fresh refl refl is none)
 
 -- ---- in loops
 

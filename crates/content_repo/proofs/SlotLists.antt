@@ -1,13 +1,12 @@
 -- Lists of slots: the first that passes a test, one that is put in place of another, and how references are held.
-use Rattle.std.proofs.Common.{◌≡◌, ◌≢◌, ℕ, zero, suc, ◌+◌, ◌<◌, max, Bool, true, false, cond, nat_lt, eqb, List, [], ◌∷◌, ◌++◌, length, get_or, set, position, Option, None, Some, IfSome, IfNone, refl, sym, ap, subst, ◌∙◌, inl, inr, arith, length-set, get_or-set_same, get_or-set_other}
+use Rattle.std.proofs.Common.{◌≡◌, ◌≢◌, ℕ, ◌+◌, ◌<◌, max, Bool, true, false, cond, nat_lt, eqb, List, [], ◌∷◌, ◌++◌, length, get_or, position, Option, None, Some, IfSome, IfNone, refl, sym, ap, ◌∙◌, inl, inr, arith, get_or-set_same, get_or-set_other}
 use Rattle.std.specs.List.{position_or_len}
-use Rattle.std.proofs.lemmas.Bool.{cases_eq, cases_lt, lt-ltb, eq-eqb, ne_eqb}
-use Rattle.std.proofs.lemmas.List.{get_or_past}
+use Rattle.std.proofs.lemmas.Bool.{cases_eq, lt-ltb, eq-eqb, ne_eqb}
 use Rattle.std.proofs.lemmas.List.Sums.{position_or_len_is, sum_by-append}
 use Rattle.flowfile_record.specs.declared.content.ContentRef.{ContentRef}
 use Rattle.content_repo.specs.declared.slot.Slot.{Slot}
 use Rattle.content_repo.specs.SlotSet.{has, bit_of, IsLeast}
-use Rattle.content_repo.specs.Slots.{unused, slot_at, count_of, size_of, is_live, is_open, is_free, open_slot, free_slot, next_slot, taken, references_to, covered, end_of, IsLoaded, AreSorted}
+use Rattle.content_repo.specs.Slots.{unused, slot_at, count_of, size_of, is_open, is_free, open_slot, free_slot, next_slot, taken, references_to, covered, end_of, IsLoaded, AreSorted}
 
 pub bit_true : (b : Bool) → bit_of b ≡ 1 → b ≡ true
 bit_true true e = refl

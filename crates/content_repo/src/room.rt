@@ -1,5 +1,5 @@
 //! Whether contents find a slot each.
-ghost use Rattle.std.specs.Prelude.{◌≡◌, ℕ, ◌+◌, ◌≤◌, length, drop, count_by, OnOk, OnErr, IfErr};
+ghost use Rattle.std.specs.Prelude.{◌≡◌, ℕ, ◌+◌, ◌≤◌, true, length, drop, count_by, OnOk, OnErr, IfErr};
 ghost use Rattle.content_repo.specs.declared.error.ContentError.TheVariants.{SlotsFull as Full};
 ghost use Rattle.content_repo.specs.Room.{left_behind, left_by_slot, left_by_live, left_by_new};
 ghost use Rattle.content_repo.specs.Slots.{HasRoom, HasUnused, is_free};
@@ -13,11 +13,26 @@ impl Content {
         ensures full { OnErr result (HasRoom self.now sizes.now → ⊥) }
         ensures refusal { IfErr result (λ error. error ≡ Full) }
     {
+        if self.fit_the_next_slot(sizes) {
+            return Ok(());
+        }
         let (next, free) = self.fill_live(sizes);
         if fill_new(sizes, next, free) < sizes.len() {
             return Err(ContentError::SlotsFull);
         }
         Ok(())
+    }
+
+    // Whether all go into the slot that the next content goes to, as one does. No other slot is looked at.
+    fn fit_the_next_slot(&self, sizes: &[u64]) -> bool
+        ensures { result ≡ true → HasRoom self.now sizes.now }
+    {
+        // It says of each free slot that its claim is empty.
+        let _slots = self.len();
+        match self.next() {
+            Some(number) => fill(sizes, 0, self.slot(number).size) == sizes.len(),
+            None => false,
+        }
     }
 
     // How many of the sizes go into live slots, and how many slots are free.

@@ -1,5 +1,5 @@
 use Rattle.std.proofs.Common.{◌≡◌, ℕ, ◌+◌, ◌≤◌, List, length, sym, ap, subst, ◌∙◌, arith}
-use Rattle.disk_trait.specs.Files.{Files, At, Overwritten, Torn}
+use Rattle.disk_trait.specs.Files.{At, Overwritten, Torn}
 use Rattle.disk_trait.specs.declared.file_name.FileName.{FileName}
 use Rattle.content_repo.specs.declared.slot.Slot.{Slot}
 use Rattle.content_repo.specs.Claims.{claim}
