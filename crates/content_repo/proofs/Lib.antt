@@ -1,0 +1,6 @@
+pub mod Appends
+pub mod ClaimFiles
+pub mod Cuts
+pub mod Rooms
+pub mod SlotLists
+pub mod SlotSets

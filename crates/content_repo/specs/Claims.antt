@@ -1,0 +1,65 @@
+-- The files of the claims.
+use Rattle.std.specs.Prelude.{◌≡◌, ◌≢◌, ℕ, ◌<◌, ◌≤◌, List, [], length, take, drop, MatchBool}
+use Rattle.sha2.specs.Sha256.{sha256}
+use Rattle.disk_trait.specs.Files.{Files, named, At, Shortened}
+use Rattle.disk_trait.specs.declared.damage.Damage.{Damage}
+use Rattle.disk_trait.specs.declared.damage.Damage.TheVariants.{Digest, Short, Form}
+use Rattle.disk_trait.specs.declared.file_name.FileKind.TheVariants.{Claim}
+use Rattle.disk_trait.specs.declared.file_name.FileName.{FileName}
+use Rattle.flowfile_record.specs.declared.content.ContentRef.{ContentRef}
+use Rattle.content_repo.specs.declared.slot.Slot.{Slot}
+use Rattle.content_repo.specs.declared.slot_set.TheConstants.{SLOTS}
+use Rattle.content_repo.specs.Slots.{size_of, end_of, is_idle, slot_at}
+
+-- the file of a slot
+abbrev pub claim : ℕ → FileName
+claim k = named Claim k
+
+-- the bytes that stand where a reference says
+abbrev pub content_in : Files → ContentRef → List ℕ
+content_in files at = take at.size (drop at.offset (files (claim at.slot)))
+
+-- the claim of a content reaches to its end
+abbrev pub IsCovered : Files → ContentRef → Type 0
+IsCovered files at = end_of at ≤ length (files (claim at.slot))
+
+-- each file is as long as is known
+abbrev pub HasSizes : List Slot → Files → Type 0
+HasSizes slots files = (k : ℕ) → k < SLOTS → length (files (claim k)) ≡ size_of slots k
+
+-- only files of claims change, each by a step of its number
+pub record OnClaims (step : ℕ → List ℕ → List ℕ → Type 0) (old new : Files) : Type 0 where
+  pub claims : (k : ℕ) → step k (old (claim k)) (new (claim k))
+  pub others : (f : FileName) → f.kind ≢ Claim → new f ≡ old f
+
+-- only bytes past these ends change, and go
+abbrev pub ShortenedTo : (ℕ → ℕ) → Files → Files → Type 0
+ShortenedTo ends = OnClaims (λ k. Shortened (ends k))
+
+-- each file is cut to its end
+abbrev pub CutTo : (ℕ → ℕ) → Files → Files → Type 0
+CutTo ends = OnClaims (λ k old new. new ≡ take (ends k) old)
+
+-- where an idle slot's file is to end
+abbrev pub IdleEmptied : List Slot → Files → Files → Type 0
+IdleEmptied slots = OnClaims (λ k old new. MatchBool (is_idle (slot_at slots k)) (new ≡ []) (new ≡ old))
+
+abbrev pub IdleShortened : List Slot → Files → Files → Type 0
+IdleShortened slots = OnClaims (λ k old new. MatchBool (is_idle (slot_at slots k)) (Shortened 0 old new) (new ≡ old))
+
+-- a slot's file is emptied where it is idle
+abbrev pub EmptiedAt : Slot → ℕ → Files → Files → Type 0
+EmptiedAt slot k old new = MatchBool (is_idle slot) (At (claim k) (λ a b. b ≡ []) old new) (new ≡ old)
+
+abbrev pub ShortenedAt : Slot → ℕ → Files → Files → Type 0
+ShortenedAt slot k old new = MatchBool (is_idle slot) (At (claim k) (Shortened 0) old new) (new ≡ old)
+
+-- what is wrong with a content where the bytes of its claim are these
+abbrev pub IsDamage : ContentRef → List ℕ → Damage → Type 0
+IsDamage at bytes (Digest file offset stored found) =
+    (file ≡ claim at.slot) × (offset ≡ at.offset) × (end_of at ≤ length bytes)
+    × (stored ≡ at.digest) × (found ≡ sha256 (take at.size (drop at.offset bytes))) × (stored ≢ found)
+IsDamage at bytes (Short file offset need have) =
+    (file ≡ claim at.slot) × (offset ≡ at.offset) × (length bytes < end_of at)
+    × (need ≡ end_of at) × (have ≡ length bytes)
+IsDamage at bytes (Form file offset) = ⊥

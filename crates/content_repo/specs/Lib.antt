@@ -1,0 +1,5 @@
+pub mod Claims
+pub mod Errors
+pub mod Room
+pub mod SlotSet
+pub mod Slots
