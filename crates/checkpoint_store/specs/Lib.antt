@@ -1,1 +1,5 @@
 pub mod Begun
+pub mod Consistent
+pub mod Output
+pub mod Put
+pub mod Snapshot
