@@ -1,5 +1,9 @@
 -- How bytes that are put come into a file piece by piece.
-use Rattle.std.proofs.Common.{◌≡◌, ℕ, ◌+◌, ◌-◌, ◌≤◌, Bool, IsTrue, List, [], ◌∷◌, ◌++◌, length, take, drop, refl, sym, ap, subst, ◌∙◌, arith, append_assoc, length-append, length-drop}
+use Rattle.std.proofs.Common.{◌≡◌, ℕ, suc, All, ◌+◌, ◌-◌, ◌<◌, ◌≤◌, Bool, IsTrue, List, [], ◌∷◌, ◌++◌, length, take, drop, refl, sym, ap, subst, ◌∙◌, arith, append_assoc, length-append, length-take}
+use Rattle.std.specs.List.{flat_map}
+use Rattle.flowfile_record.specs.NumberedItems.{AscendsByNumber}
+use Rattle.std.proofs.lemmas.Grind.{flat_map-append}
+use Rattle.std.proofs.lemmas.List.Concat.{flat_map-cons}
 use Rattle.std.proofs.lemmas.List.{append-nil, take_at, drop_at, drop-drop}
 use Rattle.disk_trait.specs.Files.{Files, At, Overwritten, Torn}
 use Rattle.disk_trait.specs.Images.{After, Since}
@@ -47,6 +51,11 @@ overwritten_twice w p a b c at long first second =
     ap (λ (k : ℕ). drop k b) (omega arith) ∙ sym (drop-drop (length p) at b) ∙ ap (drop (length p)) rest ∙ drop-drop (length p) (length w) a
     ∙ ap (λ (k : ℕ). drop k a) (omega (arith, length-append w p)) in
     to_start (w ++ p) a c (second ∙ ap (λ (l : List ℕ). l ++ p ++ drop (at + length p) b) front ∙ ap (λ (l : List ℕ). w ++ p ++ l) behind)
+
+-- the file reaches up to the end of what was written
+pub reaches_behind : (at : ℕ) (p a b : List ℕ) → at ≤ length a → Overwritten at p a b → at + length p ≤ length b
+reaches_behind at p a b within over =
+    omega (arith, ap length over, length-append (take at a ++ p) (drop (at + length p) a), length-append (take at a) p, length-take at a)
 
 -- ---- what is put
 
@@ -130,3 +139,69 @@ module _ {D : Type 0} (tells : Bool) (holds : D → Files) (moment : D → ℕ) 
         → IsTrue tells → At file (Overwritten 0 bytes) (holds start) (holds now)
     put_done now offset bytes put told =
         subst (λ (l : List ℕ). At file (Overwritten 0 l) (holds start) (holds now)) (sym (append-nil put.written) ∙ sym put.split) (put.held told)
+
+    -- the same, where what names the file and the piece is equal
+    pub put_block_behind : (file' : FileName) (now : D) (offset offset' : ℕ) (piece piece' bytes more : List ℕ)
+        → file' ≡ file → offset' ≡ offset → piece' ≡ piece ++ more
+        → IsPut tells holds moment images file start now offset piece bytes
+        → IsPut tells holds moment images file' start now offset' piece' (bytes ++ more)
+    put_block_behind file' now offset offset' piece piece' bytes more file_is offset_is piece_is put =
+        subst (λ (f : FileName). IsPut tells holds moment images f start now offset' piece' (bytes ++ more)) (sym file_is)
+        (subst (λ (n : ℕ). IsPut tells holds moment images file start now n piece' (bytes ++ more)) (sym offset_is)
+        (subst (λ (l : List ℕ). IsPut tells holds moment images file start now offset l (bytes ++ more)) (sym piece_is)
+        (put_behind now offset piece bytes more put)))
+
+    pub put_named : (file' : FileName) (now : D) (offset : ℕ) (piece bytes bytes' : List ℕ) → file' ≡ file → bytes ≡ bytes'
+        → IsPut tells holds moment images file' start now offset piece bytes
+        → IsPut tells holds moment images file start now offset piece bytes'
+    put_named file' now offset piece bytes bytes' file_is bytes_is put =
+        subst (λ (f : FileName). IsPut tells holds moment images f start now offset piece bytes') file_is
+        (subst (λ (l : List ℕ). IsPut tells holds moment images file' start now offset piece l) bytes_is put)
+
+    pub within_named : (file' : FileName) (now : D) (m n : ℕ) → file' ≡ file → m ≤ n → Within moment images file' start now m → Within moment images file start now n
+    within_named file' now m n file_is le within =
+        within_more now m n (subst (λ (f : FileName). Within moment images f start now m) file_is within) le
+
+    pub put_done_named : (file' : FileName) (now : D) (offset : ℕ) (piece bytes : List ℕ) → file' ≡ file → piece ≡ []
+        → IsPut tells holds moment images file' start now offset piece bytes
+        → IsTrue tells → At file (Overwritten 0 bytes) (holds start) (holds now)
+    put_done_named file' now offset piece bytes file_is none put =
+        put_done now offset bytes (subst (λ (l : List ℕ). IsPut tells holds moment images file start now offset l bytes) none (put_named file' now offset piece bytes bytes file_is refl put))
+
+-- ---- the blocks of a list
+
+-- the first parts are no longer than all
+pub parts_within : (a b c d : List ℕ) → (length a ≤ length (a ++ b ++ c ++ d)) × (length (a ++ b) ≤ length (a ++ b ++ c ++ d)) × (length (a ++ b ++ c) ≤ length (a ++ b ++ c ++ d))
+parts_within a b c d = (
+  omega (arith, length-append a b, length-append (a ++ b) c, length-append (a ++ b ++ c) d),
+  omega (arith, length-append (a ++ b) c, length-append (a ++ b ++ c) d),
+  omega (arith, length-append (a ++ b ++ c) d),
+)
+
+module _ {X : Type 0} (f : X → List ℕ) (bytes : List ℕ) (taken : List X) (x : X) where
+  pub one_block_more : (bytes ++ flat_map f taken) ++ f x ≡ bytes ++ flat_map f (taken ++ x ∷ [])
+  one_block_more =
+      append_assoc bytes (flat_map f taken) (f x)
+      ∙ ap (λ (l : List ℕ). bytes ++ l) (sym (flat_map-append f taken (x ∷ []) ∙ ap (λ (l : List ℕ). flat_map f taken ++ l) (append-nil (f x))))
+
+  pub blocks_within : (rest all : List X) → all ≡ taken ++ x ∷ rest → length ((bytes ++ flat_map f taken) ++ f x) ≤ length (bytes ++ flat_map f all)
+  blocks_within rest all is =
+      let whole = ap (flat_map f) is ∙ flat_map-append f taken (x ∷ rest) in
+      omega (arith, ap length whole, length-append (flat_map f taken) (flat_map f (x ∷ rest)), length-append (f x) (flat_map f rest), ap length (flat_map-cons f x rest),
+      length-append bytes (flat_map f all), length-append (bytes ++ flat_map f taken) (f x), length-append bytes (flat_map f taken))
+
+  pub one_more_taken : (rest left all : List X) → left ≡ x ∷ rest → all ≡ taken ++ left → all ≡ (taken ++ x ∷ []) ++ rest
+  one_more_taken rest left all left_is all_is = all_is ∙ ap (λ (l : List X). taken ++ l) left_is ∙ sym (append_assoc taken (x ∷ []) rest)
+
+pub all_behind : {X : Type 0} (P : X → Type 0) (x : X) (left rest : List X) → left ≡ x ∷ rest → All P left → All P rest
+all_behind P x left rest is all = λ k d lt. subst (All P) is all (suc k) d (omega (arith, lt))
+
+-- numbers that ascend below a bound are no more than it
+pub ascending_count : {X : Type 0} (number : X → ℕ) (bound low : ℕ) (xs : List X) → AscendsByNumber number xs → All (λ x. number x < bound) xs → All (λ x. low ≤ number x) xs → low ≤ bound
+    → low + length xs ≤ bound
+ascending_count number bound low [] ascends below above le = omega (arith, le)
+ascending_count number bound low (x ∷ xs) ascends below above le =
+    let rest = ascending_count number bound (number x + 1) xs ascends.1 (λ k d lt. below (suc k) d (omega (arith, lt))) (λ k d lt. let later = ascends.0 k d lt in omega (arith, later))
+    (let first = below 0 x (omega arith) in omega (arith, first)) in
+    let first = above 0 x (omega arith) in
+    omega (arith, rest, first)

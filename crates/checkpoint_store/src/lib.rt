@@ -4,11 +4,11 @@
 mod beginning;
 mod error;
 mod output;
-//mod writing;
+mod writing;
 
 pub use beginning::begin;
 pub use error::CheckError;
-//pub use writing::write;
+pub use writing::write;
 
 /// The greatest number of files that live, those that are swapped out too.
 pub const LIVE_FILES_MAX: u64 = 1_048_576;

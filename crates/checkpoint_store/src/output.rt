@@ -130,6 +130,7 @@ impl Output {
         requires room { HasRoom self.old }
         requires within { IsTrue D.tells → self.old.offset ≤ length (D.held disk.old self.old.file) }
         ensures room { OnOk result (HasFreeRoom self.new) }
+        ensures reaches { OnOk result (IsTrue D.tells → self.new.offset ≤ length (D.held disk.new self.new.file)) }
         ensures put { OnOk result ((start : D) (bytes : List ℕ)
             → IsPut D.tells D.held D.moment D.images self.old.file start disk.old self.old.offset self.old.piece.items bytes
             → IsPut D.tells D.held D.moment D.images self.old.file start disk.new self.new.offset self.new.piece.items bytes) }
@@ -151,6 +152,7 @@ impl Output {
         requires within { IsTrue D.tells → self.old.offset ≤ length (D.held disk.old self.old.file) }
         ensures room { OnOk result (HasFreeRoom self.new) }
         ensures empty { OnOk result (self.new.piece.items ≡ []) }
+        ensures reaches { OnOk result (IsTrue D.tells → self.new.offset ≤ length (D.held disk.new self.new.file)) }
         ensures put { OnOk result ((start : D) (bytes : List ℕ)
             → IsPut D.tells D.held D.moment D.images self.old.file start disk.old self.old.offset self.old.piece.items bytes
             → IsPut D.tells D.held D.moment D.images self.old.file start disk.new self.new.offset self.new.piece.items bytes) }
