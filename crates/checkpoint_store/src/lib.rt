@@ -4,6 +4,8 @@
 mod beginning;
 mod error;
 mod output;
+mod part;
+mod so_far;
 mod writing;
 
 pub use beginning::begin;
