@@ -1,3 +1,4 @@
 pub mod Beginnings
 pub mod Numbering
+pub mod Parts
 pub mod Puts

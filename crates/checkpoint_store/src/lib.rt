@@ -5,11 +5,13 @@ mod beginning;
 mod error;
 mod output;
 mod part;
+mod reading;
 mod so_far;
 mod writing;
 
 pub use beginning::begin;
 pub use error::CheckError;
+pub use reading::read;
 pub use writing::write;
 
 /// The greatest number of files that live, those that are swapped out too.

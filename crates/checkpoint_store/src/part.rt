@@ -23,7 +23,10 @@ pub fn first_part(alloc: Global, kind: u8, payload: &[u8]) -> Result<SoFar, Unfi
 {
     match SnapshotKind::from_code(kind) {
         Some(SnapshotKind::Head) => take_head(alloc, payload),
-        _ => Err(Unfit::Form),
+        Some(SnapshotKind::File) => Err(Unfit::Form),
+        Some(SnapshotKind::Batch) => Err(Unfit::Form),
+        Some(SnapshotKind::End) => Err(Unfit::Form),
+        None => Err(Unfit::Form),
     }
 }
 
@@ -66,7 +69,8 @@ impl SoFar {
             Some(SnapshotKind::File) => self.take_file(alloc, payload),
             Some(SnapshotKind::Batch) => self.take_batch(payload),
             Some(SnapshotKind::End) => self.take_end(payload),
-            _ => Err(Unfit::Form),
+            Some(SnapshotKind::Head) => Err(Unfit::Form),
+            None => Err(Unfit::Form),
         }
     }
 
@@ -97,7 +101,8 @@ impl SoFar {
         ensures next { IfOk result (λ ended. (ended ≡ true) × (end_next (kept_of self.now.state) (whole ending_at payload.now) ≡ Some Last)) }
         ensures unfit { IsErrOf result Unfit.Form → end_next (kept_of self.now.state) (whole ending_at payload.now) ≡ None }
     {
-        if read_snapshot_end(payload)? != self.blocks() {
+        let blocks = read_snapshot_end(payload)?;
+        if blocks != self.blocks() {
             return Err(Unfit::Form);
         }
         Ok(true)
