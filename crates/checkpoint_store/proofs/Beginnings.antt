@@ -78,11 +78,14 @@ module _ {D : Type 0} (moment : D → ℕ) (images : D → ℕ → Files → Typ
       → (c : Files) → After (At file S) (images mid (moment mid)) c → After (At file (λ o w. P w)) Before c
   from_between file R S P between only step c after =
       let was = between after.0 after.1 in
-      let same : after.0 ≡ now = only after.0 after.1 in
-      (held, was.0, record {
-        here = step (c file) was.0 was.1.here (subst (λ (f : Files). S (f file) (c file)) same after.2.here);
-        others = λ f isnt. after.2.others f isnt ∙ ap (λ (g : Files). g f) same ∙ was.1.others f isnt;
-      })
+      let same : after.0 ≡ now = only after.0 after.1 in (
+        held,
+        was.0,
+        record {
+          here = step (c file) was.0 was.1.here (subst (λ (f : Files). S (f file) (c file)) same after.2.here);
+          others = λ f isnt. after.2.others f isnt ∙ ap (λ (g : Files). g f) same ∙ was.1.others f isnt;
+        },
+      )
 
   pub staged_or_not : (file : FileName) (n : ℕ) → ((c : Files) → Before c → c file ≡ [])
       → ((c : Files) → images mid (moment mid) c → Before held × At file (Overwritten 0 (CLOSED_GATE ∷ [])) held now)

@@ -89,10 +89,14 @@ module _ {D : Type 0} (tells : Bool) (holds : D → Files) (moment : D → ℕ) 
     pub put_within : (now : D) (offset : ℕ) (piece bytes : List ℕ) → IsPut tells holds moment images file start now offset piece bytes
         → Within moment images file start now (length bytes)
     put_within now offset piece bytes put = wider moment images start now _ _ put.left
-        (λ c after. (after.0, after.1, record {
-          here = torn_wider offset (length bytes) (after.0 file) (c file) after.2.here (omega (arith, long now offset piece bytes put));
-          others = after.2.others;
-        }))
+        (λ c after. (
+          after.0,
+          after.1,
+          record {
+            here = torn_wider offset (length bytes) (after.0 file) (c file) after.2.here (omega (arith, long now offset piece bytes put));
+            others = after.2.others;
+          },
+        ))
 
     -- bytes and more of them
     pub within_more : (now : D) (m n : ℕ) → Within moment images file start now m → m ≤ n → Within moment images file start now n
@@ -187,8 +191,16 @@ module _ {X : Type 0} (f : X → List ℕ) (bytes : List ℕ) (taken : List X) (
   pub blocks_within : (rest all : List X) → all ≡ taken ++ x ∷ rest → length ((bytes ++ flat_map f taken) ++ f x) ≤ length (bytes ++ flat_map f all)
   blocks_within rest all is =
       let whole = ap (flat_map f) is ∙ flat_map-append f taken (x ∷ rest) in
-      omega (arith, ap length whole, length-append (flat_map f taken) (flat_map f (x ∷ rest)), length-append (f x) (flat_map f rest), ap length (flat_map-cons f x rest),
-      length-append bytes (flat_map f all), length-append (bytes ++ flat_map f taken) (f x), length-append bytes (flat_map f taken))
+      omega (
+        arith,
+        ap length whole,
+        length-append (flat_map f taken) (flat_map f (x ∷ rest)),
+        length-append (f x) (flat_map f rest),
+        ap length (flat_map-cons f x rest),
+        length-append bytes (flat_map f all),
+        length-append (bytes ++ flat_map f taken) (f x),
+        length-append bytes (flat_map f taken),
+      )
 
   pub one_more_taken : (rest left all : List X) → left ≡ x ∷ rest → all ≡ taken ++ left → all ≡ (taken ++ x ∷ []) ++ rest
   one_more_taken rest left all left_is all_is = all_is ∙ ap (λ (l : List X). taken ++ l) left_is ∙ sym (append_assoc taken (x ∷ []) rest)

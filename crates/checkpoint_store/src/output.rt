@@ -13,8 +13,8 @@ ghost use Rattle.checkpoint_store.specs.Snapshot.{head_block, file_block, batch_
 use disk_trait::{Disk, Failed, FileName};
 use flowfile_record::{ATTRIBUTES_MAX, ActiveFile, Stored, SwapBatch};
 use record_codec::{
-    BLOCK_OVERHEAD, PAYLOAD_MAX, SnapshotKind, append_block, head_size_of, write_active_file, write_head_of,
-    write_snapshot_end, write_swap_batch,
+    BLOCK_OVERHEAD, PAYLOAD_MAX, SnapshotKind, append_block, head_size_of, write_active_file,
+    write_head_of, write_snapshot_end, write_swap_batch,
 };
 use std::alloc::{AllocError, Global};
 

@@ -65,7 +65,11 @@ fn read_first<D: Disk>(
     ensures cause { CountsFaults (D.faults disk.old) (D.faults disk.new) (IsErrOf result CheckError.Disk) }
 {
     let block = read_block(disk, source, 0, buffer)?;
-    match first_part(alloc, block.kind, &buffer[block.start as usize..block.end as usize]) {
+    match first_part(
+        alloc,
+        block.kind,
+        &buffer[block.start as usize..block.end as usize],
+    ) {
         Ok(so_far) => Ok((so_far, block.next)),
         Err(unfit) => Err(refused(source, 0, unfit)),
     }

@@ -92,11 +92,7 @@ fn write_files<D: Disk>(disk: &mut D, files: &ActiveList, out: &mut Output) -> R
 }
 
 // Writes the blocks of batches behind what is put.
-fn write_batches<D: Disk>(
-    disk: &mut D,
-    batches: &BatchList,
-    out: &mut Output,
-) -> Result<(), Failed>
+fn write_batches<D: Disk>(disk: &mut D, batches: &BatchList, out: &mut Output) -> Result<(), Failed>
     requires batches { All IsBatch batches.now.items }
     requires room { HasFreeRoom out.old }
     requires reaches { IsTrue D.tells → out.old.offset ≤ length (D.held disk.old out.old.file) }
