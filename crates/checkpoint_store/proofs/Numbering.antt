@@ -33,7 +33,7 @@ module _ {A : Type 0} (number : A → ℕ) where
       let before : nat_lt (number first) (number item) ≡ true = grind (arith, nat_tests, le, above) in
       rw before (ap (λ (l : List A). first ∷ l) (joins_last item greatest items (λ k d lt. below (suc k) d (omega (arith, lt))) above))
 
-  last_is : (item : A) (items : List A) → last_number number (items ++ item ∷ []) ≡ number item
+  pub last_is : (item : A) (items : List A) → last_number number (items ++ item ∷ []) ≡ number item
   last_is item [] = refl
   last_is item (first ∷ []) = refl
   last_is item (first ∷ next ∷ items) = last_is item (next ∷ items)

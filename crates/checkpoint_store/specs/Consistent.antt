@@ -13,10 +13,10 @@ use Rattle.record_codec.specs.declared.block.TheConstants.{PAYLOAD_MAX}
 use Rattle.checkpoint_store.specs.Snapshot.{head_in}
 use Rattle.checkpoint_store.specs.declared.TheConstants.{LIVE_FILES_MAX, LIVE_BYTES_MAX}
 
--- none of these stands twice
-abbrev pub AreDistinct : {A : Type 0} → List A → Type 0
-AreDistinct [] = Unit {0}
-AreDistinct (x ∷ xs) = All (λ y. x ≢ y) xs × AreDistinct xs
+-- no two of these have the same in them
+abbrev pub AreDistinctBy : {A B : Type 0} → (A → B) → List A → Type 0
+AreDistinctBy part [] = Unit {0}
+AreDistinctBy part (x ∷ xs) = All (λ y. part x ≢ part y) xs × AreDistinctBy part xs
 
 -- a file's connection is there, and its number and arrival are below what comes next
 pub record IsFileIn (k : Kept) (a : ActiveFile) : Type 0 where
@@ -25,10 +25,11 @@ pub record IsFileIn (k : Kept) (a : ActiveFile) : Type 0 where
   pub number : a.file.number < k.next_number
   pub arrival : a.file.arrival < k.next_arrival
 
--- a batch's connection is there, and its number is below what comes next
+-- a batch's connection is there, and its number is at least 1 and below what comes next
 pub record IsBatchIn (k : Kept) (b : SwapBatch) : Type 0 where
   pub encoded : IsBatch b
   pub connection : b.connection < length k.connections
+  pub first : 1 ≤ b.batch
   pub batch : b.batch < k.next_batch
 
 -- how many bytes a flow file's record has
@@ -38,10 +39,10 @@ record_size a = length (flow_file a.file)
 pub record IsConsistent (k : Kept) : Type 0 where
   pub encoded : IsHead (head_in k)
   pub head_size : length (head (head_in k)) ≤ PAYLOAD_MAX
-  pub connections : AreDistinct k.connections
+  pub connections : AreDistinctBy (λ name. name) k.connections
   pub files : All (IsFileIn k) k.files
   pub numbers : AscendsByNumber (λ a. a.file.number) k.files
-  pub arrivals : AreDistinct (map (λ a. a.file.arrival) k.files)
+  pub arrivals : AreDistinctBy (λ a. a.file.arrival) k.files
   pub batches : All (IsBatchIn k) k.batches
   pub batch_numbers : AscendsByNumber (λ b. b.batch) k.batches
   pub live_files : length k.files + sum (map (λ b. b.files) k.batches) ≤ LIVE_FILES_MAX

@@ -11,7 +11,7 @@ mod writing;
 
 pub use beginning::begin;
 pub use error::CheckError;
-pub use reading::read;
+pub use reading::{read, snapshots_are_read_back};
 pub use writing::write;
 
 /// The greatest number of files that live, those that are swapped out too.

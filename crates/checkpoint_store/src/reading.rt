@@ -1,13 +1,15 @@
 //! Reading a snapshot.
-ghost use Rattle.std.specs.Prelude.{◌≡◌, ℕ, suc, ◌+◌, ◌<◌, ◌≤◌, length, drop, slice_range, IsTrue, IfOk, OnOk, IsErrOf, Ok, Err, Some, MatchOption};
+ghost use Rattle.std.specs.Prelude.{◌≡◌, ℕ, suc, ◌+◌, ◌<◌, ◌≤◌, List, ◌++◌, length, drop, slice_range, IsTrue, IfOk, OnOk, IsErrOf, Ok, Err, Some, MatchOption};
 ghost use Rattle.disk_trait.specs.Images.{Stays};
 ghost use Rattle.disk_trait.specs.Faults.{CountsFaults};
 ghost use Rattle.disk_trait.specs.declared.damage.Damage.{Damage as TheDamage};
-ghost use Rattle.flowfile_record.specs.Stored.{kept_of};
+ghost use Rattle.flowfile_record.specs.Stored.{Kept, kept_of};
 ghost use Rattle.record_codec.specs.Block.{Whole, reading_of};
 ghost use Rattle.block_file.specs.Damage.{damage_in};
 ghost use Rattle.checkpoint_store.specs.Reading.{blocks_from, snapshot_of};
-ghost use Rattle.checkpoint_store.specs.Snapshot.{snapshot_file};
+ghost use Rattle.checkpoint_store.specs.Snapshot.{snapshot, snapshot_file};
+ghost use Rattle.checkpoint_store.specs.Consistent.{IsConsistent};
+ghost use Rattle.disk_trait.specs.declared.file_name.FileName.{FileName as TheName};
 ghost use Rattle.checkpoint_store.specs.SoFar.{IsSoFar};
 
 use crate::CheckError;
@@ -151,3 +153,8 @@ fn refused(source: Source, at: u64, unfit: Unfit) -> CheckError
         }),
     }
 }
+
+/// What was written is read back, whatever stands behind it.
+pub fn snapshots_are_read_back()
+    ensures { (file : TheName) (k : Kept) (rest : List ℕ) → IsConsistent k → snapshot_of file (snapshot k ++ rest) ≡ Ok k }
+{}
