@@ -1,7 +1,7 @@
 -- What a block that has no place says.
-use Rattle.std.proofs.Common.{◌≡◌, ◌≢◌, ◌==◌, ℕ, Bool, true, false, List, Result, Ok, Err, None, refl, sym, ap, ◌∙◌, arith}
+use Rattle.std.proofs.Common.{◌≡◌, ◌≢◌, ◌==◌, ℕ, false, List, Result, Ok, Err, None, refl, sym, ap, ◌∙◌, arith}
 use Rattle.std.proofs.lemmas.Bool.Decides.{nat_tests}
-use Rattle.flowfile_record.specs.Reading.{answer, whole}
+use Rattle.flowfile_record.specs.Reading.{answer}
 use Rattle.flowfile_record.specs.Stored.{Kept}
 use Rattle.flowfile_record.specs.declared.error.CodecError.{CodecError}
 use Rattle.record_codec.specs.Snapshot.{kind_code}

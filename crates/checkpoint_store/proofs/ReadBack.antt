@@ -1,5 +1,5 @@
 -- What was written is read back.
-use Rattle.std.proofs.Common.{◌≡◌, ◌≢◌, ◌==◌, ◌&&◌, ◌||◌, not, ℕ, suc, ◌+◌, ◌-◌, ◌<◌, ◌≤◌, Bool, true, false, List, [], ◌∷◌, ◌++◌, length, map, drop, All, Option, None, Some, Result, Ok, Err, bytes_eq, refl, sym, ap, ◌∙◌, append_assoc, length-append, arith}
+use Rattle.std.proofs.Common.{◌≡◌, ◌≢◌, ◌==◌, ◌&&◌, ◌||◌, not, ℕ, suc, ◌+◌, ◌-◌, ◌<◌, ◌≤◌, Bool, true, false, List, [], ◌∷◌, ◌++◌, length, map, drop, All, Some, Result, Ok, bytes_eq, refl, sym, ap, ◌∙◌, append_assoc, length-append, arith}
 use Rattle.std.specs.List.{flat_map, sum, list_any}
 use Rattle.std.specs.Prelude.{nat_lt, nat_le}
 use Rattle.std.proofs.lemmas.Bool.Decides.{nat_tests}
@@ -15,7 +15,7 @@ use Rattle.flowfile_record.specs.declared.stored.ActiveFile.{ActiveFile}
 use Rattle.flowfile_record.specs.declared.stored.SwapBatch.{SwapBatch}
 use Rattle.flowfile_record.proofs.FieldLaws.{whole_again}
 use Rattle.record_codec.specs.ActiveFile.{active_file, active_file_at, IsActiveFile}
-use Rattle.record_codec.specs.Block.{Reading, block, reading_of}
+use Rattle.record_codec.specs.Block.{Reading, block}
 use Rattle.record_codec.specs.Snapshot.{kind_code, swap_batch, ending, IsBatch, IsEnding}
 use Rattle.record_codec.specs.SnapshotReading.{batch_at, ending_at}
 use Rattle.record_codec.specs.StoreHead.{head, IsHead}
@@ -27,7 +27,7 @@ use Rattle.record_codec.proofs.Blocks.{reading_of-block, length-block}
 use Rattle.record_codec.proofs.Sizes.{file_at_most, swap_batch_size}
 use Rattle.record_codec.proofs.Snapshots.{batch_is, ending_is}
 use Rattle.record_codec.proofs.StoreHeads.{head_is}
-use Rattle.checkpoint_store.specs.Consistent.{IsConsistent, IsFileIn, IsBatchIn, AreDistinctBy, record_size}
+use Rattle.checkpoint_store.specs.Consistent.{IsConsistent, IsFileIn, AreDistinctBy, record_size}
 use Rattle.checkpoint_store.specs.Reading.{Next, More, Last, last_number, has_place, may_join, may_follow, are_distinct, kept_by, head_next, file_next, batch_next, end_next, first_in, next_in, said, behind_block, go_on, blocks_from, snapshot_of}
 use Rattle.checkpoint_store.specs.Snapshot.{head_in, head_block, file_block, batch_block, end_block, blocks_in, snapshot}
 use Rattle.checkpoint_store.specs.declared.TheConstants.{LIVE_FILES_MAX, LIVE_BYTES_MAX}
@@ -155,12 +155,13 @@ files_read file k taken (a ∷ left) most at count rest may is =
     let step = block_next file (length left + most) at (kind_code kinds.File) (with_files k taken) (with_files k (taken ++ a ∷ [])) (active_file a) (flat_map file_block left ++ rest)
     (omega (arith, small)) (file_says (with_files k taken) a has (joins_here k taken left a may)) in
     let others = files_read file k (taken ++ a ∷ []) left most (at + (length (active_file a) + BLOCK_OVERHEAD)) (length left + most) rest (joins_on k taken left a may) refl in
-    let more : count ≡ suc (length left + most) = omega (arith, is) in
-    (others.0,
-    ap (λ (n : ℕ). blocks_from n file at (with_files k taken) (flat_map file_block (a ∷ left) ++ rest)) more
-    ∙ ap (λ (l : List ℕ). blocks_from (suc (length left + most)) file at (with_files k taken) l)
-    (ap (λ (l : List ℕ). l ++ rest) (flat_map-cons file_block a left) ∙ append_assoc (file_block a) (flat_map file_block left) rest)
-    ∙ step ∙ others.1 ∙ ap (λ (l : List ActiveFile). blocks_from most file others.0 (with_files k l) rest) (append_assoc taken (a ∷ []) left))
+    let more : count ≡ suc (length left + most) = omega (arith, is) in (
+      others.0,
+      ap (λ (n : ℕ). blocks_from n file at (with_files k taken) (flat_map file_block (a ∷ left) ++ rest)) more
+          ∙ ap (λ (l : List ℕ). blocks_from (suc (length left + most)) file at (with_files k taken) l)
+          (ap (λ (l : List ℕ). l ++ rest) (flat_map-cons file_block a left) ∙ append_assoc (file_block a) (flat_map file_block left) rest)
+          ∙ step ∙ others.1 ∙ ap (λ (l : List ActiveFile). blocks_from most file others.0 (with_files k l) rest) (append_assoc taken (a ∷ []) left),
+    )
 
 -- ---- the batches
 
@@ -189,12 +190,13 @@ batches_read file k taken (b ∷ left) most at count rest may is =
       above = λ i d lt. let later = may.ascends.0 i d lt in let last = last_is (λ (c : SwapBatch). c.batch) b taken in omega (arith, later, last);
     } in
     let others = batches_read file k (taken ++ b ∷ []) left most (at + (length (swap_batch b) + BLOCK_OVERHEAD)) (length left + most) rest on refl in
-    let more : count ≡ suc (length left + most) = omega (arith, is) in
-    (others.0,
-    ap (λ (n : ℕ). blocks_from n file at (with_batches k taken) (flat_map batch_block (b ∷ left) ++ rest)) more
-    ∙ ap (λ (l : List ℕ). blocks_from (suc (length left + most)) file at (with_batches k taken) l)
-    (ap (λ (l : List ℕ). l ++ rest) (flat_map-cons batch_block b left) ∙ append_assoc (batch_block b) (flat_map batch_block left) rest)
-    ∙ step ∙ others.1 ∙ ap (λ (l : List SwapBatch). blocks_from most file others.0 (with_batches k l) rest) (append_assoc taken (b ∷ []) left))
+    let more : count ≡ suc (length left + most) = omega (arith, is) in (
+      others.0,
+      ap (λ (n : ℕ). blocks_from n file at (with_batches k taken) (flat_map batch_block (b ∷ left) ++ rest)) more
+          ∙ ap (λ (l : List ℕ). blocks_from (suc (length left + most)) file at (with_batches k taken) l)
+          (ap (λ (l : List ℕ). l ++ rest) (flat_map-cons batch_block b left) ∙ append_assoc (batch_block b) (flat_map batch_block left) rest)
+          ∙ step ∙ others.1 ∙ ap (λ (l : List SwapBatch). blocks_from most file others.0 (with_batches k l) rest) (append_assoc taken (b ∷ []) left),
+    )
 
 -- ---- the whole
 

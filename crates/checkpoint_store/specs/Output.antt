@@ -1,5 +1,5 @@
 -- The room of an output.
-use Rattle.std.specs.Prelude.{◌≡◌, ℕ, ◌+◌, ◌<◌, ◌≤◌, vec_len, vec_capacity}
+use Rattle.std.specs.Prelude.{◌≡◌, ◌+◌, ◌≤◌, vec_len, vec_capacity}
 use Rattle.record_codec.specs.declared.block.TheConstants.{PAYLOAD_MAX, BLOCK_OVERHEAD}
 use Rattle.checkpoint_store.specs.declared.output.Output.{Output}
 use Rattle.checkpoint_store.specs.declared.output.TheConstants.{PIECE_SIZE, FILE_PAYLOAD_MAX}

@@ -1,7 +1,7 @@
-use Rattle.std.proofs.Common.{◌≡◌, ◌∷◌, List, ℕ, subst, ap, ◌∙◌, sym}
-use Rattle.disk_trait.specs.Files.{Files, At}
+use Rattle.std.proofs.Common.{◌≡◌, ◌∷◌, List, ℕ, subst, sym}
+use Rattle.disk_trait.specs.Files.{At}
 use Rattle.record_codec.specs.declared.log.TheConstants.{CLOSED_GATE}
-use Rattle.checkpoint_store.specs.Begun.{IsBegun, log_file, begin_frame}
+use Rattle.checkpoint_store.specs.Begun.{IsBegun, log_file}
 use Rattle.checkpoint_store.proofs.Beginnings.{begun_or_not, is_begun}
 use Rattle.checkpoint_store.proofs.beginning.begin.Goals as goal
 

@@ -1,4 +1,4 @@
-use Rattle.std.proofs.Common.{[], ◌∷◌, length}
+use Rattle.std.proofs.Common.{length}
 use Rattle.checkpoint_store.proofs.Beginnings.{staged_or_not, staged_behind}
 use Rattle.checkpoint_store.proofs.beginning.stage.Goals as goal
 

@@ -1,4 +1,4 @@
-use Rattle.std.proofs.Common.{◌≡◌, ◌+◌, length, ap, arith, length-append}
+use Rattle.std.proofs.Common.{length, ap, arith, length-append}
 use Rattle.record_codec.specs.Snapshot.{swap_batch}
 use Rattle.record_codec.proofs.Sizes.{swap_batch_size}
 use Rattle.checkpoint_store.proofs.output.Output.put_batch.Goals as goal

@@ -1,4 +1,4 @@
-use Rattle.std.proofs.Common.{◌≡◌, ◌+◌, length, ap, arith}
+use Rattle.std.proofs.Common.{arith}
 use Rattle.record_codec.proofs.Blocks.{length-block}
 use Rattle.checkpoint_store.proofs.output.Output.put_block.Goals as goal
 

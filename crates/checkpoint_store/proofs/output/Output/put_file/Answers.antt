@@ -1,4 +1,4 @@
-use Rattle.std.proofs.Common.{◌≡◌, ◌+◌, length, ap, arith, length-append}
+use Rattle.std.proofs.Common.{length, ap, arith, length-append}
 use Rattle.record_codec.specs.ActiveFile.{active_file}
 use Rattle.record_codec.proofs.Sizes.{file_at_most}
 use Rattle.checkpoint_store.proofs.output.Output.put_file.Goals as goal

@@ -1,4 +1,4 @@
-use Rattle.std.proofs.Common.{◌≡◌, ◌+◌, List, ℕ, [], length, ap, subst, sym, ◌∙◌, arith}
+use Rattle.std.proofs.Common.{◌+◌, List, ℕ, [], length, subst, sym, arith}
 use Rattle.disk_trait.specs.Files.{At, Overwritten, Torn}
 use Rattle.disk_trait.specs.Images.{After, Since}
 use Rattle.checkpoint_store.specs.Put.{IsPut}

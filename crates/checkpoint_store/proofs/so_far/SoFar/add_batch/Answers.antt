@@ -1,7 +1,7 @@
-use Rattle.std.proofs.Common.{◌≡◌, ◌<◌, List, true, ap, ◌∙◌, arith, subst, sym}
+use Rattle.std.proofs.Common.{◌≡◌, List, true, ap, ◌∙◌, arith, subst, sym}
 use Rattle.std.specs.Prelude.{nat_lt}
 use Rattle.std.proofs.lemmas.Bool.Decides.{nat_tests}
-use Rattle.flowfile_record.specs.Stored.{Kept, kept_of}
+use Rattle.flowfile_record.specs.Stored.{kept_of}
 use Rattle.flowfile_record.specs.NumberedItems.{item_of, with_item}
 use Rattle.flowfile_record.specs.declared.stored.SwapBatch.{SwapBatch}
 use Rattle.checkpoint_store.specs.Reading.{last_number}

@@ -1,14 +1,13 @@
-use Rattle.std.proofs.Common.{◌≡◌, ◌<◌, ◌≤◌, ◌+◌, ◌==◌, ◌||◌, ◌&&◌, not, Bool, List, true, false, ap, ◌∙◌, arith, subst, sym, map}
-use Rattle.std.specs.Prelude.{nat_lt, nat_le}
+use Rattle.std.proofs.Common.{◌≡◌, ◌+◌, ◌==◌, ◌||◌, not, Bool, List, true, ap, ◌∙◌, arith, subst, sym, map}
+use Rattle.std.specs.Prelude.{nat_le}
 use Rattle.std.specs.List.{sum, list_any}
-use Rattle.std.proofs.lemmas.Bool.{and_from, and_parts}
 use Rattle.std.proofs.lemmas.Bool.Decides.{nat_tests}
-use Rattle.flowfile_record.specs.Stored.{Kept, kept_of}
+use Rattle.flowfile_record.specs.Stored.{kept_of}
 use Rattle.flowfile_record.specs.NumberedItems.{item_of, with_item}
 use Rattle.flowfile_record.specs.declared.stored.ActiveFile.{ActiveFile}
 use Rattle.record_codec.proofs.Sizes.{file_most}
 use Rattle.checkpoint_store.specs.Consistent.{record_size}
-use Rattle.checkpoint_store.specs.Reading.{last_number, has_place}
+use Rattle.checkpoint_store.specs.Reading.{has_place}
 use Rattle.checkpoint_store.specs.SoFar.{AreNumbered}
 use Rattle.checkpoint_store.specs.declared.TheConstants.{LIVE_BYTES_MAX}
 use Rattle.checkpoint_store.proofs.Numbering.{none_there, joins_last, are_numbered, sum_more, any_more, place_above, all_three}

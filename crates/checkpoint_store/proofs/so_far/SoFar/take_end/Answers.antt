@@ -1,4 +1,4 @@
-use Rattle.std.proofs.Common.{length, arith, ◌≢◌, ◌≡◌}
+use Rattle.std.proofs.Common.{length, arith, ◌≢◌}
 use Rattle.flowfile_record.specs.Reading.{whole}
 use Rattle.flowfile_record.specs.Stored.{kept_of}
 use Rattle.record_codec.specs.SnapshotReading.{ending_at}
