@@ -1,0 +1,5 @@
+pub mod Beginnings
+pub mod Numbering
+pub mod Parts
+pub mod Puts
+pub mod ReadBack

@@ -1,0 +1,135 @@
+-- What the bytes of a snapshot say: what is kept, or the first damage.
+use Rattle.std.specs.Prelude.{ℕ, zero, suc, ◌+◌, ◌==◌, ◌&&◌, nat_lt, nat_le, not, Bool, true, List, [], ◌∷◌, ◌++◌, length, map, drop, Option, None, Some, Result, Ok, Err, bytes_eq, if◌then◌else◌}
+use Rattle.std.specs.List.{sum, list_any}
+use Rattle.disk_trait.specs.declared.damage.Damage.{Damage}
+use Rattle.disk_trait.specs.declared.damage.Damage.TheVariants.{Digest, Short, Form}
+use Rattle.disk_trait.specs.declared.file_name.FileName.{FileName}
+use Rattle.flowfile_record.specs.Stored.{Kept}
+use Rattle.flowfile_record.specs.Reading.{whole}
+use Rattle.flowfile_record.specs.declared.stored.ActiveFile.{ActiveFile}
+use Rattle.flowfile_record.specs.declared.stored.SwapBatch.{SwapBatch}
+use Rattle.record_codec.specs.ActiveFile.{active_file_at}
+use Rattle.record_codec.specs.Block.{Reading, Whole, Cut, Long, Differs, reading_of}
+use Rattle.record_codec.specs.Snapshot.{kind_code}
+use Rattle.record_codec.specs.SnapshotReading.{batch_at, ending_at}
+use Rattle.record_codec.specs.StoreHeadReading.{head_at}
+use Rattle.record_codec.specs.declared.block.TheConstants.{BLOCK_OVERHEAD}
+use Rattle.record_codec.specs.declared.head.Head.{Head}
+use Rattle.record_codec.specs.declared.snapshot.SnapshotKind.TheVariants as kinds
+use Rattle.checkpoint_store.specs.Consistent.{record_size}
+use Rattle.checkpoint_store.specs.Snapshot.{blocks_in}
+use Rattle.checkpoint_store.specs.declared.TheConstants.{LIVE_FILES_MAX, LIVE_BYTES_MAX}
+
+-- ---- the rules of each kind of block
+
+-- no connection stands twice
+abbrev pub are_distinct : List (List ℕ) → Bool
+are_distinct [] = true
+are_distinct (name ∷ names) = not (list_any (λ other. bytes_eq other name) names) && are_distinct names
+
+-- what a Head says is kept, before any file
+abbrev pub kept_by : Head → Kept
+kept_by h = record {
+  store = h.store;
+  flow = h.flow;
+  connections = h.connections;
+  counts = h.counts;
+  next_number = h.next_number;
+  next_arrival = h.next_arrival;
+  last_event = h.last_event;
+  next_batch = h.next_batch;
+  files = [];
+  batches = [];
+}
+
+-- the number of the last of some files or batches, and 0 for none
+abbrev pub last_number : {A : Type 0} → (A → ℕ) → List A → ℕ
+last_number number [] = 0
+last_number number (item ∷ []) = number item
+last_number number (item ∷ next ∷ items) = last_number number (next ∷ items)
+
+-- The file stands before the batches and has a greater number than those before it. Its connection is there, its number
+-- and its arrival are below what comes next, and there is place for one file more.
+abbrev pub has_place : Kept → ActiveFile → Bool
+has_place k a =
+    (length k.batches == 0)
+    && nat_lt (last_number (λ b. b.file.number) k.files) a.file.number
+    && nat_lt a.connection (length k.connections)
+    && nat_lt a.file.number k.next_number
+    && nat_lt a.file.arrival k.next_arrival
+    && nat_lt (length k.files) LIVE_FILES_MAX
+
+-- And no file before it has its arrival, and their records stay within the limit.
+abbrev pub may_join : Kept → ActiveFile → Bool
+may_join k a =
+    has_place k a
+    && nat_le (sum (map record_size k.files) + record_size a) LIVE_BYTES_MAX
+    && not (list_any (λ b. b.file.arrival == a.file.arrival) k.files)
+
+-- The batch has a greater number than those before it. What else has to hold of it is asked where its file is read.
+abbrev pub may_follow : Kept → SwapBatch → Bool
+may_follow k b = nat_lt (last_number (λ c. c.batch) k.batches) b.batch
+
+-- ---- what a block says
+
+-- one part more of what is kept, or the End
+pub data Next : Type 0 where
+  More : Kept → Next
+  Last : Next
+
+abbrev pub head_next : Result Head ℕ → Option Kept
+head_next (Ok h) = if are_distinct h.connections then Some (kept_by h) else None
+head_next (Err left) = None
+
+abbrev pub file_next : Kept → Result ActiveFile ℕ → Option Next
+file_next k (Ok a) = if may_join k a then Some (More (record k { files = k.files ++ a ∷ [] })) else None
+file_next k (Err left) = None
+
+abbrev pub batch_next : Kept → Result SwapBatch ℕ → Option Next
+batch_next k (Ok b) = if may_follow k b then Some (More (record k { batches = k.batches ++ b ∷ [] })) else None
+batch_next k (Err left) = None
+
+abbrev pub end_next : Kept → Result ℕ ℕ → Option Next
+end_next k (Ok blocks) = if blocks == blocks_in k then Some Last else None
+end_next k (Err left) = None
+
+-- what the first block says
+abbrev pub first_in : ℕ → List ℕ → Option Kept
+first_in kind payload = if kind == kind_code kinds.Head then head_next (whole head_at payload) else None
+
+-- what a later block says
+abbrev pub next_in : Kept → ℕ → List ℕ → Option Next
+next_in k kind payload =
+    if kind == kind_code kinds.File then file_next k (whole active_file_at payload)
+    else if kind == kind_code kinds.Batch then batch_next k (whole batch_at payload)
+    else if kind == kind_code kinds.End then end_next k (whole ending_at payload)
+    else None
+
+-- ---- the blocks of a file
+
+-- What follows a block that stands at this offset: it is asked with what the block says and the block's size.
+abbrev pub said : {A : Type 0} → FileName → ℕ → ℕ → (A → ℕ → Result Kept Damage) → Option A → Result Kept Damage
+said file at size following None = Err (Form file at)
+said file at size following (Some a) = following a size
+
+abbrev pub behind_block : {A : Type 0} → FileName → ℕ → (ℕ → List ℕ → Option A) → Reading → (A → ℕ → Result Kept Damage) → Result Kept Damage
+behind_block file at says (Whole kind payload) following = said file at (length payload + BLOCK_OVERHEAD) following (says kind payload)
+behind_block file at says (Cut need have) following = Err (Short file at need have)
+behind_block file at says (Long size) following = Err (Form file at)
+behind_block file at says (Differs stored found) following = Err (Digest file at stored found)
+
+abbrev pub go_on : Kept → ℕ → (Kept → ℕ → Result Kept Damage) → Next → Result Kept Damage
+go_on k size following (More more) = following more size
+go_on k size following Last = Ok k
+
+-- the blocks behind the Head, of which there are no more than this
+abbrev pub blocks_from : (most : ℕ) → FileName → (at : ℕ) → Kept → List ℕ → Result Kept Damage
+blocks_from zero file at k bytes = Err (Form file at)
+blocks_from (suc most) file at k bytes =
+    behind_block file at (next_in k) (reading_of bytes)
+    (λ next size. go_on k size (λ more n. blocks_from most file (at + n) more (drop n bytes)) next)
+
+-- what the bytes of this file say; no file has more blocks than bytes
+abbrev pub snapshot_of : FileName → List ℕ → Result Kept Damage
+snapshot_of file bytes =
+    behind_block file 0 first_in (reading_of bytes) (λ k size. blocks_from (suc (length bytes)) file size k (drop size bytes))

@@ -1,0 +1,32 @@
+-- A snapshot that is read as far as some block.
+use Rattle.std.specs.Prelude.{◌≡◌, ℕ, ◌==◌, ◌<◌, ◌≤◌, Bool, true, false, List, length, map, All}
+use Rattle.std.specs.List.{sum, list_any}
+use Rattle.std.specs.Ordering.{nat_cmp}
+use Rattle.std.specs.BTreeSet.{contains, IsOrdered}
+use Rattle.flowfile_record.specs.Stored.{Kept}
+use Rattle.flowfile_record.specs.declared.limits.TheConstants.{NUMBER_LIMIT}
+use Rattle.checkpoint_store.specs.Consistent.{record_size}
+use Rattle.checkpoint_store.specs.Reading.{Next, More, Last, last_number}
+use Rattle.checkpoint_store.specs.declared.so_far.SoFar.{SoFar}
+use Rattle.checkpoint_store.specs.declared.TheConstants.{LIVE_BYTES_MAX}
+
+-- the numbers of some items, as far as a reader has to know them
+pub record AreNumbered {A : Type 0} (number : A → ℕ) (items : List A) (greatest : ℕ) : Type 0 where
+  pub last : greatest ≡ last_number number items
+  pub below : All (λ item. number item ≤ greatest) items
+  pub count : length items ≤ greatest
+  pub limit : greatest < NUMBER_LIMIT
+
+-- what is kept beside the state itself
+pub record IsSoFar (s : SoFar) : Type 0 where
+  pub files : AreNumbered (λ a. a.file.number) s.state.files.items s.last_file
+  pub batches : AreNumbered (λ b. b.batch) s.state.batches.items s.last_batch
+  pub arrivals : (n : ℕ) → contains nat_cmp s.arrivals n ≡ list_any (λ a. a.file.arrival == n) s.state.files.items
+  pub ordered : IsOrdered nat_cmp s.arrivals
+  pub bytes : s.bytes ≡ sum (map record_size s.state.files.items)
+  pub within : s.bytes ≤ LIVE_BYTES_MAX
+
+-- the End, or one part more
+abbrev pub next_is : Bool → Kept → Next
+next_is true k = Last
+next_is false k = More k

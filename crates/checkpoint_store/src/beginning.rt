@@ -1,0 +1,77 @@
+//! The beginning of a log: it becomes the current one by the write of one byte.
+ghost use Rattle.std.specs.Prelude.{◌≡◌, ℕ, ◌+◌, ◌<◌, ◌≤◌, List, [], ◌∷◌, ◌++◌, length, IsTrue, OnOk, IsErr, IsErrOf};
+ghost use Rattle.disk_trait.specs.Files.{Files, At};
+ghost use Rattle.disk_trait.specs.Images.{After, Since, IsOnly};
+ghost use Rattle.disk_trait.specs.Faults.{CountsFaults};
+ghost use Rattle.disk_trait.specs.declared.damage.Damage.{Damage as TheDamage};
+ghost use Rattle.flowfile_record.specs.Encoding.{IsNumber};
+ghost use Rattle.checkpoint_store.specs.Begun.{log_file, begin_frame, begun_log, IsPassedOver, IsBegunOrNot, MayBegin, IsBegun};
+
+use crate::CheckError;
+use disk_trait::{Disk, Failed, FileKind, FileName, write_synced};
+use flowfile_record::DIGEST_SIZE;
+use record_codec::{BLOCK_OVERHEAD, CLOSED_GATE, FORMAT_VERSION, HEADER_SIZE, OPEN_GATE};
+use sha2::{Digest, Sha256};
+
+// The kind of the entry that begins a log.
+const BEGIN_KIND: u8 = 1;
+
+// How many bytes that entry has: the version of the format, and the log's number.
+const BEGIN_SIZE: u64 = 9;
+
+// The block of that entry with a closed gate behind it.
+const FRAME_SIZE: usize = (BLOCK_OVERHEAD + BEGIN_SIZE) as usize + 1;
+
+/// Begins the log of this number, and makes it the current one. It takes no memory.
+///
+/// A closed gate is written and synced, then the block of the log's Begin with a closed gate behind it, and only then
+/// the first gate is opened.
+pub fn begin<D: Disk>(disk: &mut D, number: u64) -> Result<(), CheckError>
+    requires number { IsNumber number }
+    requires ready { (c : Files) → D.images disk.old (D.moment disk.old) c → MayBegin number c }
+    // In each image the log is the current one.
+    ensures begun { OnOk result ((c : Files) → D.images disk.new (D.moment disk.new) c → IsBegun number c) }
+    // No other file changes, and until the log is whole its first gate isn't open.
+    ensures images { Since D.moment D.images disk.old disk.new
+        (After (At (log_file number) (λ old new. IsBegunOrNot number new)) (D.images disk.old (D.moment disk.old))) }
+    ensures synced { OnOk result (IsOnly (D.held disk.new) (D.images disk.new (D.moment disk.new))) }
+    ensures kinds { (IsErrOf result CheckError.Memory → ⊥) × ((damage : TheDamage) → IsErrOf result (CheckError.Damaged damage) → ⊥) }
+    ensures cause { CountsFaults (D.faults disk.old) (D.faults disk.new) (IsErrOf result CheckError.Disk) }
+{
+    let file = FileName {
+        kind: FileKind::Log,
+        number,
+    };
+    stage(disk, file, &frame_of(number))?;
+    write_synced(disk, file, 0, &[OPEN_GATE])?;
+    Ok(())
+}
+
+// Writes a closed gate into an empty file, and then bytes behind it.
+fn stage<D: Disk>(disk: &mut D, file: FileName, frame: &[u8]) -> Result<(), Failed>
+    requires empty { (c : Files) → D.images disk.old (D.moment disk.old) c → c file ≡ [] }
+    ensures staged { OnOk result (IsTrue D.tells → At file (λ old new. new ≡ CLOSED_GATE ∷ frame.now) (D.held disk.old) (D.held disk.new)) }
+    ensures synced { OnOk result (IsOnly (D.held disk.new) (D.images disk.new (D.moment disk.new))) }
+    ensures images { Since D.moment D.images disk.old disk.new
+        (After (At file (λ old new. IsPassedOver new)) (D.images disk.old (D.moment disk.old))) }
+    ensures cause { CountsFaults (D.faults disk.old) (D.faults disk.new) (IsErr result) }
+{
+    write_synced(disk, file, 0, &[CLOSED_GATE])?;
+    write_synced(disk, file, 1, frame)?;
+    Ok(())
+}
+
+// The block of the entry that begins this log, and a closed gate behind it.
+fn frame_of(number: u64) -> [u8; FRAME_SIZE]
+    ensures { result ≡ begin_frame number }
+{
+    let mut entry = [BEGIN_KIND; 1 + BEGIN_SIZE as usize];
+    entry[1] = FORMAT_VERSION;
+    entry[2..].copy_from_slice(&number.to_be_bytes());
+    let digest: [u8; DIGEST_SIZE] = Sha256::digest(&entry);
+    let mut frame = [CLOSED_GATE; FRAME_SIZE];
+    frame[3] = BEGIN_SIZE as u8;
+    frame[4..14].copy_from_slice(&entry);
+    frame[14..46].copy_from_slice(&digest);
+    frame
+}

@@ -1,0 +1,160 @@
+//! Reading a snapshot.
+ghost use Rattle.std.specs.Prelude.{◌≡◌, ℕ, suc, ◌+◌, ◌<◌, ◌≤◌, List, ◌++◌, length, drop, slice_range, IsTrue, IfOk, OnOk, IsErrOf, Ok, Err, Some, MatchOption};
+ghost use Rattle.disk_trait.specs.Images.{Stays};
+ghost use Rattle.disk_trait.specs.Faults.{CountsFaults};
+ghost use Rattle.disk_trait.specs.declared.damage.Damage.{Damage as TheDamage};
+ghost use Rattle.flowfile_record.specs.Stored.{Kept, kept_of};
+ghost use Rattle.record_codec.specs.Block.{Whole, reading_of};
+ghost use Rattle.block_file.specs.Damage.{damage_in};
+ghost use Rattle.checkpoint_store.specs.Reading.{blocks_from, snapshot_of};
+ghost use Rattle.checkpoint_store.specs.Snapshot.{snapshot, snapshot_file};
+ghost use Rattle.checkpoint_store.specs.Consistent.{IsConsistent};
+ghost use Rattle.disk_trait.specs.declared.file_name.FileName.{FileName as TheName};
+ghost use Rattle.checkpoint_store.specs.SoFar.{IsSoFar};
+
+use crate::CheckError;
+use crate::part::first_part;
+use crate::so_far::{SoFar, Unfit};
+use block_file::{BlockError, BlockPlace, read_block_at};
+use disk_trait::{Damage, Disk, FileKind, FileName};
+use flowfile_record::{DIGEST_SIZE, Stored};
+use record_codec::{Block, HEADER_SIZE};
+use std::alloc::Global;
+
+// A file that is read, of this size.
+#[derive(Clone, Copy)]
+struct Source {
+    file: FileName,
+    size: u64,
+}
+
+/// What the snapshot of this number says. It is read block by block, with memory for one block beside the state.
+pub fn read<D: Disk>(alloc: Global, disk: &mut D, number: u64) -> Result<Stored, CheckError>
+    ensures read { IfOk result (λ state. IsTrue D.tells → snapshot_of (snapshot_file number) (D.held disk.old (snapshot_file number)) ≡ Ok (kept_of state)) }
+    // The first damage is told, where there is one.
+    ensures damaged { (damage : TheDamage) → IsErrOf result (CheckError.Damaged damage) → IsTrue D.tells → snapshot_of (snapshot_file number) (D.held disk.old (snapshot_file number)) ≡ Err damage }
+    ensures stays { Stays D.held D.moment D.images disk.old disk.new }
+    ensures cause { CountsFaults (D.faults disk.old) (D.faults disk.new) (IsErrOf result CheckError.Disk) }
+{
+    let file = FileName {
+        kind: FileKind::Snapshot,
+        number,
+    };
+    let size = disk.size(file)?;
+    let source = Source { file, size };
+    let mut buffer = Vec::new(alloc);
+    let (mut so_far, mut at) = read_first(alloc, disk, source, &mut buffer)?;
+    while let Some(next) = read_next(alloc, disk, source, at, &mut buffer, &mut so_far)? {
+        at = next;
+    }
+    Ok(so_far.state)
+}
+
+// Reads the first block. Answers where the next one begins, too.
+fn read_first<D: Disk>(
+    alloc: Global,
+    disk: &mut D,
+    source: Source,
+    buffer: &mut Vec<u8>,
+) -> Result<(SoFar, u64), CheckError>
+    requires size { IsTrue D.tells → source.size ≡ length (D.held disk.old source.file) }
+    ensures found { IfOk result (λ first. IsTrue D.tells
+        → snapshot_of source.file (D.held disk.old source.file) ≡ blocks_from (suc (length (D.held disk.old source.file))) source.file first.1 (kept_of first.0.state) (drop first.1 (D.held disk.old source.file))) }
+    ensures so_far { IfOk result (λ first. IsSoFar first.0) }
+    ensures within { IfOk result (λ first. first.1 ≤ source.size) }
+    ensures damaged { (damage : TheDamage) → IsErrOf result (CheckError.Damaged damage) → IsTrue D.tells → snapshot_of source.file (D.held disk.old source.file) ≡ Err damage }
+    ensures stays { Stays D.held D.moment D.images disk.old disk.new }
+    ensures cause { CountsFaults (D.faults disk.old) (D.faults disk.new) (IsErrOf result CheckError.Disk) }
+{
+    let block = read_block(disk, source, 0, buffer)?;
+    match first_part(
+        alloc,
+        block.kind,
+        &buffer[block.start as usize..block.end as usize],
+    ) {
+        Ok(so_far) => Ok((so_far, block.next)),
+        Err(unfit) => Err(refused(source, 0, unfit)),
+    }
+}
+
+// Reads the block at an offset, which joins those before it. Answers where the next one begins, and nothing behind the
+// End.
+fn read_next<D: Disk>(
+    alloc: Global,
+    disk: &mut D,
+    source: Source,
+    at: u64,
+    buffer: &mut Vec<u8>,
+    so_far: &mut SoFar,
+) -> Result<Option<u64>, CheckError>
+    requires size { IsTrue D.tells → source.size ≡ length (D.held disk.old source.file) }
+    requires within { at ≤ source.size }
+    requires so_far { IsSoFar so_far.old }
+    ensures next { IfOk result (λ next. IsTrue D.tells → (most : ℕ) → MatchOption next
+        (blocks_from (suc most) source.file at (kept_of so_far.old.state) (drop at (D.held disk.old source.file)) ≡ Ok (kept_of so_far.new.state))
+        (λ n. blocks_from (suc most) source.file at (kept_of so_far.old.state) (drop at (D.held disk.old source.file)) ≡ blocks_from most source.file n (kept_of so_far.new.state) (drop n (D.held disk.old source.file)))) }
+    ensures so_far { OnOk result (IsSoFar so_far.new) }
+    ensures within { IfOk result (λ next. MatchOption next (Unit {0}) (λ n. (at < n) × (n ≤ source.size))) }
+    ensures damaged { (damage : TheDamage) → IsErrOf result (CheckError.Damaged damage) → IsTrue D.tells → (most : ℕ) → blocks_from (suc most) source.file at (kept_of so_far.old.state) (drop at (D.held disk.old source.file)) ≡ Err damage }
+    ensures stays { Stays D.held D.moment D.images disk.old disk.new }
+    ensures cause { CountsFaults (D.faults disk.old) (D.faults disk.new) (IsErrOf result CheckError.Disk) }
+{
+    let block = read_block(disk, source, at, buffer)?;
+    match so_far.take_part(
+        alloc,
+        block.kind,
+        &buffer[block.start as usize..block.end as usize],
+    ) {
+        Ok(true) => Ok(None),
+        Ok(false) => Ok(Some(at + block.next)),
+        Err(unfit) => Err(refused(source, at, unfit)),
+    }
+}
+
+// The block at an offset. The answer's offsets are those of the buffer.
+fn read_block<D: Disk>(
+    disk: &mut D,
+    source: Source,
+    at: u64,
+    buffer: &mut Vec<u8>,
+) -> Result<Block, CheckError>
+    requires size { IsTrue D.tells → source.size ≡ length (D.held disk.old source.file) }
+    requires within { at ≤ source.size }
+    ensures found { IfOk result (λ block. IsTrue D.tells → reading_of (drop at (D.held disk.old source.file)) ≡ Whole block.kind (slice_range buffer.new.items block.start block.end)) }
+    ensures within { IfOk result (λ block. (block.start ≡ HEADER_SIZE) × (block.start ≤ block.end) × (block.end + DIGEST_SIZE ≡ block.next) × (block.next ≤ length buffer.new.items) × (at + block.next ≤ source.size)) }
+    ensures damaged { (damage : TheDamage) → IsErrOf result (CheckError.Damaged damage) → IsTrue D.tells → damage_in source.file at (reading_of (drop at (D.held disk.old source.file))) ≡ Some damage }
+    ensures stays { Stays D.held D.moment D.images disk.old disk.new }
+    ensures cause { CountsFaults (D.faults disk.old) (D.faults disk.new) (IsErrOf result CheckError.Disk) }
+{
+    let place = BlockPlace {
+        file: source.file,
+        size: source.size,
+        offset: at,
+        at,
+    };
+    match read_block_at(disk, place, buffer) {
+        Ok(block) => Ok(block),
+        Err(BlockError::Disk) => Err(CheckError::Disk),
+        Err(BlockError::Memory) => Err(CheckError::Memory),
+        Err(BlockError::Damaged(damage)) => Err(CheckError::Damaged(damage)),
+    }
+}
+
+// Why the block at an offset doesn't join those before it.
+fn refused(source: Source, at: u64, unfit: Unfit) -> CheckError
+    ensures form { unfit ≡ Unfit.Form → result ≡ CheckError.Damaged (TheDamage.Form source.file at) }
+    ensures memory { unfit ≡ Unfit.Memory → result ≡ CheckError.Memory }
+{
+    match unfit {
+        Unfit::Memory => CheckError::Memory,
+        Unfit::Form => CheckError::Damaged(Damage::Form {
+            file: source.file,
+            at,
+        }),
+    }
+}
+
+/// What was written is read back, whatever stands behind it.
+pub fn snapshots_are_read_back()
+    ensures { (file : TheName) (k : Kept) (rest : List ℕ) → IsConsistent k → snapshot_of file (snapshot k ++ rest) ≡ Ok k }
+{}
