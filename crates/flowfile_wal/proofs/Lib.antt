@@ -1,0 +1,5 @@
+pub mod Says
+pub mod Appending
+pub mod Files
+pub mod Stops
+pub mod Mending
