@@ -13,10 +13,10 @@ use Rattle.flowfile_wal.specs.Current.{CurrentLog, counts, current_number, log_i
 use Rattle.flowfile_wal.specs.Steps.{SameLog, OneMore, IsAtRest, IsClosedIn, with_entry}
 use Rattle.flowfile_wal.proofs.Says.{IsRead, read_of}
 
-abbrev Said : Type 0
+abbrev pub Said : Type 0
 Said = Result (Option CurrentLog) Damage
 
-abbrev said : Option CurrentLog → Said
+abbrev pub said : Option CurrentLog → Said
 said log = Ok log
 
 -- the log of another number has another file
@@ -87,6 +87,14 @@ current_is files log is = of_number files log (current_number files) refl is
 pub is_current : (files : Files) (log : CurrentLog) (n : ℕ) → current_number files ≡ Some n → log_in n (files (named Log n)) ≡ Ok log → current_log files ≡ said (Some log)
 unfolding current_log
 is_current files log n is says = ap (log_of_number files) is ∙ ap of_some says
+
+pub none_current : (files : Files) → current_number files ≡ None → current_log files ≡ said None
+unfolding current_log
+none_current files is = ap (log_of_number files) is
+
+pub damaged_current : (files : Files) (n : ℕ) (damage : Damage) → current_number files ≡ Some n → log_in n (files (named Log n)) ≡ Err damage → current_log files ≡ Err damage
+unfolding current_log
+damaged_current files n damage is says = ap (log_of_number files) is ∙ ap of_some says
 
 pub at_rest : (log : CurrentLog) (files : Files) → IsClosedIn log files → IsAtRest log (files (named Log log.number))
 at_rest log files is = let of = current_is files log is.current in record { counted = of.counted; says = of.says; closed = is.closed }

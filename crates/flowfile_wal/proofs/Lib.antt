@@ -3,3 +3,6 @@ pub mod Appending
 pub mod Files
 pub mod Stops
 pub mod Mending
+pub mod States
+pub mod Searching
+pub mod Reading

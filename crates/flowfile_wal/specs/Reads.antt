@@ -1,12 +1,14 @@
 -- What the reading of a log finds.
-use Rattle.std.specs.Prelude.{◌≡◌, ℕ, ◌+◌, ◌<◌, ◌≤◌, true, List, [], ◌∷◌, length, drop, Option, None, Some, Result, Ok, Err}
+use Rattle.std.specs.Prelude.{◌≡◌, ◌≢◌, ◌⊎◌, ℕ, ◌+◌, ◌<◌, ◌≤◌, true, List, ◌∷◌, length, drop, slice_index, Option, None, Some, Result, Ok, Err}
 use Rattle.disk_trait.specs.Files.{Files, named}
 use Rattle.disk_trait.specs.declared.damage.Damage.{Damage}
 use Rattle.disk_trait.specs.declared.file_name.FileKind.TheVariants.{Log}
 use Rattle.disk_trait.specs.declared.file_name.FileName.{FileName}
-use Rattle.record_codec.specs.LogEntries.{Cause, LogRead, LogDamage, ended, after, log_from, log_of}
+use Rattle.record_codec.specs.Block.{reading_of}
+use Rattle.record_codec.specs.LogEntries.{Cause, after, entry_in, log_from, log_of}
 use Rattle.record_codec.specs.declared.entry.LogEntry.{LogEntry}
 use Rattle.record_codec.specs.declared.entry.LogEntry.TheVariants.{Begin}
+use Rattle.record_codec.specs.declared.log.TheConstants.{OPEN_GATE}
 use Rattle.flowfile_wal.specs.Current.{counts, current_number, first_in, begins, caused}
 use Rattle.flowfile_wal.specs.declared.current.Candidate.{Candidate}
 
@@ -25,16 +27,26 @@ abbrev pub named_at : FileName → ℕ → Result (LogEntry × ℕ) Cause → Re
 named_at file at (Ok found) = Ok found
 named_at file at (Err cause) = Err (caused file at cause)
 
--- what was read, or the damage with its file
-abbrev pub named_in : FileName → Result LogRead LogDamage → Result LogRead Damage
-named_in file (Ok read) = Ok read
-named_in file (Err damage) = Err (caused file damage.at damage.cause)
+-- behind this gate, which is open, stands the block of this entry, of this size
+pub record IsEntryAt (at : ℕ) (bytes : List ℕ) (found : LogEntry × ℕ) : Type 0 where
+  pub opened : slice_index bytes at ≡ OPEN_GATE
+  pub behind : at + 1 < length bytes
+  pub entry : entry_in (reading_of (drop (at + 1) bytes)) ≡ Ok found
 
--- what stands at the gate at this offset: nothing more, or an entry and what stands behind it
+-- behind this gate, which is open, stands no entry, which is this damage
+pub record IsDamagedAt (file : FileName) (at : ℕ) (bytes : List ℕ) (damage : Damage) : Type 0 where
+  pub opened : slice_index bytes at ≡ OPEN_GATE
+  pub behind : at + 1 < length bytes
+  pub entry : named_at file at (entry_in (reading_of (drop (at + 1) bytes))) ≡ Err damage
+
+-- this gate is missing, the last byte, or not open
+abbrev pub IsLastGate : ℕ → List ℕ → Type 0
+IsLastGate at bytes = (length bytes ≤ at + 1) ⊎ (slice_index bytes at ≢ OPEN_GATE)
+
+-- what stands at the gate at this offset
 abbrev pub IsNextAt : ℕ → List ℕ → Option (LogEntry × ℕ) → Type 0
-IsNextAt at bytes None = log_from 0 at (drop at bytes) ≡ Ok (ended at)
-IsNextAt at bytes (Some found) =
-    log_from 0 at (drop at bytes) ≡ after ((at, found.0) ∷ []) (log_from 0 (at + 1 + found.1) (drop (at + 1 + found.1) bytes))
+IsNextAt at bytes None = IsLastGate at bytes
+IsNextAt at bytes (Some found) = IsEntryAt at bytes found
 
 -- the next gate stands within the file
 abbrev pub IsNextWithin : ℕ → ℕ → Option (LogEntry × ℕ) → Type 0

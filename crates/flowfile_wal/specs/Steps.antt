@@ -90,7 +90,8 @@ pub record IsReadyIn (state : LogState) (files : Files) : Type 0 where
   pub end : state.end ≡ log.end
   pub ready : IsClosedIn log files
 
--- the current log of these files has its Begin alone
+-- the current log of these files has this number and its Begin alone
 pub record IsBegunIn (number : ℕ) (files : Files) : Type 0 where
   pub current : current_number files ≡ Some number
+  pub encodes : IsEntry (Begin number)
   pub bytes : files (named Log number) ≡ only_begun number

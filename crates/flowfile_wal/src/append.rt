@@ -25,7 +25,7 @@ pub fn append_frame<D: Disk>(
     // A stop within the call leaves a log of before it, or what was held with the entry.
     ensures images { (entry : LogEntry) → IsFrame entry frame.now
         → Since D.moment D.images disk.old disk.new (λ c. After (At (named LogKind number) (SameLog number)) (D.images disk.old (D.moment disk.old)) c
-            ⊎ At (named LogKind number) (OneMore number entry) (D.held disk.old) c) }
+        ⊎ At (named LogKind number) (OneMore number entry) (D.held disk.old) c) }
     // Once it has answered Ok, a stop leaves the entry.
     ensures added { OnOk result ((entry : LogEntry) → IsFrame entry frame.now
         → (c : Files) → D.images disk.new (D.moment disk.new) c → At (named LogKind number) (OneMore number entry) (D.held disk.old) c) }

@@ -132,7 +132,7 @@ impl Log {
         // A stop within the call leaves the log of before it, or what was held with the entry.
         ensures images { (number : ℕ) (entry : Entry) → self.old.number ≡ Some number → IsFrame entry block.now
             → Since D.moment D.images disk.old disk.new (λ c. After (At (named LogKind number) (SameLog number)) (D.images disk.old (D.moment disk.old)) c
-                ⊎ At (named LogKind number) (OneMore number entry) (D.held disk.old) c) }
+            ⊎ At (named LogKind number) (OneMore number entry) (D.held disk.old) c) }
         // Once it has answered Ok, a stop leaves the entry.
         ensures added { OnOk result ((number : ℕ) (entry : Entry) → self.old.number ≡ Some number → IsFrame entry block.now
             → (c : Files) → D.images disk.new (D.moment disk.new) c → At (named LogKind number) (OneMore number entry) (D.held disk.old) c) }

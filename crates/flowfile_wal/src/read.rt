@@ -8,9 +8,9 @@ ghost use Rattle.disk_trait.specs.declared.file_name.FileKind.TheVariants.{Log a
 ghost use Rattle.flowfile_record.specs.Reading.{whole};
 ghost use Rattle.record_codec.specs.Block.{reading_of};
 ghost use Rattle.record_codec.specs.EntryReading.{entry_at};
-ghost use Rattle.record_codec.specs.LogEntries.{entry_in, log_from};
-ghost use Rattle.flowfile_wal.specs.Current.{counts, log_in};
-ghost use Rattle.flowfile_wal.specs.Reads.{named_at, named_in, IsNextAt, IsNextWithin, IsReadTo};
+ghost use Rattle.record_codec.specs.LogEntries.{entry_in};
+ghost use Rattle.flowfile_wal.specs.Current.{counts, is_begin, log_in};
+ghost use Rattle.flowfile_wal.specs.Reads.{named_at, IsDamagedAt, IsNextAt, IsNextWithin, IsReadTo};
 
 use crate::LogError;
 use crate::current::read_gate;
@@ -86,7 +86,7 @@ fn next_entry<D: Disk>(
     requires size { IsTrue D.tells → size ≡ length (D.held disk.old file) }
     ensures next { IfOk result (λ next. IsTrue D.tells → IsNextAt at (D.held disk.old file) next) }
     ensures within { IfOk result (λ next. IsNextWithin at size next) }
-    ensures damaged { (damage : TheDamage) → IsErrOf result (LogError.Damaged damage) → IsTrue D.tells → named_in file (log_from 0 at (drop at (D.held disk.old file))) ≡ Err damage }
+    ensures damaged { (damage : TheDamage) → IsErrOf result (LogError.Damaged damage) → IsTrue D.tells → IsDamagedAt file at (D.held disk.old file) damage }
     ensures stays { Stays D.held D.moment D.images disk.old disk.new }
     ensures cause { CountsFaults (D.faults disk.old) (D.faults disk.new) (IsErrOf result LogError.Disk) }
 {
@@ -121,9 +121,23 @@ fn read_begin<D: Disk>(
         kind: FileKind::Log,
         number,
     };
-    match next_entry(alloc, disk, file, size, 0, buffer)? {
-        Some((LogEntry::Begin { log }, block)) if log == number => Ok(1 + block),
-        _ => Err(LogError::Damaged(Damage::Form { file, at: 0 })),
+    let misbegun = LogError::Damaged(Damage::Form { file, at: 0 });
+    let Some((entry, block)) = next_entry(alloc, disk, file, size, 0, buffer)? else {
+        return Err(misbegun);
+    };
+    if !is_begin_of(&entry, number) {
+        return Err(misbegun);
+    }
+    Ok(1 + block)
+}
+
+// Whether an entry is the Begin of the log of this number.
+fn is_begin_of(entry: &LogEntry, number: u64) -> bool
+    ensures { result ≡ is_begin number entry.now }
+{
+    match entry {
+        LogEntry::Begin { log } => *log == number,
+        _ => false,
     }
 }
 
