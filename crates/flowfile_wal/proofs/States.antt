@@ -16,11 +16,10 @@ use Rattle.record_codec.specs.declared.log.TheConstants.{OPEN_GATE, CLOSED_GATE}
 use Rattle.record_codec.proofs.Blocks.{length-block}
 use Rattle.record_codec.proofs.Logs.{one_entry_more}
 use Rattle.flowfile_wal.specs.Current.{CurrentLog, current_log, first_in, is_begin, told}
-use Rattle.flowfile_wal.specs.Steps.{LogState, IsCurrentIn, IsReadyIn, IsLogAt, IsAtRest, IsClosedIn, IsBegunIn, OneMore, frame, numbered, with_entry, only_begun}
+use Rattle.flowfile_wal.specs.Steps.{LogState, IsCurrentIn, IsReadyIn, IsLogAt, IsAtRest, IsClosedIn, IsBegunIn, RestsAt, OneMore, frame, numbered, with_entry, only_begun}
 use Rattle.flowfile_wal.proofs.Says.{ok, first, counts_by, says_of}
 use Rattle.flowfile_wal.proofs.Appending.{ends_closed}
 use Rattle.flowfile_wal.proofs.Files.{said, current_is, closed_in, at_rest, with_one_more}
-use Rattle.flowfile_wal.proofs.Stops.{RestsAt}
 
 module _ (state : LogState) (number gate : ℕ) (has : state.number ≡ Some number) (ends : state.end ≡ gate) (files : Files) where
   -- the current log, by what is in memory of it

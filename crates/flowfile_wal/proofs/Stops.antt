@@ -8,12 +8,8 @@ use Rattle.disk_trait.proofs.Moments.{wider, one_after_another}
 use Rattle.record_codec.specs.declared.entry.LogEntry.{LogEntry}
 use Rattle.record_codec.specs.declared.log.TheConstants.{OPEN_GATE, CLOSED_GATE}
 use Rattle.flowfile_wal.specs.Current.{CurrentLog}
-use Rattle.flowfile_wal.specs.Steps.{SameLog, IsAtRest, IsFrame, OneMore}
+use Rattle.flowfile_wal.specs.Steps.{SameLog, RestsAt, IsFrame, OneMore}
 use Rattle.flowfile_wal.proofs.Appending.{torn_behind, written_behind, torn_gate, written_gate, has_one_more}
-
--- these bytes are a log of this number at rest, whose last gate stands at this offset
-abbrev pub RestsAt : ℕ → ℕ → List ℕ → Type 0
-RestsAt number end bytes = (log : CurrentLog) × (log.number ≡ number) × (log.end ≡ end) × IsAtRest log bytes
 
 module _ (number end : ℕ) (bytes : List ℕ) (rests : RestsAt number end bytes) where
   stays_same : (c : List ℕ) → SameLog rests.0.number bytes c → SameLog number bytes c

@@ -12,12 +12,16 @@ use Rattle.record_codec.specs.declared.entry.LogEntry.{LogEntry}
 use Rattle.record_codec.specs.declared.entry.LogEntry.TheVariants.{Begin, Session, Expire, SwapOut, SwapIn}
 use Rattle.record_codec.specs.declared.log.TheConstants.{OPEN_GATE}
 
--- a log: its number, the entries behind its Begin in order, each with the offset of its gate, and the offset of its last
--- gate
+-- a log: its number, the entries behind its Begin in order, each with the offset of its gate, and the offset of its
+-- last gate
 pub record CurrentLog : Type 0 where
   pub number : ℕ
   pub entries : List (ℕ × LogEntry)
   pub end : ℕ
+
+-- the bytes of the log of this number
+abbrev pub log_bytes : Files → ℕ → List ℕ
+log_bytes files number = files (named Log number)
 
 -- a log that is empty, has one byte, or whose first gate isn't open is passed over
 abbrev pub counts : List ℕ → Bool
@@ -25,7 +29,7 @@ counts bytes = (slice_index bytes 0 == OPEN_GATE) && nat_lt 1 (length bytes)
 
 -- the greatest log that isn't passed over
 unfoldable pub current_number : Files → Option ℕ
-current_number files = greatest_below (λ n. counts (files (named Log n))) (2 ^ 64)
+current_number files = greatest_below (λ n. counts (log_bytes files n)) (2 ^ 64)
 
 -- what is read as the first entry
 abbrev pub first_in : List ℕ → Result (LogEntry × ℕ) Cause
@@ -56,7 +60,8 @@ told number (Err damage) = Err (caused (named Log number) damage.at damage.cause
 
 -- what the bytes of the log of this number say, or their first damage
 unfoldable pub log_in : ℕ → List ℕ → Result CurrentLog Damage
-log_in number bytes = if begins number (first_in bytes) then told number (log_of bytes) else Err (Form (named Log number) 0)
+log_in number bytes =
+    if begins number (first_in bytes) then told number (log_of bytes) else Err (Form (named Log number) 0)
 
 abbrev pub of_some : Result CurrentLog Damage → Result (Option CurrentLog) Damage
 of_some (Ok log) = Ok (Some log)
@@ -64,7 +69,7 @@ of_some (Err damage) = Err damage
 
 abbrev pub log_of_number : Files → Option ℕ → Result (Option CurrentLog) Damage
 log_of_number files None = Ok None
-log_of_number files (Some number) = of_some (log_in number (files (named Log number)))
+log_of_number files (Some number) = of_some (log_in number (log_bytes files number))
 
 -- the current log of files, none where every log is passed over, or its first damage
 unfoldable pub current_log : Files → Result (Option CurrentLog) Damage

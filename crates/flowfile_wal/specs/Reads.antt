@@ -1,22 +1,21 @@
 -- What the reading of a log finds.
 use Rattle.std.specs.Prelude.{◌≡◌, ◌≢◌, ◌⊎◌, ℕ, ◌+◌, ◌<◌, ◌≤◌, true, List, ◌∷◌, length, drop, slice_index, Option, None, Some, Result, Ok, Err}
-use Rattle.disk_trait.specs.Files.{Files, named}
+use Rattle.disk_trait.specs.Files.{Files}
 use Rattle.disk_trait.specs.declared.damage.Damage.{Damage}
-use Rattle.disk_trait.specs.declared.file_name.FileKind.TheVariants.{Log}
 use Rattle.disk_trait.specs.declared.file_name.FileName.{FileName}
 use Rattle.record_codec.specs.Block.{reading_of}
 use Rattle.record_codec.specs.LogEntries.{Cause, after, entry_in, log_from, log_of}
 use Rattle.record_codec.specs.declared.entry.LogEntry.{LogEntry}
 use Rattle.record_codec.specs.declared.entry.LogEntry.TheVariants.{Begin}
 use Rattle.record_codec.specs.declared.log.TheConstants.{OPEN_GATE}
-use Rattle.flowfile_wal.specs.Current.{counts, current_number, first_in, begins, caused}
+use Rattle.flowfile_wal.specs.Current.{log_bytes, counts, current_number, first_in, begins, caused}
 use Rattle.flowfile_wal.specs.declared.current.Candidate.{Candidate}
 
 -- the current log's file has this size
 pub record IsCandidate (found : Candidate) (files : Files) : Type 0 where
   pub number : current_number files ≡ Some found.number
-  pub counted : counts (files (named Log found.number)) ≡ true
-  pub size : found.size ≡ length (files (named Log found.number))
+  pub counted : counts (log_bytes files found.number) ≡ true
+  pub size : found.size ≡ length (log_bytes files found.number)
 
 abbrev pub IsFoundIn : Files → Option Candidate → Type 0
 IsFoundIn files None = current_number files ≡ None

@@ -1,13 +1,12 @@
 //! An entry is written behind a closed gate and synced, with a closed gate of its own behind it, and only then is the
-//! gate opened, by a write of its own: a stop leaves the entry whole or without effect, whatever a torn write may leave.
+//! gate opened, by a write of its own: a stop leaves the entry whole or without effect, whatever a torn write leaves.
 ghost use Rattle.std.specs.Prelude.{◌≡◌, ◌⊎◌, ℕ, ◌+◌, ◌^◌, ◌<◌, length, OnOk, IsErr};
-ghost use Rattle.disk_trait.specs.Files.{Files, At, named};
+ghost use Rattle.disk_trait.specs.Files.{Files};
 ghost use Rattle.disk_trait.specs.Images.{After, Since, IsOnly};
 ghost use Rattle.disk_trait.specs.Faults.{CountsFaults};
-ghost use Rattle.disk_trait.specs.declared.file_name.FileKind.TheVariants.{Log as LogKind};
 ghost use Rattle.record_codec.specs.declared.entry.LogEntry.{LogEntry};
-ghost use Rattle.flowfile_wal.specs.Current.{CurrentLog};
-ghost use Rattle.flowfile_wal.specs.Steps.{SameLog, IsAtRest, IsFrame, OneMore};
+ghost use Rattle.flowfile_wal.specs.Current.{log_bytes};
+ghost use Rattle.flowfile_wal.specs.Steps.{RestsAt, IsFrame, Keeps, Adds};
 
 use disk_trait::{Disk, Failed, FileKind, FileName, write_synced};
 use record_codec::OPEN_GATE;
@@ -21,14 +20,14 @@ pub fn append_frame<D: Disk>(
     frame: &[u8],
 ) -> Result<(), Failed>
     requires room { end + 1 < 2 ^ 64 }
-    requires at_rest { (c : Files) → D.images disk.old (D.moment disk.old) c → (log : CurrentLog) × (log.number ≡ number) × (log.end ≡ end) × IsAtRest log (c (named LogKind number)) }
+    requires at_rest { (c : Files) → D.images disk.old (D.moment disk.old) c → RestsAt number end (log_bytes c number) }
     // A stop within the call leaves a log of before it, or what was held with the entry.
     ensures images { (entry : LogEntry) → IsFrame entry frame.now
-        → Since D.moment D.images disk.old disk.new (λ c. After (At (named LogKind number) (SameLog number)) (D.images disk.old (D.moment disk.old)) c
-        ⊎ At (named LogKind number) (OneMore number entry) (D.held disk.old) c) }
+        → Since D.moment D.images disk.old disk.new
+        (λ c. After (Keeps number) (D.images disk.old (D.moment disk.old)) c ⊎ Adds number entry (D.held disk.old) c) }
     // Once it has answered Ok, a stop leaves the entry.
     ensures added { OnOk result ((entry : LogEntry) → IsFrame entry frame.now
-        → (c : Files) → D.images disk.new (D.moment disk.new) c → At (named LogKind number) (OneMore number entry) (D.held disk.old) c) }
+        → (c : Files) → D.images disk.new (D.moment disk.new) c → Adds number entry (D.held disk.old) c) }
     ensures synced { OnOk result (IsOnly (D.held disk.new) (D.images disk.new (D.moment disk.new))) }
     ensures room { OnOk result (end + length frame.now + 1 < 2 ^ 64) }
     ensures cause { CountsFaults (D.faults disk.old) (D.faults disk.new) (IsErr result) }

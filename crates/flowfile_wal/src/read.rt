@@ -1,15 +1,13 @@
 //! Reading a log, block by block.
 ghost use Rattle.std.specs.Prelude.{◌≡◌, ℕ, ◌+◌, ◌<◌, ◌≤◌, true, [], length, drop, slice_range, IsTrue, IfOk, IsErrOf, Ok, Err};
-ghost use Rattle.disk_trait.specs.Files.{named};
 ghost use Rattle.disk_trait.specs.Images.{Stays};
 ghost use Rattle.disk_trait.specs.Faults.{CountsFaults};
 ghost use Rattle.disk_trait.specs.declared.damage.Damage.{Damage as TheDamage};
-ghost use Rattle.disk_trait.specs.declared.file_name.FileKind.TheVariants.{Log as LogKind};
 ghost use Rattle.flowfile_record.specs.Reading.{whole};
 ghost use Rattle.record_codec.specs.Block.{reading_of};
 ghost use Rattle.record_codec.specs.EntryReading.{entry_at};
 ghost use Rattle.record_codec.specs.LogEntries.{entry_in};
-ghost use Rattle.flowfile_wal.specs.Current.{counts, is_begin, log_in};
+ghost use Rattle.flowfile_wal.specs.Current.{log_bytes, counts, is_begin, log_in};
 ghost use Rattle.flowfile_wal.specs.Reads.{named_at, IsDamagedAt, IsNextAt, IsNextWithin, IsReadTo};
 
 use crate::LogError;
@@ -31,9 +29,11 @@ fn read_entry_at<D: Disk>(
 ) -> Result<(LogEntry, u64), LogError>
     requires within { at < size }
     requires size { IsTrue D.tells → size ≡ length (D.held disk.old file) }
-    ensures entry { IfOk result (λ found. IsTrue D.tells → entry_in (reading_of (drop (at + 1) (D.held disk.old file))) ≡ Ok found) }
+    ensures entry { IfOk result (λ found. IsTrue D.tells
+        → entry_in (reading_of (drop (at + 1) (D.held disk.old file))) ≡ Ok found) }
     ensures within { IfOk result (λ found. at + 1 + found.1 ≤ size) }
-    ensures damaged { (damage : TheDamage) → IsErrOf result (LogError.Damaged damage) → IsTrue D.tells → named_at file at (entry_in (reading_of (drop (at + 1) (D.held disk.old file)))) ≡ Err damage }
+    ensures damaged { (damage : TheDamage) → IsErrOf result (LogError.Damaged damage) → IsTrue D.tells
+        → named_at file at (entry_in (reading_of (drop (at + 1) (D.held disk.old file)))) ≡ Err damage }
     ensures stays { Stays D.held D.moment D.images disk.old disk.new }
     ensures cause { CountsFaults (D.faults disk.old) (D.faults disk.new) (IsErrOf result LogError.Disk) }
 {
@@ -57,8 +57,11 @@ fn entry_of(
 ) -> Result<LogEntry, LogError>
     requires start { block.start ≤ block.end }
     requires end { block.end ≤ length buffer.now }
-    ensures entry { IfOk result (λ entry. whole (entry_at block.kind) (slice_range buffer.now block.start block.end) ≡ Ok entry) }
-    ensures damaged { (damage : TheDamage) → IsErrOf result (LogError.Damaged damage) → (damage ≡ TheDamage.Form place.file place.at) × ((left : ℕ) × (whole (entry_at block.kind) (slice_range buffer.now block.start block.end) ≡ Err left)) }
+    ensures entry { IfOk result (λ entry.
+        whole (entry_at block.kind) (slice_range buffer.now block.start block.end) ≡ Ok entry) }
+    ensures damaged { (damage : TheDamage) → IsErrOf result (LogError.Damaged damage)
+        → (damage ≡ TheDamage.Form place.file place.at)
+        × ((left : ℕ) × (whole (entry_at block.kind) (slice_range buffer.now block.start block.end) ≡ Err left)) }
     ensures kinds { IsErrOf result LogError.Disk → ⊥ }
 {
     let start = block.start as usize;
@@ -86,7 +89,8 @@ fn next_entry<D: Disk>(
     requires size { IsTrue D.tells → size ≡ length (D.held disk.old file) }
     ensures next { IfOk result (λ next. IsTrue D.tells → IsNextAt at (D.held disk.old file) next) }
     ensures within { IfOk result (λ next. IsNextWithin at size next) }
-    ensures damaged { (damage : TheDamage) → IsErrOf result (LogError.Damaged damage) → IsTrue D.tells → IsDamagedAt file at (D.held disk.old file) damage }
+    ensures damaged { (damage : TheDamage) → IsErrOf result (LogError.Damaged damage) → IsTrue D.tells
+        → IsDamagedAt file at (D.held disk.old file) damage }
     ensures stays { Stays D.held D.moment D.images disk.old disk.new }
     ensures cause { CountsFaults (D.faults disk.old) (D.faults disk.new) (IsErrOf result LogError.Disk) }
 {
@@ -109,11 +113,12 @@ fn read_begin<D: Disk>(
     size: u64,
     buffer: &mut Vec<u8>,
 ) -> Result<u64, LogError>
-    requires size { IsTrue D.tells → size ≡ length (D.held disk.old (named LogKind number)) }
-    requires counted { IsTrue D.tells → counts (D.held disk.old (named LogKind number)) ≡ true }
-    ensures begun { IfOk result (λ end. IsTrue D.tells → IsReadTo number end [] (D.held disk.old (named LogKind number))) }
+    requires size { IsTrue D.tells → size ≡ length (log_bytes (D.held disk.old) number) }
+    requires counted { IsTrue D.tells → counts (log_bytes (D.held disk.old) number) ≡ true }
+    ensures begun { IfOk result (λ end. IsTrue D.tells → IsReadTo number end [] (log_bytes (D.held disk.old) number)) }
     ensures within { IfOk result (λ end. end ≤ size) }
-    ensures damaged { (damage : TheDamage) → IsErrOf result (LogError.Damaged damage) → IsTrue D.tells → log_in number (D.held disk.old (named LogKind number)) ≡ Err damage }
+    ensures damaged { (damage : TheDamage) → IsErrOf result (LogError.Damaged damage) → IsTrue D.tells
+        → log_in number (log_bytes (D.held disk.old) number) ≡ Err damage }
     ensures stays { Stays D.held D.moment D.images disk.old disk.new }
     ensures cause { CountsFaults (D.faults disk.old) (D.faults disk.new) (IsErrOf result LogError.Disk) }
 {
@@ -148,10 +153,12 @@ pub fn read_log<D: Disk>(
     number: u64,
     size: u64,
 ) -> Result<(Vec<(u64, LogEntry)>, u64), LogError>
-    requires size { IsTrue D.tells → size ≡ length (D.held disk.old (named LogKind number)) }
-    requires counted { IsTrue D.tells → counts (D.held disk.old (named LogKind number)) ≡ true }
-    ensures read { IfOk result (λ read. IsTrue D.tells → log_in number (D.held disk.old (named LogKind number)) ≡ Ok (record { number = number; entries = read.0.items; end = read.1 })) }
-    ensures damaged { (damage : TheDamage) → IsErrOf result (LogError.Damaged damage) → IsTrue D.tells → log_in number (D.held disk.old (named LogKind number)) ≡ Err damage }
+    requires size { IsTrue D.tells → size ≡ length (log_bytes (D.held disk.old) number) }
+    requires counted { IsTrue D.tells → counts (log_bytes (D.held disk.old) number) ≡ true }
+    ensures read { IfOk result (λ read. IsTrue D.tells → log_in number (log_bytes (D.held disk.old) number)
+        ≡ Ok (record { number = number; entries = read.0.items; end = read.1 })) }
+    ensures damaged { (damage : TheDamage) → IsErrOf result (LogError.Damaged damage) → IsTrue D.tells
+        → log_in number (log_bytes (D.held disk.old) number) ≡ Err damage }
     ensures stays { Stays D.held D.moment D.images disk.old disk.new }
     ensures cause { CountsFaults (D.faults disk.old) (D.faults disk.new) (IsErrOf result LogError.Disk) }
 {

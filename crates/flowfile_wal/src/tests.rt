@@ -14,6 +14,9 @@ const GREATER: FileName = FileName {
     number: 7,
 };
 
+// A log that is passed over, of as many of its bytes as a row takes.
+const GREATER_LOG: [u8; 3] = [0, 1, 2];
+
 // The blocks were worked out by another program, SHA-256 included.
 
 // The Begin of log 2, behind an open gate.
@@ -155,9 +158,8 @@ fn loads<D: Disk>(rt: &impl Abort, alloc: Global, disk: &mut D) -> Result<(), Fa
         (&[&OTHER, &[0]], Err(form(0)), &[&OTHER, &[0]]),
         (&[&[0x5A, 0, 0]], Err(short(0, 5, 2)), &[&[0x5A, 0, 0]]),
     ];
-    let passed_over: [&[u8]; 4] = [&[], &[0x5A], &[0], &[0, 1, 2]];
     for (row, (log, wanted, left)) in rows.into_iter().enumerate() {
-        put(alloc, disk, log, passed_over[row % 4])?;
+        put(alloc, disk, log, &GREATER_LOG[..row % 4])?;
         let loaded = load_and_mend(alloc, disk);
         assert_eq!(rt; loaded, wanted.map_err(LogError::Damaged), "row {row}");
         assert!(rt; log_is(alloc, disk, left)?, "row {row}");
