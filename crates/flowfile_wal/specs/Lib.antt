@@ -1,0 +1,4 @@
+pub mod Current
+pub mod Errors
+pub mod Steps
+pub mod Reads

@@ -1,0 +1,42 @@
+//! An entry is written behind a closed gate and synced, with a closed gate of its own behind it, and only then is the
+//! gate opened, by a write of its own: a stop leaves the entry whole or without effect, whatever a torn write leaves.
+ghost use Rattle.std.specs.Prelude.{◌≡◌, ◌⊎◌, ℕ, ◌+◌, ◌^◌, ◌<◌, length, OnOk, IsErr};
+ghost use Rattle.disk_trait.specs.Files.{Files};
+ghost use Rattle.disk_trait.specs.Images.{After, Since, IsOnly};
+ghost use Rattle.disk_trait.specs.Faults.{CountsFaults};
+ghost use Rattle.record_codec.specs.declared.entry.LogEntry.{LogEntry};
+ghost use Rattle.flowfile_wal.specs.Current.{log_bytes};
+ghost use Rattle.flowfile_wal.specs.Steps.{RestsAt, IsFrame, Keeps, Adds};
+
+use disk_trait::{Disk, Failed, FileKind, FileName, write_synced};
+use record_codec::OPEN_GATE;
+
+/// Adds an entry to the log of this number, whose last gate stands at `end`. `frame` is the entry's block with a closed
+/// gate behind it.
+pub fn append_frame<D: Disk>(
+    disk: &mut D,
+    number: u64,
+    end: u64,
+    frame: &[u8],
+) -> Result<(), Failed>
+    requires room { end + 1 < 2 ^ 64 }
+    requires at_rest { (c : Files) → D.images disk.old (D.moment disk.old) c → RestsAt number end (log_bytes c number) }
+    // A stop within the call leaves a log of before it, or what was held with the entry.
+    ensures images { (entry : LogEntry) → IsFrame entry frame.now
+        → Since D.moment D.images disk.old disk.new
+        (λ c. After (Keeps number) (D.images disk.old (D.moment disk.old)) c ⊎ Adds number entry (D.held disk.old) c) }
+    // Once it has answered Ok, a stop leaves the entry.
+    ensures added { OnOk result ((entry : LogEntry) → IsFrame entry frame.now
+        → (c : Files) → D.images disk.new (D.moment disk.new) c → Adds number entry (D.held disk.old) c) }
+    ensures synced { OnOk result (IsOnly (D.held disk.new) (D.images disk.new (D.moment disk.new))) }
+    ensures room { OnOk result (end + length frame.now + 1 < 2 ^ 64) }
+    ensures cause { CountsFaults (D.faults disk.old) (D.faults disk.new) (IsErr result) }
+{
+    let file = FileName {
+        kind: FileKind::Log,
+        number,
+    };
+    write_synced(disk, file, end + 1, frame)?;
+    write_synced(disk, file, end, &[OPEN_GATE])?;
+    Ok(())
+}

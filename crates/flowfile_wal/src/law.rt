@@ -1,0 +1,17 @@
+//! What follows of all logs where one log's file changed.
+ghost use Rattle.std.specs.Prelude.{◌≡◌, ℕ};
+ghost use Rattle.disk_trait.specs.Files.{Files};
+ghost use Rattle.record_codec.specs.declared.entry.LogEntry.{LogEntry};
+ghost use Rattle.flowfile_wal.specs.Current.{CurrentLog, current_log};
+ghost use Rattle.flowfile_wal.specs.Steps.{Keeps, Adds, IsClosedIn, with_entry};
+
+/// Files that differ in one log, which says the same, have the same current log.
+pub fn logs_that_change_alike()
+    ensures { (number : ℕ) (old new : Files) → Keeps number old new → current_log new ≡ current_log old }
+{}
+
+/// Where the current log gets an entry, the current log has it.
+pub fn logs_with_one_entry_more()
+    ensures { (log : CurrentLog) (entry : LogEntry) (old new : Files) → IsClosedIn log old
+        → Adds log.number entry old new → IsClosedIn (with_entry log entry) new }
+{}

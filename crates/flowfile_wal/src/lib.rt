@@ -1,0 +1,17 @@
+//! A log of entries, each behind a gate: what was added stands whole or not at all, wherever a disk stops.
+#![tactic(auto)]
+
+mod append;
+mod current;
+mod error;
+mod law;
+mod log;
+mod mend;
+mod read;
+
+pub use error::LogError;
+pub use law::{logs_that_change_alike, logs_with_one_entry_more};
+pub use log::{Log, LogEntries};
+
+#[cfg(test)]
+mod tests;

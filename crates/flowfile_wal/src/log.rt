@@ -1,0 +1,169 @@
+//! The current log: loaded, mended, begun and appended to.
+ghost use Rattle.std.specs.Prelude.{◌≡◌, ◌⊎◌, ℕ, ◌+◌, true, false, [], length, IsTrue, IfOk, OnOk, OnErr, IsErrOf, Ok, Err, None, Some};
+ghost use Rattle.disk_trait.specs.Files.{Files};
+ghost use Rattle.disk_trait.specs.Images.{After, Since, IsOnly, Stays};
+ghost use Rattle.disk_trait.specs.Faults.{CountsFaults};
+ghost use Rattle.disk_trait.specs.declared.damage.Damage.{Damage as TheDamage};
+ghost use Rattle.record_codec.specs.declared.entry.LogEntry.{LogEntry as Entry};
+ghost use Rattle.flowfile_wal.specs.Current.{current_log};
+ghost use Rattle.flowfile_wal.specs.Steps.{IsFrame, Keeps, Adds, IsCurrentIn, IsReadyIn, IsBegunIn, log_with};
+
+use crate::LogError;
+use crate::append::append_frame;
+use crate::current::find_current;
+use crate::mend::mend_log;
+use crate::read::read_log;
+use disk_trait::Disk;
+use record_codec::{BLOCK_OVERHEAD, LogEntry};
+use std::alloc::Global;
+use std::marker::Model;
+
+/// The entries of a log behind its Begin, in order, each with the offset of its gate.
+pub type LogEntries = Vec<(u64, LogEntry)>;
+
+/// The payload of a Begin block, in bytes: the version and the log's number.
+const BEGIN_SIZE: u64 = 9;
+
+/// Where the last gate stands of a log that has its Begin alone.
+pub const BEGUN_END: u64 = 1 + BLOCK_OVERHEAD + BEGIN_SIZE;
+
+/// The current log of a disk. It holds no disk: each call takes it, and it is the one that the log was loaded from.
+#[derive(Debug, Drop)]
+pub struct Log {
+    current: Option<u64>,
+    gate: u64,
+    is_mended: bool,
+    has_failed: bool,
+}
+
+impl Model for Log {
+    ghost use Rattle.flowfile_wal.specs.Steps.{LogState};
+
+    ghost Value = { LogState };
+
+    ghost use Rattle.std.specs.Prelude.{◌≡◌, ◌+◌, ◌^◌, ◌<◌, true, is_some, IsTrue};
+
+    ghost view = { λ log. record {
+      number = log.current;
+      end = log.gate;
+      mended = log.is_mended;
+      failed = log.has_failed;
+    } };
+
+    ghost invariant = { λ log. record {
+      room : log.is_mended ≡ true → log.gate + 1 < 2 ^ 64;
+      begun : log.is_mended ≡ true → IsTrue (is_some log.current);
+    } };
+}
+
+impl Log {
+    /// Finds the current log and reads its entries, with memory for them and for one block. It writes nothing.
+    pub fn load<D: Disk>(alloc: Global, disk: &mut D) -> Result<(Log, LogEntries), LogError>
+        ensures loaded { IfOk result (λ loaded. IsTrue D.tells
+            → current_log (D.held disk.old) ≡ Ok (log_with loaded.0 loaded.1.items)) }
+        ensures unmended { IfOk result (λ loaded. (loaded.0.mended ≡ false) × (loaded.0.failed ≡ false)) }
+        ensures empty { IfOk result (λ loaded. loaded.0.number ≡ None → loaded.1.items ≡ []) }
+        ensures damaged { (damage : TheDamage) → IsErrOf result (LogError.Damaged damage) → IsTrue D.tells
+            → current_log (D.held disk.old) ≡ Err damage }
+        ensures stays { Stays D.held D.moment D.images disk.old disk.new }
+        ensures cause { CountsFaults (D.faults disk.old) (D.faults disk.new) (IsErrOf result LogError.Disk) }
+    {
+        let Some(found) = find_current(alloc, disk)? else {
+            return Ok((Log::unmended(None, 0), Vec::new(alloc)));
+        };
+        let (entries, gate) = read_log(alloc, disk, found.number, found.size)?;
+        Ok((Log::unmended(Some(found.number), gate), entries))
+    }
+
+    fn unmended(current: Option<u64>, gate: u64) -> Log
+        ensures { result ≡ record { number = current; end = gate; mended = false; failed = false } }
+    {
+        Log {
+            current,
+            gate,
+            is_mended: false,
+            has_failed: false,
+        }
+    }
+
+    /// The current log's number. None where no log is current, and then there are no entries.
+    pub fn number(&self) -> Option<u64>
+        ensures { result ≡ self.now.number }
+    {
+        self.current
+    }
+
+    /// Cuts what stands behind the last gate and closes the gate. It takes no memory, and its one error is `Disk`.
+    pub fn mend<D: Disk>(&mut self, disk: &mut D) -> Result<(), LogError>
+        requires works { self.old.failed ≡ false }
+        requires some { (number : ℕ) × (self.old.number ≡ Some number) }
+        requires synced { IsOnly (D.held disk.old) (D.images disk.old (D.moment disk.old)) }
+        requires current { IsTrue D.tells → IsCurrentIn self.old (D.held disk.old) }
+        // Whatever a stop within the call leaves has the same entries.
+        ensures images { (number : ℕ) → self.old.number ≡ Some number
+            → Since D.moment D.images disk.old disk.new (After (Keeps number) (D.images disk.old (D.moment disk.old))) }
+        ensures ready { OnOk result ((c : Files) → D.images disk.new (D.moment disk.new) c → IsReadyIn self.new c) }
+        ensures synced { OnOk result (IsOnly (D.held disk.new) (D.images disk.new (D.moment disk.new))) }
+        ensures mended { OnOk result (self.new ≡ record self.old { mended = true }) }
+        ensures failed { OnErr result (self.new ≡ record self.old { failed = true }) }
+        ensures error { OnErr result (result ≡ Err LogError.Disk) }
+        ensures cause { CountsFaults (D.faults disk.old) (D.faults disk.new) (IsErrOf result LogError.Disk) }
+    {
+        let Some(number) = self.current else {
+            return Ok(());
+        };
+        let Ok(()) = mend_log(disk, number, self.gate) else {
+            self.has_failed = true;
+            return Err(LogError::Disk);
+        };
+        self.is_mended = true;
+        Ok(())
+    }
+
+    /// The log that was begun on the disk, which has its Begin alone, is the current one from now on.
+    pub fn begun<D: Disk>(&mut self, disk: &D, number: u64)
+        requires begun { (c : Files) → D.images disk.now (D.moment disk.now) c → IsBegunIn number c }
+        ensures state { self.new
+            ≡ record { number = Some number; end = BEGUN_END; mended = true; failed = self.old.failed } }
+        ensures ready { (c : Files) → D.images disk.now (D.moment disk.now) c → IsReadyIn self.new c }
+    {
+        self.current = Some(number);
+        self.gate = BEGUN_END;
+        self.is_mended = true;
+    }
+
+    /// Adds an entry. `block` is its block with a closed gate behind it. Answers the disk's moment at which the entry
+    /// was acknowledged. It makes four calls of the disk, takes no memory, and its one error is `Disk`.
+    pub fn append<D: Disk>(&mut self, disk: &mut D, block: &[u8]) -> Result<u64, LogError>
+        requires mended { self.old.mended ≡ true }
+        requires works { self.old.failed ≡ false }
+        requires block { (entry : Entry) × IsFrame entry block.now }
+        requires ready { (c : Files) → D.images disk.old (D.moment disk.old) c → IsReadyIn self.old c }
+        // A stop within the call leaves the log of before it, or what was held with the entry.
+        ensures images { (number : ℕ) (entry : Entry) → self.old.number ≡ Some number → IsFrame entry block.now
+            → Since D.moment D.images disk.old disk.new
+            (λ c. After (Keeps number) (D.images disk.old (D.moment disk.old)) c ⊎ Adds number entry (D.held disk.old) c) }
+        // Once it has answered Ok, a stop leaves the entry.
+        ensures added { OnOk result ((number : ℕ) (entry : Entry) → self.old.number ≡ Some number
+            → IsFrame entry block.now → (c : Files) → D.images disk.new (D.moment disk.new) c
+            → Adds number entry (D.held disk.old) c) }
+        ensures ready { OnOk result ((c : Files) → D.images disk.new (D.moment disk.new) c → IsReadyIn self.new c) }
+        ensures synced { OnOk result (IsOnly (D.held disk.new) (D.images disk.new (D.moment disk.new))) }
+        ensures acknowledged { IfOk result (λ moment. moment ≡ D.moment disk.new) }
+        ensures longer { OnOk result (self.new ≡ record self.old { end = self.old.end + length block.now }) }
+        ensures failed { OnErr result (self.new ≡ record self.old { failed = true }) }
+        ensures error { OnErr result (result ≡ Err LogError.Disk) }
+        ensures cause { CountsFaults (D.faults disk.old) (D.faults disk.new) (IsErrOf result LogError.Disk) }
+    {
+        let Some(number) = self.current else {
+            self.has_failed = true;
+            return Err(LogError::Disk);
+        };
+        let Ok(()) = append_frame(disk, number, self.gate, block) else {
+            self.has_failed = true;
+            return Err(LogError::Disk);
+        };
+        self.gate += block.len() as u64;
+        Ok(disk.moment())
+    }
+}
