@@ -8,22 +8,24 @@ use Rattle.disk_trait.specs.declared.damage.Damage.{Damage}
 use Rattle.disk_trait.proofs.Moments.{wider_at_each}
 use Rattle.flowfile_record.specs.NamedFile.{NamedFile, bytes_of}
 use Rattle.flowfile_record.specs.declared.TheConstants.{CONTENT_MAX}
+use Rattle.world_io.specs.Inbox.{IsAscending}
 use Rattle.store_core.specs.Opening.{SinceSync}
 use Rattle.store_core.specs.State.{stands_for}
 use Rattle.store_core.specs.declared.queued.Queued.{Queued}
 use Rattle.store_core.specs.declared.error.StoreError.{StoreError}
-use Rattle.run_top.specs.Machine.{Machine, got, IsQuiet}
+use Rattle.run_top.specs.Machine.{Machine, got, names_got, IsQuiet}
 use Rattle.run_top.specs.Run.{HasRun, IsLeftDamaged, IsPrefix}
 use Rattle.run_top.specs.Running.{IsRunning, IsLeftBut}
 use Rattle.run_top.specs.Status.{status_of, error_of}
 use Rattle.run_top.specs.declared.status.TheConstants.{DONE, DAMAGED, DISK_FAULT, OUT_OF_MEMORY}
+use Rattle.run_top.proofs.Orders.{ascends_front}
 use Rattle.run_top.proofs.Journals.{whole_prefix, acknowledged-all}
 
 -- a run that was just opened
-pub begins : {D : Type 0} (moment : D → ℕ) (images : D → ℕ → Files → Type 0) (held : Files) (old new : D) (queue : List Queued) (left : List NamedFile) (standing : List ℕ → Option (List ℕ))
+pub begins : {D : Type 0} (moment : D → ℕ) (images : D → ℕ → Files → Type 0) (held : Files) (old new : D) (queue : List Queued) (left : List NamedFile) (standing : List ℕ → Option (List ℕ)) (names : List (List ℕ)) → IsAscending names
     → SinceSync moment images old new (λ c. stands_for c ≡ stands_for held) → stands_for held ≡ Ok queue
-    → IsRunning moment images (record { queue = queue; left = left; outbox = standing }) old new queue left standing
-begins moment images held old new queue left standing since stands =
+    → IsRunning moment images (record { queue = queue; left = left; outbox = standing }) old new queue left standing names
+begins moment images held old new queue left standing names ascends since stands =
     let opened : Machine = record { queue = queue; left = left; outbox = standing } in
     record {
       journal = [];
@@ -35,6 +37,7 @@ begins moment images held old new queue left standing since stands =
       };
       all = tt;
       gone = λ name here none. absurd (neither (bytes_of left name) here none);
+      order = ascends;
       waits = refl;
       lies = refl;
       stands = refl;
@@ -80,12 +83,13 @@ is_quiet m left waits lies but = record {
 
 -- a run that was done
 pub ends : {D : Type 0} (held : D → Files) (moment : D → ℕ) (images : D → ℕ → Files → Type 0) (opened : Machine) (old new : D) (left : List NamedFile) (standing : List ℕ → Option (List ℕ))
-    → IsRunning moment images opened old new [] left standing → IsLeftBut [] left → stands_for (held new) ≡ Ok [] → HasRun DONE held moment images opened old new left standing
+    → IsRunning moment images opened old new [] left standing [] → IsLeftBut [] left → stands_for (held new) ≡ Ok [] → HasRun DONE held moment images opened old new left standing
 ends held moment images opened old new left standing run but stands = record {
   journal = run.journal;
   reached = run.reached;
   ran = run.ran;
   acked = inl (acknowledged-all run.journal (moment old + 1) (moment new) (moment new) run.all run.ran.in_order (omega arith));
+  order = ascends_front (names_got run.journal) [] run.order;
   gone = run.gone;
   inbox = inl (sym run.lies);
   outbox = inl (sym run.stands);

@@ -1,4 +1,5 @@
 pub mod Ends
 pub mod Journals
 pub mod Names
+pub mod Orders
 pub mod Steps

@@ -8,11 +8,12 @@ use Rattle.disk_trait.specs.Images.{Since}
 use Rattle.disk_trait.specs.declared.damage.Damage.{Damage}
 use Rattle.flowfile_record.specs.NamedFile.{NamedFile, bytes_of, without, with_file}
 use Rattle.flowfile_record.specs.declared.TheConstants.{CONTENT_MAX}
+use Rattle.world_io.specs.Inbox.{IsAscending}
 use Rattle.store_core.specs.Entry.{queued}
 use Rattle.store_core.specs.State.{stands_for}
 use Rattle.store_core.specs.declared.queued.Queued.{Queued}
 use Rattle.store_core.specs.declared.error.StoreError.{StoreError}
-use Rattle.run_top.specs.Machine.{Machine, Entry, Get, Put, got, put, step}
+use Rattle.run_top.specs.Machine.{Machine, Entry, Get, Put, got, put, step, names_got}
 use Rattle.run_top.specs.Run.{Replays, HasRun, IsGoneByEntry}
 use Rattle.run_top.specs.Running.{IsRunning}
 use Rattle.run_top.specs.Status.{status_of, error_of}
@@ -20,6 +21,7 @@ use Rattle.run_top.specs.declared.status.RunError.{RunError}
 use Rattle.run_top.specs.declared.status.TheConstants.{DONE, DISK_FAULT, INBOX_FAULT, OUTBOX_FAULT}
 use Rattle.run_top.proofs.Journals.{step_open, step_acked, all-append, acknowledged-all, acknowledged-open, was_got-before, was_got-last}
 use Rattle.run_top.proofs.Names.{gone_without}
+use Rattle.run_top.proofs.Orders.{ascends_front, ascends_but, put_order, get_order}
 
 pub head_and_rest : (queue : List Queued) (file : Queued) → 0 < length queue → file ≡ get_or queue 0 file → queue ≡ file ∷ drop 1 queue
 head_and_rest queue file some is = drop_more queue 0 file some ∙ ap (λ (f : Queued). f ∷ drop 1 queue) (sym is)
@@ -37,8 +39,8 @@ pub works_on : (failed : Bool) → (failed ≡ true → ⊥) → failed ≡ fals
 works_on true none = absurd (none refl)
 works_on false none = refl
 
-module _ {D : Type 0} (held : D → Files) (moment : D → ℕ) (images : D → ℕ → Files → Type 0) (opened : Machine) (first now : D) (queue : List Queued) (left : List NamedFile) (standing : List ℕ → Option (List ℕ))
-    (run : IsRunning moment images opened first now queue left standing) where
+module _ {D : Type 0} (held : D → Files) (moment : D → ℕ) (images : D → ℕ → Files → Type 0) (opened : Machine) (first now : D) (queue : List Queued) (left : List NamedFile) (standing : List ℕ → Option (List ℕ)) (coming : List (List ℕ))
+    (run : IsRunning moment images opened first now queue left standing coming) where
   -- a run that stops between two steps
   pub stops_between : (error : RunError) → HasRun (status_of error) held moment images opened first now left standing
   stops_between error = record {
@@ -46,10 +48,25 @@ module _ {D : Type 0} (held : D → Files) (moment : D → ℕ) (images : D → 
     reached = run.reached;
     ran = run.ran;
     acked = inl (acknowledged-all run.journal (moment first + 1) (moment now) (moment now) run.all run.ran.in_order (omega arith));
+    order = ascends_front (names_got run.journal) coming run.order;
     gone = run.gone;
     inbox = inl (sym run.lies);
     outbox = inl (sym run.stands);
     done = λ is. absurd (status_isnt_done error is);
+  }
+
+  -- the next file is passed over
+  pub passes_over : (name : List ℕ) (rest : List (List ℕ)) → coming ≡ name ∷ rest → IsRunning moment images opened first now queue left standing rest
+  passes_over name rest next = record {
+    journal = run.journal;
+    reached = run.reached;
+    ran = run.ran;
+    all = run.all;
+    gone = run.gone;
+    order = ascends_but (names_got run.journal) name rest (subst (λ (l : List (List ℕ)). IsAscending (names_got run.journal ++ l)) next run.order);
+    waits = run.waits;
+    lies = run.lies;
+    stands = run.stands;
   }
 
   -- a run that stops where a put failed: what stands under that name may be anything
@@ -60,6 +77,7 @@ module _ {D : Type 0} (held : D → Files) (moment : D → ℕ) (images : D → 
     reached = run.reached;
     ran = run.ran;
     acked = inl (acknowledged-all run.journal (moment first + 1) (moment now) (moment now) run.all run.ran.in_order (omega arith));
+    order = ascends_front (names_got run.journal) coming run.order;
     gone = run.gone;
     inbox = inl (sym run.lies);
     outbox = inr (record {
@@ -72,11 +90,11 @@ module _ {D : Type 0} (held : D → Files) (moment : D → ℕ) (images : D → 
     done = λ is. absurd (omega arith);
   }
 
-module _ {D : Type 0} (held : D → Files) (moment : D → ℕ) (images : D → ℕ → Files → Type 0) (opened : Machine) (first old new : D) (queue : List Queued) (left : List NamedFile) (standing : List ℕ → Option (List ℕ)) where
+module _ {D : Type 0} (held : D → Files) (moment : D → ℕ) (images : D → ℕ → Files → Type 0) (opened : Machine) (first old new : D) (queue : List Queued) (left : List NamedFile) (standing : List ℕ → Option (List ℕ)) (coming : List (List ℕ)) where
   abbrev BeforeOr : List Queued → List Queued → Type 0
   BeforeOr before after = Since moment images old new (λ c. (stands_for c ≡ Ok before) ⊎ (stands_for c ≡ Ok after))
 
-  module _ (run : IsRunning moment images opened first old queue left standing) where
+  module _ (run : IsRunning moment images opened first old queue left standing coming) where
     -- the step, and what the disk's images stand for, in the machine's words
     from_reached : (after : List Queued) → BeforeOr queue after → BeforeOr run.reached.queue after
     from_reached after since = subst (λ (q : List Queued). BeforeOr q after) (sym run.waits) since
@@ -93,7 +111,7 @@ module _ {D : Type 0} (held : D → Files) (moment : D → ℕ) (images : D → 
 
       -- the first file was put and dropped
       pub put_done : (after : List ℕ → Option (List ℕ)) → after ≡ with_file standing file.name file.bytes → ((c : Files) → images new (moment new) c → stands_for c ≡ Ok (drop 1 queue))
-          → IsRunning moment images opened first new (drop 1 queue) left after
+          → IsRunning moment images opened first new (drop 1 queue) left after coming
       put_done after was_put now_stands =
           let entry : Entry = record { step = Put; acked = Some (moment new) } in
           record {
@@ -102,6 +120,7 @@ module _ {D : Type 0} (held : D → Files) (moment : D → ℕ) (images : D → 
             ran = step_acked moment images first old new opened run.reached after_put run.journal Put run.ran run.all puts (from_reached (drop 1 queue) since) now_stands;
             all = all-append run.journal entry run.all refl;
             gone = λ n here none. was_got-before n run.journal entry (run.gone n here none);
+            order = put_order run.journal entry coming refl run.order;
             waits = refl;
             lies = run.lies;
             stands = put_stands ∙ sym was_put;
@@ -117,12 +136,13 @@ module _ {D : Type 0} (held : D → Files) (moment : D → ℕ) (images : D → 
             ran = step_open moment images first old new opened run.reached after_put run.journal Put run.ran run.all puts (from_reached (drop 1 queue) since);
             acked = inr (refl, acknowledged-open run.journal Put (moment first + 1) (moment old) (moment new) run.all run.ran.in_order since.later);
             gone = λ n here none. was_got-before n run.journal entry (run.gone n here none);
+            order = ascends_front (names_got (run.journal ++ entry ∷ [])) coming (put_order run.journal entry coming refl run.order);
             inbox = inl (sym run.lies);
             outbox = inl (was_put ∙ sym put_stands);
             done = λ is. absurd (omega arith);
           }
 
-    module _ (name bytes : List ℕ) (found : bytes_of left name ≡ Some bytes) (small : length bytes ≤ CONTENT_MAX) (since : BeforeOr queue (queue ++ queued name bytes ∷ [])) where
+    module _ (name bytes : List ℕ) (rest : List (List ℕ)) (next : coming ≡ name ∷ rest) (found : bytes_of left name ≡ Some bytes) (small : length bytes ≤ CONTENT_MAX) (since : BeforeOr queue (queue ++ queued name bytes ∷ [])) where
       abbrev after_get : Machine
       after_get = record { queue = run.reached.queue ++ queued name bytes ∷ []; left = without name run.reached.left; outbox = run.reached.outbox }
 
@@ -148,6 +168,7 @@ module _ {D : Type 0} (held : D → Files) (moment : D → ℕ) (images : D → 
             ran = step_open moment images first old new opened run.reached after_get run.journal (Get name) run.ran run.all gets since_get;
             acked = inr (refl, acknowledged-open run.journal (Get name) (moment first + 1) (moment old) (moment new) run.all run.ran.in_order since.later);
             gone = λ n here none. was_got-before n run.journal entry (run.gone n here none);
+            order = ascends_front (names_got (run.journal ++ entry ∷ [])) rest (get_order run.journal entry name coming rest refl next run.order);
             inbox = inr (record {
               failed = inl refl;
               before = run.journal;
@@ -168,7 +189,7 @@ module _ {D : Type 0} (held : D → Files) (moment : D → ℕ) (images : D → 
           → HasRun (status_of error) held moment images opened first new left standing
       add_refused StoreError.Disk error is works undamaged spared = subst (λ (e : RunError). HasRun (status_of e) held moment images opened first new left standing) is get_open
       add_refused StoreError.Memory error is works undamaged spared =
-          subst (λ (d : D). HasRun (status_of error) held moment images opened first d left standing) (sym (spared refl)) (stops_between held moment images opened first old queue left standing run error)
+          subst (λ (d : D). HasRun (status_of error) held moment images opened first d left standing) (sym (spared refl)) (stops_between held moment images opened first old queue left standing coming run error)
       add_refused StoreError.MustReopen error is works undamaged spared = absurd (works refl)
       add_refused (StoreError.Damaged damage) error is works undamaged spared = absurd (undamaged damage refl)
 
@@ -182,14 +203,18 @@ module _ {D : Type 0} (held : D → Files) (moment : D → ℕ) (images : D → 
         got_gone : IsGoneByEntry opened.left (without name left) (run.journal ++ entry_acked ∷ [])
         got_gone = gone_without opened.left left name run.journal (run.journal ++ entry_acked ∷ []) run.gone (λ n was. was_got-before n run.journal entry_acked was) (was_got-last name run.journal entry_acked refl refl)
 
+        got_order : IsAscending (names_got (run.journal ++ entry_acked ∷ []) ++ rest)
+        got_order = get_order run.journal entry_acked name coming rest refl next run.order
+
         -- it was acknowledged and removed
-        pub get_done : (after : List NamedFile) → after ≡ without name left → IsRunning moment images opened first new (queue ++ queued name bytes ∷ []) after standing
+        pub get_done : (after : List NamedFile) → after ≡ without name left → IsRunning moment images opened first new (queue ++ queued name bytes ∷ []) after standing rest
         get_done after removed = record {
           journal = run.journal ++ entry_acked ∷ [];
           reached = after_get;
           ran = got_ran;
           all = all-append run.journal entry_acked run.all refl;
           gone = subst (λ (l : List NamedFile). IsGoneByEntry opened.left l (run.journal ++ entry_acked ∷ [])) (sym removed) got_gone;
+          order = got_order;
           waits = joins;
           lies = ap (without name) run.lies ∙ sym removed;
           stands = run.stands;
@@ -206,6 +231,7 @@ module _ {D : Type 0} (held : D → Files) (moment : D → ℕ) (images : D → 
               (λ (same : after ≡ left). subst (λ (l : List NamedFile). IsGoneByEntry opened.left l (run.journal ++ entry_acked ∷ [])) (sym same) (λ n here none. was_got-before n run.journal entry_acked (run.gone n here none)))
               (λ (removed : after ≡ without name left). subst (λ (l : List NamedFile). IsGoneByEntry opened.left l (run.journal ++ entry_acked ∷ [])) (sym removed) got_gone)
               either;
+          order = ascends_front (names_got (run.journal ++ entry_acked ∷ [])) rest got_order;
           inbox = ⊎_elim
               (λ (same : after ≡ left). inr (record {
                 failed = inr refl;

@@ -78,6 +78,16 @@ abbrev pub WasGot : List ℕ → List Entry → Type 0
 WasGot name [] = ⊥
 WasGot name (entry ∷ journal) = ((entry.step ≡ Get name) × IsSome entry.acked) ⊎ WasGot name journal
 
+-- the names that a step gets
+abbrev pub names_of : Step → List (List ℕ)
+names_of (Get name) = name ∷ []
+names_of Put = []
+
+-- the names that a journal's entries get, in their order
+abbrev pub names_got : List Entry → List (List ℕ)
+names_got [] = []
+names_got (entry ∷ journal) = names_of entry.step ++ names_got journal
+
 -- nothing waits, and what is left is more than a content may have
 pub record IsQuiet (m : Machine) : Type 0 where
   pub nothing_waits : m.queue ≡ []

@@ -6,6 +6,7 @@ use Rattle.disk_trait.specs.Images.{SinceMoment, Since, next_moment}
 use Rattle.disk_trait.specs.Faults.{CountsFaults}
 use Rattle.disk_trait.specs.declared.damage.Damage.{Damage}
 use Rattle.flowfile_record.specs.NamedFile.{NamedFile, bytes_of}
+use Rattle.world_io.specs.Inbox.{IsAscending}
 use Rattle.store_core.specs.declared.queued.Queued.{Queued}
 use Rattle.store_core.specs.Opening.{SinceSync}
 use Rattle.store_core.specs.State.{stands_for}
@@ -13,7 +14,7 @@ use Rattle.run_top.specs.Status.{status_of}
 use Rattle.run_top.specs.declared.status.RunError.{RunError}
 use Rattle.run_top.specs.declared.status.TheConstants.{DONE, DAMAGED, DISK_FAULT, INBOX_FAULT, OUTBOX_FAULT}
 use Rattle.run_top.specs.declared.status.TheConstants.{OUT_OF_MEMORY}
-use Rattle.run_top.specs.Machine.{Machine, Entry, Get, replay, acknowledged, IsInOrder, WasGot, IsQuiet}
+use Rattle.run_top.specs.Machine.{Machine, Entry, Get, replay, acknowledged, names_got, IsInOrder, WasGot, IsQuiet}
 
 -- These files stand for the queue after a prefix of the journal, and each entry that was acknowledged by the moment
 -- is in it.
@@ -72,14 +73,15 @@ pub record IsDone (reached : Machine) (held : Files) : Type 0 where
   pub disk : stands_for held ≡ Ok reached.queue
   pub quiet : IsQuiet reached
 
--- Whatever its status: a journal tells what the run did to disk, inbox and outbox. Inbox and outbox are those of the
--- whole journal, but for the one file at which a device failed.
+-- Whatever its status: a journal tells what the run did to disk, inbox and outbox. Files are got in the order of their
+-- names. Inbox and outbox are those of the whole journal, but for the one file at which a device failed.
 pub record HasRun {D : Type 0} (status : ℕ) (held : D → Files) (moment : D → ℕ) (images : D → ℕ → Files → Type 0)
     (opened : Machine) (old new : D) (left : List NamedFile) (standing : List ℕ → Option (List ℕ)) : Type 0 where
   pub journal : List Entry
   pub reached : Machine
   pub ran : Replays moment images opened journal reached old new
   pub acked : IsAckedBy (moment new) status journal
+  pub order : IsAscending (names_got journal)
   pub gone : IsGoneByEntry opened.left left journal
   pub inbox : (left ≡ reached.left) ⊎ IsLeftOver status opened journal left
   pub outbox : (standing ≡ reached.outbox) ⊎ IsStoppedAtPut status reached standing

@@ -1,6 +1,6 @@
 //! What a run does: it takes each file of the inbox into the store, and puts each file of the store into
 //! the outbox.
-ghost use Rattle.std.specs.Prelude.{◌≡◌, ◌⊎◌, ℕ, ◌+◌, ◌<◌, ◌≤◌, false, List, [], Option, length, map};
+ghost use Rattle.std.specs.Prelude.{◌≡◌, ◌⊎◌, ℕ, ◌+◌, ◌<◌, ◌≤◌, false, List, [], ◌∷◌, Option, length, map};
 ghost use Rattle.std.specs.Prelude.{IsTrue, IsSome, OnOk, IsErrOf};
 ghost use Rattle.disk_trait.specs.Faults.{CountsFaults};
 ghost use Rattle.disk_trait.specs.declared.damage.Damage.{Damage as TheDamage};
@@ -30,12 +30,13 @@ fn put_first<D: Disk, O: Outbox>(
     requires kept { IsKeptOn D.moment D.images store.old disk.old }
     requires some { 0 < length store.old.files }
 
-    ensures goes_on { OnOk result ((opened : Machine) (first : D) (left : List NamedFile) → IsTrue O.tells
-        → IsRunning D.moment D.images opened first disk.old store.old.files left (O.standing outbox.old)
-        → IsRunning D.moment D.images opened first disk.new store.new.files left (O.standing outbox.new)) }
+    ensures goes_on { OnOk result ((opened : Machine) (first : D) (left : List NamedFile) (coming : List (List ℕ))
+        → IsTrue O.tells
+        → IsRunning D.moment D.images opened first disk.old store.old.files left (O.standing outbox.old) coming
+        → IsRunning D.moment D.images opened first disk.new store.new.files left (O.standing outbox.new) coming) }
     ensures stopped { (error : TheError) → IsErrOf result error
-        → (opened : Machine) (first : D) (left : List NamedFile) → IsTrue O.tells
-        → IsRunning D.moment D.images opened first disk.old store.old.files left (O.standing outbox.old)
+        → (opened : Machine) (first : D) (left : List NamedFile) (coming : List (List ℕ)) → IsTrue O.tells
+        → IsRunning D.moment D.images opened first disk.old store.old.files left (O.standing outbox.old) coming
         → HasRun (status_of error) D.held D.moment D.images opened first disk.new left (O.standing outbox.new) }
 
     ensures works { OnOk result (store.new.failed ≡ false) }
@@ -70,12 +71,14 @@ fn take<D: Disk, I: Inbox>(
     requires left { IsTrue I.tells → IsSome (bytes_of (I.left inbox.old) name.now) }
 
     ensures goes_on { OnOk result ((opened : Machine) (first : D) (standing : List ℕ → Option (List ℕ))
-        → IsTrue I.tells
-        → IsRunning D.moment D.images opened first disk.old store.old.files (I.left inbox.old) standing
-        → IsRunning D.moment D.images opened first disk.new store.new.files (I.left inbox.new) standing) }
+        (coming : List (List ℕ)) → IsTrue I.tells
+        → IsRunning D.moment D.images opened first disk.old store.old.files
+        (I.left inbox.old) standing (name.now ∷ coming)
+        → IsRunning D.moment D.images opened first disk.new store.new.files (I.left inbox.new) standing coming) }
     ensures stopped { (error : TheError) → IsErrOf result error
-        → (opened : Machine) (first : D) (standing : List ℕ → Option (List ℕ)) → IsTrue I.tells
-        → IsRunning D.moment D.images opened first disk.old store.old.files (I.left inbox.old) standing
+        → (opened : Machine) (first : D) (standing : List ℕ → Option (List ℕ)) (coming : List (List ℕ)) → IsTrue I.tells
+        → IsRunning D.moment D.images opened first disk.old store.old.files
+        (I.left inbox.old) standing (name.now ∷ coming)
         → HasRun (status_of error) D.held D.moment D.images opened first disk.new (I.left inbox.new) standing }
     ensures left { OnOk result (IsTrue I.tells → TakesOrLeaves name.now (I.left inbox.old) (I.left inbox.new)) }
 
@@ -115,12 +118,13 @@ fn put_all<D: Disk, O: Outbox>(
     requires works { store.old.failed ≡ false }
     requires kept { IsKeptOn D.moment D.images store.old disk.old }
 
-    ensures goes_on { OnOk result ((opened : Machine) (first : D) (left : List NamedFile) → IsTrue O.tells
-        → IsRunning D.moment D.images opened first disk.old store.old.files left (O.standing outbox.old)
-        → IsRunning D.moment D.images opened first disk.new store.new.files left (O.standing outbox.new)) }
+    ensures goes_on { OnOk result ((opened : Machine) (first : D) (left : List NamedFile) (coming : List (List ℕ))
+        → IsTrue O.tells
+        → IsRunning D.moment D.images opened first disk.old store.old.files left (O.standing outbox.old) coming
+        → IsRunning D.moment D.images opened first disk.new store.new.files left (O.standing outbox.new) coming) }
     ensures stopped { (error : TheError) → IsErrOf result error
-        → (opened : Machine) (first : D) (left : List NamedFile) → IsTrue O.tells
-        → IsRunning D.moment D.images opened first disk.old store.old.files left (O.standing outbox.old)
+        → (opened : Machine) (first : D) (left : List NamedFile) (coming : List (List ℕ)) → IsTrue O.tells
+        → IsRunning D.moment D.images opened first disk.old store.old.files left (O.standing outbox.old) coming
         → HasRun (status_of error) D.held D.moment D.images opened first disk.new left (O.standing outbox.new) }
 
     ensures empty { OnOk result (store.new.files ≡ []) }
@@ -155,12 +159,12 @@ pub fn move_all<D: Disk, I: Inbox, O: Outbox>(
 
     ensures moved { OnOk result ((opened : Machine) (first : D) → IsTrue I.tells → IsTrue O.tells
         → IsRunning D.moment D.images opened first disk.old store.old.files
-        (I.left inbox.old) (O.standing outbox.old)
-        → IsRunning D.moment D.images opened first disk.new [] (I.left inbox.new) (O.standing outbox.new)) }
+        (I.left inbox.old) (O.standing outbox.old) names.now
+        → IsRunning D.moment D.images opened first disk.new [] (I.left inbox.new) (O.standing outbox.new) []) }
     ensures stopped { (error : TheError) → IsErrOf result error
         → (opened : Machine) (first : D) → IsTrue I.tells → IsTrue O.tells
         → IsRunning D.moment D.images opened first disk.old store.old.files
-        (I.left inbox.old) (O.standing outbox.old)
+        (I.left inbox.old) (O.standing outbox.old) names.now
         → HasRun (status_of error) D.held D.moment D.images opened first disk.new
         (I.left inbox.new) (O.standing outbox.new) }
 

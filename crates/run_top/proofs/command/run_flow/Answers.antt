@@ -1,7 +1,8 @@
-use Rattle.std.proofs.Common.{◌≡◌, inl, inr, ⊎_elim, List, [], refl, sym, ◌∙◌, ap, subst}
+use Rattle.std.proofs.Common.{◌≡◌, inl, inr, ⊎_elim, ℕ, List, [], refl, sym, ◌∙◌, ap, subst}
 use Rattle.std.proofs.lemmas.Result.{err_from_is_err_and}
 use Rattle.std.specs.Prelude.{Ok, Err, Result}
 use Rattle.flowfile_record.specs.NamedFile.{NamedFile}
+use Rattle.world_io.specs.Inbox.{IsAscending}
 use Rattle.store_core.specs.Opening.{SinceSync}
 use Rattle.store_core.specs.State.{stands_for}
 use Rattle.store_core.specs.declared.queued.Queued.{Queued}
@@ -16,8 +17,8 @@ use Rattle.run_top.proofs.command.run_flow.Goals as goal
 
 pub returns-in-Err-clause-headline : goal.returns-in-Err-clause-headline
 returns-in-Err-clause-headline g c disk_told in_told out_told queue stands = ⊎_elim
-    (λ since. inl (stops_between g.D.Disk.held g.D.Disk.moment g.D.Disk.images _ c.args.disk.now c.load.new.disk queue (g.I.Inbox.left c.args.inbox.now) (g.O.Outbox.standing c.args.outbox.now)
-    (begins g.D.Disk.moment g.D.Disk.images (g.D.Disk.held c.args.disk.now) c.args.disk.now c.load.new.disk queue (g.I.Inbox.left c.args.inbox.now) (g.O.Outbox.standing c.args.outbox.now) since stands) c.from.result))
+    (λ since. inl (stops_between g.D.Disk.held g.D.Disk.moment g.D.Disk.images _ c.args.disk.now c.load.new.disk queue (g.I.Inbox.left c.args.inbox.now) (g.O.Outbox.standing c.args.outbox.now) []
+    (begins g.D.Disk.moment g.D.Disk.images (g.D.Disk.held c.args.disk.now) c.args.disk.now c.load.new.disk queue (g.I.Inbox.left c.args.inbox.now) (g.O.Outbox.standing c.args.outbox.now) [] tt since stands) c.from.result))
     (λ failed.
     let is_disk : c.in-Err.error ≡ StoreError.Disk = cc (failed.0, c.in-Err.is) in
     inr (record { fault = ap status_of (c.from.ensures ∙ ap error_of is_disk); since = failed.1; inbox = refl; outbox = refl }))
@@ -41,8 +42,8 @@ pub returns-in-Err-list-clause-headline : goal.returns-in-Err-list-clause-headli
 returns-in-Err-list-clause-headline g c disk_told in_told out_told queue stands = ⊎_elim
     (λ since. inl (subst (λ (l : List NamedFile). HasRun (status_of c.from-in-Err-list.result) g.D.Disk.held g.D.Disk.moment g.D.Disk.images (record { queue = queue; left = g.I.Inbox.left c.args.inbox.now; outbox = g.O.Outbox.standing c.args.outbox.now }) c.args.disk.now c.load.new.disk l (g.O.Outbox.standing c.args.outbox.now))
     (sym c.list.ensures.left)
-    (stops_between g.D.Disk.held g.D.Disk.moment g.D.Disk.images _ c.args.disk.now c.load.new.disk queue (g.I.Inbox.left c.args.inbox.now) (g.O.Outbox.standing c.args.outbox.now)
-    (begins g.D.Disk.moment g.D.Disk.images (g.D.Disk.held c.args.disk.now) c.args.disk.now c.load.new.disk queue (g.I.Inbox.left c.args.inbox.now) (g.O.Outbox.standing c.args.outbox.now) since stands) c.from-in-Err-list.result)))
+    (stops_between g.D.Disk.held g.D.Disk.moment g.D.Disk.images _ c.args.disk.now c.load.new.disk queue (g.I.Inbox.left c.args.inbox.now) (g.O.Outbox.standing c.args.outbox.now) []
+    (begins g.D.Disk.moment g.D.Disk.images (g.D.Disk.held c.args.disk.now) c.args.disk.now c.load.new.disk queue (g.I.Inbox.left c.args.inbox.now) (g.O.Outbox.standing c.args.outbox.now) [] tt since stands) c.from-in-Err-list.result)))
     (λ failed. absurd (cc (failed.0, c.in-Ok.is)))
     c.load.ensures.images
 
@@ -54,11 +55,12 @@ returns-in_err-move_all-clause-headline g c disk_told in_told out_told queue sta
     let left : List NamedFile = g.I.Inbox.left c.args.inbox.now in
     let standing = g.O.Outbox.standing c.args.outbox.now in
     let same : queue ≡ c.in-Ok.store.files = ok_is (sym stands ∙ c.in-Ok.ensures.opened disk_told) in
+    let ascends : IsAscending c.as_slice.result.now = subst (λ (l : List (List ℕ)). IsAscending l) (sym c.as_slice.ensures.value) c.list.ensures.ascending in
     let run : SinceSync g.D.Disk.moment g.D.Disk.images c.args.disk.now c.load.new.disk (λ c'. stands_for c' ≡ stands_for (g.D.Disk.held c.args.disk.now))
-    → IsRunning g.D.Disk.moment g.D.Disk.images (record { queue = queue; left = left; outbox = standing }) c.args.disk.now c.load.new.disk c.in-Ok.store.files (g.I.Inbox.left c.list.new.self) standing =
-    λ since. subst (λ (q : List Queued). IsRunning g.D.Disk.moment g.D.Disk.images (record { queue = queue; left = left; outbox = standing }) c.args.disk.now c.load.new.disk q (g.I.Inbox.left c.list.new.self) standing) same
-    (subst (λ (l : List NamedFile). IsRunning g.D.Disk.moment g.D.Disk.images (record { queue = queue; left = left; outbox = standing }) c.args.disk.now c.load.new.disk queue l standing) (sym c.list.ensures.left)
-    (begins g.D.Disk.moment g.D.Disk.images (g.D.Disk.held c.args.disk.now) c.args.disk.now c.load.new.disk queue left standing since stands)) in
+    → IsRunning g.D.Disk.moment g.D.Disk.images (record { queue = queue; left = left; outbox = standing }) c.args.disk.now c.load.new.disk c.in-Ok.store.files (g.I.Inbox.left c.list.new.self) standing c.as_slice.result.now =
+    λ since. subst (λ (q : List Queued). IsRunning g.D.Disk.moment g.D.Disk.images (record { queue = queue; left = left; outbox = standing }) c.args.disk.now c.load.new.disk q (g.I.Inbox.left c.list.new.self) standing c.as_slice.result.now) same
+    (subst (λ (l : List NamedFile). IsRunning g.D.Disk.moment g.D.Disk.images (record { queue = queue; left = left; outbox = standing }) c.args.disk.now c.load.new.disk queue l standing c.as_slice.result.now) (sym c.list.ensures.left)
+    (begins g.D.Disk.moment g.D.Disk.images (g.D.Disk.held c.args.disk.now) c.args.disk.now c.load.new.disk queue left standing c.as_slice.result.now ascends since stands)) in
     let p = err_from_is_err_and c.from_residual.result c.from_residual.ensures.1 in
     let fails : c.from_residual.result ≡ Err c.in_err-move_all.field-0.0 = cc (p.1, p.2) in
     ⊎_elim
@@ -73,11 +75,12 @@ returns-clause-headline g c disk_told in_told out_told queue stands =
     let left : List NamedFile = g.I.Inbox.left c.args.inbox.now in
     let standing = g.O.Outbox.standing c.args.outbox.now in
     let same : queue ≡ c.in-Ok.store.files = ok_is (sym stands ∙ c.in-Ok.ensures.opened disk_told) in
+    let ascends : IsAscending c.as_slice.result.now = subst (λ (l : List (List ℕ)). IsAscending l) (sym c.as_slice.ensures.value) c.list.ensures.ascending in
     let run : SinceSync g.D.Disk.moment g.D.Disk.images c.args.disk.now c.load.new.disk (λ c'. stands_for c' ≡ stands_for (g.D.Disk.held c.args.disk.now))
-    → IsRunning g.D.Disk.moment g.D.Disk.images (record { queue = queue; left = left; outbox = standing }) c.args.disk.now c.load.new.disk c.in-Ok.store.files (g.I.Inbox.left c.list.new.self) standing =
-    λ since. subst (λ (q : List Queued). IsRunning g.D.Disk.moment g.D.Disk.images (record { queue = queue; left = left; outbox = standing }) c.args.disk.now c.load.new.disk q (g.I.Inbox.left c.list.new.self) standing) same
-    (subst (λ (l : List NamedFile). IsRunning g.D.Disk.moment g.D.Disk.images (record { queue = queue; left = left; outbox = standing }) c.args.disk.now c.load.new.disk queue l standing) (sym c.list.ensures.left)
-    (begins g.D.Disk.moment g.D.Disk.images (g.D.Disk.held c.args.disk.now) c.args.disk.now c.load.new.disk queue left standing since stands)) in
+    → IsRunning g.D.Disk.moment g.D.Disk.images (record { queue = queue; left = left; outbox = standing }) c.args.disk.now c.load.new.disk c.in-Ok.store.files (g.I.Inbox.left c.list.new.self) standing c.as_slice.result.now =
+    λ since. subst (λ (q : List Queued). IsRunning g.D.Disk.moment g.D.Disk.images (record { queue = queue; left = left; outbox = standing }) c.args.disk.now c.load.new.disk q (g.I.Inbox.left c.list.new.self) standing c.as_slice.result.now) same
+    (subst (λ (l : List NamedFile). IsRunning g.D.Disk.moment g.D.Disk.images (record { queue = queue; left = left; outbox = standing }) c.args.disk.now c.load.new.disk queue l standing c.as_slice.result.now) (sym c.list.ensures.left)
+    (begins g.D.Disk.moment g.D.Disk.images (g.D.Disk.held c.args.disk.now) c.args.disk.now c.load.new.disk queue left standing c.as_slice.result.now ascends since stands)) in
     let laws = g.met.D.Disk g.world.𝓛 g.world.𝓜 g.world.𝓡 ((λ s x. x), (λ x. x), (λ x. x), λ x. x) in
     let new = c.move_all.new.disk in
     let at_end : stands_for (g.D.Disk.held new) ≡ Ok [] =

@@ -11,8 +11,8 @@ invariant-loop-name g l = record {
   kept : IsKeptOn g.D.Disk.moment g.D.Disk.images l.store l.disk;
   empty : l.store.files ≡ [];
   goes_on : (opened : Machine) (first : g.row.D.Denot) → IsTrue g.I.Inbox.tells → IsTrue g.O.Outbox.tells
-      → IsRunning g.D.Disk.moment g.D.Disk.images opened first l.fn.disk l.fn.store.files (g.I.Inbox.left l.fn.inbox) (g.O.Outbox.standing l.fn.outbox)
-      → IsRunning g.D.Disk.moment g.D.Disk.images opened first l.disk l.store.files (g.I.Inbox.left l.inbox) (g.O.Outbox.standing l.outbox);
+      → IsRunning g.D.Disk.moment g.D.Disk.images opened first l.fn.disk l.fn.store.files (g.I.Inbox.left l.fn.inbox) (g.O.Outbox.standing l.fn.outbox) l.names
+      → IsRunning g.D.Disk.moment g.D.Disk.images opened first l.disk l.store.files (g.I.Inbox.left l.inbox) (g.O.Outbox.standing l.outbox) (drop l.name-index l.names);
   left : IsTrue g.I.Inbox.tells → IsLeftBut (drop l.name-index l.names) (g.I.Inbox.left l.inbox);
   alone : ChangesLogAlone g.D.Disk.moment g.D.Disk.images l.fn.disk l.disk;
   disk_faults : g.D.Disk.faults l.fn.disk ≤ g.D.Disk.faults l.disk;

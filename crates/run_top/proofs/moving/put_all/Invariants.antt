@@ -1,4 +1,4 @@
-use Rattle.std.proofs.Common.{◌≡◌, ◌≤◌, false, List, length, IsTrue}
+use Rattle.std.proofs.Common.{◌≡◌, ◌≤◌, false, ℕ, List, length, IsTrue}
 use Rattle.flowfile_record.specs.NamedFile.{NamedFile}
 use Rattle.store_core.specs.Kept.{IsKeptOn}
 use Rattle.store_core.specs.Others.{ChangesLogAlone}
@@ -10,9 +10,9 @@ abbrev pub invariant-loop-store : goal.invariant-loop-store
 invariant-loop-store g l = record {
   works : l.store.failed ≡ false;
   kept : IsKeptOn g.D.Disk.moment g.D.Disk.images l.store l.disk;
-  goes_on : (opened : Machine) (first : g.row.D.Denot) (left : List NamedFile) → IsTrue g.O.Outbox.tells
-      → IsRunning g.D.Disk.moment g.D.Disk.images opened first l.fn.disk l.fn.store.files left (g.O.Outbox.standing l.fn.outbox)
-      → IsRunning g.D.Disk.moment g.D.Disk.images opened first l.disk l.store.files left (g.O.Outbox.standing l.outbox);
+  goes_on : (opened : Machine) (first : g.row.D.Denot) (left : List NamedFile) (coming : List (List ℕ)) → IsTrue g.O.Outbox.tells
+      → IsRunning g.D.Disk.moment g.D.Disk.images opened first l.fn.disk l.fn.store.files left (g.O.Outbox.standing l.fn.outbox) coming
+      → IsRunning g.D.Disk.moment g.D.Disk.images opened first l.disk l.store.files left (g.O.Outbox.standing l.outbox) coming;
   alone : ChangesLogAlone g.D.Disk.moment g.D.Disk.images l.fn.disk l.disk;
   disk_faults : g.D.Disk.faults l.fn.disk ≤ g.D.Disk.faults l.disk;
   outbox_faults : g.O.Outbox.faults l.fn.outbox ≤ g.O.Outbox.faults l.outbox;
