@@ -6,9 +6,8 @@ ghost use Rattle.disk_trait.specs.Images.{After, Since, next_moment};
 ghost use Rattle.disk_trait.specs.Faults.{CountsFaults};
 ghost use Rattle.flowfile_record.specs.declared.content.ContentRef.{ContentRef as TheRef};
 ghost use Rattle.content_repo.specs.declared.error.ContentError.TheVariants.{Disk as DiskFault};
-ghost use Rattle.content_repo.specs.declared.slot_set.TheConstants.{SLOTS};
 ghost use Rattle.content_repo.specs.Claims.{claim, content_in, HasSizes};
-ghost use Rattle.content_repo.specs.Slots.{size_of, held_in, end_of, next_slot, taken, HasRoom};
+ghost use Rattle.content_repo.specs.Slots.{size_of, held_in, end_of, next_slot, taken, HasRoom, IsNamed};
 
 use crate::{Content, ContentError, HELD_MAX};
 use disk_trait::{Disk, FileKind, FileName};
@@ -32,6 +31,7 @@ impl Content {
         ensures slot { IfOk result (λ at. next_slot self.old ≡ Some at.slot) }
         ensures offset { IfOk result (λ at. at.offset ≡ size_of self.old at.slot) }
         ensures size { IfOk result (λ at. at.size ≡ length bytes.now) }
+        ensures named { IfOk result IsNamed }
         ensures digest { IfOk result (λ at. at.digest ≡ digest) }
         ensures value { IfOk result (λ at. self.new ≡ taken self.old at.slot (end_of at)) }
         ensures held { OnOk result (held_in self.new ≡ held_in self.old + 1) }
@@ -41,7 +41,7 @@ impl Content {
         ensures sizes { OnOk result (IsTrue D.tells → HasSizes self.new (D.held disk.new)) }
         ensures content { IfOk result (λ at. IsTrue D.tells → content_in (D.held disk.new) at ≡ bytes.now) }
         // What was there is there, wherever a stop comes.
-        ensures kept { (at : TheRef) → at.slot < SLOTS → end_of at ≤ size_of self.old at.slot → IsTrue D.tells
+        ensures kept { (at : TheRef) → end_of at ≤ size_of self.old at.slot → IsTrue D.tells
             → content_in (D.held disk.new) at ≡ content_in (D.held disk.old) at }
         ensures torn { (k : ℕ) → next_slot self.old ≡ Some k → IsTrue D.tells
             → At (claim k) (Torn (size_of self.old k) (length bytes.now)) (D.held disk.old) (D.held disk.new) }

@@ -23,7 +23,19 @@ returns-clause-sizes g c told k below =
     (appended_sizes slots slot bytes old new (omega (arith, c.in-Some.ensures.within, c.slot-offset.ensures.long)) (c.requires.sizes told) step k below)
 
 pub returns-clause-kept : goal.returns-clause-kept
-returns-clause-kept g c at in_slots within told =
+returns-clause-kept g c at within told =
+    let slots = c.args.self.now in
+    let slot = c.in-Some.slot in
+    let old = g.D.Disk.held c.args.disk.now in
+    let new = g.D.Disk.held c.write.new.self in
+    let offset = c.slot-offset.result.size in
+    let size : offset ≡ size_of slots slot = ap (λ (s : Slot). s.size) c.slot-offset.ensures.slot in
+    let torn = subst (λ (f : FileName). At f (Torn offset (length c.args.bytes.now)) old new) c.claim_file.ensures (c.write.ensures.torn told) in
+    torn_kept slot offset (length c.args.bytes.now) old new at torn
+    (λ same. subst (λ (n : ℕ). end_of at ≤ n) (ap (size_of slots) same ∙ sym size) within)
+
+pub returns-in_err-write-clause-kept : goal.returns-in_err-write-clause-kept
+returns-in_err-write-clause-kept g c at within told =
     let slots = c.args.self.now in
     let slot = c.in-Some.slot in
     let old = g.D.Disk.held c.args.disk.now in
