@@ -1,9 +1,8 @@
 -- What follows of all logs where one log's file changed.
-use Rattle.std.proofs.Common.{◌≡◌, ◌≢◌, ⊎_elim, ℕ, ◌^◌, ◌<◌, true, List, refl, sym, ◌∙◌, ap, subst}
+use Rattle.std.proofs.Common.{◌≡◌, ◌≢◌, ⊎_elim, ℕ, ◌^◌, true, List, refl, sym, ◌∙◌, ap, subst}
 use Rattle.std.specs.Prelude.{Option, None, Some, Result, Ok, Err}
 use Rattle.std.proofs.lemmas.Bool.{cases_eq}
 use Rattle.disk_trait.specs.Files.{Files, At, named}
-use Rattle.disk_trait.specs.Search.{IsGreatestBelow}
 use Rattle.disk_trait.specs.declared.damage.Damage.{Damage}
 use Rattle.disk_trait.specs.declared.file_name.FileKind.TheVariants.{Log}
 use Rattle.disk_trait.specs.declared.file_name.FileName.{FileName}
@@ -11,7 +10,7 @@ use Rattle.disk_trait.proofs.Search.{greatest_found, greatest_agrees}
 use Rattle.record_codec.specs.declared.entry.LogEntry.{LogEntry}
 use Rattle.flowfile_wal.specs.Current.{CurrentLog, counts, current_number, log_in, of_some, log_of_number, current_log}
 use Rattle.flowfile_wal.specs.Steps.{SameLog, OneMore, IsAtRest, IsClosedIn, with_entry}
-use Rattle.flowfile_wal.proofs.Says.{IsRead, read_of}
+use Rattle.flowfile_wal.proofs.Says.{read_of}
 
 abbrev pub Said : Type 0
 Said = Result (Option CurrentLog) Damage

@@ -1,5 +1,5 @@
 -- A log as far as it was read.
-use Rattle.std.proofs.Common.{◌≡◌, ◌≢◌, ⊎_elim, ℕ, ◌+◌, ◌<◌, ◌≤◌, true, false, List, [], ◌∷◌, ◌++◌, length, get_or, take, drop, refl, sym, ◌∙◌, ap, subst, arith, append_assoc, length-drop}
+use Rattle.std.proofs.Common.{◌≡◌, ◌≢◌, ⊎_elim, ℕ, ◌+◌, ◌<◌, ◌≤◌, true, false, List, [], ◌∷◌, ◌++◌, length, get_or, drop, refl, sym, ◌∙◌, ap, arith, append_assoc, length-drop}
 use Rattle.std.specs.Prelude.{Result, Ok, Err, slice_index}
 use Rattle.std.proofs.lemmas.Bool.{cases_lt, eqb-true}
 use Rattle.std.proofs.lemmas.List.{append-nil, drop_all, drop_more, drop-drop}
@@ -9,12 +9,12 @@ use Rattle.disk_trait.specs.declared.damage.Damage.TheVariants.{Form}
 use Rattle.disk_trait.specs.declared.file_name.FileKind.TheVariants.{Log}
 use Rattle.disk_trait.specs.declared.file_name.FileName.{FileName}
 use Rattle.record_codec.specs.Block.{reading_of}
-use Rattle.record_codec.specs.LogEntries.{Cause, LogRead, LogDamage, ended, after, entry_in, behind_gate, log_from, log_of}
+use Rattle.record_codec.specs.LogEntries.{Cause, LogRead, LogDamage, ended, after, entry_in, behind_gate, log_from}
 use Rattle.record_codec.specs.declared.entry.LogEntry.{LogEntry}
 use Rattle.record_codec.specs.declared.entry.LogEntry.TheVariants.{Begin, Session, Expire, SwapOut, SwapIn}
 use Rattle.record_codec.specs.declared.log.TheConstants.{OPEN_GATE}
 use Rattle.record_codec.proofs.Logs.{passed_over, shut, last_byte, opened}
-use Rattle.flowfile_wal.specs.Current.{CurrentLog, counts, first_in, is_begin, begins, caused, told, log_in}
+use Rattle.flowfile_wal.specs.Current.{CurrentLog, counts, first_in, is_begin, begins, caused, log_in}
 use Rattle.flowfile_wal.specs.Reads.{named_at, IsEntryAt, IsDamagedAt, IsLastGate, IsReadTo}
 use Rattle.flowfile_wal.proofs.Says.{Found, ok, opens, says_of, says_misbegun}
 use Rattle.flowfile_wal.proofs.Mending.{entry_fits}

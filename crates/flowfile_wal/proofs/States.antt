@@ -1,22 +1,19 @@
 -- What is in memory of a log, and the files that it stands for.
-use Rattle.std.proofs.Common.{◌≡◌, ℕ, ◌+◌, true, List, [], ◌∷◌, ◌++◌, length, length-append, refl, sym, ◌∙◌, ap, subst, arith, eq-eqb}
+use Rattle.std.proofs.Common.{◌≡◌, ℕ, ◌+◌, true, List, [], ◌∷◌, length, refl, sym, ◌∙◌, ap, subst, arith, eq-eqb}
 use Rattle.std.specs.Prelude.{Option, Some, Result, Ok}
-use Rattle.std.specs.Int.{w64, to_be_bytes}
 use Rattle.disk_trait.specs.Files.{Files, At, named}
 use Rattle.disk_trait.specs.declared.damage.Damage.{Damage}
 use Rattle.disk_trait.specs.declared.file_name.FileKind.TheVariants.{Log}
 use Rattle.record_codec.specs.Block.{block}
-use Rattle.record_codec.specs.EntryEncoding.{entry as encoding, kind_of, IsEntry}
+use Rattle.record_codec.specs.EntryEncoding.{entry as encoding, kind_of}
 use Rattle.record_codec.specs.LogEntries.{LogRead, ended, one_more, log_of}
-use Rattle.record_codec.specs.declared.TheConstants.{FORMAT_VERSION}
-use Rattle.record_codec.specs.declared.block.TheConstants.{PAYLOAD_MAX}
 use Rattle.record_codec.specs.declared.entry.LogEntry.{LogEntry}
 use Rattle.record_codec.specs.declared.entry.LogEntry.TheVariants.{Begin}
-use Rattle.record_codec.specs.declared.log.TheConstants.{OPEN_GATE, CLOSED_GATE}
+use Rattle.record_codec.specs.declared.log.TheConstants.{OPEN_GATE}
 use Rattle.record_codec.proofs.Blocks.{length-block}
 use Rattle.record_codec.proofs.Logs.{one_entry_more}
-use Rattle.flowfile_wal.specs.Current.{CurrentLog, current_log, first_in, is_begin, told}
-use Rattle.flowfile_wal.specs.Steps.{LogState, IsCurrentIn, IsReadyIn, IsLogAt, IsAtRest, IsClosedIn, IsBegunIn, RestsAt, OneMore, frame, numbered, with_entry, only_begun}
+use Rattle.flowfile_wal.specs.Current.{CurrentLog, current_log, is_begin}
+use Rattle.flowfile_wal.specs.Steps.{LogState, IsCurrentIn, IsReadyIn, IsLogAt, IsAtRest, IsClosedIn, IsBegunIn, RestsAt, OneMore, frame, numbered, with_entry}
 use Rattle.flowfile_wal.proofs.Says.{ok, first, counts_by, says_of}
 use Rattle.flowfile_wal.proofs.Appending.{ends_closed}
 use Rattle.flowfile_wal.proofs.Files.{said, current_is, closed_in, at_rest, with_one_more}

@@ -7,7 +7,6 @@ use Rattle.disk_trait.specs.declared.file_name.FileKind.TheVariants.{Log}
 use Rattle.disk_trait.proofs.Moments.{wider, one_after_another}
 use Rattle.record_codec.specs.declared.entry.LogEntry.{LogEntry}
 use Rattle.record_codec.specs.declared.log.TheConstants.{OPEN_GATE, CLOSED_GATE}
-use Rattle.flowfile_wal.specs.Current.{CurrentLog}
 use Rattle.flowfile_wal.specs.Steps.{SameLog, RestsAt, IsFrame, OneMore}
 use Rattle.flowfile_wal.proofs.Appending.{torn_behind, written_behind, torn_gate, written_gate, has_one_more}
 

@@ -11,7 +11,7 @@ mod read;
 
 pub use error::LogError;
 pub use law::{logs_that_change_alike, logs_with_one_entry_more};
-pub use log::{Log, LogEntries};
+pub use log::{BEGUN_END, Log, LogEntries};
 
 #[cfg(test)]
 mod tests;

@@ -5,7 +5,7 @@ ghost use Rattle.disk_trait.specs.Faults.{CountsFaults};
 ghost use Rattle.disk_trait.specs.declared.damage.Damage.{Damage as TheDamage};
 ghost use Rattle.flowfile_record.specs.Reading.{whole};
 ghost use Rattle.record_codec.specs.Block.{reading_of};
-ghost use Rattle.record_codec.specs.EntryReading.{entry_at};
+ghost use Rattle.record_codec.specs.EntryReading.{entry_at, takes_memory};
 ghost use Rattle.record_codec.specs.LogEntries.{entry_in};
 ghost use Rattle.flowfile_wal.specs.Current.{log_bytes, counts, is_begin, log_in};
 ghost use Rattle.flowfile_wal.specs.Reads.{named_at, IsDamagedAt, IsNextAt, IsNextWithin, IsReadTo};
@@ -62,6 +62,8 @@ fn entry_of(
     ensures damaged { (damage : TheDamage) → IsErrOf result (LogError.Damaged damage)
         → (damage ≡ TheDamage.Form place.file place.at)
         × ((left : ℕ) × (whole (entry_at block.kind) (slice_range buffer.now block.start block.end) ≡ Err left)) }
+    ensures memory { IsErrOf result LogError.Memory
+        → IsTrue (takes_memory block.kind (slice_range buffer.now block.start block.end)) }
     ensures kinds { IsErrOf result LogError.Disk → ⊥ }
 {
     let start = block.start as usize;

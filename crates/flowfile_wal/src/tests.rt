@@ -53,6 +53,16 @@ const KIND_6: [u8; 38] = [
     201, 57, 185, 184, 229, 35, 168, 190, 248, 157, 71, 134, 8, 197, 236, 246,
 ];
 
+// The first 47 bytes of the entry.
+const ENTRY_CUT: [u8; 47] = [
+    90, 0, 0, 0, 10, 5, 0, 1, 0, 0, 0, 0, 0, 0, 0, 2, 27, 49, 111, 106, 43, 26, 217, 203, 99, 111,
+    209, 186, 131, 117, 88, 7, 125, 136, 201, 251, 102, 132, 156, 164, 178, 202, 49, 12, 103, 36,
+    201,
+];
+
+// The header of a block whose payload is longer than any, behind an open gate.
+const LONG: [u8; 6] = [0x5A, 0x40, 0, 0, 1, 5];
+
 fn joined(alloc: Global, parts: &[&[u8]]) -> Result<Vec<u8>, AllocError> {
     let mut bytes = Vec::new(alloc);
     for part in parts {
@@ -119,55 +129,89 @@ fn digest() -> Damage {
     }
 }
 
-// What a log is loaded as, and what is left of it: damage is left as it is, and an end is mended. A greater log that is
-// empty, has one byte, or has a gate that isn't open is passed over.
-fn loads<D: Disk>(rt: &impl Abort, alloc: Global, disk: &mut D) -> Result<(), Fail> {
-    let begun = BEGUN.as_slice();
-    let cut = &ENTRY[..47];
-    let long = [0x5A, 0x40, 0, 0, 1, 5].as_slice();
-    let rows: [(&[&[u8]], Result<(Option<u64>, usize), Damage>, &[&[u8]]); 15] = [
-        (&[], Ok((None, 0)), &[]),
-        (&[begun], Ok((Some(2), 0)), &[begun, &[0]]),
-        (&[begun, &[0]], Ok((Some(2), 0)), &[begun, &[0]]),
-        (&[begun, &[0x5A]], Ok((Some(2), 0)), &[begun, &[0]]),
-        (&[begun, &[7]], Ok((Some(2), 0)), &[begun, &[0]]),
-        (
-            &[begun, &[0, 0, 0, 0, 10, 5]],
-            Ok((Some(2), 0)),
-            &[begun, &[0]],
-        ),
-        (
-            &[begun, &ENTRY, &[0, 1]],
-            Ok((Some(2), 1)),
-            &[begun, &ENTRY, &[0]],
-        ),
-        (
-            &[begun, &[0x5A, 0, 0, 0]],
-            Err(short(47, 5, 3)),
-            &[begun, &[0x5A, 0, 0, 0]],
-        ),
-        (&[begun, cut], Err(short(47, 47, 46)), &[begun, cut]),
-        (&[begun, &BAD], Err(digest()), &[begun, &BAD]),
-        (&[begun, long], Err(form(47)), &[begun, long]),
-        (
-            &[begun, &KIND_6, &[0]],
-            Err(form(47)),
-            &[begun, &KIND_6, &[0]],
-        ),
-        (&[&ENTRY, &[0]], Err(form(0)), &[&ENTRY, &[0]]),
-        (&[&OTHER, &[0]], Err(form(0)), &[&OTHER, &[0]]),
-        (&[&[0x5A, 0, 0]], Err(short(0, 5, 2)), &[&[0x5A, 0, 0]]),
+// Puts this log 2 on the disk, and so many bytes of a greater one that is passed over. How it is loaded.
+fn loads<D: Disk>(
+    alloc: Global,
+    disk: &mut D,
+    greater: usize,
+    log: &[&[u8]],
+) -> Result<(Option<u64>, usize), LogError> {
+    put(alloc, disk, log, &GREATER_LOG[..greater % 4])?;
+    load_and_mend(alloc, disk)
+}
+
+// This log 2 is loaded so, and this is left of it.
+fn ends_as<D: Disk>(
+    rt: &impl Abort,
+    alloc: Global,
+    disk: &mut D,
+    greater: usize,
+    log: &[&[u8]],
+    wanted: (Option<u64>, usize),
+    left: &[&[u8]],
+) -> Result<(), Fail> {
+    assert_eq!(rt; loads(alloc, disk, greater, log)?, wanted);
+    assert!(rt; log_is(alloc, disk, left)?);
+    Ok(())
+}
+
+// An end is mended, whatever a stop left of it.
+fn ends<D: Disk>(rt: &impl Abort, alloc: Global, disk: &mut D) -> Result<(), Fail> {
+    let none = (None, 0);
+    let empty = (Some(2), 0);
+    let mended: &[&[u8]] = &[&BEGUN, &[0]];
+    ends_as(rt, alloc, disk, 0, &[], none, &[])?;
+    ends_as(rt, alloc, disk, 3, &[&[0x5A]], none, &[&[0x5A]])?;
+    ends_as(rt, alloc, disk, 0, &[&BEGUN], empty, mended)?;
+    ends_as(rt, alloc, disk, 1, &[&BEGUN, &[0]], empty, mended)?;
+    ends_as(rt, alloc, disk, 2, &[&BEGUN, &[0x5A]], empty, mended)?;
+    ends_as(rt, alloc, disk, 3, &[&BEGUN, &[7]], empty, mended)?;
+    ends_as(
+        rt,
+        alloc,
+        disk,
+        0,
+        &[&BEGUN, &[0, 0, 0, 0, 10, 5]],
+        empty,
+        mended,
+    )?;
+    ends_as(
+        rt,
+        alloc,
+        disk,
+        1,
+        &[&BEGUN, &ENTRY, &[0, 1]],
+        (Some(2), 1),
+        &[&BEGUN, &ENTRY, &[0]],
+    )
+}
+
+// Damage is told, and left as it is.
+fn damages<D: Disk>(rt: &impl Abort, alloc: Global, disk: &mut D) -> Result<(), Fail> {
+    let rows: [(&[&[u8]], Damage); 8] = [
+        (&[&BEGUN, &[0x5A, 0, 0, 0]], short(47, 5, 3)),
+        (&[&BEGUN, &ENTRY_CUT], short(47, 47, 46)),
+        (&[&BEGUN, &BAD], digest()),
+        (&[&BEGUN, &LONG], form(47)),
+        (&[&BEGUN, &KIND_6, &[0]], form(47)),
+        (&[&ENTRY, &[0]], form(0)),
+        (&[&OTHER, &[0]], form(0)),
+        (&[&[0x5A, 0, 0]], short(0, 5, 2)),
     ];
-    for (row, (log, wanted, left)) in rows.into_iter().enumerate() {
-        put(alloc, disk, log, &GREATER_LOG[..row % 4])?;
-        let loaded = load_and_mend(alloc, disk);
-        assert_eq!(rt; loaded, wanted.map_err(LogError::Damaged), "row {row}");
-        assert!(rt; log_is(alloc, disk, left)?, "row {row}");
+    for (row, (log, damage)) in rows.into_iter().enumerate() {
+        assert_eq!(rt;
+            loads(alloc, disk, row, log),
+            Err(LogError::Damaged(damage)),
+            "row {row}"
+        );
+        assert!(rt; log_is(alloc, disk, log)?, "row {row}");
     }
     Ok(())
 }
 
 #[test]
 fn a_log_loads_as_its_format_says(rt: HostRuntime) -> Result<(), Fail> {
-    loads(&rt, rt.alloc(), &mut MemoryDisk::new(Vec::new(rt.alloc())))
+    let mut disk = MemoryDisk::new(Vec::new(rt.alloc()));
+    ends(&rt, rt.alloc(), &mut disk)?;
+    damages(&rt, rt.alloc(), &mut disk)
 }

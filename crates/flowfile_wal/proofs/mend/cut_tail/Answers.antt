@@ -1,9 +1,9 @@
-use Rattle.std.proofs.Common.{◌≡◌, ◌+◌, ◌<◌, length, arith, sym, subst}
+use Rattle.std.proofs.Common.{◌+◌, ◌<◌, length, arith, sym, subst}
 use Rattle.disk_trait.specs.Files.{Files, named}
 use Rattle.disk_trait.specs.declared.file_name.FileKind.TheVariants.{Log}
-use Rattle.disk_trait.proofs.Moments.{wider, nothing}
+use Rattle.disk_trait.proofs.Moments.{wider}
 use Rattle.flowfile_wal.specs.Steps.{IsLogAt}
-use Rattle.flowfile_wal.proofs.Mending.{cut_short, cut_done, still_there, stays}
+use Rattle.flowfile_wal.proofs.Mending.{cut_short, cut_done, still_there}
 use Rattle.flowfile_wal.proofs.mend.cut_tail.Goals as goal
 
 pub returns-in_err-cut_synced-clause-images : goal.returns-in_err-cut_synced-clause-images

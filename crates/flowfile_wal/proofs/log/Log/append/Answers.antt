@@ -1,7 +1,7 @@
 use Rattle.std.proofs.Common.{◌≡◌, ◌+◌, ℕ, length, ◌∙◌, sym, ap, subst}
 use Rattle.std.specs.Prelude.{Some}
 use Rattle.disk_trait.specs.Images.{Since}
-use Rattle.flowfile_wal.specs.Steps.{LogState, frame}
+use Rattle.flowfile_wal.specs.Steps.{LogState}
 use Rattle.flowfile_wal.proofs.States.{rests_at, ready_more}
 use Rattle.flowfile_wal.proofs.Stops.{WithOrWithout}
 use Rattle.flowfile_wal.proofs.log.Log.append.Goals as goal
