@@ -15,7 +15,7 @@ ghost use Rattle.checkpoint_store.specs.SoFar.{IsSoFar};
 use crate::CheckError;
 use crate::part::first_part;
 use crate::so_far::{SoFar, Unfit};
-use block_file::{BlockError, BlockPlace, read_block_at};
+use block_file::{BlockAddress, BlockError, read_block_at};
 use disk_trait::{Damage, Disk, FileKind, FileName};
 use flowfile_record::{DIGEST_SIZE, Stored};
 use record_codec::{Block, HEADER_SIZE};
@@ -126,13 +126,13 @@ fn read_block<D: Disk>(
     ensures stays { Stays D.held D.moment D.images disk.old disk.new }
     ensures cause { CountsFaults (D.faults disk.old) (D.faults disk.new) (IsErrOf result CheckError.Disk) }
 {
-    let place = BlockPlace {
+    let address = BlockAddress {
         file: source.file,
         size: source.size,
         offset: at,
         at,
     };
-    match read_block_at(disk, place, buffer) {
+    match read_block_at(disk, address, buffer) {
         Ok(block) => Ok(block),
         Err(BlockError::Disk) => Err(CheckError::Disk),
         Err(BlockError::Memory) => Err(CheckError::Memory),

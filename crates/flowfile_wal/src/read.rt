@@ -12,7 +12,7 @@ ghost use Rattle.flowfile_wal.specs.Reads.{named_at, IsDamagedAt, IsNextAt, IsNe
 
 use crate::LogError;
 use crate::current::read_gate;
-use block_file::{BlockPlace, read_block_at};
+use block_file::{BlockAddress, read_block_at};
 use disk_trait::{Damage, Disk, FileKind, FileName};
 use flowfile_record::CodecError;
 use record_codec::{Block, LogEntry, OPEN_GATE, read_entry};
@@ -37,21 +37,21 @@ fn read_entry_at<D: Disk>(
     ensures stays { Stays D.held D.moment D.images disk.old disk.new }
     ensures cause { CountsFaults (D.faults disk.old) (D.faults disk.new) (IsErrOf result LogError.Disk) }
 {
-    let place = BlockPlace {
+    let address = BlockAddress {
         file,
         size,
         offset: at + 1,
         at,
     };
-    let block = read_block_at(disk, place, buffer)?;
-    let entry = entry_of(alloc, place, buffer.as_slice(), block)?;
+    let block = read_block_at(disk, address, buffer)?;
+    let entry = entry_of(alloc, address, buffer.as_slice(), block)?;
     Ok((entry, block.next))
 }
 
 // The entry of a block that stands in the buffer.
 fn entry_of(
     alloc: Global,
-    place: BlockPlace,
+    address: BlockAddress,
     buffer: &[u8],
     block: Block,
 ) -> Result<LogEntry, LogError>
@@ -60,7 +60,7 @@ fn entry_of(
     ensures entry { IfOk result (λ entry.
         whole (entry_at block.kind) (slice_range buffer.now block.start block.end) ≡ Ok entry) }
     ensures damaged { (damage : TheDamage) → IsErrOf result (LogError.Damaged damage)
-        → (damage ≡ TheDamage.Form place.file place.at)
+        → (damage ≡ TheDamage.Form address.file address.at)
         × ((left : ℕ) × (whole (entry_at block.kind) (slice_range buffer.now block.start block.end) ≡ Err left)) }
     ensures memory { IsErrOf result LogError.Memory
         → IsTrue (takes_memory block.kind (slice_range buffer.now block.start block.end)) }
@@ -72,8 +72,8 @@ fn entry_of(
         Ok(entry) => Ok(entry),
         Err(CodecError::Memory) => Err(LogError::Memory),
         Err(CodecError::Form { .. }) => Err(LogError::Damaged(Damage::Form {
-            file: place.file,
-            at: place.at,
+            file: address.file,
+            at: address.at,
         })),
     }
 }
