@@ -3,7 +3,7 @@ use crate::json::{item, member, number, text, word};
 use anyhow::{Context, Result, bail};
 use flowfile_record::CodecError;
 use record_codec::{
-    append_block, read_active_file, read_block, read_entry, read_file, read_head,
+    PAYLOAD_MAX, append_block, read_active_file, read_block, read_entry, read_file, read_head,
     read_snapshot_end, read_swap_batch, write_active_file, write_entry, write_file, write_head,
     write_snapshot_end, write_swap_batch,
 };
@@ -13,6 +13,9 @@ use std::alloc::Global;
 /// A block of a kind and a payload, in hexadecimal.
 pub fn block(alloc: Global, pair: &Value) -> Result<String> {
     let payload = bytes(alloc, item(pair, 1)?)?;
+    if payload.len() as u64 > PAYLOAD_MAX {
+        bail!("a payload longer than any");
+    }
     let mut out = Vec::new(alloc);
     append_block(&mut out, kind(item(pair, 0)?)?, payload.as_slice())?;
     Ok(hex::encode(alloc, out.as_slice())?)
