@@ -7,11 +7,10 @@ use Rattle.std.proofs.lemmas.Bool.Decides.{nat_tests}
 use Rattle.std.proofs.lemmas.List.Sums.{sum_by-cons}
 use Rattle.std.proofs.lemmas.List.Elements.{All-append}
 use Rattle.flowfile_record.specs.NumberedItems.{item_of, with_item}
-use Rattle.flowfile_record.specs.declared.limits.TheConstants.{NUMBER_LIMIT}
+use Rattle.flowfile_record.specs.declared.limits.TheConstants.{NUMBER_LIMIT, LIVE_FILES_MAX}
 use Rattle.flowfile_record.specs.Stored.{Kept}
 use Rattle.flowfile_record.specs.declared.stored.ActiveFile.{ActiveFile}
 use Rattle.checkpoint_store.specs.Reading.{last_number, has_place}
-use Rattle.checkpoint_store.specs.declared.TheConstants.{LIVE_FILES_MAX}
 use Rattle.checkpoint_store.specs.SoFar.{AreNumbered}
 
 all_one : {A : Type 0} (P : A → Type 0) (x : A) → P x → All P (x ∷ [])

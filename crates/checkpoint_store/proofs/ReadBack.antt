@@ -30,7 +30,7 @@ use Rattle.record_codec.proofs.StoreHeads.{head_is}
 use Rattle.checkpoint_store.specs.Consistent.{IsConsistent, IsFileIn, AreDistinctBy, record_size}
 use Rattle.checkpoint_store.specs.Reading.{Next, More, Last, last_number, has_place, may_join, may_follow, are_distinct, kept_by, head_next, file_next, batch_next, end_next, first_in, next_in, said, behind_block, go_on, blocks_from, snapshot_of}
 use Rattle.checkpoint_store.specs.Snapshot.{head_in, head_block, file_block, batch_block, end_block, blocks_in, snapshot}
-use Rattle.checkpoint_store.specs.declared.TheConstants.{LIVE_FILES_MAX, LIVE_BYTES_MAX}
+use Rattle.flowfile_record.specs.declared.limits.TheConstants.{LIVE_FILES_MAX, LIVE_BYTES_MAX}
 use Rattle.checkpoint_store.proofs.Numbering.{last_is, sum_more, any_more, all_three}
 use Rattle.checkpoint_store.proofs.Puts.{ascending_count}
 

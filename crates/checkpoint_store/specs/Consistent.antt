@@ -11,7 +11,7 @@ use Rattle.record_codec.specs.Snapshot.{IsBatch}
 use Rattle.record_codec.specs.StoreHead.{head, IsHead}
 use Rattle.record_codec.specs.declared.block.TheConstants.{PAYLOAD_MAX}
 use Rattle.checkpoint_store.specs.Snapshot.{head_in}
-use Rattle.checkpoint_store.specs.declared.TheConstants.{LIVE_FILES_MAX, LIVE_BYTES_MAX}
+use Rattle.flowfile_record.specs.declared.limits.TheConstants.{LIVE_FILES_MAX, LIVE_BYTES_MAX}
 
 -- no two of these have the same in them
 abbrev pub AreDistinctBy : {A B : Type 0} → (A → B) → List A → Type 0

@@ -18,7 +18,7 @@ use Rattle.record_codec.specs.declared.head.Head.{Head}
 use Rattle.record_codec.specs.declared.snapshot.SnapshotKind.TheVariants as kinds
 use Rattle.checkpoint_store.specs.Consistent.{record_size}
 use Rattle.checkpoint_store.specs.Snapshot.{blocks_in}
-use Rattle.checkpoint_store.specs.declared.TheConstants.{LIVE_FILES_MAX, LIVE_BYTES_MAX}
+use Rattle.flowfile_record.specs.declared.limits.TheConstants.{LIVE_FILES_MAX, LIVE_BYTES_MAX}
 
 -- ---- the rules of each kind of block
 

@@ -4,11 +4,10 @@ use Rattle.std.specs.List.{sum, list_any}
 use Rattle.std.specs.Ordering.{nat_cmp}
 use Rattle.std.specs.BTreeSet.{contains, IsOrdered}
 use Rattle.flowfile_record.specs.Stored.{Kept}
-use Rattle.flowfile_record.specs.declared.limits.TheConstants.{NUMBER_LIMIT}
+use Rattle.flowfile_record.specs.declared.limits.TheConstants.{NUMBER_LIMIT, LIVE_BYTES_MAX}
 use Rattle.checkpoint_store.specs.Consistent.{record_size}
 use Rattle.checkpoint_store.specs.Reading.{Next, More, Last, last_number}
 use Rattle.checkpoint_store.specs.declared.so_far.SoFar.{SoFar}
-use Rattle.checkpoint_store.specs.declared.TheConstants.{LIVE_BYTES_MAX}
 
 -- the numbers of some items, as far as a reader has to know them
 pub record AreNumbered {A : Type 0} (number : A → ℕ) (items : List A) (greatest : ℕ) : Type 0 where

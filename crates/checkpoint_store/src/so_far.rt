@@ -11,8 +11,9 @@ ghost use Rattle.checkpoint_store.specs.SoFar.{IsSoFar};
 ghost use Rattle.checkpoint_store.specs.Unfit.{unfit_of};
 ghost use Rattle.checkpoint_store.specs.declared.so_far.Unfit.TheVariants as unfit;
 
-use crate::{LIVE_BYTES_MAX, LIVE_FILES_MAX};
-use flowfile_record::{ActiveFile, ActiveList, BatchList, CodecError, Stored, SwapBatch};
+use flowfile_record::{
+    ActiveFile, ActiveList, BatchList, CodecError, LIVE_BYTES_MAX, LIVE_FILES_MAX, Stored, SwapBatch,
+};
 use record_codec::{Head, file_size};
 use std::alloc::{AllocError, Global};
 use std::collections::BTreeSet;

@@ -6,8 +6,9 @@ ghost use Rattle.flowfile_record.specs.Identifier.{identifier};
 
 use crate::attributes::{COUNT_SIZE, PAIR_SIZE};
 use crate::{
-    ATTRIBUTES_MAX, CONTENT_MAX, DIGEST_SIZE, FILENAME_SIZE, FILES_MAX, KEY_MAX, NAME_MAX,
-    NUMBER_LIMIT, SESSION_ATTRIBUTES_MAX, STORE_LIMIT, TAKEN_MAX, WRITTEN_MAX,
+    ATTRIBUTES_MAX, CONTENT_MAX, DIGEST_SIZE, FILENAME_SIZE, FILES_MAX, KEY_MAX, LIVE_BYTES_MAX,
+    LIVE_FILES_MAX, NAME_MAX, NUMBER_LIMIT, SESSION_ATTRIBUTES_MAX, STORE_LIMIT, TAKEN_MAX,
+    WRITTEN_MAX,
 };
 
 /// The limits of a flow file.
@@ -30,4 +31,10 @@ pub fn limits_of_a_session()
     ensures attributes { SESSION_ATTRIBUTES_MAX ≡ 64 * 2 ^ 20 }
     ensures written { WRITTEN_MAX ≡ 64 * 2 ^ 20 }
     ensures filename { (store number : ℕ) → pair_size (codes "filename", hyphenated_text lower (identifier store number)) ≡ FILENAME_SIZE }
+{}
+
+/// The limits of a state.
+pub fn limits_of_a_state()
+    ensures files { LIVE_FILES_MAX ≡ 2 ^ 20 }
+    ensures bytes { LIVE_BYTES_MAX ≡ 2 ^ 30 }
 {}

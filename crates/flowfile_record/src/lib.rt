@@ -6,6 +6,7 @@
 #![tactic(auto)]
 
 mod attributes;
+mod change;
 mod content;
 mod error;
 mod event;
@@ -23,15 +24,16 @@ mod text;
 mod worked;
 
 pub use attributes::{ATTRIBUTES_MAX, AttrError, Attributes, KEY_MAX, Put};
+pub use change::{Change, Settled};
 pub use content::ContentRef;
 pub use error::CodecError;
 pub use event::{Event, EventCounts, EventKind};
 pub use flow_file::FlowFile;
 pub use identifier::uuid_of;
-pub use law::{limits_of_a_file, limits_of_a_session};
+pub use law::{limits_of_a_file, limits_of_a_session, limits_of_a_state};
 pub use limits::{
-    DIGEST_SIZE, FILENAME_SIZE, FILES_MAX, NUMBER_LIMIT, SESSION_ATTRIBUTES_MAX, STORE_LIMIT,
-    TAKEN_MAX, WRITTEN_MAX,
+    DIGEST_SIZE, FILENAME_SIZE, FILES_MAX, LIVE_BYTES_MAX, LIVE_FILES_MAX, NUMBER_LIMIT,
+    SESSION_ATTRIBUTES_MAX, STORE_LIMIT, TAKEN_MAX, WRITTEN_MAX,
 };
 pub use name::{NAME_MAX, Name, NameError};
 pub use numbered::Numbered;

@@ -1,4 +1,4 @@
-//! The limits of numbers, and how much a session may hold.
+//! The limits of numbers, and how much a session and a state may hold.
 
 /// Past the numbers of files, arrivals, events, batches and logs, past the counters of these, and past counts: 2^62.
 pub const NUMBER_LIMIT: u64 = 1 << 62;
@@ -24,3 +24,9 @@ pub const WRITTEN_MAX: u64 = 67_108_864;
 /// What a made file without the attribute `filename` counts for the one that it is given later, in bytes: the encoded
 /// size of a pair of `filename` and a uuid.
 pub const FILENAME_SIZE: u64 = 50;
+
+/// The greatest number of files that live, those that are swapped out too.
+pub const LIVE_FILES_MAX: u64 = 1_048_576;
+
+/// The greatest size of the encoded records of all files that live together, in bytes: 1 GiB.
+pub const LIVE_BYTES_MAX: u64 = 1_073_741_824;

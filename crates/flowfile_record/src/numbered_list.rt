@@ -1,5 +1,5 @@
 //! Elements in the order of their numbers, each number once.
-ghost use Rattle.std.specs.Prelude.{◌≡◌, ◌==◌, ◌+◌, ◌<◌, ◌≤◌, ℕ, [], None, Some, length, map, IsTrue, IfOk, IfErr, OnOk, is_some, vec_len, vec_capacity};
+ghost use Rattle.std.specs.Prelude.{◌≡◌, ◌==◌, ◌+◌, ◌<◌, ◌≤◌, ℕ, [], None, Some, length, map, IsTrue, IsOk, IfOk, IfErr, OnOk, is_some, vec_len, vec_capacity};
 ghost use Rattle.std.specs.Option.{option_copied};
 ghost use Rattle.std.specs.Ordering.{nat_cmp};
 ghost use Rattle.std.specs.FinMap.{put, is_sorted};
@@ -87,10 +87,11 @@ impl<T: Numbered> NumberedList<T> {
 }
 
 impl<T: Numbered + Drop> NumberedList<T> {
-    /// Makes room for so many more elements. The elements stay, and no room is lost.
+    /// Makes room for so many more elements. The elements stay, and no room is lost. It fails only where there was less.
     pub fn reserve(&mut self, count: u64) -> Result<(), AllocError>
         ensures items { self.new.items ≡ self.old.items }
         ensures ok { OnOk result (count ≤ self.new.room) }
+        ensures fits { count ≤ self.old.room → IsOk result }
         ensures room { self.old.room ≤ self.new.room }
     {
         sweep(&mut self.slots, self.held);

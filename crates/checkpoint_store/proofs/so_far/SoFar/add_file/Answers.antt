@@ -9,7 +9,7 @@ use Rattle.record_codec.proofs.Sizes.{file_most}
 use Rattle.checkpoint_store.specs.Consistent.{record_size}
 use Rattle.checkpoint_store.specs.Reading.{has_place}
 use Rattle.checkpoint_store.specs.SoFar.{AreNumbered}
-use Rattle.checkpoint_store.specs.declared.TheConstants.{LIVE_BYTES_MAX}
+use Rattle.flowfile_record.specs.declared.limits.TheConstants.{LIVE_BYTES_MAX}
 use Rattle.checkpoint_store.proofs.Numbering.{none_there, joins_last, are_numbered, sum_more, any_more, place_above, all_three}
 use Rattle.checkpoint_store.proofs.so_far.SoFar.add_file.Goals as goal
 
