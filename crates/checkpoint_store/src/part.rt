@@ -62,7 +62,8 @@ impl SoFar {
     /// A later block joins those before it. Answers whether it is the End.
     pub fn take_part(&mut self, alloc: Global, kind: u8, payload: &[u8]) -> Result<bool, Unfit>
         requires { IsSoFar self.old }
-        ensures next { IfOk result (λ ended. next_in (kept_of self.old.state) kind payload.now ≡ Some (next_is ended (kept_of self.new.state))) }
+        ensures next { IfOk result (λ ended. next_in (kept_of self.old.state) kind payload.now
+            ≡ Some (next_is ended (kept_of self.new.state))) }
         ensures ended { IfOk result (λ ended. IsTrue ended → kept_of self.new.state ≡ kept_of self.old.state) }
         ensures so_far { OnOk result (IsSoFar self.new) }
         ensures unfit { IsErrOf result Unfit.Form → next_in (kept_of self.old.state) kind payload.now ≡ None }
@@ -78,9 +79,12 @@ impl SoFar {
 
     fn take_file(&mut self, alloc: Global, payload: &[u8]) -> Result<bool, Unfit>
         requires { IsSoFar self.old }
-        ensures next { IfOk result (λ ended. (ended ≡ false) × (file_next (kept_of self.old.state) (whole active_file_at payload.now) ≡ Some (More (kept_of self.new.state)))) }
+        ensures next { IfOk result (λ ended. (ended ≡ false)
+            × (file_next (kept_of self.old.state) (whole active_file_at payload.now)
+            ≡ Some (More (kept_of self.new.state)))) }
         ensures so_far { OnOk result (IsSoFar self.new) }
-        ensures unfit { IsErrOf result Unfit.Form → file_next (kept_of self.old.state) (whole active_file_at payload.now) ≡ None }
+        ensures unfit { IsErrOf result Unfit.Form
+            → file_next (kept_of self.old.state) (whole active_file_at payload.now) ≡ None }
     {
         let active = read_active_file(alloc, payload)?;
         self.add_file(active)?;
@@ -89,9 +93,12 @@ impl SoFar {
 
     fn take_batch(&mut self, payload: &[u8]) -> Result<bool, Unfit>
         requires { IsSoFar self.old }
-        ensures next { IfOk result (λ ended. (ended ≡ false) × (batch_next (kept_of self.old.state) (whole batch_at payload.now) ≡ Some (More (kept_of self.new.state)))) }
+        ensures next { IfOk result (λ ended. (ended ≡ false)
+            × (batch_next (kept_of self.old.state) (whole batch_at payload.now)
+            ≡ Some (More (kept_of self.new.state)))) }
         ensures so_far { OnOk result (IsSoFar self.new) }
-        ensures unfit { IsErrOf result Unfit.Form → batch_next (kept_of self.old.state) (whole batch_at payload.now) ≡ None }
+        ensures unfit { IsErrOf result Unfit.Form
+            → batch_next (kept_of self.old.state) (whole batch_at payload.now) ≡ None }
     {
         let batch = read_swap_batch(payload)?;
         self.add_batch(batch)?;
@@ -100,8 +107,10 @@ impl SoFar {
 
     fn take_end(&self, payload: &[u8]) -> Result<bool, Unfit>
         requires { IsSoFar self.now }
-        ensures next { IfOk result (λ ended. (ended ≡ true) × (end_next (kept_of self.now.state) (whole ending_at payload.now) ≡ Some Last)) }
-        ensures unfit { IsErrOf result Unfit.Form → end_next (kept_of self.now.state) (whole ending_at payload.now) ≡ None }
+        ensures next { IfOk result (λ ended. (ended ≡ true)
+            × (end_next (kept_of self.now.state) (whole ending_at payload.now) ≡ Some Last)) }
+        ensures unfit { IsErrOf result Unfit.Form
+            → end_next (kept_of self.now.state) (whole ending_at payload.now) ≡ None }
     {
         let blocks = read_snapshot_end(payload)?;
         if blocks != self.blocks() {

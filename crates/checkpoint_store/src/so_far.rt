@@ -94,7 +94,8 @@ impl SoFar {
         requires file { IsActiveFile active }
         requires so_far { IsSoFar self.old }
         ensures joined { OnOk result ((may_join (kept_of self.old.state) active ≡ true)
-            × (kept_of self.new.state ≡ record (kept_of self.old.state) { files = (kept_of self.old.state).files ++ active ∷ [] })) }
+            × (kept_of self.new.state
+            ≡ record (kept_of self.old.state) { files = (kept_of self.old.state).files ++ active ∷ [] })) }
         ensures so_far { OnOk result (IsSoFar self.new) }
         ensures unfit { IsErrOf result Unfit.Form → may_join (kept_of self.old.state) active ≡ false }
     {
@@ -133,7 +134,8 @@ impl SoFar {
         requires batch { IsBatch batch }
         requires so_far { IsSoFar self.old }
         ensures joined { OnOk result ((may_follow (kept_of self.old.state) batch ≡ true)
-            × (kept_of self.new.state ≡ record (kept_of self.old.state) { batches = (kept_of self.old.state).batches ++ batch ∷ [] })) }
+            × (kept_of self.new.state
+            ≡ record (kept_of self.old.state) { batches = (kept_of self.old.state).batches ++ batch ∷ [] })) }
         ensures so_far { OnOk result (IsSoFar self.new) }
         ensures unfit { IsErrOf result Unfit.Form → may_follow (kept_of self.old.state) batch ≡ false }
     {
@@ -159,7 +161,8 @@ impl SoFar {
 fn add_arrival(arrivals: &mut BTreeSet<u64>, arrival: u64) -> Result<bool, AllocError>
     requires { IsOrdered nat_cmp arrivals.old }
     ensures added { IfOk result (λ added. added ≡ not (contains nat_cmp arrivals.old arrival)) }
-    ensures now { OnOk result ((n : ℕ) → contains nat_cmp arrivals.new n ≡ (contains nat_cmp arrivals.old n || (arrival == n))) }
+    ensures now { OnOk result ((n : ℕ) → contains nat_cmp arrivals.new n
+        ≡ (contains nat_cmp arrivals.old n || (arrival == n))) }
     ensures ordered { OnOk result (IsOrdered nat_cmp arrivals.new) }
 {
     Ok(arrivals.insert(arrival)?)
