@@ -1,0 +1,4 @@
+pub mod Best
+pub mod Expiring
+pub mod Fields
+pub mod Numbered
