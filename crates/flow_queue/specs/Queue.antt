@@ -1,5 +1,5 @@
 -- What a queue holds, and how it is seen.
-use Rattle.std.specs.Prelude.{◌≢◌, ℕ, ◌==◌, Bool, false, List, [], map, All, Option, if◌then◌else◌}
+use Rattle.std.specs.Prelude.{◌≡◌, ◌≢◌, ℕ, ◌==◌, Bool, true, false, List, [], map, All, Option, Some, if◌then◌else◌}
 use Rattle.std.specs.Option.{option_map, option_map_or}
 use Rattle.flowfile_record.specs.NumberedItems.{item_of, with_item, without_item, AscendsByNumber}
 use Rattle.flowfile_record.specs.declared.flow_file.FlowFile.{FlowFile}
@@ -73,6 +73,13 @@ without_file number files = without_item number_of number files
 -- whether a session works on the file of a number, where there is such a file
 abbrev pub flight_of : ℕ → List Held → Option Bool
 flight_of number files = option_map (λ held. held.in_flight) (item_of number_of number files)
+
+-- a file of the queue that no session works on, and one that a session works on
+abbrev pub IsAtRest : QueueState → ℕ → Type 0
+IsAtRest queue number = flight_of number queue.files ≡ Some false
+
+abbrev pub IsInFlight : QueueState → ℕ → Type 0
+IsInFlight queue number = flight_of number queue.files ≡ Some true
 
 abbrev pub with_flight : ℕ → Bool → List Held → List Held
 with_flight number in_flight files =

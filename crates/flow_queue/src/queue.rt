@@ -1,6 +1,6 @@
 //! A queue, and how it changes.
 ghost use Rattle.std.specs.Prelude.{◌≡◌, ◌+◌, ◌-◌, ◌<◌, ◌≤◌, [], Some, false, true, IsSome, OnOk, OnErr};
-ghost use Rattle.flow_queue.specs.Queue.{IsApart, AreApart, with_file, without_file, file_of, flight_of, with_flight};
+ghost use Rattle.flow_queue.specs.Queue.{IsApart, AreApart, with_file, without_file, file_of, flight_of, with_flight, IsAtRest, IsInFlight};
 
 mod choosing;
 mod places;
@@ -86,7 +86,7 @@ impl Queue {
 
     /// A session takes a file, which stays in the queue.
     pub fn check_out(&mut self, number: u64)
-        requires { flight_of number self.old.files ≡ Some false }
+        requires { IsAtRest self.old number }
         ensures { self.new ≡ record self.old { files = with_flight number true self.old.files } }
     {
         self.mark(number, true);
@@ -94,7 +94,7 @@ impl Queue {
 
     /// A session gives a file back.
     pub fn back(&mut self, number: u64)
-        requires { flight_of number self.old.files ≡ Some true }
+        requires { IsInFlight self.old number }
         ensures { self.new ≡ record self.old { files = with_flight number false self.old.files } }
     {
         self.mark(number, false);
@@ -112,7 +112,7 @@ impl Queue {
 
     /// Takes a file out of the queue.
     pub fn leave(&mut self, number: u64) -> FlowFile
-        requires { IsSome (file_of number self.old.files) }
+        requires { IsSome (flight_of number self.old.files) }
         ensures file { file_of number self.old.files ≡ Some result }
         ensures left { self.new ≡ record self.old { files = without_file number self.old.files; spare = self.old.spare + 1 } }
     {

@@ -1,12 +1,12 @@
 //! What a queue answers.
-ghost use Rattle.std.specs.Prelude.{◌≡◌, [], length, IfOk, OnOk, OnErr, is_some};
+ghost use Rattle.std.specs.Prelude.{◌≡◌, [], length, All, IfOk, IfSome, OnOk, OnErr, is_some};
 ghost use Rattle.std.specs.Option.{option_map};
 ghost use Rattle.machine_model.specs.Due.{expired_numbers};
 ghost use Rattle.machine_model.specs.Laws.{ArrivalsDiffer};
 ghost use Rattle.machine_model.specs.Order.{best};
 ghost use Rattle.machine_model.specs.Quiet.{is_full};
 ghost use Rattle.flow_queue.specs.Choosing.{goes_first};
-ghost use Rattle.flow_queue.specs.Queue.{AreApart, seen, view_of, views_of, picked, picked_numbers, TakesAtMostOne};
+ghost use Rattle.flow_queue.specs.Queue.{AreApart, IsAtRest, seen, view_of, views_of, picked, picked_numbers, TakesAtMostOne};
 
 use super::Queue;
 use crate::held::Held;
@@ -25,7 +25,8 @@ impl Queue {
 
     /// The number of the file that goes first of those that may be taken at a moment.
     pub fn best(&self, moment: u64) -> Option<u64>
-        ensures { result ≡ option_map (λ file. file.number) (best self.now.order self.now.limits moment (seen self.now).active) }
+        ensures best { result ≡ option_map (λ file. file.number) (best self.now.order self.now.limits moment (seen self.now).active) }
+        ensures at_rest { IfSome result (IsAtRest self.now) }
     {
         let held = best_of(&self.files, &self.order, &self.limits, moment)?;
         Some(held.file.number)
@@ -37,6 +38,7 @@ impl Queue {
         requires rule { TakesAtMostOne rule }
         ensures answer { IfOk result (λ answer. answer ≡ is_some (picked rule moment self.now)) }
         ensures numbers { OnOk result (list.new.items ≡ picked_numbers (picked rule moment self.now)) }
+        ensures at_rest { All (IsAtRest self.now) list.new.items }
         ensures failed { OnErr result (list.new.items ≡ []) }
     {
         let TakeRule::One = rule else {
@@ -55,6 +57,7 @@ impl Queue {
     pub fn expired(&self, moment: u64, list: &mut Vec<u64>) -> Result<(), AllocError>
         requires { list.old.items ≡ [] }
         ensures numbers { OnOk result (list.new.items ≡ expired_numbers self.now.limits moment (seen self.now).active) }
+        ensures at_rest { All (IsAtRest self.now) list.new.items }
         ensures failed { OnErr result (list.new.items ≡ []) }
     {
         for held in &self.files {

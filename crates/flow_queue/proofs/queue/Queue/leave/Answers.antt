@@ -10,7 +10,7 @@ pub unreachable-requires : goal.unreachable-requires
 unreachable-requires c =
     let fits = rw c.deref.ensures.value at c.in_default.ensures.fits in
     let none : item_of number_of c.args.number c.args.self.now.files ≡ None = ap (λ q. item_of number_of c.args.number q.files) (sym c.self.view_is) ∙ nowhere c.self.inside.files.items c.args.number c.in_default.field-0 fits in
-    true≢false (sym (subst (λ found. IsSome (option_map (λ held. held.file) found)) none c.requires))
+    true≢false (sym (subst (λ found. IsSome (option_map (λ held. held.in_flight) found)) none c.requires))
 
 pub overflow_sub-self : goal.overflow_sub-self
 overflow_sub-self c =
