@@ -6,6 +6,8 @@
 
 mod held;
 mod queue;
+#[cfg(test)]
+mod tests;
 
 pub use machine_model::{QueueLimits, TakeRule};
 pub use queue::Queue;
