@@ -45,7 +45,8 @@ pub record Begins (kind : Kind) (bench : Bench) (given : Given) : Type 0 where
 
 -- ---- what it owes
 
--- A file of the machine as a session took it. Its content is of that size; where the session was given bytes, it is these.
+-- A file of the machine as a session took it. Its content is of that size, and where the session was given bytes it is
+-- these.
 pub record IsTakenAs (file : TakenFile) (taken : Taken) : Type 0 where
   pub attributes : file.attributes ≡ taken.attributes
   pub uuid : file.uuid ≡ taken.uuid
