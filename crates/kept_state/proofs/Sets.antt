@@ -1,10 +1,10 @@
 -- Numbers that none was before, and files that are left.
-use Rattle.std.proofs.Common.{◌≡◌, ◌≢◌, ℕ, zero, suc, ◌+◌, ◌<◌, ◌==◌, ◌||◌, ◌&&◌, not, Bool, true, false, List, [], ◌∷◌, ◌++◌, length, map, take, get_or, All, Option, None, Some, is_some, refl, sym, ap, ◌∙◌, inl, inr, subst}
-use Rattle.std.specs.List.{list_any, list_all, filter}
-use Rattle.std.proofs.lemmas.Bool.{cases_Bool, or_parts, eq-eqb, eqb-true, false≢true, ne_eqb, not_from_false, not-true}
+use Rattle.std.proofs.Common.{◌≡◌, ◌≢◌, ℕ, ◌+◌, ◌<◌, ◌==◌, ◌||◌, ◌&&◌, not, Bool, true, false, List, [], ◌∷◌, length, take, get_or, All, is_some, refl, sym, ap, ◌∙◌, inl, inr}
+use Rattle.std.specs.List.{list_any, list_all}
+use Rattle.std.proofs.lemmas.Bool.{cases_Bool, or_parts, eq-eqb, eqb-true, false≢true, ne_eqb}
 use Rattle.std.proofs.lemmas.List.{take_more}
 use Rattle.std.proofs.lemmas.List.Elements.{All-head, All-tail}
-use Rattle.flowfile_record.specs.NumberedItems.{item_of, without_item, AscendsByNumber}
+use Rattle.flowfile_record.specs.NumberedItems.{without_item, AscendsByNumber}
 use Rattle.flowfile_record.specs.declared.stored.ActiveFile.{ActiveFile}
 use Rattle.checkpoint_store.specs.Consistent.{AreDistinctBy}
 use Rattle.checkpoint_store.proofs.Numbering.{any_more}

@@ -1,5 +1,5 @@
 -- A session's entry is tested rule by rule.
-use Rattle.std.proofs.Common.{◌≡◌, ℕ, ◌==◌, ◌&&◌, not, ◌||◌, Bool, true, false, List, [], ◌∷◌, length, map, Option, None, Some, is_some, MatchOption, refl, sym, ap, ◌∙◌}
+use Rattle.std.proofs.Common.{◌≡◌, ℕ, ◌==◌, ◌&&◌, not, ◌||◌, Bool, true, false, List, [], ◌∷◌, map, Option, None, Some, is_some, MatchOption, refl, sym, ap, ◌∙◌}
 use Rattle.std.specs.Prelude.{is_none}
 use Rattle.std.specs.List.{list_any, list_all}
 use Rattle.std.specs.Ordering.{nat_cmp}
@@ -13,10 +13,10 @@ use Rattle.flowfile_record.specs.NumberedItems.{with_item}
 use Rattle.kept_state.specs.Applied.{number_of, left_after, with_files, session_applied}
 use Rattle.kept_state.specs.Arrivals.{arrival_of, are_fresh, AreArrivalsOf, IsSetOf}
 use Rattle.kept_state.specs.Changes.{no_files}
-use Rattle.kept_state.specs.Fits.{active_of, are_distinct, are_active_in_one, are_new, placed_are_new, has_place, has_count, keeps_counters, fits, live}
+use Rattle.kept_state.specs.Fits.{active_of, are_distinct, are_active_in_one, are_new, has_place, has_count, keeps_counters, fits, live}
 use Rattle.kept_state.specs.Limits.{live_limit}
 use Rattle.kept_state.proofs.Apart.{lives, unused-files}
-use Rattle.kept_state.proofs.Sets.{some_active, any_left, all_same, fresh_is, or_assoc}
+use Rattle.kept_state.proofs.Sets.{some_active, any_left, all_same, fresh_is}
 use Rattle.kept_state.proofs.Items.{any-with}
 
 -- whether none of the placed files has something in it that another file has which is left

@@ -1,9 +1,9 @@
-use Rattle.std.proofs.Common.{◌≡◌, ℕ, ◌&&◌, not, List, length, take, sym, ap, ◌∙◌}
+use Rattle.std.proofs.Common.{ℕ, ◌&&◌, not, List, sym, ap, ◌∙◌}
 use Rattle.std.specs.List.{list_any}
 use Rattle.std.specs.Ordering.{nat_cmp}
 use Rattle.std.specs.BTreeSet.{contains}
 use Rattle.std.proofs.lemmas.List.{take_all}
-use Rattle.kept_state.specs.Arrivals.{arrival_of, has_arrival}
+use Rattle.kept_state.specs.Arrivals.{has_arrival}
 use Rattle.kept_state.specs.Fits.{active_of}
 use Rattle.kept_state.proofs.Sets.{arrivals_left}
 use Rattle.kept_state.proofs.arrivals.remove_arrivals.Goals as goal

@@ -1,20 +1,18 @@
-use Rattle.std.proofs.Common.{◌≡◌, ℕ, ◌+◌, ◌==◌, ◌&&◌, ◌||◌, not, Bool, true, false, List, length, map, MatchOption, Option, Some, is_some, sym, ap, ◌∙◌, subst, refl}
+use Rattle.std.proofs.Common.{◌≡◌, ℕ, ◌+◌, ◌==◌, ◌&&◌, ◌||◌, not, Bool, true, false, List, length, map, MatchOption, Option, Some, is_some, sym, ap, ◌∙◌, subst}
 use Rattle.std.specs.Prelude.{is_none}
-use Rattle.std.specs.List.{list_any, list_all, sum}
+use Rattle.std.specs.List.{list_any, sum}
 use Rattle.std.specs.Option.{option_or}
 use Rattle.std.specs.Ordering.{nat_cmp}
 use Rattle.std.specs.BTreeSet.{BTreeSet, contains}
-use Rattle.flowfile_record.specs.Stored.{Kept, kept_of}
+use Rattle.flowfile_record.specs.Stored.{Kept}
 use Rattle.flowfile_record.specs.declared.flow_file.FlowFile.{FlowFile}
 use Rattle.flowfile_record.specs.declared.limits.TheConstants.{LIVE_FILES_MAX, LIVE_BYTES_MAX}
 use Rattle.flowfile_record.specs.declared.stored.ActiveFile.{ActiveFile}
-use Rattle.record_codec.specs.declared.entry.SessionEntry.{SessionEntry}
 use Rattle.checkpoint_store.specs.Consistent.{record_size}
 use Rattle.kept_state.specs.Applied.{left_after, session_applied}
-use Rattle.kept_state.specs.Arrivals.{are_fresh, AreArrivalsOf, IsSetOf}
+use Rattle.kept_state.specs.Arrivals.{are_fresh, IsSetOf}
 use Rattle.kept_state.specs.Fits.{are_distinct, are_active_in_one}
 use Rattle.kept_state.specs.Limits.{passed, live_limit}
-use Rattle.kept_state.specs.Moves.{are_active}
 use Rattle.kept_state.specs.declared.limit.Which.TheVariants as which
 use Rattle.kept_state.proofs.Going.{active_from_one, live_limit-session}
 use Rattle.kept_state.proofs.Testing.{new_in, suits_counters, fits_in_turn, third_false, fourth_false, fifth_false, all_true, arrivals_fresh, any-with_files}
