@@ -20,7 +20,8 @@ live_bytes k = sum (map record_size k.files) + sum (map (λ b. b.encoded) k.batc
 
 -- the limit that a quantity passes
 abbrev pub passed : Which → (number wanted : ℕ) → Option Limit
-passed which number wanted = if nat_lt number wanted then Some (record { which = which; number = number; wanted = wanted }) else None
+passed which number wanted =
+    if nat_lt number wanted then Some (record { which = which; number = number; wanted = wanted }) else None
 
 -- the first limit of what lives that is passed
 abbrev pub live_limit : Kept → Option Limit

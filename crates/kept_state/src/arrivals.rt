@@ -43,7 +43,8 @@ pub(crate) fn add_all(set: &mut BTreeSet<u64>, numbers: &[u64]) -> Result<bool, 
     requires ordered { IsOrdered nat_cmp set.old }
     ensures fresh { IfOk result (λ fresh. fresh ≡ are_fresh (contains nat_cmp set.old) numbers.now) }
     ensures ordered { IsOrdered nat_cmp set.new }
-    ensures added { IfOk result (λ fresh. fresh ≡ true → (n : ℕ) → contains nat_cmp set.new n ≡ (contains nat_cmp set.old n || list_any (λ m. m == n) numbers.now)) }
+    ensures added { IfOk result (λ fresh. fresh ≡ true → (n : ℕ)
+        → contains nat_cmp set.new n ≡ (contains nat_cmp set.old n || list_any (λ m. m == n) numbers.now)) }
 {
     for number in numbers {
         if !add_one(set, *number)? {
@@ -73,7 +74,8 @@ fn empty_set(alloc: Global) -> BTreeSet<u64>
 
 /// The set of numbers, or none where one of them stands twice.
 pub(crate) fn set_of(alloc: Global, numbers: &[u64]) -> Result<Option<BTreeSet<u64>>, AllocError>
-    ensures { IfOk result (λ set. MatchOption set (are_distinct numbers.now ≡ false) (λ s. (are_distinct numbers.now ≡ true) × IsSetOf s numbers.now)) }
+    ensures { IfOk result (λ set. MatchOption set (are_distinct numbers.now ≡ false)
+        (λ s. (are_distinct numbers.now ≡ true) × IsSetOf s numbers.now)) }
 {
     let mut set = empty_set(alloc);
     if !add_all(&mut set, numbers)? {

@@ -124,7 +124,8 @@ fn entry_fits(
     requires no_batch { swapped_out entry.now ≡ [] }
     requires arrivals { AreArrivalsOf arrivals.old state.now.kept.files }
     ensures fits { IfOk result (λ fit. fit ≡ fits no_files state.now.kept entry.now) }
-    ensures arrivals { IfOk result (λ fit. fit ≡ true → AreArrivalsOf arrivals.new (applied no_files state.now.kept entry.now).files) }
+    ensures arrivals { IfOk result (λ fit. fit ≡ true
+        → AreArrivalsOf arrivals.new (applied no_files state.now.kept entry.now).files) }
     ensures no_batches { state.now.kept.batches ≡ [] }
 {
     let stored = state.stored();
@@ -146,7 +147,8 @@ fn session_fits(
     requires encoded { IsSession session.now }
     requires arrivals { AreArrivalsOf arrivals.old state.now.kept.files }
     ensures fits { IfOk result (λ fit. fit ≡ fits no_files state.now.kept (entries.Session session.now)) }
-    ensures arrivals { IfOk result (λ fit. fit ≡ true → AreArrivalsOf arrivals.new (session_applied state.now.kept session.now).files) }
+    ensures arrivals { IfOk result (λ fit. fit ≡ true
+        → AreArrivalsOf arrivals.new (session_applied state.now.kept session.now).files) }
 {
     let stored = state.stored();
     let gone = session.gone.as_slice();
@@ -178,7 +180,9 @@ fn numbers_are_new(
     gone_set: &BTreeSet<u64>,
     placed: &[ActiveFile],
 ) -> Result<bool, AllocError>
-    ensures { (gone : List ℕ) → IsSetOf gone_set.now gone → IfOk result (λ new. new ≡ are_new (λ f. f.number) (map (λ a. a.file.number) placed.now) (map (λ a. a.file) (left_after gone files.now.items))) }
+    ensures { (gone : List ℕ) → IsSetOf gone_set.now gone
+        → IfOk result (λ new. new ≡ are_new (λ f. f.number) (map (λ a. a.file.number) placed.now)
+        (map (λ a. a.file) (left_after gone files.now.items))) }
 {
     let numbers = numbers_in(alloc, placed)?;
     if set_of(alloc, numbers.as_slice())?.is_none() {
@@ -189,7 +193,8 @@ fn numbers_are_new(
 
 // Whether no file has one of these numbers once those that go are gone.
 fn none_is_left(files: &ActiveList, gone_set: &BTreeSet<u64>, numbers: &[u64]) -> bool
-    ensures { result ≡ list_all (λ n. not (is_some (active_of n files.now.items) && not (contains nat_cmp gone_set.now n))) numbers.now }
+    ensures { result ≡ list_all
+        (λ n. not (is_some (active_of n files.now.items) && not (contains nat_cmp gone_set.now n))) numbers.now }
 {
     for number in numbers {
         if is_left(files, gone_set, *number) {
@@ -263,7 +268,8 @@ fn expire_fits(
     requires consistent { IsConsistent (kept_of stored.now) }
     requires arrivals { AreArrivalsOf arrivals.old stored.now.files.items }
     ensures fits { IfOk result (λ fit. fit ≡ expire_fits (kept_of stored.now) expire.now) }
-    ensures arrivals { IfOk result (λ fit. fit ≡ true → AreArrivalsOf arrivals.new (left_after expire.now.numbers stored.now.files.items)) }
+    ensures arrivals { IfOk result (λ fit. fit ≡ true
+        → AreArrivalsOf arrivals.new (left_after expire.now.numbers stored.now.files.items)) }
 {
     let numbers = expire.numbers.as_slice();
     remove_arrivals(arrivals, &stored.files, numbers);
