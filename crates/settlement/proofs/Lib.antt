@@ -1,0 +1,12 @@
+pub mod ByArrival
+pub mod Arriving
+pub mod Bounds
+pub mod Bytes
+pub mod EndedFiles
+pub mod Listing
+pub mod Placed
+pub mod AddedEvents
+pub mod Queues
+pub mod Settles
+pub mod Taken
+pub mod ToldEvents

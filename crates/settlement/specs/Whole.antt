@@ -1,0 +1,66 @@
+-- The settlement as the calls inside make it.
+use Rattle.std.specs.Prelude.{ℕ, ◌+◌, List, [], ◌++◌, map, length, Option, Some, None}
+use Rattle.flowfile_record.specs.declared.change.Settled.{Settled}
+use Rattle.flowfile_record.specs.declared.flow_file.FlowFile.{FlowFile}
+use Rattle.flowfile_record.specs.declared.stored.Counted.{Counted}
+use Rattle.machine_model.specs.declared.flow.Flow.{Flow}
+use Rattle.machine_model.specs.declared.flow.Processor.{Processor}
+use Rattle.machine_model.specs.declared.given.Given.{Given}
+use Rattle.machine_model.specs.declared.kind.Kind.{Kind}
+use Rattle.machine_model.specs.declared.kind.Kind.TheVariants.{GenerateFlowFile}
+use Rattle.machine_model.specs.Placing.{count_made}
+use Rattle.settlement.specs.Ending.{EndingPlace, ended_files}
+use Rattle.settlement.specs.Placing.{PlacingFrom, arrived, firsts, returned, wanted}
+use Rattle.settlement.specs.Telling.{Told, all_drafts, numbered_wrapping}
+use Rattle.settlement.specs.declared.counters.Counters.{Counters}
+use Rattle.settlement.specs.declared.file.EndedFile.{EndedFile}
+use Rattle.settlement.specs.declared.handed.Ended.{Ended}
+
+abbrev pub place_in : Flow → Given → Counters → Ended → Processor → EndingPlace
+place_in flow given counters ended processor = record {
+  flow = flow;
+  place = ended.processor;
+  processor = processor;
+  store = counters.store;
+  moment = given.moment;
+  taken = ended.taken;
+  sources = ended.sources;
+}
+
+abbrev pub placing_in : Counters → Ended → PlacingFrom
+placing_in counters ended = record {
+  connection = ended.connection;
+  taken = ended.taken;
+  sources = ended.sources;
+  next_arrival = counters.next_arrival;
+}
+
+abbrev pub told_of : Processor → List FlowFile → Given → List EndedFile → Told
+told_of processor taken given files = record {
+  moment = given.moment;
+  processor = processor;
+  received = given.file;
+  taken = taken;
+  files = files;
+}
+
+abbrev pub count_of : Kind → (place index : ℕ) → Option Counted
+count_of (GenerateFlowFile count text) place index = Some (record { processor = place; count = index })
+count_of _ place index = None
+
+abbrev pub settled_in : Flow → Given → Counters → Ended → Processor → Settled
+settled_in flow given counters ended processor =
+    let files = ended_files (place_in flow given counters ended processor) counters.next_number ended.outcome.files in
+    let first_clone = counters.next_number + count_made ended.outcome.files in
+    let placing = placing_in counters ended in
+    record {
+      processor = ended.processor;
+      moment = given.moment;
+      gone = map (λ file. file.number) ended.taken;
+      placed = returned placing files ++ arrived placing first_clone files;
+      events = numbered_wrapping (counters.last_event + 1)
+          (all_drafts (told_of processor ended.taken given files) ended.outcome.sent first_clone);
+      next_number = first_clone + length (wanted files);
+      next_arrival = counters.next_arrival + (length (firsts files) + length (wanted files));
+      count = count_of processor.kind ended.processor given.index;
+    }
