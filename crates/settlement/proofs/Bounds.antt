@@ -1,16 +1,11 @@
 -- How many clones and events a session has at most.
 use Rattle.std.proofs.Common.{◌≡◌, ℕ, zero, suc, ◌+◌, ◌*◌, ◌^◌, ◌<◌, ◌≤◌, Bool, true, false, cond, List, [], ◌∷◌, ◌++◌, map, length, refl, sym, ap, ◌∙◌, arith, length-append}
 use Rattle.std.specs.Prelude.{Option, Some, None, filter, slice_get, zip}
-use Rattle.std.specs.Option.{option_map_or}
 use Rattle.std.specs.List.{flat_map, enumerate_from}
 use Rattle.std.proofs.lemmas.List.{length-map}
 use Rattle.std.proofs.lemmas.List.FromFn.{length-enumerate_from}
-use Rattle.std.proofs.Math.Nat.{mul_comm}
 use Rattle.flowfile_record.specs.declared.worked.End.{End}
 use Rattle.flowfile_record.specs.declared.worked.End.TheVariants.{To, Back, Removed}
-use Rattle.flowfile_record.specs.declared.worked.Origin.{Origin}
-use Rattle.flowfile_record.specs.declared.worked.Origin.TheVariants as origin
-use Rattle.flowfile_record.specs.declared.worked.Sent.{Sent}
 use Rattle.flowfile_record.specs.declared.worked.Worked.{Worked}
 use Rattle.machine_model.specs.declared.flow.Connection.{Connection}
 use Rattle.machine_model.specs.declared.flow.Flow.{Flow}
@@ -18,12 +13,11 @@ use Rattle.machine_model.specs.declared.flow.Processor.{Processor}
 use Rattle.machine_model.specs.Kinds.{is_among}
 use Rattle.machine_model.specs.Placing as placing
 use Rattle.machine_model.specs.Placing.{goes, leads, to_connections, to_relationship, connections_of}
-use Rattle.machine_model.proofs.Tally.{Each}
 use Rattle.settlement.specs.Ending.{EndingPlace, ended_file, ended_files, goes_to}
 use Rattle.settlement.specs.Placing.{further, wanted}
 use Rattle.settlement.specs.declared.file.EndedFile.{EndedFile}
 
-length_filter : {X : Type 0} (p : X → Bool) (xs : List X) → length (filter p xs) ≤ length xs
+pub length_filter : {X : Type 0} (p : X → Bool) (xs : List X) → length (filter p xs) ≤ length xs
 length_filter p [] = omega arith
 length_filter p (x ∷ xs) =
     elim (p x) as (λ b. length (cond b (x ∷ filter p xs) (filter p xs)) ≤ suc (length xs)) [ true ↦ omega (arith, length_filter p xs) | false ↦ omega (arith, length_filter p xs) ]
@@ -78,3 +72,18 @@ zipped_bound at most le (number ∷ numbers) (moment ∷ entered) (file ∷ file
 -- each file has fewer clones than there are connections
 pub clones-bound : (at : EndingPlace) (next most : ℕ) (files : List Worked) → length at.flow.connections ≤ most → length (wanted (ended_files at next files)) ≤ length files * most
 clones-bound at next most files le = zipped_bound at most le _ _ files
+
+pub wanted_few : (at : EndingPlace) (next : ℕ) (files : List Worked) (made : List EndedFile) → made ≡ ended_files at next files → length at.flow.connections ≤ 65536 → length files ≤ 10000
+    → length (wanted made) ≤ 655360000
+wanted_few at next files made is le few =
+    let bound = clones-bound at next 65536 files le in
+    omega (arith, ap (λ xs. length (wanted xs)) is, bound)
+
+zipped_few : (at : EndingPlace) (numbers entered : List ℕ) (files : List Worked) → length (map (λ f. ended_file at (f.0, f.1.0, f.1.1)) (zip numbers (zip entered files))) ≤ length files
+zipped_few at [] entered files = omega arith
+zipped_few at (number ∷ numbers) [] files = omega arith
+zipped_few at (number ∷ numbers) (moment ∷ entered) [] = omega arith
+zipped_few at (number ∷ numbers) (moment ∷ entered) (file ∷ files) = omega (arith, zipped_few at numbers entered files)
+
+pub made_few : (at : EndingPlace) (next : ℕ) (files : List Worked) (made : List EndedFile) → made ≡ ended_files at next files → length files ≤ 10000 → length made ≤ 10000
+made_few at next files made is few = omega (arith, ap length is, zipped_few at _ _ files)

@@ -108,10 +108,10 @@ pub record IsGone (keep : QueuedFile → Bool) (stays : QueuedFile → List Queu
 
 pub record IsBack (keep : QueuedFile → Bool) (stays : QueuedFile → List QueuedFile) (back : List QueuedFile) (file : QueuedFile) : Type 0 where
   pub goes : keep file ≡ false
-  pub as : QueuedFile
-  pub comes : stays file ≡ as ∷ []
-  pub only : these file.number back ≡ as ∷ []
-  pub place : as.arrival ≡ file.arrival
+  pub new : QueuedFile
+  pub comes : stays file ≡ new ∷ []
+  pub only : these file.number back ≡ new ∷ []
+  pub place : new.arrival ≡ file.arrival
 
 abbrev pub Stays : (keep : QueuedFile → Bool) (stays : QueuedFile → List QueuedFile) (back : List QueuedFile) → QueuedFile → Type 0
 Stays keep stays back file = IsKept keep stays back file ⊎ (IsGone keep stays back file ⊎ IsBack keep stays back file)
@@ -167,7 +167,7 @@ stays_without keep stays back number file ne (inl kept) =
 stays_without keep stays back number file ne (inr (inl gone)) =
     inr (inl (record { goes = gone.goes; nothing = gone.nothing; none = these_others number file.number back ne ∙ gone.none }))
 stays_without keep stays back number file ne (inr (inr comes)) =
-    inr (inr (record { goes = comes.goes; as = comes.as; comes = comes.comes; only = these_others number file.number back ne ∙ comes.only; place = comes.place }))
+    inr (inr (record { goes = comes.goes; new = comes.new; comes = comes.comes; only = these_others number file.number back ne ∙ comes.only; place = comes.place }))
 
 each_without : (keep : QueuedFile → Bool) (stays : QueuedFile → List QueuedFile) (back : List QueuedFile) (number : ℕ) (queue : List QueuedFile)
     → Each (λ other. other.number ≢ number) queue → Each (Stays keep stays back) queue → Each (Stays keep stays (others number back)) queue
@@ -205,8 +205,8 @@ stays-in-place keep stays (file ∷ queue) back rising apart each has = by_case 
         let same = none_these file.number back gone.none in
         rw (gone.goes, gone.nothing) (ap (put_all (filter keep queue)) (sym same) ∙ others_stay)
     by_case (inr (inr comes)) =
-        rw (comes.goes, comes.comes) (take_first file.number comes.as (filter keep queue) back comes.only (from_at comes.as comes.place (filter keep queue) behind) (from_at comes.as comes.place (others file.number back) later)
-        ∙ ap (λ more. comes.as ∷ more) others_stay)
+        rw (comes.goes, comes.comes) (take_first file.number comes.new (filter keep queue) back comes.only (from_at comes.new comes.place (filter keep queue) behind) (from_at comes.new comes.place (others file.number back) later)
+        ∙ ap (λ more. comes.new ∷ more) others_stay)
       where
-        from_at : (as : QueuedFile) → as.arrival ≡ file.arrival → (files : List QueuedFile) → From file.arrival files → From as.arrival files
-        from_at as same files h = from_lower as.arrival file.arrival files (omega arith) h
+        from_at : (new : QueuedFile) → new.arrival ≡ file.arrival → (files : List QueuedFile) → From file.arrival files → From new.arrival files
+        from_at new same files h = from_lower new.arrival file.arrival files (omega arith) h

@@ -28,7 +28,7 @@ use Rattle.settlement.specs.Ending.{goes_to}
 use Rattle.settlement.specs.Handed.{IsHanded, queued}
 use Rattle.settlement.specs.Placing.{arrival_of, placed_at, returned, returning}
 use Rattle.settlement.specs.StateAfter.{placed_file, placed_in, put_all}
-use Rattle.settlement.specs.Whole.{placing_in}
+use Rattle.settlement.specs.Whole.{placing_at}
 use Rattle.settlement.proofs.Arriving.{HasBytes, placed-queued}
 use Rattle.settlement.proofs.ByArrival.{AreApart, From, Has, IsBack, IsGone, IsKept, Rising, Stays, stays-in-place, these}
 use Rattle.settlement.proofs.EndedFiles.{Case, counters_of, ended_of, place, session, taken_numbers}
@@ -83,7 +83,7 @@ found_back c number (file ∷ files) once =
 -- ---- what is placed as coming back
 
 back_same : (c : Case) (file : SettledFile) (goes : Destination) → HasBytes c file → (connection : ℕ)
-    → placed_in c.bytes connection (returning (placing_in (counters_of c.state) c.ended) (ended_of (place c) file) (goes_to goes)) ≡ cond (c.ended.connection == connection) (back_of c file goes) []
+    → placed_in c.bytes connection (returning (placing_at (place c) c.ended.connection c.state.next_arrival) (ended_of (place c) file) (goes_to goes)) ≡ cond (c.ended.connection == connection) (back_of c file goes) []
 back_same c file placing.Returns has connection =
     let at = arrival_of c.ended.taken file.worked.origin in
     elim (c.ended.connection == connection) as (λ b. map (placed_file c.bytes) (cond b (placed_at c.ended.sources at (c.ended.connection, file.number, ended_of (place c) file) ∷ []) []) ≡ cond b (in_queue file file.number at ∷ []) []) [
@@ -107,10 +107,10 @@ cond_append true xs ys = refl
 cond_append false xs ys = refl
 
 returned_same : (c : Case) (connection : ℕ) (files : List SettledFile) → Each (HasBytes c) files
-    → placed_in c.bytes connection (returned (placing_in (counters_of c.state) c.ended) (map (ended_of (place c)) files)) ≡ cond (c.ended.connection == connection) (flat_map (back c) files) []
+    → placed_in c.bytes connection (returned (placing_at (place c) c.ended.connection c.state.next_arrival) (map (ended_of (place c)) files)) ≡ cond (c.ended.connection == connection) (flat_map (back c) files) []
 returned_same c connection [] has = elim (c.ended.connection == connection) as (λ b. [] ≡ cond b (flat_map (back c) []) []) [ true ↦ refl | false ↦ refl ]
 returned_same c connection (file ∷ files) has =
-    placed_append c connection (returning (placing_in (counters_of c.state) c.ended) (ended_of (place c) file) (goes_to file.goes)) (returned (placing_in (counters_of c.state) c.ended) (map (ended_of (place c)) files))
+    placed_append c connection (returning (placing_at (place c) c.ended.connection c.state.next_arrival) (ended_of (place c) file) (goes_to file.goes)) (returned (placing_at (place c) c.ended.connection c.state.next_arrival) (map (ended_of (place c)) files))
     ∙ (λ i. back_same c file file.goes has.0 connection i ++ returned_same c connection files has.1 i)
     ∙ cond_append (c.ended.connection == connection) (back c file) (flat_map (back c) files)
 
@@ -154,7 +154,7 @@ many_numbers : (n : ℕ) (files : List SettledFile) → many (λ (file : Settled
 many_numbers n files = sym (tally-map (λ (m : ℕ). bit (m == n)) (λ (file : SettledFile). file.number) files)
 
 -- how many files have a number
-many_files : (c : Case) (n : ℕ) → AreInTurn 0 (length c.ended.taken) c.ended.outcome.files
+pub many_files : (c : Case) (n : ℕ) → AreInTurn 0 (length c.ended.taken) c.ended.outcome.files
     → many (λ (file : SettledFile). file.number) n (files_of c)
     ≡ many (λ (file : FlowFile). file.number) n c.ended.taken + many (λ (m : ℕ). m) n (range_with_len c.state.next_number (count_made c.ended.outcome.files))
 many_files c n turn =
@@ -259,7 +259,7 @@ each_of : {X : Type 0} (P : X → Type 0) (xs : List X) → ((x : X) → Among x
 each_of P [] h = tt
 each_of P (x ∷ xs) h = (h x (inl refl), each_of P xs (λ y there. h y (inr there)))
 
-in_all : (queues : List (List QueuedFile)) (k : ℕ) (file : QueuedFile) → Among file (unwrap_or (slice_get queues k) []) → Among file (flat_map (λ queue. queue) queues)
+pub in_all : (queues : List (List QueuedFile)) (k : ℕ) (file : QueuedFile) → Among file (unwrap_or (slice_get queues k) []) → Among file (flat_map (λ queue. queue) queues)
 in_all [] k file h = absurd h
 in_all (queue ∷ queues) zero file h = among_left file queue (flat_map (λ queue. queue) queues) h
 in_all (queue ∷ queues) (suc k) file h = among_right file queue (flat_map (λ queue. queue) queues) (in_all queues k file h)
@@ -348,9 +348,9 @@ comes_or_goes c file all found is same these_are arrival = by_goal found.goes re
   where
     by_goal : (goes : Destination) → found.goes ≡ goes → Stays (keeps c) (stays c) all file
     by_goal placing.Returns goes =
-        let as = in_queue found found.number (arrival_of c.ended.taken found.worked.origin) in
-        let one : back c found ≡ as ∷ [] = ap (back_of c found) goes in
-        inr (inr (record { goes = ap not is; as = as; comes = same ∙ one; only = these_are ∙ one; place = arrival }))
+        let new = in_queue found found.number (arrival_of c.ended.taken found.worked.origin) in
+        let one : back c found ≡ new ∷ [] = ap (back_of c found) goes in
+        inr (inr (record { goes = ap not is; new = new; comes = same ∙ one; only = these_are ∙ one; place = arrival }))
     by_goal (placing.Queues first others) goes =
         let none : back c found ≡ [] = ap (back_of c found) goes in inr (inl (record { goes = ap not is; nothing = same ∙ none; none = these_are ∙ none }))
     by_goal (placing.Drops relationship) goes =
@@ -439,7 +439,7 @@ stays_at c s k all each has =
     stays-in-place (keeps c) (stays c) (queue_at c.state k) all (rising (queue_at c.state k) (by_arrival_at c.state.queues k s.valid.by_arrival)) (apart (queue_at c.state k) (queue_once c s k)) each has
 
 pub queue-stays : (c : Case) → Stands c → (k : ℕ)
-    → put_all (without_files (queue_at c.state k) (gone c)) (placed_in c.bytes k (returned (placing_in (counters_of c.state) c.ended) (map (ended_of (place c)) (files_of c))))
+    → put_all (without_files (queue_at c.state k) (gone c)) (placed_in c.bytes k (returned (placing_at (place c) c.ended.connection c.state.next_arrival) (map (ended_of (place c)) (files_of c))))
     ≡ staying (files_of c) (queue_at c.state k)
 queue-stays c s k =
     ap (put_all (without_files (queue_at c.state k) (gone c))) (returned_same c k (files_of c) s.bytes)

@@ -37,7 +37,7 @@ use Rattle.settlement.specs.Handed.{IsHanded, MaySettle, queued, sizes_of}
 use Rattle.settlement.specs.Placing.{arrived, clones_from, firsts, placed_from, returned, wanted}
 use Rattle.settlement.specs.StateAfter.{counts_with, placed_in, put_all, put_by_arrival, queue_after, state_after, Settles}
 use Rattle.settlement.specs.Telling.{all_drafts, numbered_wrapping}
-use Rattle.settlement.specs.Whole.{count_of, placing_in, settled_in, told_of}
+use Rattle.settlement.specs.Whole.{count_of, placing_at, settled_in, told_of}
 use Rattle.settlement.specs.declared.counters.Counters.{Counters}
 use Rattle.settlement.specs.declared.file.EndedFile.{EndedFile}
 use Rattle.settlement.specs.declared.handed.Ended.{Ended}
@@ -53,10 +53,10 @@ use Rattle.settlement.proofs.ToldEvents.{as_ended, drafts-same, told, wanted-sam
 
 -- ---- a settlement over the machine's files
 
-abbrev settled_over : Case → List EndedFile → Settled
+abbrev pub settled_over : Case → List EndedFile → Settled
 settled_over c files =
     let first_clone = c.state.next_number + count_made c.ended.outcome.files in
-    let at = placing_in (counters_of c.state) c.ended in
+    let at = placing_at (place c) c.ended.connection c.state.next_arrival in
     record {
       processor = c.ended.processor;
       moment = c.given.moment;
@@ -71,7 +71,7 @@ settled_over c files =
 abbrev ended_all : Case → List EndedFile
 ended_all c = map (ended_of (place c)) (files_of c)
 
-abbrev first_clone : Case → ℕ
+abbrev pub first_clone : Case → ℕ
 first_clone c = c.state.next_number + count_made c.ended.outcome.files
 
 abbrev clones_of : Case → List SettlementClone
@@ -79,7 +79,7 @@ clones_of c = settlement_clones (session c) c.ended.outcome.files
 
 -- ---- queues
 
-arrived_same : (c : Case) → arrived (placing_in (counters_of c.state) c.ended) (first_clone c) (ended_all c)
+arrived_same : (c : Case) → arrived (placing_at (place c) c.ended.connection c.state.next_arrival) (first_clone c) (ended_all c)
     ≡ placed_from c.ended.sources c.state.next_arrival (map (as_placed c) (comers (files_of c) (clones_of c)))
 arrived_same c =
     sym (placed.placed-append c.ended.sources c.state.next_arrival (firsts (ended_all c)) (clones_from (first_clone c) (wanted (ended_all c))))
@@ -133,7 +133,7 @@ queue_same : (c : Case) → Stands c → (k : ℕ)
     → queue_after c.bytes (settled_over c (ended_all c)) (k, queue_at c.state k)
     ≡ staying (files_of c) (queue_at c.state k) ++ arriving c.state.next_arrival k (newcomers (files_of c) (clones_of c))
 queue_same c s k =
-    let at = placing_in (counters_of c.state) c.ended in
+    let at = placing_at (place c) c.ended.connection c.state.next_arrival in
     let left = without_files (queue_at c.state k) (map (λ (file : FlowFile). file.number) c.ended.taken) in
     let news = comers (files_of c) (clones_of c) in
     ap (put_all left) (placed-append c k (returned at (ended_all c)) (arrived at (first_clone c) (ended_all c)))
@@ -184,7 +184,7 @@ newcomer_count c =
 -- ---- events and kin
 
 -- the events aren't so many that their numbers wouldn't fit
-abbrev EventsFit : Case → Type 0
+abbrev pub EventsFit : Case → Type 0
 EventsFit c = length c.state.events + 1 + length (all_drafts (told c (files_of c)) c.ended.outcome.sent (first_clone c)) ≤ 2 ^ 64
 
 events_same : (c : Case) → EventsFit c → (settled_over c (ended_all c)).events ≡ numbered_from (length c.state.events + 1) (drafts (session c) c.ended.outcome)

@@ -86,12 +86,12 @@ step_of c relationships place next entered worked (origin.Taken of) is le turn e
     let within : of < length c.ended.taken = omega (arith, turn.0, turn.1) in
     let at = taken_at c.ended.taken of within in
     (inl (record { taken = at.file; there = at.there; number = at.number; arrival = ap (arrival_of c.ended.taken) is ∙ at.arrival }), omega arith)
-step_of c relationships place next entered worked origin.Created is le turn ends = (inr (record { number = le; stays_out = made_goes_on c _ relationships origin.Created worked.«end» refl ends }), omega arith)
-step_of c relationships place next entered worked origin.Received is le turn ends = (inr (record { number = le; stays_out = made_goes_on c _ relationships origin.Received worked.«end» refl ends }), omega arith)
-step_of c relationships place next entered worked (origin.Forked of) is le turn ends = (inr (record { number = le; stays_out = made_goes_on c _ relationships (origin.Forked of) worked.«end» refl ends }), omega arith)
-step_of c relationships place next entered worked (origin.Part of) is le turn ends = (inr (record { number = le; stays_out = made_goes_on c _ relationships (origin.Part of) worked.«end» refl ends }), omega arith)
-step_of c relationships place next entered worked (origin.Cloned of) is le turn ends = (inr (record { number = le; stays_out = made_goes_on c _ relationships (origin.Cloned of) worked.«end» refl ends }), omega arith)
-step_of c relationships place next entered worked (origin.Joined of) is le turn ends = (inr (record { number = le; stays_out = made_goes_on c _ relationships (origin.Joined of) worked.«end» refl ends }), omega arith)
+step_of c relationships place next entered worked origin.Created is le turn ends = (inr (record { number = le; stays_out = made_goes_on c (settled_file (session c) (next, entered, worked)) relationships origin.Created worked.«end» refl ends }), omega arith)
+step_of c relationships place next entered worked origin.Received is le turn ends = (inr (record { number = le; stays_out = made_goes_on c (settled_file (session c) (next, entered, worked)) relationships origin.Received worked.«end» refl ends }), omega arith)
+step_of c relationships place next entered worked (origin.Forked of) is le turn ends = (inr (record { number = le; stays_out = made_goes_on c (settled_file (session c) (next, entered, worked)) relationships (origin.Forked of) worked.«end» refl ends }), omega arith)
+step_of c relationships place next entered worked (origin.Part of) is le turn ends = (inr (record { number = le; stays_out = made_goes_on c (settled_file (session c) (next, entered, worked)) relationships (origin.Part of) worked.«end» refl ends }), omega arith)
+step_of c relationships place next entered worked (origin.Cloned of) is le turn ends = (inr (record { number = le; stays_out = made_goes_on c (settled_file (session c) (next, entered, worked)) relationships (origin.Cloned of) worked.«end» refl ends }), omega arith)
+step_of c relationships place next entered worked (origin.Joined of) is le turn ends = (inr (record { number = le; stays_out = made_goes_on c (settled_file (session c) (next, entered, worked)) relationships (origin.Joined of) worked.«end» refl ends }), omega arith)
 
 pub each-either : (c : Case) (relationships : ℕ) (sizes : List ℕ) (place next : ℕ) (entered : List ℕ) (files : List Worked) → c.state.next_number ≤ next
     → AreInTurn place (length c.ended.taken) files → All (IsWorked relationships sizes) files

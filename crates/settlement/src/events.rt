@@ -52,7 +52,8 @@ impl Teller<'_> {
         self.tell_row(events, Row::Received)?;
         self.tell_row(events, Row::Forked)?;
         self.tell_row(events, Row::Joined)?;
-        self.tell_row(events, Row::Cloned)
+        self.tell_row(events, Row::Cloned)?;
+        Ok(())
     }
 
     /// What changed of the taken files, and which files were routed.
@@ -62,7 +63,8 @@ impl Teller<'_> {
     {
         self.tell_row(events, Row::ContentModified)?;
         self.tell_row(events, Row::AttributesModified)?;
-        self.tell_row(events, Row::Routed)
+        self.tell_row(events, Row::Routed)?;
+        Ok(())
     }
 
     fn tell_row(&self, events: &mut Vec<Event>, row: Row) -> Result<(), AllocError>

@@ -1,5 +1,5 @@
 //! The children of a session's files.
-ghost use Rattle.std.specs.Prelude.{◌≡◌, IfOk, Some};
+ghost use Rattle.std.specs.Prelude.{◌≡◌, ◌++◌, ◌∷◌, [], IfOk, OnOk};
 ghost use Rattle.settlement.specs.Telling.{all_children, children_of, is_child};
 
 use crate::file::EndedFile;
@@ -38,12 +38,27 @@ fn children_of(
 ) -> Result<Numbers, AllocError>
     ensures { IfOk result (λ children. children ≡ children_of kinship files.now place) }
 {
-    let children: Vec<u64> = files
-        .iter()
-        .filter(|file| is_child(kinship, place, &file.worked.origin))
-        .map(|file| file.number)
-        .collect(alloc)?;
+    let mut children = Vec::new(alloc);
+    for file in files {
+        add_child(&mut children, kinship, place, file)?;
+    }
     Ok(Numbers::from(children))
+}
+
+/// Adds the file's number where it is such a child of the file at a place.
+fn add_child(
+    children: &mut Vec<u64>,
+    kinship: Kinship,
+    place: u64,
+    file: &EndedFile,
+) -> Result<(), AllocError>
+    ensures { OnOk result (children.new.items ≡ children.old.items
+        ++ children_of kinship (file.now ∷ []) place) }
+{
+    if is_child(kinship, place, &file.worked.origin) {
+        children.push(file.number)?;
+    }
+    Ok(())
 }
 
 fn is_child(kinship: Kinship, place: u64, origin: &Origin) -> bool

@@ -1,12 +1,12 @@
 //! The settlement of a session.
 ghost use Rattle.std.specs.Prelude.{◌≡◌, ◌+◌, ◌<◌, ◌≤◌, ◌^◌, ℕ, List, All, length, map, slice_get, IfOk, Some};
 ghost use Rattle.machine_model.specs.Placing.{count_made};
-ghost use Rattle.settlement.specs.Ending.{IsWorkedWithin, ended_files};
+ghost use Rattle.settlement.specs.Ending.{place_of};
 ghost use Rattle.settlement.specs.Handed.{MaySettle};
 ghost use Rattle.settlement.specs.Placing.{wanted};
 ghost use Rattle.settlement.specs.StateAfter.{Settles};
 ghost use Rattle.settlement.specs.Telling.{all_drafts, numbered_wrapping};
-ghost use Rattle.settlement.specs.Whole.{count_of, settled_in, told_of};
+ghost use Rattle.settlement.specs.Whole.{MayEnd, count_of, settled_in, settled_of, told_of};
 
 use crate::events::Teller;
 use crate::file::EndedFile;
@@ -46,7 +46,6 @@ fn settle_at(
     requires { MaySettle flow.now counters ended }
     ensures { IfOk result (λ settled. settled ≡ settled_in flow.now given.now counters ended processor.now) }
 {
-    let first_clone = counters.next_number + count_made(ended.outcome.files.as_slice());
     let Ended {
         processor: place,
         connection,
@@ -54,7 +53,6 @@ fn settle_at(
         sources,
         outcome,
     } = ended;
-    let Outcome { files, sent } = outcome;
     let setting = Setting {
         alloc,
         flow,
@@ -65,29 +63,45 @@ fn settle_at(
         taken: taken.as_slice(),
         sources: sources.as_slice(),
     };
+    settle_files(&setting, given, counters, connection, outcome)
+}
+
+/// What becomes of the files of an outcome. Those that were taken stood in the queue of this connection.
+fn settle_files(
+    setting: &Setting,
+    given: &Given,
+    counters: Counters,
+    connection: u16,
+    outcome: Outcome,
+) -> Result<Settled, AllocError>
+    requires { MayEnd (place_of setting.now) counters outcome }
+    ensures { IfOk result (λ settled. settled
+        ≡ settled_of (place_of setting.now) given.now counters connection outcome) }
+{
+    let first_clone = counters.next_number + count_made(outcome.files.as_slice());
+    let Outcome { files, sent } = outcome;
     let files = setting.end_files(counters.next_number, files.into_vec())?;
-    let first = counters.last_event + 1;
-    let events = tell(&setting, given, &files, &sent, first, first_clone)?;
-    let newcomers = count_firsts(&files) + count_clones(&files);
-    let next_number = first_clone + count_clones(&files);
+    let events = tell(setting, given, &files, &sent, counters.last_event + 1, first_clone)?;
+    let firsts = count_firsts(&files);
+    let clones = count_clones(&files);
     let placer = Placer {
-        alloc,
+        alloc: setting.alloc,
         connection,
-        taken: taken.as_slice(),
-        sources: sources.as_slice(),
+        taken: setting.taken,
+        sources: setting.sources,
         next_arrival: counters.next_arrival,
     };
     let placed = placer.place_all(first_clone, files)?;
-    let gone = numbers_of(alloc, taken.as_slice())?;
+    let gone = numbers_of(setting.alloc, setting.taken)?;
     Ok(Settled {
-        processor: place,
+        processor: setting.place,
         moment: given.moment,
         gone,
         placed: PlacedList::from(placed),
         events: EventList::from(events),
-        next_number,
-        next_arrival: counters.next_arrival + newcomers,
-        count: count_of(&processor.kind, place, given.index),
+        next_number: first_clone + clones,
+        next_arrival: counters.next_arrival + (firsts + clones),
+        count: count_of(&setting.processor.kind, setting.place, given.index),
     })
 }
 

@@ -3,8 +3,8 @@ use Rattle.settlement.specs.Placing.{further}
 use Rattle.settlement.specs.Telling.{clone_events, numbered_wrapping, told_by}
 use Rattle.settlement.proofs.events.Teller.tell_clones_of.Given as goal
 
-abbrev pub invariant-loop-_connection : goal.invariant-loop-_connection
-invariant-loop-_connection l = record {
+abbrev pub invariant-loop-connection : goal.invariant-loop-connection
+invariant-loop-connection l = record {
   next : l.next ≡ l.first + l._connection-index;
   whole : l.events.items ++ numbered_wrapping (l.self.first + length l.events.items)
       (clone_events (told_by l.self) l.next (map (λ connection. (l.file, connection)) (drop l._connection-index (further l.file.goes))))
