@@ -4,6 +4,7 @@ use Rattle.std.specs.Prelude.{Option, Some, None, filter, slice_get, zip}
 use Rattle.std.specs.List.{flat_map, enumerate_from}
 use Rattle.std.proofs.lemmas.List.{length-map}
 use Rattle.std.proofs.lemmas.List.FromFn.{length-enumerate_from}
+use Rattle.flowfile_record.specs.declared.flow_file.FlowFile.{FlowFile}
 use Rattle.flowfile_record.specs.declared.worked.End.{End}
 use Rattle.flowfile_record.specs.declared.worked.End.TheVariants.{To, Back, Removed}
 use Rattle.flowfile_record.specs.declared.worked.Worked.{Worked}
@@ -12,7 +13,7 @@ use Rattle.machine_model.specs.declared.flow.Flow.{Flow}
 use Rattle.machine_model.specs.declared.flow.Processor.{Processor}
 use Rattle.machine_model.specs.Kinds.{is_among}
 use Rattle.machine_model.specs.Placing as placing
-use Rattle.machine_model.specs.Placing.{goes, leads, to_connections, to_relationship, connections_of}
+use Rattle.machine_model.specs.Placing.{entered_in, goes, leads, numbers_from, to_connections, to_relationship, connections_of}
 use Rattle.settlement.specs.Ending.{EndingPlace, ended_file, ended_files, goes_to}
 use Rattle.settlement.specs.Placing.{further, wanted}
 use Rattle.settlement.specs.declared.file.EndedFile.{EndedFile}
@@ -86,4 +87,4 @@ zipped_few at (number ∷ numbers) (moment ∷ entered) [] = omega arith
 zipped_few at (number ∷ numbers) (moment ∷ entered) (file ∷ files) = omega (arith, zipped_few at numbers entered files)
 
 pub made_few : (at : EndingPlace) (next : ℕ) (files : List Worked) (made : List EndedFile) → made ≡ ended_files at next files → length files ≤ 10000 → length made ≤ 10000
-made_few at next files made is few = omega (arith, ap length is, zipped_few at _ _ files)
+made_few at next files made is few = omega (arith, ap length is, zipped_few at (numbers_from next (map (λ (file : FlowFile). file.number) at.taken) files) (entered_in at.moment (map (λ (file : FlowFile). file.entered) at.taken) files) files)

@@ -1,5 +1,5 @@
 -- That putting files into a queue by their arrivals leaves what stays of it, each file in its place.
-use Rattle.std.proofs.Common.{◌≡◌, ◌≢◌, inl, inr, ℕ, zero, suc, ◌+◌, ◌<◌, ◌≤◌, Bool, true, false, cond, List, [], ◌∷◌, ◌++◌, map, length, refl, sym, ap, ◌∙◌, arith, append_assoc}
+use Rattle.std.proofs.Common.{◌≡◌, ◌≢◌, ◌⊎◌, inl, inr, ℕ, zero, suc, ◌+◌, ◌<◌, ◌≤◌, Bool, true, false, cond, List, [], ◌∷◌, ◌++◌, map, length, refl, sym, ap, ◌∙◌, arith, append_assoc}
 use Rattle.std.specs.Prelude.{◌==◌, not, nat_lt, filter, fold}
 use Rattle.std.specs.List.{flat_map}
 use Rattle.std.proofs.lemmas.Bool.{cases_eq, ne_eqb, eq-eqb, eqb-true, lt-ltb, ltb-true, le-ltb}
@@ -49,7 +49,7 @@ put_from low file [] l h = (l, tt)
 put_from low file (other ∷ queue) l h =
     elim (nat_lt other.arrival file.arrival) as (λ b. From low (cond b (other ∷ put_by_arrival queue file) (file ∷ other ∷ queue))) [
       | true ↦ (h.0, put_from low file queue l h.1)
-      | false ↦ (l, h.0, h.1)
+      | false ↦ (l, (h.0, h.1))
     ]
 
 -- a first one stays the first
@@ -175,38 +175,30 @@ each_without keep stays back number [] apart each = tt
 each_without keep stays back number (file ∷ queue) apart each =
     (stays_without keep stays back number file apart.0 each.0, each_without keep stays back number queue apart.1 each.1)
 
+from_at : (new file : QueuedFile) → new.arrival ≡ file.arrival → (files : List QueuedFile) → From file.arrival files → From new.arrival files
+from_at new file same files h = from_lower new.arrival file.arrival files (omega arith) h
+
+-- one file of the queue, where the others stay in their places
+stays_step : (keep : QueuedFile → Bool) (stays : QueuedFile → List QueuedFile) (file : QueuedFile) (queue back : List QueuedFile) → From file.arrival queue → From file.arrival (others file.number back)
+    → put_all (filter keep queue) (others file.number back) ≡ flat_map stays queue → Stays keep stays back file
+    → put_all (cond (keep file) (file ∷ filter keep queue) (filter keep queue)) back ≡ stays file ++ flat_map stays queue
+stays_step keep stays file queue back behind later rest (inl kept) =
+    let same = none_these file.number back kept.none in
+    rw (kept.keeps, kept.as_it_is) (put_all_behind file (filter keep queue) back (rw same at later) ∙ ap (λ more. file ∷ put_all (filter keep queue) more) (sym same) ∙ ap (λ more. file ∷ more) rest)
+stays_step keep stays file queue back behind later rest (inr (inl gone)) =
+    let same = none_these file.number back gone.none in
+    rw (gone.goes, gone.nothing) (ap (put_all (filter keep queue)) (sym same) ∙ rest)
+stays_step keep stays file queue back behind later rest (inr (inr comes)) =
+    rw (comes.goes, comes.comes) (take_first file.number comes.new (filter keep queue) back comes.only (from_at comes.new file comes.place (filter keep queue) (from_filter file.arrival keep queue behind))
+    (from_at comes.new file comes.place (others file.number back) later)
+    ∙ ap (λ more. comes.new ∷ more) rest)
+
 -- the queue without what goes, and with what comes back put in by arrival, is what stays of each file
 pub stays-in-place : (keep : QueuedFile → Bool) (stays : QueuedFile → List QueuedFile) (queue back : List QueuedFile) → Rising queue → AreApart queue
     → Each (Stays keep stays back) queue → Each (Has queue) back → put_all (filter keep queue) back ≡ flat_map stays queue
 stays-in-place keep stays [] [] rising apart each has = refl
 stays-in-place keep stays [] (file ∷ back) rising apart each has = absurd has.0
-stays-in-place keep stays (file ∷ queue) back rising apart each has = by_case each.0
-  where
-    rest : List QueuedFile
-    rest = filter keep queue
-
-    has_rest : Each (Has queue) (others file.number back)
-    has_rest = others_have file queue back has
-
-    later : From file.arrival (others file.number back)
-    later = all_later file.arrival queue (others file.number back) rising.0 has_rest
-
-    behind : From file.arrival (filter keep queue)
-    behind = from_filter file.arrival keep queue rising.0
-
-    others_stay : put_all (filter keep queue) (others file.number back) ≡ flat_map stays queue
-    others_stay = stays-in-place keep stays queue (others file.number back) rising.1 apart.1 (each_without keep stays back file.number queue apart.0 each.1) has_rest
-
-    by_case : Stays keep stays back file → put_all (cond (keep file) (file ∷ filter keep queue) (filter keep queue)) back ≡ stays file ++ flat_map stays queue
-    by_case (inl kept) =
-        let same = none_these file.number back kept.none in
-        rw (kept.keeps, kept.as_it_is) (put_all_behind file (filter keep queue) back (rw same at later) ∙ ap (λ more. file ∷ put_all (filter keep queue) more) (sym same) ∙ ap (λ more. file ∷ more) others_stay)
-    by_case (inr (inl gone)) =
-        let same = none_these file.number back gone.none in
-        rw (gone.goes, gone.nothing) (ap (put_all (filter keep queue)) (sym same) ∙ others_stay)
-    by_case (inr (inr comes)) =
-        rw (comes.goes, comes.comes) (take_first file.number comes.new (filter keep queue) back comes.only (from_at comes.new comes.place (filter keep queue) behind) (from_at comes.new comes.place (others file.number back) later)
-        ∙ ap (λ more. comes.new ∷ more) others_stay)
-      where
-        from_at : (new : QueuedFile) → new.arrival ≡ file.arrival → (files : List QueuedFile) → From file.arrival files → From new.arrival files
-        from_at new same files h = from_lower new.arrival file.arrival files (omega arith) h
+stays-in-place keep stays (file ∷ queue) back rising apart each has =
+    let there = others_have file queue back has in
+    stays_step keep stays file queue back rising.0 (all_later file.arrival queue (others file.number back) rising.0 there)
+    (stays-in-place keep stays queue (others file.number back) rising.1 apart.1 (each_without keep stays back file.number queue apart.0 each.1) there) each.0

@@ -66,8 +66,8 @@ all_has c relationships (number ∷ numbers) (moment ∷ entered) (file ∷ file
 none_above : (taken : List FlowFile) (next n : ℕ) → ((one : FlowFile) → Among one taken → one.number < next) → next ≤ n → many (λ (file : FlowFile). file.number) n taken ≡ 0
 none_above [] next n below le = refl
 none_above (file ∷ taken) next n below le =
-    let no : (file.number == n) ≡ false = ne_eqb file.number n (λ same. omega (arith, below file (inl refl))) in
-    rw no (none_above taken next n (λ one there. below one (inr there)) le)
+    let none : bit (file.number == n) ≡ 0 = ap bit (ne_eqb file.number n (λ same. omega (arith, below file (inl refl)))) in
+    omega (arith, none_above taken next n (λ one there. below one (inr there)) le)
 
 abbrev case_of : Flow → Given → Ended → Processor → (ContentRef → List ℕ) → State → Case
 case_of flow given ended processor bytes state = record { flow = flow; given = given; ended = ended; processor = processor; bytes = bytes; state = state }
@@ -97,10 +97,10 @@ stands c counters may handed = record { valid = handed.valid; there = there; kno
     either : Each (IsEitherOne c) (files_of c)
     either =
         rw (taken_numbers c.bytes c.ended.taken)
-        (each-either c may.relationships (sizes_of c.ended.taken) 0 c.state.next_number _ c.ended.outcome.files (omega arith) turn may.outcome.each)
+        (each-either c may.relationships (sizes_of c.ended.taken) 0 c.state.next_number (entered_in c.given.moment (map (λ (file : QueuedFile). file.entered) (map (queued c.bytes) c.ended.taken)) c.ended.outcome.files) c.ended.outcome.files (omega arith) turn may.outcome.each)
 
     has : Each (HasBytes c) (files_of c)
-    has = all_has c may.relationships _ _ c.ended.outcome.files handed.read may.parts may.outcome.each
+    has = all_has c may.relationships (numbers_from c.state.next_number (map (λ (file : QueuedFile). file.number) (map (queued c.bytes) c.ended.taken)) c.ended.outcome.files) (entered_in c.given.moment (map (λ (file : QueuedFile). file.entered) (map (queued c.bytes) c.ended.taken)) c.ended.outcome.files) c.ended.outcome.files handed.read may.parts may.outcome.each
 
 -- ---- events
 
@@ -113,7 +113,7 @@ files_few c (number ∷ numbers) (moment ∷ entered) (file ∷ files) = omega (
 fits : (c : Case) (counters : Counters) → MaySettle c.flow counters c.ended → IsHanded c.flow counters c.ended c.processor c.bytes c.state → EventsFit c
 fits c counters may handed =
     let files = map (ended_of (place c)) (files_of c) in
-    let few : length files ≤ 10000 = omega (arith, length-map (files_of c) (ended_of (place c)), files_few c _ _ c.ended.outcome.files, may.outcome.count) in
+    let few : length files ≤ 10000 = omega (arith, length-map (files_of c) (ended_of (place c)), files_few c (numbers_from c.state.next_number (map (λ (file : QueuedFile). file.number) (map (queued c.bytes) c.ended.taken)) c.ended.outcome.files) (entered_in c.given.moment (map (λ (file : QueuedFile). file.entered) (map (queued c.bytes) c.ended.taken)) c.ended.outcome.files) c.ended.outcome.files, may.outcome.count) in
     let same : ended_files (place c) c.state.next_number c.ended.outcome.files ≡ files = ended-same c c.ended.outcome.files handed.read may.parts in
     let clones : length (wanted files) ≤ length c.ended.outcome.files * 65536
     = subst (λ xs. length (wanted xs) ≤ length c.ended.outcome.files * 65536) same (clones-bound (place c) c.state.next_number 65536 c.ended.outcome.files may.connections) in

@@ -74,3 +74,9 @@ no_child kinship place file old h = rw h (sym (append-nil old))
 -- other drafts that are the same
 pub on_ok_told : {E : Type 0} (result : Result (Unit {0}) E) (first : ℕ) (old new : List Event) (drafts others : List Draft) → drafts ≡ others → OnOk result (Adds first old drafts new) → OnOk result (Adds first old others new)
 on_ok_told result first old new drafts others same told = subst (λ ds. OnOk result (Adds first old ds new)) same told
+
+pub got_is : {X : Type 0} (xs : List X) (i : ℕ) (x other : X) → i < length xs → x ≡ get_or xs i x → slice_get xs i ≡ Some other → other ≡ x
+got_is xs i x other h is found =
+    let same : Some other ≡ Some (get_or xs i x) = sym found ∙ within xs i x h in
+    let equal : other ≡ get_or xs i x = cc in
+    equal ∙ sym is

@@ -1,6 +1,7 @@
 -- That a made file's attributes have room for its name.
 use Rattle.std.proofs.Common.{◌≡◌, ℕ, ◌+◌, ◌≤◌, Bool, true, false, List, length, refl, sym, ap, ◌∙◌, arith}
-use Rattle.std.specs.Prelude.{◌&&◌, not, codes, if◌then◌else◌}
+use Rattle.std.specs.Prelude.{◌&&◌, not, codes, is_some, Option, None, Some, if◌then◌else◌}
+use Rattle.std.specs.Option.{option_map}
 use Rattle.std.specs.FinMap.{contains_key, insert}
 use Rattle.uuid.specs.Text.{hyphenated_text, lower}
 use Rattle.uuid.proofs.TextLemmas.{by_index_length}
@@ -22,3 +23,7 @@ pub named_fits : (from : Origin) (attributes : AttributeMap) (store number : ℕ
 named_fits from attributes store number made lacks fits =
     let come : filename_to_come from attributes ≡ 50 = ap (λ b. if b && not (contains_key attributes (codes "filename")) then 50 else 0) made ∙ ap (λ b. if true && not b then 50 else 0) lacks in
     omega (arith, encoded_size-insert attributes (codes "filename") (hyphenated_text lower (identifier store number)), name_size store number, come)
+
+pub some_map : {X Y : Type 0} (f : X → Y) (found : Option X) → is_some (option_map f found) ≡ is_some found
+some_map f None = refl
+some_map f (Some x) = refl

@@ -211,8 +211,8 @@ many_gone c n = sym (tally-map (λ (m : ℕ). bit (m == n)) (λ (file : FlowFile
 
 -- a queued file that wasn't taken is none of the session's
 not_found : (c : Case) (n : ℕ) → AreKnown c → n < c.state.next_number → is_number_among (gone c) n ≡ false → many (λ (file : SettledFile). file.number) n (files_of c) ≡ 0
-not_found c n known below no =
-    let none : many (λ (m : ℕ). m) n (gone c) ≡ 0 = nothing (many (λ (m : ℕ). m) n (gone c)) (λ some. true≢false (sym (among_numbers n (gone c) some) ∙ no)) in
+not_found c n known below absent =
+    let none : many (λ (m : ℕ). m) n (gone c) ≡ 0 = nothing (many (λ (m : ℕ). m) n (gone c)) (λ some. true≢false (sym (among_numbers n (gone c) some) ∙ absent)) in
     omega (arith, many_files c n known.turn, many_gone c n, run_below c.state.next_number (count_made c.ended.outcome.files) n below)
   where
     nothing : (k : ℕ) → (1 ≤ k → ⊥) → k ≡ 0
@@ -232,10 +232,10 @@ back_here c = flat_map (back c) (files_of c)
 
 kept_as_it_is : (c : Case) (file : QueuedFile) (all : List QueuedFile) → AreKnown c → file.number < c.state.next_number → is_number_among (gone c) file.number ≡ false
     → (these file.number all ≡ these file.number (back_here c)) → IsKept (keeps c) (stays c) all file
-kept_as_it_is c file all known below no same =
-    let none = not_found c file.number known below no in
+kept_as_it_is c file all known below absent same =
+    let none = not_found c file.number known below absent in
     record {
-      keeps = ap not no;
+      keeps = ap not absent;
       as_it_is = ap (staying_as file) (none_found file.number (files_of c) none);
       none = same ∙ none_back c file.number (files_of c) none;
     }
@@ -328,8 +328,8 @@ taken_number [] n h = absurd (omega arith)
 taken_number (file ∷ taken) n h =
     elim (cases_eq file.number n) [
       | inl is ↦ (file, (inl refl, is))
-      | inr ne ↦ let no : (file.number == n) ≡ false = ne_eqb file.number n ne in
-          let rest = taken_number taken n (rw no at h) in
+      | inr ne ↦ let none : bit (file.number == n) ≡ 0 = ap bit (ne_eqb file.number n ne) in
+          let rest = taken_number taken n (omega arith) in
           (rest.0, (inr rest.1.0, rest.1.1))
     ]
 

@@ -25,7 +25,7 @@ put_least : (m n : ℕ) (xs : List ℕ) → m ≤ n → Each (λ y. m ≤ y) xs 
 put_least m n [] le h = (le, tt)
 put_least m n (x ∷ xs) le h =
     elim (nat_le n x) as (λ b. Each (λ y. m ≤ y) (cond b (n ∷ x ∷ xs) (x ∷ put_ascending n xs))) [
-      | true ↦ (le, h.0, h.1)
+      | true ↦ (le, (h.0, h.1))
       | false ↦ (h.0, put_least m n xs le h.1)
     ]
 
@@ -47,7 +47,7 @@ counted_least m n [] h c = absurd (omega arith)
 counted_least m n (x ∷ xs) h c =
     elim (cases_eq x n) [
       | inl e ↦ omega (arith, h.0)
-      | inr ne ↦ let no : (x == n) ≡ false = ne_eqb x n ne in counted_least m n xs h.1 (rw no at c)
+      | inr ne ↦ let none : bit (x == n) ≡ 0 = ap bit (ne_eqb x n ne) in counted_least m n xs h.1 (omega arith)
     ]
 
 here : (x : ℕ) (xs : List ℕ) → many (λ (k : ℕ). k) x (x ∷ xs) ≡ 1 + many (λ (k : ℕ). k) x xs
@@ -86,7 +86,9 @@ sorted_up : (xs : List ℕ) → IsSorted nat_cmp xs → Up xs
 sorted_up [] h = tt
 sorted_up (x ∷ []) h = (tt, tt)
 sorted_up (x ∷ y ∷ xs) h =
-    let rest : Up (y ∷ xs) = sorted_up (y ∷ xs) (λ k d low high. h (k + 1) d (omega arith) (omega arith)) in
+    let rest : Up (y ∷ xs) = sorted_up (y ∷ xs) (λ k d low high.
+    let place : suc k + 1 ≡ suc (k + 1) = omega arith in
+    subst (λ n. is_lt (nat_cmp (get_or (x ∷ y ∷ xs) n d) (get_or (y ∷ xs) k d)) ≡ false) place (h (suc k) d (omega arith) (omega arith))) in
     let le : x ≤ y = not_less x y (h 0 0 (omega arith) (omega arith)) in
     ((le, each_least x y xs le rest.0), rest)
 

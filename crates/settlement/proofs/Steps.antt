@@ -42,13 +42,13 @@ pub each_all : (n : ℕ) (old whole : List Event) (g : ℕ → Draft) (xs : List
 each_all n old whole g xs i h is = sym (append-nil old) ∙ ap (λ rest. old ++ numbered_wrapping n (map g rest)) (sym (drop_all i xs h)) ∙ is
 
 -- one more clone of a file
-pub clone_more : (first : ℕ) (old new whole : List Event) (told : Told) (file : EndedFile) (connections : List ℕ) (i next x : ℕ) → i < length connections → x ≡ get_or connections i x
+pub clone_more : (first : ℕ) (old new whole : List Event) (told : Told) (file : EndedFile) (connections : List ℕ) (i next : ℕ) → i < length connections
     → Adds first old (clone_event told file next ∷ []) new
     → old ++ numbered_wrapping (first + length old) (clone_events told next (map (λ connection. (file, connection)) (drop i connections))) ≡ whole
     → new ++ numbered_wrapping (first + length new) (clone_events told (next + 1) (map (λ connection. (file, connection)) (drop (i + 1) connections))) ≡ whole
-clone_more first old new whole told file connections i next x h is adds before =
+clone_more first old new whole told file connections i next h adds before =
     adds-on first old new (clone_event told file next ∷ []) (clone_events told (next + 1) (map (λ connection. (file, connection)) (drop (i + 1) connections))) adds
-    ∙ ap (λ rest. old ++ numbered_wrapping (first + length old) (clone_events told next (map (λ connection. (file, connection)) rest))) (sym (left connections i x h is))
+    ∙ ap (λ rest. old ++ numbered_wrapping (first + length old) (clone_events told next (map (λ connection. (file, connection)) rest))) (sym (drop_more connections i 0 h))
     ∙ before
 
 pub clone_all : (n : ℕ) (old whole : List Event) (told : Told) (file : EndedFile) (connections : List ℕ) (i next : ℕ) → length connections ≤ i

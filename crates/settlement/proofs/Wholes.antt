@@ -4,12 +4,13 @@ use Rattle.std.specs.Prelude.{All, Option, zip}
 use Rattle.std.proofs.lemmas.List.Elements.{All-cons, All-head, All-nil, All-tail}
 use Rattle.flowfile_record.specs.declared.change.Settled.{Settled}
 use Rattle.flowfile_record.specs.declared.event.Event.{Event}
+use Rattle.flowfile_record.specs.declared.flow_file.FlowFile.{FlowFile}
 use Rattle.flowfile_record.specs.declared.stored.Counted.{Counted}
 use Rattle.flowfile_record.specs.declared.stored.Placed.{Placed}
 use Rattle.flowfile_record.specs.declared.worked.Outcome.{Outcome}
 use Rattle.flowfile_record.specs.declared.worked.Worked.{Worked}
 use Rattle.machine_model.specs.declared.given.Given.{Given}
-use Rattle.machine_model.specs.Placing.{count_made}
+use Rattle.machine_model.specs.Placing.{count_made, entered_in, numbers_from}
 use Rattle.settlement.specs.Contents.{IsBodyWithin}
 use Rattle.settlement.specs.Ending.{EndingPlace, IsWorkedWithin, ended_file, ended_files}
 use Rattle.settlement.specs.Placing.{arrived, firsts, returned, wanted}
@@ -62,4 +63,5 @@ zipped_within at (number ∷ numbers) (moment ∷ entered) (file ∷ files) with
 
 -- a part is one of what was read, behind the session too
 pub all_within : (at : EndingPlace) (next : ℕ) (files : List Worked) → All (IsWorkedWithin at.sources) files → All (λ (file : EndedFile). IsBodyWithin at.sources file.worked.body) (ended_files at next files)
-all_within at next files within = zipped_within at _ _ files within
+all_within at next files within =
+    zipped_within at (numbers_from next (map (λ (file : FlowFile). file.number) at.taken) files) (entered_in at.moment (map (λ (file : FlowFile). file.entered) at.taken) files) files within

@@ -11,7 +11,7 @@ place_one-requires-clause-arrivals c =
     let few = firsts_placed c.args.self.now.sources.now c.args.self.now.next_arrival c.loop-file.arrived.items c.loop-file.yielded c.loop-file.invariant.arrived in
     let count : vec_len c.args.files ≡ length c.args.files.items = omega arith in
     let gives = c.into_iter-file-iterator.ensures.into_iter_gives in
-    let turn = YieldsList-turn (YieldsList-from_vec c.args.files.items gives.0 (gives.1 ∙ count)) c.loop-file.yielded _ c.loop-file.yielded_by _ _ c.in-Some.file c.in-Some.is c.next.ensures.steps in
+    let turn = YieldsList-turn (YieldsList-from_vec c.args.files.items gives.0 (gives.1 ∙ count)) c.loop-file.yielded c.loop-file.file-iterator c.loop-file.yielded_by _ c.next.new.self c.in-Some.file c.in-Some.is c.next.ensures.steps in
     omega (arith, few, turn.0, c.requires.arrivals)
 
 pub loop-file-preserved : goal.loop-file-preserved
