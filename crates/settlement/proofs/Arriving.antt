@@ -117,8 +117,8 @@ put-arriving arrival connection (one ∷ news) queue below =
     let first = in_queue one.2 one.1 arrival in
     elim (one.0 == connection) as (λ b. put_all queue (cond b (first ∷ rest) rest) ≡ queue ++ cond b (first ∷ rest) rest) [
       | true ↦
-        let last = put_last first queue below in
-        let behind : Below (arrival + 1) (queue ++ first ∷ []) = each-append (λ (file : QueuedFile). file.arrival < arrival + 1) queue (first ∷ []) (below_more arrival (arrival + 1) queue (omega arith) below) (omega arith, tt) in
-        ap (λ put. put_all put rest) last ∙ put-arriving (arrival + 1) connection news (queue ++ first ∷ []) behind ∙ append_assoc queue (first ∷ []) rest
+          let last = put_last first queue below in
+          let behind : Below (arrival + 1) (queue ++ first ∷ []) = each-append (λ (file : QueuedFile). file.arrival < arrival + 1) queue (first ∷ []) (below_more arrival (arrival + 1) queue (omega arith) below) (omega arith, tt) in
+          ap (λ put. put_all put rest) last ∙ put-arriving (arrival + 1) connection news (queue ++ first ∷ []) behind ∙ append_assoc queue (first ∷ []) rest
       | false ↦ put-arriving (arrival + 1) connection news queue (below_more arrival (arrival + 1) queue (omega arith) below)
     ]

@@ -84,12 +84,12 @@ take_first number first queue (file ∷ files) only behind later =
     elim (file.number == number) as (λ b. cond b (file ∷ these number files) (these number files) ≡ first ∷ [] → From first.arrival (with_other b file (others number files))
     → put_all (put_by_arrival queue file) files ≡ first ∷ put_all queue (with_other b file (others number files))) [
       | true ↦ λ only later.
-        let same : file ≡ first = cc in
-        let none : these number files ≡ [] = cc in
-        let rest = none_these number files none in
-        ap (λ put. put_all put files) (ap (put_by_arrival queue) same ∙ put_first first queue behind)
-        ∙ put_all_behind first queue files (rw rest at later)
-        ∙ ap (λ more. first ∷ put_all queue more) (sym rest)
+          let same : file ≡ first = cc in
+          let none : these number files ≡ [] = cc in
+          let rest = none_these number files none in
+          ap (λ put. put_all put files) (ap (put_by_arrival queue) same ∙ put_first first queue behind)
+          ∙ put_all_behind first queue files (rw rest at later)
+          ∙ ap (λ more. first ∷ put_all queue more) (sym rest)
       | false ↦ λ only later. take_first number first (put_by_arrival queue file) files only (put_from first.arrival file queue later.0 behind) later.1
     ] only later
 

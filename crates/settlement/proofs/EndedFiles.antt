@@ -72,10 +72,10 @@ one_same c number entered worked read within =
     let stamp : IsStamp (content_in c.ended.taken c.ended.sources worked.body) (content_of (contents_of c.bytes c.ended.taken) worked.body)
     = content-stamp c.bytes c.ended.taken c.ended.sources worked.body read within in
     let content : content_in c.ended.taken c.ended.sources worked.body
-        ≡ record (content_in c.ended.taken c.ended.sources worked.body) {
-          size = length (content_of (map (λ (file : QueuedFile). file.bytes) (map (queued c.bytes) c.ended.taken)) worked.body);
-          digest = sha256 (content_of (map (λ (file : QueuedFile). file.bytes) (map (queued c.bytes) c.ended.taken)) worked.body);
-        }
+    ≡ record (content_in c.ended.taken c.ended.sources worked.body) {
+      size = length (content_of (map (λ (file : QueuedFile). file.bytes) (map (queued c.bytes) c.ended.taken)) worked.body);
+      digest = sha256 (content_of (map (λ (file : QueuedFile). file.bytes) (map (queued c.bytes) c.ended.taken)) worked.body);
+    }
     = rw (taken_contents c.bytes c.ended.taken) (stamped (content_in c.ended.taken c.ended.sources worked.body) (content_of (contents_of c.bytes c.ended.taken) worked.body) stamp) in
     λ i. record (ended_file at (number, entered, worked)) { content = content i }
 

@@ -57,9 +57,10 @@ all_has : (c : Case) (relationships : ℕ) (numbers entered : List ℕ) (files :
 all_has c relationships [] entered files read within worked = tt
 all_has c relationships (number ∷ numbers) [] files read within worked = tt
 all_has c relationships (number ∷ numbers) (moment ∷ entered) [] read within worked = tt
-all_has c relationships (number ∷ numbers) (moment ∷ entered) (file ∷ files) read within worked =
-    (one_has c number moment file read (All-head (λ file. IsBodyWithin c.ended.sources file.body) file files within) (All-head (IsWorked relationships (sizes_of c.ended.taken)) file files worked).body,
-    all_has c relationships numbers entered files read (All-tail (λ file. IsBodyWithin c.ended.sources file.body) file files within) (All-tail (IsWorked relationships (sizes_of c.ended.taken)) file files worked))
+all_has c relationships (number ∷ numbers) (moment ∷ entered) (file ∷ files) read within worked = (
+  one_has c number moment file read (All-head (λ file. IsBodyWithin c.ended.sources file.body) file files within) (All-head (IsWorked relationships (sizes_of c.ended.taken)) file files worked).body,
+  all_has c relationships numbers entered files read (All-tail (λ file. IsBodyWithin c.ended.sources file.body) file files within) (All-tail (IsWorked relationships (sizes_of c.ended.taken)) file files worked),
+)
 
 -- ---- numbers
 

@@ -188,7 +188,6 @@ numbers_among n (m ∷ numbers) h =
       | false ↦ λ h. omega (arith, numbers_among n numbers h)
     ] h
 
-
 -- ---- each file of a queue
 
 abbrev gone : Case → List ℕ
@@ -289,18 +288,20 @@ one_queue n (queue ∷ queues) (suc one) (suc other) once h k =
 
 rising : (queue : List QueuedFile) → AreByArrival queue → Rising queue
 rising [] h = tt
-rising (file ∷ queue) h =
-    (each_of (λ other. file.arrival < other.arrival) queue (λ other there. all_among (λ other. file.arrival < other.arrival) other queue (pairs_head (λ (earlier later : QueuedFile). earlier.arrival < later.arrival) file queue h) there),
-    rising queue (pairs_tail (λ (earlier later : QueuedFile). earlier.arrival < later.arrival) file queue h))
+rising (file ∷ queue) h = (
+  each_of (λ other. file.arrival < other.arrival) queue (λ other there. all_among (λ other. file.arrival < other.arrival) other queue (pairs_head (λ (earlier later : QueuedFile). earlier.arrival < later.arrival) file queue h) there),
+  rising queue (pairs_tail (λ (earlier later : QueuedFile). earlier.arrival < later.arrival) file queue h),
+)
 
 apart : (queue : List QueuedFile) → ((n : ℕ) → many number_of n queue ≤ 1) → AreApart queue
 apart [] once = tt
 apart (file ∷ queue) once =
     let here : (file.number == file.number) ≡ true = eq-eqb file.number file.number refl in
     let only : bit (file.number == file.number) + many number_of file.number queue ≤ 1 = once file.number in
-    let single : 1 + many number_of file.number queue ≤ 1 = rw here at only in
-    (each_of (λ other. other.number ≢ file.number) queue (λ other there same. omega (arith, among_counts other queue file.number there same)),
-    apart queue (λ n. omega (arith, once n)))
+    let single : 1 + many number_of file.number queue ≤ 1 = rw here at only in (
+      each_of (λ other. other.number ≢ file.number) queue (λ other there same. omega (arith, among_counts other queue file.number there same)),
+      apart queue (λ n. omega (arith, once n)),
+    )
 
 -- all that is known of a session whose files stand in a valid state
 pub record Stands (c : Case) : Type 0 where
@@ -315,12 +316,12 @@ all_once c s n = once_from_differ number_of (flat_map (λ queue. queue) c.state.
 only_taken : (c : Case) → Stands c → (k : ℕ) (file : QueuedFile) → Among file (queue_at c.state k) → IsOnly c file
 only_taken c s k file there = record {
   taken = λ one in_taken same.
-    let all = flat_map (λ (queue : List QueuedFile). queue) c.state.queues in
-    let equal : queued c.bytes one ≡ file
-    = same_key number_of all (queued c.bytes one) file s.valid.numbered.numbers.differ
-    (contains_among (queued c.bytes one) all (in_all c.state.queues c.ended.connection (queued c.bytes one) (s.there one in_taken)))
-    (contains_among file all (in_all c.state.queues k file there)) same in
-    ap (λ (q : QueuedFile). q.arrival) equal;
+      let all = flat_map (λ (queue : List QueuedFile). queue) c.state.queues in
+      let equal : queued c.bytes one ≡ file
+      = same_key number_of all (queued c.bytes one) file s.valid.numbered.numbers.differ
+      (contains_among (queued c.bytes one) all (in_all c.state.queues c.ended.connection (queued c.bytes one) (s.there one in_taken)))
+      (contains_among file all (in_all c.state.queues k file there)) same in
+      ap (λ (q : QueuedFile). q.arrival) equal;
 }
 
 taken_number : (taken : List FlowFile) (n : ℕ) → 1 ≤ many (λ (file : FlowFile). file.number) n taken → (one : FlowFile) × (Among one taken × (one.number ≡ n))
@@ -388,8 +389,8 @@ kept_elsewhere c s k file there below other =
     elim (is_number_among (gone c) file.number) as (λ b. is_number_among (gone c) file.number ≡ b → Stays (keeps c) (stays c) [] file) [
       | true ↦ λ is. absurd (other (same_connection c s k file there is))
       | false ↦ λ no.
-        let none = not_found c file.number s.known below no in
-        inl (record { keeps = ap not no; as_it_is = ap (staying_as file) (none_found file.number (files_of c) none); none = refl })
+          let none = not_found c file.number s.known below no in
+          inl (record { keeps = ap not no; as_it_is = ap (staying_as file) (none_found file.number (files_of c) none); none = refl })
     ] refl
 
 -- ---- what comes back was there
@@ -445,11 +446,11 @@ queue-stays c s k =
     ap (put_all (without_files (queue_at c.state k) (gone c))) (returned_same c k (files_of c) s.bytes)
     ∙ elim (cases_eq c.ended.connection k) [
       | inl same ↦
-        let yes : (c.ended.connection == k) ≡ true = eq-eqb c.ended.connection k same in
-        rw yes (stays_at c s k (back_here c)
-        (each_of (Stays (keeps c) (stays c) (back_here c)) (queue_at c.state k) (λ file there. either_stays c file (back_here c) s.known (only_taken c s k file there) (below_next c s k file there) refl))
-        (subst (λ n. Each (Has (queue_at c.state n)) (back_here c)) same (all_have c s (files_of c) s.known.either)))
+          let yes : (c.ended.connection == k) ≡ true = eq-eqb c.ended.connection k same in
+          rw yes (stays_at c s k (back_here c)
+          (each_of (Stays (keeps c) (stays c) (back_here c)) (queue_at c.state k) (λ file there. either_stays c file (back_here c) s.known (only_taken c s k file there) (below_next c s k file there) refl))
+          (subst (λ n. Each (Has (queue_at c.state n)) (back_here c)) same (all_have c s (files_of c) s.known.either)))
       | inr other ↦
-        let no : (c.ended.connection == k) ≡ false = ne_eqb c.ended.connection k other in
-        rw no (stays_at c s k [] (each_of (Stays (keeps c) (stays c) []) (queue_at c.state k) (λ file there. kept_elsewhere c s k file there (below_next c s k file there) other)) tt)
+          let no : (c.ended.connection == k) ≡ false = ne_eqb c.ended.connection k other in
+          rw no (stays_at c s k [] (each_of (Stays (keeps c) (stays c) []) (queue_at c.state k) (λ file there. kept_elsewhere c s k file there (below_next c s k file there) other)) tt)
     ]

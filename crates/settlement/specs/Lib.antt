@@ -4,4 +4,5 @@ pub mod Handed
 pub mod Placing
 pub mod StateAfter
 pub mod Telling
+pub mod TellsOf
 pub mod Whole

@@ -164,7 +164,10 @@ impl Teller<'_> {
         ensures { IfOk result (λ numbers. numbers.items ≡ map (number_at self.now.files.now) places.now) }
     {
         let files = self.files;
-        places.iter().map(|place| number_at(files, *place)).collect(self.alloc)
+        places
+            .iter()
+            .map(|place| number_at(files, *place))
+            .collect(self.alloc)
     }
 
     fn tell_cloned(

@@ -1,5 +1,6 @@
 //! The files of a session that has ended.
 ghost use Rattle.std.specs.Prelude.{◌≡◌};
+
 use flowfile_record::{ContentRef, Sequence, Text, Worked};
 
 /// Where a file goes. Connections are named by their places in the flow.

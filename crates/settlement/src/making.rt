@@ -69,7 +69,13 @@ impl Setting<'_> {
         ensures { IfOk result (λ ended. ended ≡ ended_file (place_of self.now) (number, entered, worked)) }
     {
         let content = content_in(self.taken, self.sources, &worked.body);
-        let goes = goes_by(self.alloc, self.flow, self.place, self.processor, worked.end)?;
+        let goes = goes_by(
+            self.alloc,
+            self.flow,
+            self.place,
+            self.processor,
+            worked.end,
+        )?;
         let penalty_end = penalty_end_of(worked.penalised, self.moment, self.processor.penalty);
         let worked = self.name(number, worked)?;
         Ok(EndedFile {
@@ -112,5 +118,9 @@ impl Setting<'_> {
 fn penalty_end_of(penalised: bool, moment: u64, penalty: u64) -> u64
     ensures { result ≡ penalty_end_of penalised moment penalty }
 {
-    if penalised { moment.saturating_add(penalty) } else { 0 }
+    if penalised {
+        moment.saturating_add(penalty)
+    } else {
+        0
+    }
 }

@@ -5,6 +5,7 @@ ghost use Rattle.settlement.specs.Ending.{place_of};
 ghost use Rattle.settlement.specs.Handed.{MaySettle};
 ghost use Rattle.settlement.specs.Placing.{wanted};
 ghost use Rattle.settlement.specs.StateAfter.{Settles};
+ghost use Rattle.settlement.specs.TellsOf.{TellsOf};
 ghost use Rattle.settlement.specs.Telling.{all_drafts, numbered_wrapping};
 ghost use Rattle.settlement.specs.Whole.{MayEnd, count_of, settled_in, settled_of, told_of};
 
@@ -15,7 +16,9 @@ use crate::numbers::is_made;
 use crate::offspring::{Kinship, all_children};
 use crate::placing::{Placer, count_clones, count_firsts};
 use crate::{Counters, Ended};
-use flowfile_record::{Counted, Event, EventList, FlowFile, Numbers, Outcome, PlacedList, Sent, Settled, Worked};
+use flowfile_record::{
+    Counted, Event, EventList, FlowFile, Numbers, Outcome, PlacedList, Sent, Settled, Worked,
+};
 use machine_model::{Flow, Given, Kind, Processor};
 use std::alloc::{AllocError, Global};
 
@@ -28,7 +31,8 @@ pub fn settle(
     ended: Ended,
 ) -> Result<Settled, AllocError>
     requires { MaySettle flow.now counters ended }
-    ensures { IfOk result (Settles flow.now given.now counters ended) }
+    ensures settles { IfOk result (Settles flow.now given.now counters ended) }
+    ensures tells { IfOk result (TellsOf given.now ended) }
 {
     let processor = &flow.processors.as_slice()[usize::from(ended.processor)];
     settle_at(alloc, flow, processor, given, counters, ended)
@@ -81,7 +85,14 @@ fn settle_files(
     let first_clone = counters.next_number + count_made(outcome.files.as_slice());
     let Outcome { files, sent } = outcome;
     let files = setting.end_files(counters.next_number, files.into_vec())?;
-    let events = tell(setting, given, &files, &sent, counters.last_event + 1, first_clone)?;
+    let events = tell(
+        setting,
+        given,
+        &files,
+        &sent,
+        counters.last_event + 1,
+        first_clone,
+    )?;
     let firsts = count_firsts(&files);
     let clones = count_clones(&files);
     let placer = Placer {

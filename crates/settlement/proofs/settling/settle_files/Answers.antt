@@ -72,7 +72,7 @@ returns c =
     let first = c.args.counters.next_number + c.count_made.result in
     let made = c.in_ok-files.ensures ∙ ap (ended_files at c.args.counters.next_number) c.into_vec.ensures in
     let events = c.from-2.ensures ∙ c.in_ok-events.ensures
-        ∙ ap (λ files. numbered_wrapping (c.args.counters.last_event + 1) (all_drafts (told_of at.processor at.taken c.args.given.now files) c.args.outcome.sent first)) c.deref.ensures.value in
+    ∙ ap (λ files. numbered_wrapping (c.args.counters.last_event + 1) (all_drafts (told_of at.processor at.taken c.args.given.now files) c.args.outcome.sent first)) c.deref.ensures.value in
     settled_is at c.args.given.now c.args.counters c.args.connection c.args.outcome c.in_ok-files.files.items c.count_made.result c.count_firsts-firsts.result c.count_clones-clones.result
     c.in_ok-gone.gone c.from.result c.from-2.result c.count_of.result made (c.count_made.ensures.count ∙ ap count_made c.as_slice.ensures) (c.from.ensures ∙ c.in_ok-placed.ensures) events c.in_ok-gone.ensures
     (c.count_firsts-firsts.ensures.count ∙ ap (λ files. length (firsts files)) c.deref-2.ensures.value)
