@@ -1,6 +1,7 @@
 -- The fields of a flow's text: for each object its fields in their order, and of each field its name, what it may hold,
 -- the number that a missing one stands for, and whether it may be missing.
-use Rattle.std.specs.Prelude.{ℕ, ◌^◌, Bool, true, false, List, [], ◌∷◌, codes}
+use Rattle.std.specs.Prelude.{ℕ, Bool, true, false, List, [], ◌∷◌, codes}
+use Rattle.machine_model.specs.declared.limits.TheConstants.{PENALTY_MAX, QUEUE_LIMIT_MAX, SWAP_MAX, SWAP_MIN, TASKS_MAX}
 use Rattle.flow_definition.specs.declared.field.Field.{Field}
 use Rattle.flow_definition.specs.declared.field.Field.TheVariants.{Processors, Connections, Id, TypeName, Tasks, Penalty, Properties, Terminated, From, To, Relationships, Prioritizers, Expiration, Objects, Bytes, Swap}
 use Rattle.flow_definition.specs.declared.field.Level.{Level}
@@ -38,18 +39,18 @@ shape_of Processors = shape.Objects
 shape_of Connections = shape.Objects
 shape_of Id = shape.Id
 shape_of TypeName = shape.Text
-shape_of Tasks = shape.Number 1 16 1
-shape_of Penalty = shape.Number 0 86_400_000 30_000
+shape_of Tasks = shape.Number 1 TASKS_MAX 1
+shape_of Penalty = shape.Number 0 PENALTY_MAX 30_000
 shape_of Properties = shape.Properties
 shape_of Terminated = shape.Names
 shape_of From = shape.Text
 shape_of To = shape.Text
 shape_of Relationships = shape.SomeNames
 shape_of Prioritizers = shape.Prioritizers
-shape_of Expiration = shape.Number 0 (2 ^ 53) 0
-shape_of Objects = shape.Number 0 (2 ^ 53) 10_000
-shape_of Bytes = shape.Number 0 (2 ^ 53) 1_073_741_824
-shape_of Swap = shape.Number 2 40_000 20_000
+shape_of Expiration = shape.Number 0 QUEUE_LIMIT_MAX 0
+shape_of Objects = shape.Number 0 QUEUE_LIMIT_MAX 10_000
+shape_of Bytes = shape.Number 0 QUEUE_LIMIT_MAX 1_073_741_824
+shape_of Swap = shape.Number SWAP_MIN SWAP_MAX 20_000
 
 abbrev pub is_required : Field → Bool
 is_required Processors = true

@@ -19,7 +19,7 @@ use Rattle.flow_definition.specs.declared.field.Field.{Field}
 use Rattle.flow_definition.specs.declared.field.Field.TheVariants.{Processors, Connections, Id, Tasks, Penalty, Terminated, From, To, Relationships, Prioritizers, Expiration, Objects, Bytes, Swap}
 use Rattle.flow_definition.specs.declared.field.Shape.{Shape}
 use Rattle.flow_definition.specs.declared.field.Shape.TheVariants as shape
-use Rattle.flow_definition.specs.declared.limits.TheConstants.{PROCESSORS_MAX}
+use Rattle.machine_model.specs.declared.limits.TheConstants.{GENERATED_MAX, PROCESSORS_MAX}
 use Rattle.flow_definition.specs.declared.processor_type.Form.{Form}
 use Rattle.flow_definition.specs.declared.processor_type.Form.TheVariants as form
 use Rattle.flow_definition.specs.declared.processor_type.ProcessorType.TheVariants as type
@@ -52,7 +52,7 @@ id_at f part = unwrap_or (text_at f part) []
 
 -- a generator's count
 abbrev pub count_in : Data → ℕ
-count_in processor = number_or 0 0 1_000_000 (number_in (property_text Count processor))
+count_in processor = number_or 0 0 GENERATED_MAX (number_in (property_text Count processor))
 
 abbrev pub conflict_in : Data → Conflict
 conflict_in processor = unwrap_or (conflict_named (property_text ConflictResolution processor)) Fail

@@ -10,7 +10,7 @@ use Rattle.flow_definition.specs.declared.field.Field.TheVariants.{Processors, C
 use Rattle.flow_definition.specs.declared.field.Level.{Level}
 use Rattle.flow_definition.specs.declared.field.Level.TheVariants as level
 use Rattle.flow_definition.specs.declared.processor_type.Property.{Property}
-use Rattle.flow_definition.specs.declared.limits.TheConstants.{PROCESSORS_MAX, CONNECTIONS_MAX, CONNECTIONS_OF_RELATIONSHIP_MAX}
+use Rattle.machine_model.specs.declared.limits.TheConstants.{PROCESSORS_MAX, CONNECTIONS_MAX, FAN_OUT_MAX}
 use Rattle.flow_definition.specs.Fields.{name_of, fields_of, shape_of, is_required}
 use Rattle.flow_definition.specs.Looks.{value_at, text_at, has_text, items_at, names_at, is_object, keys_of, type_of, properties_in, relationships_in, processor_named, given_at, given_text}
 use Rattle.flow_definition.specs.Shapes.{has_shape, is_in_range, is_of_set, is_number_text}
@@ -157,7 +157,7 @@ bad_property processor =
 
 abbrev pub is_crowded : Data → Data → List ℕ → Bool
 is_crowded top processor name =
-    nat_lt CONNECTIONS_OF_RELATIONSHIP_MAX (count_by (carries processor name) (items_at Connections top))
+    nat_lt FAN_OUT_MAX (count_by (carries processor name) (items_at Connections top))
 
 abbrev pub has_crowded : Data → Data → Bool
 has_crowded top processor = list_any (is_crowded top processor) (relationships_in processor)

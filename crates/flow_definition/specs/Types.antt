@@ -2,6 +2,7 @@
 -- the bytes of their names, and its relationships in their order. Of a property: its name, what it may hold, and what a
 -- missing one stands for; a property without a default is required.
 use Rattle.std.specs.Prelude.{ℕ, Bool, true, false, List, [], ◌∷◌, Option, Some, None, codes, find, bytes_eq}
+use Rattle.machine_model.specs.declared.limits.TheConstants.{GENERATED_MAX}
 use Rattle.flow_definition.specs.declared.processor_type.ProcessorType.{ProcessorType}
 use Rattle.flow_definition.specs.declared.processor_type.ProcessorType.TheVariants.{GetFile, GenerateFlowFile, PutFile}
 use Rattle.flow_definition.specs.declared.processor_type.Property.{Property}
@@ -42,7 +43,7 @@ pub record PropertyRow : Type 0 where
 
 abbrev pub property_row : Property → PropertyRow
 property_row FileFilter = record { name = codes "File Filter"; form = form.WholePattern; default = Some (codes "[^.].*") }
-property_row Count = record { name = codes "Count"; form = form.Number 0 1_000_000; default = None }
+property_row Count = record { name = codes "Count"; form = form.Number 0 GENERATED_MAX; default = None }
 property_row CustomText = record { name = codes "Custom Text"; form = form.Expression; default = Some [] }
 property_row ConflictResolution = record {
   name = codes "Conflict Resolution Strategy";

@@ -2,6 +2,8 @@
 ghost use Rattle.std.specs.Prelude.{◌≡◌};
 ghost use Rattle.flow_definition.specs.Fields.{name_of, shape_of, is_required, fields_of};
 
+use machine_model::{PENALTY_MAX, QUEUE_LIMIT_MAX, SWAP_MAX, SWAP_MIN, TASKS_MAX};
+
 /// A field of the text's object, of a processor or of a connection.
 #[derive(Clone, Copy, Debug, PartialEq, Eq)]
 pub enum Field {
@@ -82,16 +84,16 @@ impl Field {
             Field::Processors | Field::Connections => Shape::Objects,
             Field::Id => Shape::Id,
             Field::TypeName | Field::From | Field::To => Shape::Text,
-            Field::Tasks => number(1, 16, 1),
-            Field::Penalty => number(0, 86_400_000, 30_000),
+            Field::Tasks => number(1, TASKS_MAX, 1),
+            Field::Penalty => number(0, PENALTY_MAX, 30_000),
             Field::Properties => Shape::Properties,
             Field::Terminated => Shape::Names,
             Field::Relationships => Shape::SomeNames,
             Field::Prioritizers => Shape::Prioritizers,
-            Field::Expiration => number(0, COUNT_MAX, 0),
-            Field::Objects => number(0, COUNT_MAX, 10_000),
-            Field::Bytes => number(0, COUNT_MAX, 1_073_741_824),
-            Field::Swap => number(2, 40_000, 20_000),
+            Field::Expiration => number(0, QUEUE_LIMIT_MAX, 0),
+            Field::Objects => number(0, QUEUE_LIMIT_MAX, 10_000),
+            Field::Bytes => number(0, QUEUE_LIMIT_MAX, 1_073_741_824),
+            Field::Swap => number(SWAP_MIN, SWAP_MAX, 20_000),
         }
     }
 
@@ -105,9 +107,6 @@ impl Field {
         }
     }
 }
-
-/// The greatest number of milliseconds, of files or of bytes in a connection: 2^53.
-pub const COUNT_MAX: u64 = 9_007_199_254_740_992;
 
 fn number(least: u64, most: u64, default: u64) -> Shape
     ensures { result ≡ Shape.Number least most default }

@@ -19,7 +19,7 @@ mod walk;
 
 pub use error::FlowError;
 pub use field::{Field, Level, Shape};
-pub use limits::{CONNECTIONS_MAX, CONNECTIONS_OF_RELATIONSHIP_MAX, PROCESSORS_MAX, TEXT_MAX};
+pub use limits::TEXT_MAX;
 pub use patterns::{Builder, PatternError, Patterns};
 pub use processor_type::{Form, ProcessorType, Property};
 pub use rule::Rule;

@@ -3,6 +3,8 @@ ghost use Rattle.std.specs.Prelude.{◌≡◌, map};
 ghost use Rattle.std.specs.Option.{option_map};
 ghost use Rattle.flow_definition.specs.Types.{type_named, type_name, is_source, properties_of, relationships_of, property_name, form_of, default_of};
 
+use machine_model::GENERATED_MAX;
+
 /// A type of processor that a flow may name.
 #[derive(Clone, Copy, Debug, PartialEq, Eq)]
 pub enum ProcessorType {
@@ -109,7 +111,7 @@ impl Property {
             Property::FileFilter => Form::WholePattern,
             Property::Count => Form::Number {
                 least: 0,
-                most: 1_000_000,
+                most: GENERATED_MAX,
             },
             Property::CustomText => Form::Expression,
             Property::ConflictResolution => Form::Conflict,

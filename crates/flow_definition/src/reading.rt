@@ -7,12 +7,11 @@ ghost use Rattle.flow_definition.specs.Reading.{number_or, number_of, number_at,
 ghost use Rattle.flow_definition.specs.Shapes.{prioritizer_named};
 
 use crate::field::{Field, Shape};
-use crate::limits::PROCESSORS_MAX;
 use crate::look::{given_text, has_text, items_at, names_at, text_at, text_of, value_at};
 use crate::processor_type::Property;
 use crate::shape::{conflict_named, is_within, number_in, prioritizer_named};
 use flowfile_record::{Text, TextList};
-use machine_model::{Conflict, Connection, QueueLimits};
+use machine_model::{Conflict, Connection, GENERATED_MAX, PROCESSORS_MAX, QueueLimits};
 use prioritizer::{Order, Prioritizer};
 use serde_json::Value;
 use std::alloc::{AllocError, Global};
@@ -111,7 +110,7 @@ pub(crate) fn count_in(processor: &Value) -> u32
     number_or(
         0,
         0,
-        1_000_000,
+        GENERATED_MAX,
         number_in(property_text(Property::Count, processor)),
     ) as u32
 }

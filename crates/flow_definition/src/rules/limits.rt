@@ -9,9 +9,9 @@ ghost use Rattle.flow_definition.specs.Rules.{too_many, are_connections_too_many
 
 use super::connected::carries;
 use crate::field::Field;
-use crate::limits::{CONNECTIONS_MAX, CONNECTIONS_OF_RELATIONSHIP_MAX, PROCESSORS_MAX};
 use crate::look::{items_at, relationships_in};
 use crate::place::Part;
+use machine_model::{CONNECTIONS_MAX, FAN_OUT_MAX, PROCESSORS_MAX};
 use serde_json::Value;
 
 /// A list that is too long, or that has too many connections of one relationship.
@@ -57,7 +57,7 @@ fn any_crowded(top: &Value, processor: &Value, names: &[&'static str]) -> bool
 fn is_crowded(top: &Value, processor: &Value, name: &str) -> bool
     ensures { result ≡ is_crowded (view top.now) (view processor.now) name.now }
 {
-    count(processor, name, items_at(top, Field::Connections)) > CONNECTIONS_OF_RELATIONSHIP_MAX
+    count(processor, name, items_at(top, Field::Connections)) > FAN_OUT_MAX
 }
 
 #[tactic(auto, using(crate::proofs::Lists::count_by_map))]
