@@ -1,5 +1,5 @@
 -- That events told one after the other are told as one list.
-use Rattle.std.proofs.Common.{◌≡◌, ℕ, suc, ◌+◌, ◌%◌, ◌^◌, ◌≤◌, List, [], ◌∷◌, ◌++◌, map, length, refl, sym, ap, ◌∙◌, arith, append_assoc, append-nil, length-append}
+use Rattle.std.proofs.Common.{◌≡◌, ℕ, suc, ◌+◌, ◌%◌, ◌^◌, ◌≤◌, List, [], ◌∷◌, ◌++◌, length, refl, sym, ap, ◌∙◌, arith, append_assoc, append-nil, length-append}
 use Rattle.flowfile_record.specs.declared.event.Event.{Event}
 use Rattle.machine_model.specs.Events.{Draft, numbered_from}
 use Rattle.settlement.specs.Telling.{Adds, Told, clone_event, clone_events, numbered_wrapping}

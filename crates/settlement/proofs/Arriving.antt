@@ -1,5 +1,5 @@
 -- That what arrives in a queue is what the machine lets arrive there.
-use Rattle.std.proofs.Common.{◌≡◌, ℕ, suc, ◌+◌, ◌<◌, ◌≤◌, Bool, true, false, cond, List, [], ◌∷◌, ◌++◌, map, length, refl, sym, ap, ◌∙◌, arith, append_assoc, append-nil}
+use Rattle.std.proofs.Common.{◌≡◌, ℕ, ◌+◌, ◌<◌, ◌≤◌, true, false, cond, List, [], ◌∷◌, ◌++◌, map, refl, sym, ap, ◌∙◌, arith, append_assoc, append-nil}
 use Rattle.std.specs.Prelude.{◌==◌, filter, unwrap_or}
 use Rattle.std.specs.List.{flat_map}
 use Rattle.std.proofs.lemmas.List.{map-append}
@@ -8,13 +8,12 @@ use Rattle.machine_model.specs.Placing.{SettledFile, SettlementClone, Destinatio
 use Rattle.machine_model.specs.Settling as machine
 use Rattle.machine_model.specs.Settling.{arriving, in_queue, newcomer, newcomers}
 use Rattle.machine_model.specs.State.{QueuedFile}
-use Rattle.machine_model.proofs.Settled.{IsSteady}
 use Rattle.machine_model.proofs.Tally.{Each, each-append}
 use Rattle.flowfile_record.specs.declared.stored.Placed.{Placed}
 use Rattle.settlement.specs.Contents.{fresh_in}
 use Rattle.settlement.specs.Ending.{goes_to}
 use Rattle.settlement.specs.Placing.{Newcomer, clones_from, first_of, firsts, placed_at, placed_from, wanted}
-use Rattle.settlement.specs.StateAfter.{placed_file, placed_in, put_by_arrival, put_all}
+use Rattle.settlement.specs.StateAfter.{placed_file, placed_in, put_all}
 use Rattle.settlement.proofs.ByArrival.{put_last}
 use Rattle.settlement.proofs.EndedFiles.{Case, ended_of, place}
 use Rattle.settlement.proofs.Listing.{map-map, flat_map-map, map-flat_map, flat_map-same}

@@ -1,7 +1,6 @@
 -- That references stand for the contents of a session's files.
-use Rattle.std.proofs.Common.{◌≡◌, ℕ, zero, suc, ◌+◌, ◌-◌, ◌<◌, ◌≤◌, List, [], ◌∷◌, map, length, take, drop, refl, sym, ap, subst, ◌∙◌, arith}
-use Rattle.std.specs.Prelude.{Option, Some, None, IfSome, unwrap_or, slice_get, slice_index, slice_range}
-use Rattle.std.specs.Option.{option_map_or}
+use Rattle.std.proofs.Common.{◌≡◌, ℕ, zero, suc, ◌+◌, ◌-◌, ◌<◌, ◌≤◌, List, [], ◌∷◌, map, length, take, drop, refl, sym, ap, ◌∙◌, arith}
+use Rattle.std.specs.Prelude.{Option, Some, None, IfSome, unwrap_or, slice_get, slice_range}
 use Rattle.sha2.specs.Sha256.{sha256}
 use Rattle.flowfile_record.specs.Outcome.{content_of, IsBodyOver}
 use Rattle.flowfile_record.specs.declared.content.ContentRef.{ContentRef}
@@ -10,7 +9,7 @@ use Rattle.flowfile_record.specs.declared.worked.Body.{Body}
 use Rattle.flowfile_record.specs.declared.worked.Body.TheVariants.{Whole, Part, New}
 use Rattle.process_session.specs.declared.file.Source.{Source}
 use Rattle.settlement.specs.Contents.{content_in, fresh_in, fresh_ref, kept_content, source_bytes, IsBodyWithin}
-use Rattle.settlement.specs.Handed.{AreRead, IsRead, sizes_of}
+use Rattle.settlement.specs.Handed.{AreRead, sizes_of}
 
 abbrev pub contents_of : (bytes : ContentRef → List ℕ) → List FlowFile → List (List ℕ)
 contents_of bytes taken = map (λ file. bytes file.content) taken

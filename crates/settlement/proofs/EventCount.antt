@@ -1,10 +1,9 @@
 -- How many events tell of a session at most.
-use Rattle.std.proofs.Common.{◌≡◌, ℕ, zero, suc, ◌+◌, ◌*◌, ◌^◌, ◌<◌, ◌≤◌, Bool, true, false, cond, List, [], ◌∷◌, ◌++◌, map, length, refl, sym, ap, ◌∙◌, arith, length-append}
+use Rattle.std.proofs.Common.{ℕ, ◌+◌, ◌*◌, ◌≤◌, Bool, true, false, cond, List, [], ◌∷◌, ◌++◌, length, arith, length-append}
 use Rattle.std.specs.Prelude.{Option, Some, None, filter, slice_get, ◌||◌}
 use Rattle.std.specs.Option.{option_map_or}
 use Rattle.std.specs.List.{flat_map, enumerate_from}
 use Rattle.std.proofs.lemmas.List.{length-map}
-use Rattle.std.proofs.lemmas.List.FromFn.{length-enumerate_from}
 use Rattle.flowfile_record.specs.Outcome.{same_attributes}
 use Rattle.flowfile_record.specs.declared.event.EventKind.TheVariants as kind
 use Rattle.flowfile_record.specs.declared.flow_file.FlowFile.{FlowFile}
@@ -13,7 +12,7 @@ use Rattle.flowfile_record.specs.declared.worked.Origin.TheVariants as origin
 use Rattle.flowfile_record.specs.declared.worked.Sent.{Sent}
 use Rattle.machine_model.specs.Events.{Draft, is_removed}
 use Rattle.settlement.specs.Placing.{wanted}
-use Rattle.settlement.specs.Telling.{Told, alone, all_drafts, attributes_modified, changed_rows, children_of, clone_event, clone_events, created, dropped, fork_of, if_other, is_child, joined, made_rows, modified, received, routed, row_at, row_of, sent}
+use Rattle.settlement.specs.Telling.{Told, alone, all_drafts, attributes_modified, children_of, clone_event, clone_events, created, dropped, fork_of, if_other, is_child, joined, modified, received, routed, row_at, row_of, sent}
 use Rattle.settlement.specs.declared.file.EndedFile.{EndedFile}
 use Rattle.settlement.specs.declared.file.Goes.{Goes}
 use Rattle.settlement.specs.declared.file.Goes.TheVariants.{Queues, Returns, Drops, Leaves}

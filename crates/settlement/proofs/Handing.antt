@@ -1,21 +1,19 @@
 -- That what is handed in stands for a session of a valid state, and what the calls inside make of it settles it.
-use Rattle.std.proofs.Common.{◌≡◌, ◌≢◌, inl, inr, ℕ, false, zero, suc, ◌+◌, ◌*◌, ◌^◌, ◌<◌, ◌≤◌, List, [], ◌∷◌, ◌++◌, map, length, refl, sym, ap, subst, ◌∙◌, arith}
+use Rattle.std.proofs.Common.{◌≡◌, inl, inr, ℕ, ◌*◌, ◌<◌, ◌≤◌, List, [], ◌∷◌, map, length, refl, sym, ap, subst, ◌∙◌, arith}
 use Rattle.std.specs.Prelude.{◌==◌, All, Contains, IfOk, Ok, Err, Result, Some, slice_get, zip, unwrap_or}
 use Rattle.flowfile_record.specs.declared.change.Settled.{Settled}
-use Rattle.std.specs.List.{AllPairs, range_with_len}
 use Rattle.std.proofs.lemmas.Bool.{cases_lt, ne_eqb}
 use Rattle.std.proofs.lemmas.List.{length-map}
 use Rattle.std.proofs.lemmas.List.Elements.{All-head, All-tail}
 use Rattle.flowfile_record.specs.Outcome.{AreInTurn, IsBodyOver, IsWorked}
 use Rattle.flowfile_record.specs.declared.content.ContentRef.{ContentRef}
 use Rattle.flowfile_record.specs.declared.flow_file.FlowFile.{FlowFile}
-use Rattle.flowfile_record.specs.declared.limits.TheConstants.{FILES_MAX, NUMBER_LIMIT}
 use Rattle.flowfile_record.specs.declared.worked.Worked.{Worked}
 use Rattle.machine_model.specs.declared.flow.Flow.{Flow}
 use Rattle.machine_model.specs.declared.flow.Processor.{Processor}
 use Rattle.machine_model.specs.declared.given.Given.{Given}
 use Rattle.machine_model.specs.Files.{queue_at}
-use Rattle.machine_model.specs.Placing.{SettledFile, settled_file, settled_files, numbers_from, entered_in, count_made}
+use Rattle.machine_model.specs.Placing.{SettledFile, settled_file, numbers_from, entered_in, count_made}
 use Rattle.machine_model.specs.Settling.{settle}
 use Rattle.machine_model.specs.State.{QueuedFile, State}
 use Rattle.machine_model.proofs.Among.{Among, all_among, among_contained, makes}
@@ -28,14 +26,13 @@ use Rattle.settlement.specs.Placing.{wanted}
 use Rattle.settlement.specs.StateAfter.{state_after, Settles}
 use Rattle.settlement.specs.Whole.{settled_in}
 use Rattle.settlement.specs.declared.counters.Counters.{Counters}
-use Rattle.settlement.specs.declared.file.EndedFile.{EndedFile}
 use Rattle.settlement.specs.declared.handed.Ended.{Ended}
 use Rattle.settlement.proofs.Arriving.{HasBytes}
 use Rattle.settlement.proofs.Bounds.{clones-bound}
-use Rattle.settlement.proofs.Bytes.{content-bytes, content-stamp, contents_of}
+use Rattle.settlement.proofs.Bytes.{content-bytes, content-stamp}
 use Rattle.settlement.proofs.EndedFiles.{Case, counters_of, ended-same, ended_of, place, session, stamped, taken_contents, taken_numbers}
 use Rattle.settlement.proofs.EventCount.{drafts-bound}
-use Rattle.settlement.proofs.Queues.{AreKnown, Stands, files_of, in_all, many_files}
+use Rattle.settlement.proofs.Queues.{Stands, files_of, in_all, many_files}
 use Rattle.settlement.proofs.Settles.{EventsFit, over-settles, first_clone, settled_over}
 use Rattle.settlement.proofs.Taken.{IsEitherOne, each-either}
 use Rattle.settlement.proofs.ToldEvents.{told}

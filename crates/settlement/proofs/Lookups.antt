@@ -1,14 +1,13 @@
 -- What a look-up finds, and what is told where it finds nothing.
 use Rattle.std.proofs.Common.{◌≡◌, ℕ, zero, suc, ◌+◌, ◌<◌, ◌≤◌, Bool, true, false, cond, List, [], ◌∷◌, ◌++◌, map, length, get_or, drop, refl, sym, ap, subst, ◌∙◌, arith, append_assoc, append-nil}
-use Rattle.std.specs.Prelude.{nat_lt, Some, None, OnOk, Option, Result, filter, slice_get, ◌==◌}
+use Rattle.std.specs.Prelude.{nat_lt, Some, None, OnOk, Result, filter, slice_get}
 use Rattle.std.specs.Option.{option_map_or}
-use Rattle.std.proofs.lemmas.Bool.{ltb-true, ltb-false, true≢false}
+use Rattle.std.proofs.lemmas.Bool.{ltb-true, ltb-false}
 use Rattle.std.proofs.lemmas.List.{drop_all}
 use Rattle.flowfile_record.specs.Outcome.{same_attributes}
 use Rattle.flowfile_record.specs.declared.event.Event.{Event}
 use Rattle.flowfile_record.specs.declared.event.EventKind.TheVariants as kind
 use Rattle.flowfile_record.specs.declared.flow_file.FlowFile.{FlowFile}
-use Rattle.flowfile_record.specs.declared.worked.Origin.{Origin}
 use Rattle.flowfile_record.specs.declared.worked.Sent.{Sent}
 use Rattle.machine_model.specs.Events.{Draft}
 use Rattle.settlement.specs.Telling.{Adds, Told, alone, children_of, if_other, is_child, sent}

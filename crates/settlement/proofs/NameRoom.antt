@@ -1,5 +1,5 @@
 -- That a made file's attributes have room for its name.
-use Rattle.std.proofs.Common.{◌≡◌, ℕ, ◌+◌, ◌≤◌, Bool, true, false, List, length, refl, sym, ap, ◌∙◌, arith}
+use Rattle.std.proofs.Common.{◌≡◌, ℕ, ◌+◌, ◌≤◌, true, false, length, refl, ap, ◌∙◌, arith}
 use Rattle.std.specs.Prelude.{◌&&◌, not, codes, is_some, Option, None, Some, if◌then◌else◌}
 use Rattle.std.specs.Option.{option_map}
 use Rattle.std.specs.FinMap.{contains_key, insert}
@@ -9,7 +9,6 @@ use Rattle.flowfile_record.specs.Attributes.{AttributeMap, encoded_size, pair_si
 use Rattle.flowfile_record.specs.Identifier.{identifier}
 use Rattle.flowfile_record.specs.Outcome.{filename_to_come, is_made}
 use Rattle.flowfile_record.specs.declared.worked.Origin.{Origin}
-use Rattle.process_session.specs.Pairs.{held_size}
 use Rattle.process_session.proofs.Encoded.{encoded_size-insert}
 
 name_size : (store number : ℕ) → pair_size (codes "filename", hyphenated_text lower (identifier store number)) ≡ 50

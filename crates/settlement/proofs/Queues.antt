@@ -1,11 +1,11 @@
 -- That the settlement leaves the queues that the machine's does.
-use Rattle.std.proofs.Common.{◌≡◌, ◌≢◌, ◌⊎◌, inl, inr, ℕ, zero, suc, ◌+◌, ◌<◌, ◌≤◌, Bool, true, false, cond, List, [], ◌∷◌, ◌++◌, map, length, drop, refl, sym, ap, subst, ◌∙◌, arith, append-nil}
-use Rattle.std.specs.Prelude.{◌==◌, not, All, Contains, Option, Some, None, filter, find, is_some, fold, slice_get, slice_index, zip, unwrap_or}
-use Rattle.std.specs.List.{AllPairs, flat_map, enumerate_from, range_with_len}
+use Rattle.std.proofs.Common.{◌≡◌, ◌≢◌, inl, inr, ℕ, zero, suc, ◌+◌, ◌<◌, ◌≤◌, Bool, true, false, cond, List, [], ◌∷◌, ◌++◌, map, length, refl, sym, ap, subst, ◌∙◌, arith, append-nil}
+use Rattle.std.specs.Prelude.{◌==◌, not, All, Option, Some, None, filter, find, is_some, fold, slice_get, zip, unwrap_or}
+use Rattle.std.specs.List.{flat_map, range_with_len}
 use Rattle.std.proofs.lemmas.Bool.{cases_eq, ne_eqb, eq-eqb, eqb-true, true≢false}
 use Rattle.std.proofs.lemmas.List.{length-map, length_push, map-append}
-use Rattle.std.proofs.lemmas.List.Elements.{All-head, All-tail, All-contains}
-use Rattle.flowfile_record.specs.Outcome.{AreInTurn, IsOutcome, IsWorked}
+use Rattle.std.proofs.lemmas.List.Elements.{All-head, All-tail}
+use Rattle.flowfile_record.specs.Outcome.{AreInTurn}
 use Rattle.flowfile_record.specs.declared.flow_file.FlowFile.{FlowFile}
 use Rattle.flowfile_record.specs.declared.stored.Placed.{Placed}
 use Rattle.flowfile_record.specs.declared.worked.Worked.{Worked}
@@ -13,27 +13,25 @@ use Rattle.machine_model.specs.Files.{is_number_among, queue_at}
 use Rattle.machine_model.specs.Placing as placing
 use Rattle.machine_model.specs.Placing.{SettledFile, Destination, settled_file, settled_files, numbers_from, next_behind, entered_in, entered_by, count_made}
 use Rattle.machine_model.specs.Settling.{in_queue, staying, staying_as}
-use Rattle.machine_model.specs.State.{QueuedFile, State}
+use Rattle.machine_model.specs.State.{QueuedFile}
 use Rattle.machine_model.specs.Stepping.{without_files}
-use Rattle.machine_model.specs.Valid.{IsValid, AreByArrival, files_of_all}
+use Rattle.machine_model.specs.Valid.{IsValid, AreByArrival}
 use Rattle.machine_model.proofs.Among.{Among, all_among, among_contained, among_left, among_right, contains_among, each_among}
 use Rattle.machine_model.proofs.Keyed.{once_from_differ, same_key}
-use Rattle.machine_model.proofs.Numbered.{find-some}
 use Rattle.machine_model.proofs.Numbers.{numbers_are}
 use Rattle.machine_model.proofs.Ordered.{pairs_head, pairs_nil, pairs_tail}
-use Rattle.machine_model.proofs.Places.{place_of}
 use Rattle.machine_model.proofs.Tally.{Each, each-append, bit, many, tally, tally-append, tally-map, find-passes, run_below}
 use Rattle.machine_model.proofs.Took.{find-contains}
 use Rattle.settlement.specs.Ending.{goes_to}
-use Rattle.settlement.specs.Handed.{IsHanded, queued}
+use Rattle.settlement.specs.Handed.{queued}
 use Rattle.settlement.specs.Placing.{arrival_of, placed_at, returned, returning}
 use Rattle.settlement.specs.StateAfter.{placed_file, placed_in, put_all}
 use Rattle.settlement.specs.Whole.{placing_at}
 use Rattle.settlement.proofs.Arriving.{HasBytes, placed-queued}
-use Rattle.settlement.proofs.ByArrival.{AreApart, From, Has, IsBack, IsGone, IsKept, Rising, Stays, stays-in-place, these}
-use Rattle.settlement.proofs.EndedFiles.{Case, counters_of, ended_of, place, session, taken_numbers}
-use Rattle.settlement.proofs.Listing.{filter-append, flat_map-map}
-use Rattle.settlement.proofs.Taken.{IsEitherOne, IsNewOne, IsTakenOne, back, back_of}
+use Rattle.settlement.proofs.ByArrival.{AreApart, Has, IsKept, Rising, Stays, stays-in-place, these}
+use Rattle.settlement.proofs.EndedFiles.{Case, ended_of, place, session, taken_numbers}
+use Rattle.settlement.proofs.Listing.{filter-append}
+use Rattle.settlement.proofs.Taken.{IsEitherOne, back, back_of}
 
 abbrev number_of : QueuedFile → ℕ
 number_of file = file.number

@@ -1,54 +1,40 @@
 -- That the settlement leaves the state that the machine's does.
-use Rattle.std.proofs.Common.{◌≡◌, ◌≢◌, ◌⊎◌, inl, inr, ℕ, zero, suc, ◌+◌, ◌*◌, ◌^◌, ◌<◌, ◌≤◌, Bool, true, false, cond, List, [], ◌∷◌, ◌++◌, map, length, refl, sym, ap, subst, ◌∙◌, arith, length-append}
-use Rattle.std.specs.Prelude.{◌==◌, All, Contains, Option, Some, None, find, filter, slice_get, unwrap_or, zip}
+use Rattle.std.proofs.Common.{◌≡◌, inl, inr, ℕ, suc, ◌+◌, ◌^◌, ◌<◌, ◌≤◌, List, [], ◌∷◌, ◌++◌, map, length, refl, sym, ap, subst, ◌∙◌, arith, length-append}
+use Rattle.std.specs.Prelude.{◌==◌, Option, Some, None, find, slice_get, unwrap_or}
 use Rattle.std.specs.FinSet.{union, from_list}
-use Rattle.std.specs.List.{AllPairs, flat_map, enumerate_from, range_with_len}
-use Rattle.std.proofs.lemmas.Bool.{cases_lt, ne_eqb}
+use Rattle.std.specs.List.{flat_map, enumerate_from}
 use Rattle.std.proofs.lemmas.List.{length-map}
 use Rattle.std.proofs.lemmas.List.Concat.{flat_map-append}
-use Rattle.std.proofs.lemmas.List.Elements.{All-head, All-tail, All-weaker}
 use Rattle.flowfile_record.specs.Kin.{kin_of_all, kin_of}
-use Rattle.flowfile_record.specs.Outcome.{AreInTurn, IsBodyOver, IsOutcome, IsWorked}
+use Rattle.flowfile_record.specs.Outcome.{AreInTurn}
 use Rattle.flowfile_record.specs.declared.change.Settled.{Settled}
-use Rattle.flowfile_record.specs.declared.content.ContentRef.{ContentRef}
 use Rattle.flowfile_record.specs.declared.flow_file.FlowFile.{FlowFile}
-use Rattle.flowfile_record.specs.declared.worked.Worked.{Worked}
-use Rattle.machine_model.specs.declared.flow.Flow.{Flow}
-use Rattle.machine_model.specs.declared.flow.Processor.{Processor}
-use Rattle.machine_model.specs.declared.given.Given.{Given}
 use Rattle.machine_model.specs.declared.kind.Kind.{Kind}
 use Rattle.machine_model.specs.declared.kind.Kind.TheVariants.{GenerateFlowFile}
 use Rattle.machine_model.specs.Events.{drafts, numbered_from}
 use Rattle.machine_model.specs.Files.{queue_at}
 use Rattle.machine_model.specs.Placing as placing
 use Rattle.machine_model.specs.Placing.{SettledFile, SettlementClone, Destination, settled_file, settled_files, settlement_clones, wanted_clones, numbers_from, entered_in, count_made}
-use Rattle.machine_model.specs.Settling.{arriving, counts_after, kin_of_files, newcomers, settle, staying, staying_as}
-use Rattle.machine_model.specs.State.{Kin, QueuedFile, State}
+use Rattle.machine_model.specs.Settling.{arriving, counts_after, newcomers, settle, staying, staying_as}
+use Rattle.machine_model.specs.State.{Kin, QueuedFile}
 use Rattle.machine_model.specs.Stepping.{without_files}
-use Rattle.machine_model.proofs.Among.{Among, all_among, among_contained, makes}
+use Rattle.machine_model.proofs.Among.{Among}
 use Rattle.machine_model.proofs.EventsTell.{settle-tells}
-use Rattle.machine_model.proofs.Keyed.{once_from_differ}
 use Rattle.machine_model.proofs.KinSets.{kin_joined}
 use Rattle.machine_model.proofs.Places.{place_of}
-use Rattle.machine_model.proofs.Tally.{Each, each-append, each-flat_map, each-map, bit, many, tally, run_below, run_past, run_once}
-use Rattle.settlement.specs.Contents.{content_in, fresh_in, IsBodyWithin}
-use Rattle.settlement.specs.Ending.{ended_files}
-use Rattle.settlement.specs.Handed.{IsHanded, MaySettle, queued, sizes_of}
+use Rattle.machine_model.proofs.Tally.{Each, each-append, each-map}
+use Rattle.settlement.specs.Handed.{queued}
 use Rattle.settlement.specs.Placing.{arrived, clones_from, firsts, placed_from, returned, wanted}
-use Rattle.settlement.specs.StateAfter.{counts_with, placed_in, put_all, put_by_arrival, queue_after, state_after, Settles}
+use Rattle.settlement.specs.StateAfter.{counts_with, placed_in, put_all, put_by_arrival, queue_after, state_after}
 use Rattle.settlement.specs.Telling.{all_drafts, numbered_wrapping}
-use Rattle.settlement.specs.Whole.{count_of, placing_at, settled_in, told_of}
-use Rattle.settlement.specs.declared.counters.Counters.{Counters}
+use Rattle.settlement.specs.Whole.{count_of, placing_at, told_of}
 use Rattle.settlement.specs.declared.file.EndedFile.{EndedFile}
-use Rattle.settlement.specs.declared.handed.Ended.{Ended}
 use Rattle.settlement.proofs.AddedEvents.{numbers-fit}
 use Rattle.settlement.proofs.Arriving.{Below, Comer, HasBytes, arriving-same, as_placed, as_queued, comer, comers, comers-placed, comers-queued, put-arriving}
-use Rattle.settlement.proofs.Bytes.{content-bytes, content-stamp, contents_of}
-use Rattle.settlement.proofs.EndedFiles.{Case, counters_of, ended-same, ended_of, place, session, stamped, taken_contents, taken_numbers}
+use Rattle.settlement.proofs.EndedFiles.{Case, ended_of, place, session}
 use Rattle.settlement.proofs.Listing.{fold-append}
 use Rattle.settlement.proofs.Placed as placed
-use Rattle.settlement.proofs.Queues.{AreKnown, Stands, arrival-below, files_of, many_files, placed-append, queue-stays}
-use Rattle.settlement.proofs.Taken.{IsEitherOne, each-either}
+use Rattle.settlement.proofs.Queues.{Stands, arrival-below, files_of, placed-append, queue-stays}
 use Rattle.settlement.proofs.ToldEvents.{as_ended, drafts-same, told, wanted-same}
 
 -- ---- a settlement over the machine's files

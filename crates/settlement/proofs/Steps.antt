@@ -1,18 +1,17 @@
 -- Steps of the loops: what is left gives the rest of the whole.
-use Rattle.std.proofs.Common.{◌≡◌, ℕ, zero, suc, ◌+◌, ◌-◌, ◌<◌, ◌≤◌, min, Bool, true, false, cond, List, [], ◌∷◌, ◌++◌, map, length, get_or, drop, refl, sym, ap, ◌∙◌, arith, append_assoc, append-nil, length-append}
-use Rattle.std.specs.Prelude.{Option, Some, None, filter, fold, slice_index, unwrap_or, zip}
+use Rattle.std.proofs.Common.{◌≡◌, ℕ, ◌+◌, ◌<◌, ◌≤◌, Bool, true, false, cond, List, [], ◌∷◌, ◌++◌, map, length, get_or, drop, refl, sym, ap, ◌∙◌, arith, append_assoc, append-nil, length-append}
+use Rattle.std.specs.Prelude.{Option, Some, None, filter, fold, unwrap_or}
 use Rattle.std.specs.List.{flat_map, enumerate_from}
 use Rattle.std.proofs.lemmas.List.{drop_more, drop_all, length-map}
 use Rattle.flowfile_record.specs.declared.event.Event.{Event}
-use Rattle.flowfile_record.specs.declared.worked.Origin.{Origin}
 use Rattle.flowfile_record.specs.declared.worked.Worked.{Worked}
 use Rattle.machine_model.specs.Events.{Draft}
-use Rattle.machine_model.specs.Placing.{least, next_behind, number_by, numbers_from}
+use Rattle.machine_model.specs.Placing.{next_behind, number_by, numbers_from}
 use Rattle.settlement.specs.Ending.{least_from, least_with}
 use Rattle.settlement.specs.Placing.{first_of, firsts, further, wanted}
 use Rattle.settlement.specs.Telling.{Adds, Told, clone_event, clone_events, numbered_wrapping}
 use Rattle.settlement.specs.declared.file.EndedFile.{EndedFile}
-use Rattle.settlement.proofs.AddedEvents.{adds-on, clones-append, length-clone_events}
+use Rattle.settlement.proofs.AddedEvents.{adds-on, clones-append}
 
 -- an element and what is left behind it
 pub left : {X : Type 0} (xs : List X) (i : ℕ) (x : X) → i < length xs → x ≡ get_or xs i x → drop i xs ≡ x ∷ drop (i + 1) xs

@@ -1,8 +1,8 @@
 -- That the events which the calls inside tell are those of the machine.
-use Rattle.std.proofs.Common.{◌≡◌, ℕ, zero, suc, ◌+◌, ◌<◌, ◌≤◌, Bool, true, false, cond, List, [], ◌∷◌, ◌++◌, map, length, refl, sym, ap, ◌∙◌, arith, append_assoc}
+use Rattle.std.proofs.Common.{◌≡◌, ℕ, ◌+◌, Bool, cond, List, [], ◌∷◌, ◌++◌, map, refl, sym, ap, ◌∙◌, append_assoc}
 use Rattle.std.specs.Prelude.{Option, Some, None, filter, slice_get, slice_index, ◌||◌}
 use Rattle.std.specs.Option.{option_map, option_map_or}
-use Rattle.std.specs.List.{flat_map, enumerate_from}
+use Rattle.std.specs.List.{flat_map}
 use Rattle.flowfile_record.specs.Outcome.{same_attributes}
 use Rattle.flowfile_record.specs.declared.event.EventKind.TheVariants as kind
 use Rattle.flowfile_record.specs.declared.flow_file.FlowFile.{FlowFile}
@@ -18,10 +18,9 @@ use Rattle.machine_model.specs.State.{QueuedFile}
 use Rattle.settlement.specs.Ending.{goes_to}
 use Rattle.settlement.specs.Handed.{queued}
 use Rattle.settlement.specs.Placing.{wanted, further}
-use Rattle.settlement.specs.Telling.{Told, alone, children_of, number_at, created, received, fork_of, joined, clone_event, modified, attributes_modified, if_other, routed, dropped, row_at, row_of, sent, clone_events, all_drafts}
+use Rattle.settlement.specs.Telling.{Told, alone, number_at, created, received, fork_of, joined, clone_event, modified, attributes_modified, if_other, routed, dropped, row_at, row_of, sent, clone_events, all_drafts}
 use Rattle.settlement.specs.Whole.{told_of}
 use Rattle.settlement.specs.declared.file.EndedFile.{EndedFile}
-use Rattle.settlement.specs.declared.offspring.Kinship.TheVariants.{Forked, Cloned}
 use Rattle.settlement.specs.declared.rows.Row.{Row}
 use Rattle.settlement.specs.declared.rows.Row.TheVariants as row
 use Rattle.settlement.proofs.EndedFiles.{Case, ended_of, place, session}

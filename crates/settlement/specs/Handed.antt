@@ -1,5 +1,5 @@
 -- What is handed in, and the machine's session that it stands for.
-use Rattle.std.specs.Prelude.{◌≡◌, ◌≢◌, ℕ, ◌<◌, ◌≤◌, ◌^◌, List, [], ◌∷◌, map, length, All, Contains, IfSome, Option, Some, None, slice_get}
+use Rattle.std.specs.Prelude.{◌≡◌, ◌≢◌, ℕ, ◌<◌, ◌≤◌, ◌^◌, List, [], ◌∷◌, map, length, All, Contains, IfSome, Some, None, slice_get}
 use Rattle.std.specs.List.{AllPairs}
 use Rattle.sha2.specs.Sha256.{sha256}
 use Rattle.flowfile_record.specs.Outcome.{IsOutcome}

@@ -9,7 +9,7 @@ use Rattle.process_session.specs.declared.file.Source.{Source}
 use Rattle.settlement.specs.Contents.{fresh_in}
 use Rattle.settlement.specs.declared.file.EndedFile.{EndedFile}
 use Rattle.settlement.specs.declared.file.Goes.{Goes}
-use Rattle.settlement.specs.declared.file.Goes.TheVariants.{Queues, Returns, Drops, Leaves}
+use Rattle.settlement.specs.declared.file.Goes.TheVariants.{Queues, Returns}
 use Rattle.settlement.specs.declared.placing.Placer.{Placer}
 
 -- ---- newcomers, each with its connection and its number

@@ -1,5 +1,5 @@
 -- The events that the calls inside tell: the machine's rows, over references in place of bytes.
-use Rattle.std.specs.Prelude.{◌≡◌, ℕ, ◌+◌, ◌%◌, ◌^◌, Bool, true, false, List, [], ◌∷◌, ◌++◌, length, map, filter, Option, Some, None, slice_get, slice_index, unwrap_or, ◌||◌, if◌then◌else◌}
+use Rattle.std.specs.Prelude.{◌≡◌, ℕ, ◌+◌, ◌%◌, ◌^◌, Bool, List, [], ◌∷◌, ◌++◌, length, map, filter, Option, Some, None, slice_get, slice_index, unwrap_or, ◌||◌, if◌then◌else◌}
 use Rattle.std.specs.Option.{option_map_or}
 use Rattle.std.specs.List.{flat_map, enumerate_from, range_with_len}
 use Rattle.flowfile_record.specs.Outcome.{same_attributes}
@@ -15,7 +15,7 @@ use Rattle.machine_model.specs.Events.{Draft, ascending, is_removed, is_forked_f
 use Rattle.machine_model.specs.Placing.{relationship_at}
 use Rattle.settlement.specs.declared.file.EndedFile.{EndedFile}
 use Rattle.settlement.specs.declared.file.Goes.{Goes}
-use Rattle.settlement.specs.declared.file.Goes.TheVariants.{Queues, Returns, Drops, Leaves}
+use Rattle.settlement.specs.declared.file.Goes.TheVariants.{Drops, Leaves}
 use Rattle.settlement.specs.Placing.{wanted}
 use Rattle.settlement.specs.declared.offspring.Kinship.{Kinship}
 use Rattle.settlement.specs.declared.offspring.Kinship.TheVariants.{Forked, Cloned}

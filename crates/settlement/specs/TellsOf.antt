@@ -1,5 +1,5 @@
 -- What a settlement says of its session, whatever the state.
-use Rattle.std.specs.Prelude.{◌≡◌, ℕ, List, map, length, All, Contains, MatchOption}
+use Rattle.std.specs.Prelude.{◌≡◌, List, map, length, All, Contains, MatchOption}
 use Rattle.sha2.specs.Sha256.{sha256}
 use Rattle.flowfile_record.specs.declared.change.Settled.{Settled}
 use Rattle.flowfile_record.specs.declared.flow_file.FlowFile.{FlowFile}

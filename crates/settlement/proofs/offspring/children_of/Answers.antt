@@ -1,4 +1,4 @@
-use Rattle.std.proofs.Common.{arith, sym}
+use Rattle.std.proofs.Common.{arith}
 use Rattle.settlement.proofs.Lookups.{child_more}
 use Rattle.settlement.proofs.offspring.children_of.Goals as goal
 

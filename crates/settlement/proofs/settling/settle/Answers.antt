@@ -1,4 +1,4 @@
-use Rattle.std.proofs.Common.{◌≡◌, ◌∙◌, ap, get_or}
+use Rattle.std.proofs.Common.{◌≡◌, ◌∙◌, get_or}
 use Rattle.settlement.proofs.Contained.{if-tells}
 use Rattle.settlement.proofs.Handing.{if-settles}
 use Rattle.settlement.proofs.Lookups.{got_is}

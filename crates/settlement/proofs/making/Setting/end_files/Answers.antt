@@ -1,4 +1,4 @@
-use Rattle.std.proofs.Common.{◌≡◌, arith, ap, length, map, ◌∙◌}
+use Rattle.std.proofs.Common.{ap, length, ◌∙◌}
 use Rattle.settlement.proofs.MadeFiles.{length_entered, length_numbers}
 use Rattle.settlement.proofs.making.Setting.end_files.Goals as goal
 
