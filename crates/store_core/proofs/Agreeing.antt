@@ -21,7 +21,7 @@ use Rattle.store_core.specs.Flow.{Flow}
 use Rattle.store_core.specs.Kept.{snapshot_for, batches_in, behind_log, behind_snapshot, with_entries, kept_in}
 use Rattle.store_core.specs.State.{digest_damage, content_damage, first_damage, contents_damage, live_contents, events_in, queued, with_arrival, queue_of, state_with, state_by, state_of, behind_kept, stands_for}
 use Rattle.store_core.specs.Agreement.{Needs, Agrees, SameContent, IsNeeded}
-use Rattle.store_core.specs.Stub.{batches_that_matter}
+use Rattle.kept_state.specs.Applied.{batches_that_matter}
 
 -- ---- agreement
 
@@ -55,8 +55,7 @@ agrees_in_turn needs old mid new first second = record {
 -- ---- what is kept
 
 same_batches : (old new : Files) (batches : List ℕ) → batches_in new batches ≡ batches_in old batches
-same_batches old new [] = refl
-same_batches old new (batch ∷ batches) = refl
+same_batches old new batches = refl
 
 same_behind : (old new : Files) (log : CurrentLog) (read : Result Kept Damage) → behind_snapshot new log read ≡ behind_snapshot old log read
 same_behind old new log (Ok k) = ap (with_entries log k) (same_batches old new (batches_that_matter k log.entries))

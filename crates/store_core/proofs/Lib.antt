@@ -1,2 +1,4 @@
 pub mod Agreeing
+pub mod Cutting
+pub mod Discarding
 pub mod Making

@@ -12,7 +12,7 @@ use Rattle.flowfile_wal.specs.Current.{CurrentLog, current_log, current_number}
 use Rattle.store_core.specs.Flow.{Flow}
 use Rattle.store_core.specs.Kept.{kept_in, snapshot_for}
 use Rattle.store_core.specs.State.{live_contents}
-use Rattle.store_core.specs.Stub.{batches_that_matter}
+use Rattle.kept_state.specs.Applied.{batches_that_matter}
 
 -- ---- files with a current log
 

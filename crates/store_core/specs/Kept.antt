@@ -1,5 +1,5 @@
 -- What files keep: the snapshot of the current log's number with the log's entries applied, or the first damage.
-use Rattle.std.specs.Prelude.{ℕ, suc, min, List, [], ◌∷◌, length, drop, fold, Option, None, Some, Result, Ok, Err, if◌then◌else◌}
+use Rattle.std.specs.Prelude.{ℕ, suc, min, List, length, drop, fold, Option, None, Some, Result, Ok, Err, if◌then◌else◌}
 use Rattle.disk_trait.specs.Files.{Files, named}
 use Rattle.disk_trait.specs.declared.damage.Damage.{Damage}
 use Rattle.disk_trait.specs.declared.damage.Damage.TheVariants.{Short, Form}
@@ -7,16 +7,26 @@ use Rattle.disk_trait.specs.declared.file_name.FileKind.TheVariants.{Log, Swap}
 use Rattle.disk_trait.specs.declared.file_name.FileName.{FileName}
 use Rattle.flowfile_record.specs.Stored.{Kept}
 use Rattle.flowfile_record.specs.declared.flow_file.FlowFile.{FlowFile}
-use Rattle.record_codec.specs.Block.{reading_of}
+use Rattle.record_codec.specs.Block.{Reading, Whole, reading_of}
 use Rattle.record_codec.specs.declared.block.TheConstants.{HEADER_SIZE}
 use Rattle.checkpoint_store.specs.Reading.{behind_block, blocks_from, first_in}
 use Rattle.checkpoint_store.specs.Snapshot.{snapshot_file}
 use Rattle.flowfile_wal.specs.Current.{CurrentLog, current_log}
 use Rattle.store_core.specs.Flow.{Flow, agrees_with}
 use Rattle.store_core.specs.New.{first_stray, unless_stray}
-use Rattle.store_core.specs.Stub.{replayed, batches_that_matter}
+use Rattle.kept_state.specs.Applied.{batches_that_matter}
+use Rattle.kept_state.specs.Changes.{no_files}
+use Rattle.kept_state.specs.Fits.{replayed}
 
 -- ---- the snapshot
+
+-- what the first block of a snapshot says, where it says something
+abbrev pub head_by : Reading → Option Kept
+head_by (Whole kind payload) = first_in kind payload
+head_by _ = None
+
+abbrev pub head_in : List ℕ → Option Kept
+head_in bytes = head_by (reading_of bytes)
 
 abbrev pub of_flow : Flow → Option Kept → Option Kept
 of_flow flow None = None
@@ -34,14 +44,22 @@ snapshot_for flow file bytes =
 abbrev pub absent : FileName → Damage
 absent file = Short file 0 HEADER_SIZE 0
 
-abbrev pub least : ℕ → List ℕ → ℕ
-least batch batches = fold min batch batches
+-- the least of a number and those before it
+abbrev pub with_least : Option ℕ → ℕ → Option ℕ
+with_least None n = Some n
+with_least (Some least) n = Some (min least n)
+
+abbrev pub least_of : List ℕ → Option ℕ
+least_of numbers = fold with_least None numbers
 
 -- The files of each batch that matters. No batch is swapped out yet: one that matters is damage, as where the file of
 -- the lowest one is absent.
+abbrev pub unless_swapped : Option ℕ → Result (ℕ → List FlowFile) Damage
+unless_swapped None = Ok no_files
+unless_swapped (Some batch) = Err (absent (named Swap batch))
+
 abbrev pub batches_in : Files → List ℕ → Result (ℕ → List FlowFile) Damage
-batches_in files [] = Ok (λ batch. [])
-batches_in files (batch ∷ batches) = Err (absent (named Swap (least batch batches)))
+batches_in files batches = unless_swapped (least_of batches)
 
 -- ---- the fit of the entries
 

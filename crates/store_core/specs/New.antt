@@ -10,7 +10,7 @@ use Rattle.disk_trait.specs.declared.file_name.FileName.{FileName}
 use Rattle.flowfile_record.specs.Stored.{Kept}
 use Rattle.flowfile_record.specs.declared.limits.TheConstants.{STORE_LIMIT}
 use Rattle.store_core.specs.Flow.{Flow}
-use Rattle.store_core.specs.Stub.{new_kept}
+use Rattle.kept_state.specs.New.{new_kept}
 
 -- the number of a new store's log and snapshot
 abbrev pub first_log : ℕ

@@ -3,8 +3,18 @@
 //! Whatever a stop leaves of its files stands for one state: that before the change that was under way, or that after.
 #![tactic(auto)]
 
+mod commit;
+mod discard;
+mod error;
 mod flow;
 mod law;
+mod load;
+mod prepared;
+mod store;
 
+pub use error::StoreError;
 pub use flow::FlowIdentity;
-pub use law::{files_that_agree_stand_for_the_same, files_of_no_store_stand_for_a_new_one};
+pub use kept_state::{Limit, NUMBER_MAX, Which};
+pub use law::{files_of_no_store_stand_for_a_new_one, files_that_agree_stand_for_the_same};
+pub use prepared::Prepared;
+pub use store::Store;
