@@ -1,7 +1,7 @@
 -- Files that don't matter go: what stays of a log that is passed over, of the current log, and of a store that isn't made.
-use Rattle.std.proofs.Common.{◌≡◌, ◌≢◌, ⊎_elim, ℕ, ◌+◌, ◌^◌, ◌<◌, ◌≤◌, ◌==◌, Bool, true, false, List, [], ◌∷◌, length, take, get_or, refl, sym, ap, subst, ◌∙◌, arith}
+use Rattle.std.proofs.Common.{◌≡◌, ◌≢◌, ⊎_elim, ℕ, ◌+◌, ◌^◌, ◌<◌, ◌≤◌, ◌==◌, Bool, true, false, List, [], ◌∷◌, length, take, get_or, refl, sym, ap, subst, ◌∙◌, add-one, eq-eqb, arith}
 use Rattle.std.specs.Prelude.{Option, Some, None, nat_lt, nat_le, ◌&&◌, All}
-use Rattle.std.proofs.lemmas.Bool.{cases_Bool, cases_lt, false≢true, le-leb}
+use Rattle.std.proofs.lemmas.Bool.{cases_Bool, cases_lt, false≢true, le-leb, lt-ltb, ltb-true, leb-true, eqb-true, false_from_ne_true}
 use Rattle.std.proofs.lemmas.List.{nil_from_length}
 use Rattle.disk_trait.specs.Files.{Files, At, Shortened, named}
 use Rattle.disk_trait.specs.Images.{After, Since, IsOnly}
@@ -23,11 +23,26 @@ first_byte n (x ∷ a) [] same = absurd cc
 first_byte n [] (y ∷ b) same = absurd cc
 first_byte n (x ∷ a) (y ∷ b) same = let heads : y ∷ take n b ≡ x ∷ take n a = rw (← add-one) at same in cc
 
+by_parts : (p q : Bool) → (p ≡ true → q ≡ true → ⊥) → (p && q) ≡ false
+by_parts true true h = absurd (h refl refl)
+by_parts true false h = refl
+by_parts false q h = refl
+
 pub passed_shortened : (n : ℕ) (a b : List ℕ) → Shortened (n + 1) a b → counts a ≡ false → counts b ≡ false
-passed_shortened n a b step passed = ?
+passed_shortened n a b step passed =
+    by_parts (get_or b 0 0 == OPEN_GATE) (nat_lt 1 (length b))
+    (λ (opened : (get_or b 0 0 == OPEN_GATE) ≡ true) (long : nat_lt 1 (length b) ≡ true).
+    let was : (get_or a 0 0 == OPEN_GATE) ≡ true = subst (λ (x : ℕ). (x == OPEN_GATE) ≡ true) (first_byte n a b step.front) opened in
+    let longer : nat_lt 1 (length a) ≡ true = lt-ltb 1 (length a) (omega (arith, ltb-true 1 (length b) long, step.no_longer)) in
+    false≢true (sym passed ∙ both was longer))
+  where
+    both : {p q : Bool} → p ≡ true → q ≡ true → (p && q) ≡ true
+    both {p} {q} is also = ap (λ (x : Bool). x && q) is ∙ also
 
 pub passed_short : (bytes : List ℕ) → length bytes ≤ 1 → counts bytes ≡ false
-passed_short bytes short = ?
+passed_short bytes short =
+    by_parts (get_or bytes 0 0 == OPEN_GATE) (nat_lt 1 (length bytes))
+    (λ (opened : (get_or bytes 0 0 == OPEN_GATE) ≡ true) (long : nat_lt 1 (length bytes) ≡ true). omega (arith, ltb-true 1 (length bytes) long, short))
 
 -- ---- steps
 
@@ -38,7 +53,17 @@ spared_log (Some m) n is =
     (le-leb n m (omega (arith, same)), subst (λ (k : ℕ). (m == k) ≡ true) same (eq_itself m))
   where
     eq_itself : (k : ℕ) → (k == k) ≡ true
-    eq_itself k = ?
+    eq_itself k = eq-eqb k k refl
+
+-- a log above the current one isn't spared
+pub unspared_above : (current : Option ℕ) (n : ℕ) → IsAbove current n → spares (UpTo current) n ≡ false
+unspared_above None n above = refl
+unspared_above (Some m) n above = false_from_ne_true (nat_le n m) (λ (is : nat_le n m ≡ true). omega (arith, leb-true n m is, above))
+
+-- nor is one of another number
+pub unspared_other : (current : Option ℕ) (n : ℕ) → (current ≡ Some n → ⊥) → spares (Only current) n ≡ false
+unspared_other None n other = refl
+unspared_other (Some m) n other = false_from_ne_true (m == n) (λ (is : (m == n) ≡ true). other (ap Some (eqb-true m n is)))
 
 pub discards_nothing : (current : Option ℕ) (files : Files) → Discards current files files
 discards_nothing current files = record {
@@ -110,3 +135,20 @@ module _ {D : Type 0} (moment : D → ℕ) (images : D → ℕ → Files → Typ
   pub since_step : (old new : D) (step : Files → Files → Type 0) → Since moment images old new (After step (images old (moment old)))
       → ((d c : Files) → images old (moment old) d → step d c → Discards current d c) → Since moment images old new (Discarding old)
   since_step old new step since is = wider moment images old new (After step (images old (moment old))) (Discarding old) since (λ c after. (after.0, after.1, is after.0 c after.1 after.2))
+
+  -- one kind after another
+  pub after_snapshots : (old mid new : D) → Since moment images old mid (Discarding old)
+      → Since moment images mid new (After (CutsKind Snapshot (spares (Only current)) 0) (images mid (moment mid))) → Since moment images old new (Discarding old)
+  after_snapshots old mid new first second =
+      since_discarded old mid new first (since_step mid new (CutsKind Snapshot (spares (Only current)) 0) second (λ d c left step. empties_snapshots current d c step))
+
+  pub after_others : (kind : FileKind) → kind ≢ Claim → kind ≢ Log → kind ≢ Snapshot → (old mid new : D) → Since moment images old mid (Discarding old)
+      → Since moment images mid new (After (CutsKind kind (spares (Only None)) 0) (images mid (moment mid))) → Since moment images old new (Discarding old)
+  after_others kind claim log snapshot old mid new first second =
+      since_discarded old mid new first (since_step mid new (CutsKind kind (spares (Only None)) 0) second (λ d c left step. empties_others current kind (spares (Only None)) d c claim log snapshot step))
+
+pub swap_apart : (Swap ≢ Claim) × (Swap ≢ Log) × (Swap ≢ Snapshot)
+swap_apart = ((λ (e : Swap ≡ Claim). absurd cc), (λ (e : Swap ≡ Log). absurd cc), (λ (e : Swap ≡ Snapshot). absurd cc))
+
+pub events_apart : (Events ≢ Claim) × (Events ≢ Log) × (Events ≢ Snapshot)
+events_apart = ((λ (e : Events ≡ Claim). absurd cc), (λ (e : Events ≡ Log). absurd cc), (λ (e : Events ≡ Snapshot). absurd cc))

@@ -2,3 +2,4 @@ pub mod Agreeing
 pub mod Cutting
 pub mod Discarding
 pub mod Making
+pub mod Refusals
