@@ -1,5 +1,5 @@
 //! Reading a snapshot.
-ghost use Rattle.std.specs.Prelude.{◌≡◌, ℕ, suc, ◌+◌, ◌<◌, ◌≤◌, List, ◌++◌, length, drop, slice_range, IsTrue, IfOk, OnOk, IsErrOf, Ok, Err, Some, MatchOption};
+ghost use Rattle.std.specs.Prelude.{◌≡◌, ℕ, suc, ◌+◌, ◌<◌, ◌≤◌, List, [], ◌++◌, length, drop, slice_range, IsTrue, IfOk, OnOk, IsErrOf, Ok, Err, Some, MatchOption};
 ghost use Rattle.disk_trait.specs.Images.{Stays};
 ghost use Rattle.disk_trait.specs.Faults.{CountsFaults};
 ghost use Rattle.disk_trait.specs.declared.damage.Damage.{Damage as TheDamage};
@@ -18,7 +18,7 @@ use crate::so_far::{SoFar, Unfit};
 use block_file::{BlockAddress, BlockError, read_block_at};
 use disk_trait::{Damage, Disk, FileKind, FileName};
 use flowfile_record::{DIGEST_SIZE, Stored};
-use record_codec::{Block, HEADER_SIZE};
+use record_codec::{Block, HEADER_SIZE, PAYLOAD_MAX};
 use std::alloc::Global;
 
 // A file that is read, of this size.
@@ -31,6 +31,8 @@ struct Source {
 /// What the snapshot of this number says. It is read block by block, with memory for one block beside the state.
 pub fn read<D: Disk>(alloc: Global, disk: &mut D, number: u64) -> Result<Stored, CheckError>
     ensures read { IfOk result (λ state. IsTrue D.tells → snapshot_of (snapshot_file number) (D.held disk.old (snapshot_file number)) ≡ Ok (kept_of state)) }
+    // Whatever the disk tells, a state without batches agrees with itself.
+    ensures consistent { IfOk result (λ state. (kept_of state).batches ≡ [] → IsConsistent (kept_of state)) }
     // The first damage is told, where there is one.
     ensures damaged { (damage : TheDamage) → IsErrOf result (CheckError.Damaged damage) → IsTrue D.tells → snapshot_of (snapshot_file number) (D.held disk.old (snapshot_file number)) ≡ Err damage }
     ensures stays { Stays D.held D.moment D.images disk.old disk.new }
@@ -122,6 +124,7 @@ fn read_block<D: Disk>(
     requires within { at ≤ source.size }
     ensures found { IfOk result (λ block. IsTrue D.tells → reading_of (drop at (D.held disk.old source.file)) ≡ Whole block.kind (slice_range buffer.new.items block.start block.end)) }
     ensures within { IfOk result (λ block. (block.start ≡ HEADER_SIZE) × (block.start ≤ block.end) × (block.end + DIGEST_SIZE ≡ block.next) × (block.next ≤ length buffer.new.items) × (at + block.next ≤ source.size)) }
+    ensures longest { IfOk result (λ block. block.end ≤ block.start + PAYLOAD_MAX) }
     ensures damaged { (damage : TheDamage) → IsErrOf result (CheckError.Damaged damage) → IsTrue D.tells → damage_in source.file at (reading_of (drop at (D.held disk.old source.file))) ≡ Some damage }
     ensures stays { Stays D.held D.moment D.images disk.old disk.new }
     ensures cause { CountsFaults (D.faults disk.old) (D.faults disk.new) (IsErrOf result CheckError.Disk) }
