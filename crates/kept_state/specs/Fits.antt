@@ -70,9 +70,9 @@ has_place k s a =
 -- ---- the rules on what else an entry says
 
 -- the generator's processor is there
-abbrev pub has_processor : Kept → Option Counted → Bool
-has_processor k None = true
-has_processor k (Some g) = nat_lt g.processor (length k.counts)
+abbrev pub has_count : List ℕ → Option Counted → Bool
+has_count counts None = true
+has_count counts (Some g) = nat_lt g.processor (length counts)
 
 -- no counter falls
 abbrev pub keeps_counters : Kept → SessionEntry → Bool
@@ -85,7 +85,7 @@ abbrev pub session_suits : (files : ℕ → List FlowFile) → Kept → SessionE
 session_suits files k s =
     are_distinct s.gone && are_active_in_one k.files s.gone
     && placed_are_new files k s && list_all (has_place k s) s.placed
-    && has_processor k s.generator && keeps_counters k s
+    && has_count k.counts s.generator && keeps_counters k s
 
 abbrev pub expire_fits : Kept → ExpireEntry → Bool
 expire_fits k e = are_distinct e.numbers && are_active_in k.files e.connection e.numbers && (e.last_event == k.last_event + length e.numbers)

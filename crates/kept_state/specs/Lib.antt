@@ -4,5 +4,6 @@ pub mod Changes
 pub mod Fits
 pub mod Limits
 pub mod Memory
+pub mod Moves
 pub mod New
 pub mod Prepared

@@ -3,9 +3,12 @@
 //! Nothing here knows a device. No batch is swapped out of a state here.
 #![tactic(auto)]
 
+mod arrivals;
+mod files;
 mod law;
 mod limit;
 mod prepared;
+mod records;
 mod replay;
 mod size;
 mod state;

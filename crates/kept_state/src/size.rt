@@ -6,7 +6,7 @@ ghost use Rattle.record_codec.specs.FileEncoding.{flow_file};
 ghost use Rattle.checkpoint_store.specs.Consistent.{record_size};
 ghost use Rattle.kept_state.specs.Changes.{record_of};
 
-use flowfile_record::{ActiveFile, FlowFile, Placed};
+use flowfile_record::{ActiveFile, ActiveList, FlowFile, Placed};
 
 // What a flow file's record has beside the attributes and the digest, in bytes: six numbers and the slot.
 const NUMBERS_SIZE: u64 = 52;
@@ -35,6 +35,7 @@ pub(crate) fn bytes_of(files: &[ActiveFile]) -> u64
 }
 
 /// How many bytes the records of these placed files have together.
+#[tactic(auto, using(crate::proofs::Sizes::record_is))]
 pub(crate) fn bytes_of_placed(placed: &[Placed]) -> u64
     requires { length placed.now < 2 ^ 32 }
     ensures bytes { result ≡ sum (map record_size (map record_of placed.now)) }
@@ -43,6 +44,18 @@ pub(crate) fn bytes_of_placed(placed: &[Placed]) -> u64
     let mut bytes = 0;
     for one in placed {
         bytes += size_of(&one.file);
+    }
+    bytes
+}
+
+/// How many bytes the records of all these files have together.
+pub(crate) fn bytes_of_files(files: &ActiveList) -> u64
+    requires { sum (map record_size files.now.items) < 2 ^ 64 }
+    ensures { result ≡ sum (map record_size files.now.items) }
+{
+    let mut bytes = 0;
+    for active in files.iter() {
+        bytes += size_of(&active.file);
     }
     bytes
 }

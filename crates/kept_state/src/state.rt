@@ -1,18 +1,30 @@
 //! The state of a store, in memory.
-ghost use Rattle.std.specs.Prelude.{◌≡◌, ◌+◌, ◌≤◌, true, [], length, IfOk, OnOk, None};
+ghost use Rattle.std.specs.Prelude.{◌≡◌, ◌+◌, ◌<◌, ◌≤◌, ◌^◌, true, [], length, map, IfOk, OnOk, IsOk, None};
+ghost use Rattle.std.specs.List.{sum};
+ghost use Rattle.std.specs.Option.{option_or};
 ghost use Rattle.flowfile_record.specs.Stored.{kept_of};
 ghost use Rattle.flowfile_record.specs.declared.change.Change.TheVariants as change;
-ghost use Rattle.record_codec.specs.EntryEncoding.{IsEntry};
-ghost use Rattle.checkpoint_store.specs.Consistent.{IsConsistent};
-ghost use Rattle.kept_state.specs.Applied.{session_applied, applied, swapped_out};
+ghost use Rattle.flowfile_record.specs.declared.limits.TheConstants.{LIVE_FILES_MAX as FILES_MOST, LIVE_BYTES_MAX as BYTES_MOST};
+ghost use Rattle.record_codec.specs.EntryEncoding.{IsEntry, IsSession, IsExpire};
+ghost use Rattle.record_codec.specs.declared.entry.LogEntry.TheVariants as entries;
+ghost use Rattle.checkpoint_store.specs.Consistent.{IsConsistent, record_size};
+ghost use Rattle.kept_state.specs.Applied.{left_after, session_applied, applied, swapped_out, with_count};
 ghost use Rattle.kept_state.specs.Changes.{session_of, entry_of, placed_in, no_files, MaySettle};
-ghost use Rattle.kept_state.specs.Fits.{fits};
-ghost use Rattle.kept_state.specs.Limits.{live_limit, numbers_limit};
+ghost use Rattle.kept_state.specs.Fits.{are_distinct, fits, has_count};
+ghost use Rattle.kept_state.specs.Limits.{passed, live_limit, numbers_limit};
+ghost use Rattle.kept_state.specs.Moves.{are_active};
 ghost use Rattle.kept_state.specs.New.{new_kept};
+ghost use Rattle.kept_state.specs.declared.limit.Which.TheVariants as which;
 
+use crate::files::{bytes_at, put_all, take_all};
+use crate::records::records_of;
+use crate::size::{bytes_of, bytes_of_files, bytes_of_placed};
 use crate::{Limit, PreparedEntry};
-use flowfile_record::{ActiveList, BatchList, DIGEST_SIZE, Numbers, Settled, Stored, TextList};
-use record_codec::LogEntry;
+use flowfile_record::{
+    ActiveFile, ActiveList, BatchList, Counted, DIGEST_SIZE, Numbers, Sequence, Settled, Stored,
+    TextList,
+};
+use record_codec::{ExpireEntry, LogEntry, SessionEntry};
 use std::alloc::{AllocError, Global};
 use std::marker::Model;
 
@@ -66,6 +78,16 @@ impl KeptState {
         Ok(KeptState { stored, bytes: 0 })
     }
 
+    /// The state that a snapshot says.
+    pub(crate) fn from_stored(stored: Stored) -> KeptState
+        requires consistent { IsConsistent (kept_of stored) }
+        requires no_batches { stored.batches.items ≡ [] }
+        ensures { result.kept ≡ kept_of stored }
+    {
+        let bytes = bytes_of_files(&stored.files);
+        KeptState { stored, bytes }
+    }
+
     pub fn stored(&self) -> &Stored
         ensures kept { kept_of result.now ≡ self.now.kept }
         ensures consistent { IsConsistent self.now.kept }
@@ -87,7 +109,34 @@ impl KeptState {
         requires { MaySettle self.now.kept settled.now }
         ensures { result ≡ live_limit (session_applied self.now.kept (session_of self.now.kept settled.now)) }
     {
-        None
+        let bytes = bytes_of_placed(settled.placed.as_slice());
+        self.limit_with(settled.gone.as_slice(), settled.placed.len(), bytes)
+    }
+
+    // The limit that is passed where these files go, and so many with so many bytes are placed.
+    pub(crate) fn limit_with(&self, gone: &[u64], placed: u64, bytes: u64) -> Option<Limit>
+        requires distinct { are_distinct gone.now ≡ true }
+        requires active { are_active self.now.kept.files gone.now ≡ true }
+        requires few { length gone.now < 2 ^ 32 }
+        requires placed { placed < 2 ^ 32 }
+        requires bytes { bytes < 2 ^ 49 }
+        ensures limit { let left = left_after gone.now self.now.kept.files in
+            result ≡ option_or (passed which.Files FILES_MOST (length left + placed)) (passed which.FileBytes BYTES_MOST (sum (map record_size left) + bytes)) }
+        ensures no_batches { self.now.kept.batches ≡ [] }
+    {
+        let files = self.stored.files.len() - gone.len() as u64 + placed;
+        Limit::of_live(files, self.bytes_with(gone, bytes))
+    }
+
+    // How many bytes the records have where these files go, and files with so many bytes are placed.
+    fn bytes_with(&self, gone: &[u64], bytes: u64) -> u64
+        requires distinct { are_distinct gone.now ≡ true }
+        requires active { are_active self.now.kept.files gone.now ≡ true }
+        requires few { length gone.now < 2 ^ 32 }
+        requires bytes { bytes < 2 ^ 49 }
+        ensures { result ≡ sum (map record_size (left_after gone.now self.now.kept.files)) + bytes }
+    {
+        self.bytes - bytes_at(&self.stored.files, gone) + bytes
     }
 
     /// The first counter that would pass the limit of numbers with a settled session.
@@ -95,13 +144,20 @@ impl KeptState {
         requires { MaySettle self.now.kept settled.now }
         ensures { result ≡ numbers_limit (session_applied self.now.kept (session_of self.now.kept settled.now)) }
     {
-        let last_event = self.stored.last_event + settled.events.len();
         Limit::of_numbers(
             settled.next_number,
             settled.next_arrival,
-            last_event,
+            self.last_event_with(settled),
             self.stored.next_batch,
         )
+    }
+
+    // The number of the last event behind a session's events.
+    fn last_event_with(&self, settled: &Settled) -> u64
+        requires { length settled.now.events < 2 ^ 32 }
+        ensures { result ≡ self.now.kept.last_event + length settled.now.events }
+    {
+        self.stored.last_event + settled.events.len()
     }
 
     /// The entry of a settled session, with the memory that writing it takes, and room for its files.
@@ -113,7 +169,38 @@ impl KeptState {
         ensures kept { self.new.kept ≡ self.old.kept }
         ensures more { self.old.room ≤ self.new.room }
     {
-        Err(AllocError)
+        let session = self.session_of(alloc, settled)?;
+        let prepared = PreparedEntry::new(alloc, LogEntry::Session(session))?;
+        self.reserve(settled.placed.len())?;
+        Ok(prepared)
+    }
+
+    // The entry of a settled session.
+    fn session_of(&self, alloc: Global, settled: &Settled) -> Result<SessionEntry, AllocError>
+        requires { length settled.now.events < 2 ^ 32 }
+        ensures { IfOk result (λ session. session ≡ session_of self.now.kept settled.now) }
+    {
+        let gone = Numbers::from_slice(alloc, settled.gone.as_slice())?;
+        let placed = records_of(alloc, settled.placed.as_slice())?;
+        Ok(SessionEntry {
+            processor: settled.processor,
+            moment: settled.moment,
+            gone,
+            placed: Sequence::from(placed),
+            next_number: settled.next_number,
+            next_arrival: settled.next_arrival,
+            last_event: self.last_event_with(settled),
+            generator: settled.count,
+        })
+    }
+
+    /// Makes room for so many more files.
+    pub(crate) fn reserve(&mut self, count: u64) -> Result<(), AllocError>
+        ensures kept { self.new.kept ≡ self.old.kept }
+        ensures room { OnOk result (count ≤ self.new.room) }
+        ensures more { self.old.room ≤ self.new.room }
+    {
+        self.stored.files.reserve(count)
     }
 
     /// The state after an entry that fits. It takes no memory.
@@ -124,5 +211,52 @@ impl KeptState {
         requires room { length (placed_in entry) ≤ self.old.room }
         ensures kept { self.new.kept ≡ applied no_files self.old.kept entry }
         ensures room { self.old.room ≤ self.new.room + length (placed_in entry) }
-    {}
+    {
+        let _ = &self.stored;
+        match entry {
+            LogEntry::Session(session) => self.apply_session(session),
+            LogEntry::Expire(expire) => self.apply_expire(expire),
+            _ => unreachable!(),
+        }
+    }
+
+    pub(crate) fn apply_session(&mut self, session: SessionEntry)
+        requires encoded { IsSession session }
+        requires fits { fits no_files self.old.kept (entries.Session session) ≡ true }
+        requires room { length session.placed ≤ self.old.room }
+        ensures kept { self.new.kept ≡ session_applied self.old.kept session }
+        ensures room { self.old.room ≤ self.new.room + length session.placed }
+    {
+        let placed = bytes_of(session.placed.as_slice());
+        let bytes = self.bytes_with(session.gone.as_slice(), placed);
+        take_all(&mut self.stored.files, session.gone.as_slice());
+        put_all(&mut self.stored.files, session.placed.into_vec());
+        set_count(&mut self.stored.counts, session.generator);
+        self.stored.next_number = session.next_number;
+        self.stored.next_arrival = session.next_arrival;
+        self.stored.last_event = session.last_event;
+        self.bytes = bytes;
+    }
+
+    pub(crate) fn apply_expire(&mut self, expire: ExpireEntry)
+        requires encoded { IsExpire expire }
+        requires fits { fits no_files self.old.kept (entries.Expire expire) ≡ true }
+        ensures kept { self.new.kept ≡ applied no_files self.old.kept (entries.Expire expire) }
+        ensures room { self.old.room ≤ self.new.room }
+    {
+        let bytes = self.bytes_with(expire.numbers.as_slice(), 0);
+        take_all(&mut self.stored.files, expire.numbers.as_slice());
+        self.stored.last_event = expire.last_event;
+        self.bytes = bytes;
+    }
+}
+
+// Sets the count of a generator.
+fn set_count(counts: &mut Numbers, generator: Option<Counted>)
+    requires { has_count counts.old generator ≡ true }
+    ensures { counts.new ≡ with_count generator counts.old }
+{
+    if let Some(generator) = generator {
+        counts.set(u64::from(generator.processor), generator.count);
+    }
 }
