@@ -1,5 +1,9 @@
 pub mod Agreeing
 pub mod Cutting
 pub mod Discarding
+pub mod Finding
+pub mod Holding
 pub mod Making
+pub mod Opening
 pub mod Refusals
+pub mod Reviving

@@ -69,6 +69,12 @@ pub record IsNeeded (flow : Flow) (lot : ℕ) (files : Files) (needs : Needs) : 
   pub contents : (k : Kept) → kept_in flow lot files ≡ Ok k → needs.contents ≡ live_contents k
   pub last_event : (k : Kept) → kept_in flow lot files ≡ Ok k → needs.last_event ≡ k.last_event
 
+-- what a state without batches and events needs of a log of this number
+pub record IsPlain (needs : Needs) (number : ℕ) : Type 0 where
+  pub log : needs.log ≡ number
+  pub batches : needs.batches ≡ []
+  pub events : needs.last_event ≡ 0
+
 -- ---- files without one
 
 -- no log is current, and but for logs and snapshots up to the first number there is nothing

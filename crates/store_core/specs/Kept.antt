@@ -1,5 +1,5 @@
 -- What files keep: the snapshot of the current log's number with the log's entries applied, or the first damage.
-use Rattle.std.specs.Prelude.{ℕ, suc, min, List, length, drop, fold, Option, None, Some, Result, Ok, Err, if◌then◌else◌}
+use Rattle.std.specs.Prelude.{ℕ, min, List, fold, Option, None, Some, Result, Ok, Err, if◌then◌else◌}
 use Rattle.disk_trait.specs.Files.{Files, named}
 use Rattle.disk_trait.specs.declared.damage.Damage.{Damage}
 use Rattle.disk_trait.specs.declared.damage.Damage.TheVariants.{Short, Form}
@@ -7,9 +7,8 @@ use Rattle.disk_trait.specs.declared.file_name.FileKind.TheVariants.{Log, Swap}
 use Rattle.disk_trait.specs.declared.file_name.FileName.{FileName}
 use Rattle.flowfile_record.specs.Stored.{Kept}
 use Rattle.flowfile_record.specs.declared.flow_file.FlowFile.{FlowFile}
-use Rattle.record_codec.specs.Block.{Reading, Whole, reading_of}
 use Rattle.record_codec.specs.declared.block.TheConstants.{HEADER_SIZE}
-use Rattle.checkpoint_store.specs.Reading.{behind_block, blocks_from, first_in}
+use Rattle.checkpoint_store.specs.Reading.{snapshot_of}
 use Rattle.checkpoint_store.specs.Snapshot.{snapshot_file}
 use Rattle.flowfile_wal.specs.Current.{CurrentLog, current_log}
 use Rattle.store_core.specs.Flow.{Flow, agrees_with}
@@ -20,23 +19,14 @@ use Rattle.kept_state.specs.Fits.{replayed}
 
 -- ---- the snapshot
 
--- what the first block of a snapshot says, where it says something
-abbrev pub head_by : Reading → Option Kept
-head_by (Whole kind payload) = first_in kind payload
-head_by _ = None
+-- a Head that doesn't agree with the flow is damage
+abbrev pub of_flow : Flow → FileName → Result Kept Damage → Result Kept Damage
+of_flow flow file (Ok k) = if agrees_with flow k then Ok k else Err (Form file 0)
+of_flow flow file (Err damage) = Err damage
 
-abbrev pub head_in : List ℕ → Option Kept
-head_in bytes = head_by (reading_of bytes)
-
-abbrev pub of_flow : Flow → Option Kept → Option Kept
-of_flow flow None = None
-of_flow flow (Some k) = if agrees_with flow k then Some k else None
-
--- What the bytes of a snapshot say to who has this flow. A Head that doesn't agree with it has no reading.
+-- what the bytes of a snapshot say to who has this flow
 unfoldable pub snapshot_for : Flow → FileName → List ℕ → Result Kept Damage
-snapshot_for flow file bytes =
-    behind_block file 0 (λ kind payload. of_flow flow (first_in kind payload)) (reading_of bytes)
-    (λ k size. blocks_from (suc (length bytes)) file size k (drop size bytes))
+snapshot_for flow file bytes = of_flow flow file (snapshot_of file bytes)
 
 -- ---- the batches that matter
 

@@ -10,6 +10,8 @@ mod flow;
 mod law;
 mod load;
 mod prepared;
+mod reading;
+mod revival;
 mod store;
 
 pub use error::StoreError;
