@@ -1,5 +1,5 @@
 -- The limits of what a store keeps, and which of them a state passes.
-use Rattle.std.specs.Prelude.{ℕ, ◌+◌, nat_lt, List, length, map, Option, None, Some, if◌then◌else◌}
+use Rattle.std.specs.Prelude.{ℕ, ◌+◌, nat_lt, length, map, Option, None, Some, if◌then◌else◌}
 use Rattle.std.specs.List.{sum}
 use Rattle.std.specs.Option.{option_or}
 use Rattle.flowfile_record.specs.Stored.{Kept}
