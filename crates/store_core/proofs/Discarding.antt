@@ -1,5 +1,5 @@
 -- Files that don't matter go: what stays of a log that is passed over, of the current log, and of a store that isn't made.
-use Rattle.std.proofs.Common.{◌≡◌, ◌≢◌, ⊎_elim, ℕ, ◌+◌, ◌^◌, ◌<◌, ◌≤◌, ◌==◌, Bool, true, false, List, [], ◌∷◌, length, take, get_or, refl, sym, ap, subst, ◌∙◌, add-one, eq-eqb, arith}
+use Rattle.std.proofs.Common.{◌≡◌, ◌≢◌, ⊎_elim, ℕ, ◌+◌, ◌^◌, ◌<◌, ◌≤◌, ◌==◌, Bool, true, false, List, [], ◌∷◌, length, take, get_or, refl, sym, ap, subst, ◌∙◌, eq-eqb, arith}
 use Rattle.std.specs.Prelude.{Option, Some, None, nat_lt, nat_le, ◌&&◌, All}
 use Rattle.std.proofs.lemmas.Bool.{cases_Bool, cases_lt, false≢true, le-leb, lt-ltb, ltb-true, leb-true, eqb-true, false_from_ne_true}
 use Rattle.std.proofs.lemmas.List.{nil_from_length}
@@ -17,22 +17,22 @@ use Rattle.store_core.specs.Discard.{spares, CutsKind, HasCut, IsAbove, Discards
 
 -- ---- logs that are passed over
 
-first_byte : (n : ℕ) (a b : List ℕ) → take (n + 1) b ≡ take (n + 1) a → get_or b 0 0 ≡ get_or a 0 0
-first_byte n [] [] same = refl
-first_byte n (x ∷ a) [] same = absurd cc
-first_byte n [] (y ∷ b) same = absurd cc
-first_byte n (x ∷ a) (y ∷ b) same = let heads : y ∷ take n b ≡ x ∷ take n a = rw (← add-one) at same in cc
+first_byte : (a b : List ℕ) → take 1 b ≡ take 1 a → get_or b 0 0 ≡ get_or a 0 0
+first_byte [] [] same = refl
+first_byte (x ∷ a) [] same = let ends : ◌≡◌ {A = List ℕ} [] (x ∷ []) = same in absurd cc
+first_byte [] (y ∷ b) same = let ends : ◌≡◌ {A = List ℕ} (y ∷ []) [] = same in absurd cc
+first_byte (x ∷ a) (y ∷ b) same = let heads : ◌≡◌ {A = List ℕ} (y ∷ []) (x ∷ []) = same in cc
 
 by_parts : (p q : Bool) → (p ≡ true → q ≡ true → ⊥) → (p && q) ≡ false
 by_parts true true h = absurd (h refl refl)
 by_parts true false h = refl
 by_parts false q h = refl
 
-pub passed_shortened : (n : ℕ) (a b : List ℕ) → Shortened (n + 1) a b → counts a ≡ false → counts b ≡ false
-passed_shortened n a b step passed =
+pub passed_shortened : (a b : List ℕ) → Shortened 1 a b → counts a ≡ false → counts b ≡ false
+passed_shortened a b step passed =
     by_parts (get_or b 0 0 == OPEN_GATE) (nat_lt 1 (length b))
     (λ (opened : (get_or b 0 0 == OPEN_GATE) ≡ true) (long : nat_lt 1 (length b) ≡ true).
-    let was : (get_or a 0 0 == OPEN_GATE) ≡ true = subst (λ (x : ℕ). (x == OPEN_GATE) ≡ true) (first_byte n a b step.front) opened in
+    let was : (get_or a 0 0 == OPEN_GATE) ≡ true = subst (λ (x : ℕ). (x == OPEN_GATE) ≡ true) (first_byte a b step.front) opened in
     let longer : nat_lt 1 (length a) ≡ true = lt-ltb 1 (length a) (omega (arith, ltb-true 1 (length b) long, step.no_longer)) in
     false≢true (sym passed ∙ both was longer))
   where
@@ -90,7 +90,7 @@ shortens current old new cut = record {
   log = λ n is. cut.stay n (spared_log current n is).0;
   snapshot = λ n is. cut.others (named Snapshot n) (λ (e : Snapshot ≡ Log). absurd cc);
   shorter = λ f. (cut.each f).no_longer;
-  passed = λ n above passed. passed_shortened 0 (old (named Log n)) (new (named Log n)) (cut.each (named Log n)) passed;
+  passed = λ n above passed. passed_shortened (old (named Log n)) (new (named Log n)) (cut.each (named Log n)) passed;
 }
 
 -- logs that are emptied, where each above the current one has at most a byte

@@ -1,15 +1,16 @@
 -- The first file of a kind, among those that a disk lists.
 use Rattle.std.proofs.Common.{◌≡◌, ⊎_elim, ℕ, ◌+◌, ◌^◌, ◌<◌, ◌≤◌, Bool, true, false, List, length, get_or, refl, sym, ap, subst, ◌∙◌, arith}
-use Rattle.std.specs.Prelude.{◌↔◌, Option, None, Some, All, Contains, nat_le, nat_lt, ◌&&◌, option_map}
+use Rattle.std.specs.Prelude.{◌↔◌, Option, None, Some, Result, Ok, Err, IfOk, All, Contains, nat_le, nat_lt, ◌&&◌, option_map}
 use Rattle.std.specs.List.{AllPairs}
 use Rattle.std.proofs.lemmas.Bool.{cases_lt, cases_Bool, and_parts, leb-true, le-leb, ltb-true, lt-ltb, false_from_ne_true}
 use Rattle.std.proofs.lemmas.List.{get_or_default}
 use Rattle.disk_trait.specs.Files.{Files, named}
 use Rattle.disk_trait.specs.Search.{least_below}
 use Rattle.disk_trait.specs.declared.file_name.FileKind.{FileKind}
+use Rattle.disk_trait.specs.declared.file_name.FileKind.TheVariants.{Log, Snapshot, Swap, Claim, Events}
 use Rattle.disk_trait.specs.declared.file_name.FileName.{FileName}
 use Rattle.disk_trait.proofs.Search.{least_is, least_none}
-use Rattle.store_core.specs.New.{holds_from, first_from}
+use Rattle.store_core.specs.New.{holds_from, first_from, or_else, first_stray}
 
 both : (p q : Bool) → p ≡ true → q ≡ true → (p && q) ≡ true
 both p q is also = ap (λ (x : Bool). x && q) is ∙ also
@@ -56,3 +57,13 @@ module _ (kind : FileKind) (from : ℕ) (files : Files) (numbers : List ℕ)
       (λ m lt. false_from_ne_true (holds_from kind from files m)
       (λ (holds : holds_from kind from files m ≡ true).
       let at = at_place m lt holds in omega (arith, before at.0 at.1, at.2, at.3))))
+
+-- which file is the first of all kinds
+pub stray_is : (files : Files) (a b c d e : Option FileName) → first_from Log 2 files ≡ a → first_from Snapshot 2 files ≡ b → first_from Swap 0 files ≡ c
+    → first_from Claim 0 files ≡ d → first_from Events 0 files ≡ e → first_stray files ≡ or_else a (or_else b (or_else c (or_else d e)))
+unfolding first_stray
+stray_is files a b c d e p q r s t = λ i. or_else (p i) (or_else (q i) (or_else (r i) (or_else (s i) (t i))))
+
+pub if_ok : {A E : Type 0} (r : Result A E) (P Q : A → Type 0) → ((x : A) → P x → Q x) → IfOk r P → IfOk r Q
+if_ok (Ok x) P Q to p = to x p
+if_ok (Err e) P Q to p = tt

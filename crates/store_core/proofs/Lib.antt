@@ -3,6 +3,7 @@ pub mod Cutting
 pub mod Discarding
 pub mod Finding
 pub mod Holding
+pub mod Made
 pub mod Making
 pub mod Opening
 pub mod Refusals

@@ -26,7 +26,7 @@ use content_repo::read_content;
 use disk_trait::{Damage, Disk, FileKind, FileName};
 use flowfile_record::{ContentRef, STORE_LIMIT, Stored, TextList};
 use flowfile_wal::{Log, LogEntries};
-use kept_state::{KeptState, Replay, ReplayError};
+use kept_state::{KeptState, Replay, ReplayError, replays_go_on};
 use record_codec::{HEADER_SIZE, LogEntry};
 use std::alloc::{AllocError, Global};
 
@@ -283,6 +283,7 @@ fn replay_entries(
     ensures refusal { IfErr result IsReadRefusal }
     ensures works { IsErrOf result StoreError.Disk → ⊥ }
 {
+    replays_go_on();
     let mut replay = Replay::new(alloc, stored)?;
     for (at, entry) in entries {
         replay = match replay.apply(entry) {

@@ -49,11 +49,11 @@ pub returns-clause-images : goal.returns-clause-images
 returns-clause-images g c =
     let laws = g.met.D.Disk g.world.𝓛 g.world.𝓜 g.world.𝓡 ((λ s x. x), (λ x. x), (λ x. x), λ x. x) in
     let old = c.args.disk.now in
-    after_others g.D.Disk.moment g.D.Disk.images c.args.current Events events_apart.0 events_apart.1 events_apart.2 old c.cut_kind-3.new.disk c.cut_kind-result.new.disk
+    after_others g.D.Disk.moment g.D.Disk.images c.args.current Events events_apart.0 events_apart.1 events_apart.2 old c.cut_kind-3.new.disk c.cut_kind-4.new.disk
     (after_others g.D.Disk.moment g.D.Disk.images c.args.current Swap swap_apart.0 swap_apart.1 swap_apart.2 old c.cut_kind-2.new.disk c.cut_kind-3.new.disk
     (after_snapshots g.D.Disk.moment g.D.Disk.images c.args.current old c.cut_kind.new.disk c.cut_kind-2.new.disk
     (logs_go g.D.Disk.moment g.D.Disk.images c.args.current old c.cut_kind.new.disk (g.D.Disk.held old) c.requires.synced
     (λ d left. c.requires.short (laws.left_is_told old (g.D.Disk.moment old) d left)) c.cut_kind.ensures.images)
     c.cut_kind-2.ensures.images)
     c.cut_kind-3.ensures.images)
-    c.cut_kind-result.ensures.images
+    c.cut_kind-4.ensures.images

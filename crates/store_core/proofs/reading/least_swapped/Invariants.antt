@@ -6,4 +6,4 @@ use Rattle.store_core.specs.Kept.{with_least}
 use Rattle.store_core.proofs.reading.least_swapped.Given as goal
 
 abbrev pub invariant-loop-entry : goal.invariant-loop-entry
-invariant-loop-entry l = l.least ≡ fold with_least l.first (flat_map (λ e. swapped_out e.1) (take l.entry-index l.entries))
+invariant-loop-entry l = l.least ≡ fold with_least l.fn.first (flat_map (λ e. swapped_out e.1) (take l.entry-index l.entries))
