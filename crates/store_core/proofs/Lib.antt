@@ -2,7 +2,6 @@ pub mod Agreeing
 pub mod Cutting
 pub mod Discarding
 pub mod Finding
-pub mod Holding
 pub mod Made
 pub mod Making
 pub mod Opening

@@ -2,7 +2,9 @@
 use Rattle.std.proofs.Common.{◌≡◌, ℕ, ◌+◌, ◌^◌, ◌<◌, cond, Bool, true, List, [], ◌++◌, map, refl, sym, ap, ◌∙◌, arith}
 use Rattle.std.specs.Prelude.{Option, Some, None, Result, Ok, Err, All}
 use Rattle.std.proofs.lemmas.List.Elements.{All-nil}
-use Rattle.disk_trait.specs.Files.{Files}
+use Rattle.disk_trait.specs.Files.{Files, At}
+use Rattle.disk_trait.specs.Images.{After, Since}
+use Rattle.disk_trait.proofs.Moments.{wider, one_after_another, at_the_end}
 use Rattle.disk_trait.specs.declared.damage.Damage.{Damage}
 use Rattle.disk_trait.specs.declared.damage.Damage.TheVariants.{Form}
 use Rattle.flowfile_record.specs.Stored.{Kept}
@@ -24,7 +26,9 @@ use Rattle.store_core.specs.New.{kept_anew}
 use Rattle.store_core.specs.Opened.{IsMade, SameMeaning}
 use Rattle.store_core.specs.State.{state_with, stands_for}
 use Rattle.store_core.proofs.Agreeing.{kept_by_log, same_state}
+use Rattle.store_core.specs.Discard.{Discards}
 use Rattle.store_core.proofs.Making.{kept_unmade}
+use Rattle.store_core.proofs.Reviving.{unmade_discarded, unmade_snapshot}
 use Rattle.store_core.proofs.Opening.{stands_whole}
 
 -- the log of a store that was just made
@@ -58,3 +62,18 @@ means_new flow lot old new was is =
           ∙ ap Ok (same_state (content_in new) (content_in old) [] k (All-nil (λ (at : ContentRef). content_in new at ≡ content_in old at)))
           ∙ sym (stands_whole flow lot old k kept refl refl);
     }
+
+-- ---- while it is made
+
+module _ {D : Type 0} (moment : D → ℕ) (images : D → ℕ → Files → Type 0) where
+  -- other files go first
+  pub since_discards : (old new : D) → ((d : Files) → images old (moment old) d → IsUnmade d) → Since moment images old new (After (Discards None) (images old (moment old))) → Since moment images old new IsUnmade
+  since_discards old new unmade since = wider moment images old new (After (Discards None) (images old (moment old))) IsUnmade since
+      (λ c after. unmade_discarded after.0 c (unmade after.0 after.1) after.2)
+
+  -- then the snapshot is written
+  pub since_snapshot : (old mid new : D) (P : List ℕ → List ℕ → Type 0) → Since moment images old mid IsUnmade
+      → Since moment images mid new (After (At (snapshot_file 1) P) (images mid (moment mid))) → Since moment images old new IsUnmade
+  since_snapshot old mid new P first second =
+      one_after_another moment images old mid new IsUnmade (After (At (snapshot_file 1) P) (images mid (moment mid))) IsUnmade first second (λ c unmade. unmade)
+      (λ c after. unmade_snapshot after.0 c P (at_the_end moment images old mid IsUnmade first after.0 after.1) after.2)
