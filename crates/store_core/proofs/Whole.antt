@@ -1,0 +1,99 @@
+-- A commit as a whole: what a stop within it leaves.
+use Rattle.std.proofs.Common.{◌≡◌, ◌≢◌, ℕ, ◌+◌, ◌-◌, ◌^◌, ◌<◌, ◌≤◌, Bool, true, false, List, [], ◌∷◌, ◌++◌, length, map, get_or, refl, sym, ap, subst, ◌∙◌, inl, inr, arith, IsTrue}
+use Rattle.std.specs.Prelude.{Option, None, Some, Result, Ok, Err, All, ◌⊎◌, min}
+use Rattle.disk_trait.specs.Files.{Files, At, named}
+use Rattle.disk_trait.specs.Images.{After, Since}
+use Rattle.disk_trait.specs.declared.file_name.FileKind.TheVariants.{Log, Claim}
+use Rattle.disk_trait.specs.declared.file_name.FileName.{FileName}
+use Rattle.disk_trait.proofs.Moments.{wider, wider_where_left, at_the_end, one_after_another}
+use Rattle.flowfile_record.specs.Stored.{Kept}
+use Rattle.record_codec.specs.declared.entry.LogEntry.{LogEntry}
+use Rattle.record_codec.specs.declared.entry.LogEntry.TheVariants.{Session}
+use Rattle.record_codec.specs.declared.entry.SessionEntry.{SessionEntry}
+use Rattle.content_repo.specs.Claims.{claim}
+use Rattle.flowfile_wal.specs.Calls.{InEach, WithOrWithout}
+use Rattle.flowfile_wal.specs.Current.{CurrentLog, current_log}
+use Rattle.flowfile_wal.specs.Steps.{Keeps, Adds, LogState, IsReadyIn, IsClosedIn, with_entry}
+use Rattle.flowfile_wal.proofs.Files.{with_one_more}
+use Rattle.kept_state.specs.Applied.{applied}
+use Rattle.kept_state.specs.Changes.{no_files}
+use Rattle.kept_state.specs.Fits.{fits}
+use Rattle.store_core.specs.Committed.{HoldsEither, MayTouch, TouchesOnly}
+use Rattle.store_core.specs.Placing.{GrowsBehind}
+use Rattle.store_core.specs.Store.{StoreState, IsWorking, kept_by, live_in, Holds, HasLog}
+use Rattle.store_core.proofs.ClaimsAlone.{has_log_still}
+use Rattle.store_core.proofs.Commits.{holds_added}
+use Rattle.store_core.proofs.Following.{Follows, follows_grown, follows_kept_log, follows_in_turn, holds_following}
+use Rattle.store_core.proofs.Sound.{IsSoundIn, content_of}
+
+-- ---- before the log
+
+-- grown claims hold what is kept
+pub holds_grown : (s : StoreState) (old new : Files) → IsWorking s → HasLog s old → Holds s old → GrowsBehind s.slots old new → Holds s new
+holds_grown s old new works has holds grows = holds_following s old new has (follows_grown s old new works grows) holds
+
+module _ {D : Type 0} (moment : D → ℕ) (images : D → ℕ → Files → Type 0) (s : StoreState) (old mid : D) where
+  pub ready_grown : InEach (images old (moment old)) (HasLog s) → Since moment images old mid (After (GrowsBehind s.slots) (images old (moment old))) → InEach (images mid (moment mid)) (HasLog s)
+  ready_grown has since c left =
+      let after = at_the_end moment images old mid (After (GrowsBehind s.slots) (images old (moment old))) since c left in
+      has_log_still s after.0 c after.2.others (has after.0 after.1)
+
+  pub since_grown_holds : IsWorking s → InEach (images old (moment old)) (HasLog s) → InEach (images old (moment old)) (Holds s)
+      → Since moment images old mid (After (GrowsBehind s.slots) (images old (moment old))) → Since moment images old mid (Holds s)
+  since_grown_holds works has holds since =
+      wider moment images old mid (After (GrowsBehind s.slots) (images old (moment old))) (Holds s) since
+      (λ c after. holds_grown s after.0 c works (has after.0 after.1) (holds after.0 after.1) after.2)
+
+-- ---- the whole
+
+-- the entry, as it is added behind the contents that were placed
+pub record IsAdded (s new : StoreState) (e : LogEntry) (held : Files) : Type 0 where
+  pub session : SessionEntry
+  pub is : e ≡ Session session
+  pub fit : fits no_files (kept_by s) e ≡ true
+  pub contents : All (IsSoundIn held) (map content_of session.placed)
+  pub kept : kept_by new ≡ applied no_files (kept_by s) e
+  pub lot : new.lot ≡ s.lot
+
+module _ {D : Type 0} (moment : D → ℕ) (images : D → ℕ → Files → Type 0) (held : D → Files) (s new : StoreState) (number : ℕ) (e : LogEntry) (old mid end : D) where
+  -- one of the start with grown claims and the same log, or what was held with the entry
+  abbrev pub Either : Files → Type 0
+  Either c = After (Follows s) (images old (moment old)) c ⊎ Adds number e (held mid) c
+
+  pub since_either : IsWorking s → Since moment images old mid (After (GrowsBehind s.slots) (images old (moment old)))
+      → Since moment images mid end (WithOrWithout number e (images mid (moment mid)) (held mid)) → Since moment images old end Either
+  since_either works first second =
+      one_after_another moment images old mid end (After (GrowsBehind s.slots) (images old (moment old))) (WithOrWithout number e (images mid (moment mid)) (held mid)) Either first second
+      (λ c after. inl (after.0, after.1, follows_grown s after.0 c works after.2))
+      by_log
+    where
+      by_log : (c : Files) → WithOrWithout number e (images mid (moment mid)) (held mid) c → Either c
+      by_log c (inl after) =
+          let before = at_the_end moment images old mid (After (GrowsBehind s.slots) (images old (moment old))) first after.0 after.1 in
+          inl (before.0, before.1, follows_in_turn s before.0 after.0 c (follows_grown s before.0 after.0 works before.2) (follows_kept_log s number after.0 c after.2))
+      by_log c (inr added) = inr added
+
+  module _ (works : IsWorking s) (has : InEach (images old (moment old)) (HasLog s)) (holds : InEach (images old (moment old)) (Holds s))
+      (first : Since moment images old mid (After (GrowsBehind s.slots) (images old (moment old)))) (numbered : s.log.number ≡ Some number) where
+    -- what was held is one of the images
+    pub holds_new : images mid (moment mid) (held mid) → IsAdded s new e (held mid) → (c : Files) → Adds number e (held mid) c → Holds new c
+    holds_new left is c added =
+        let before = at_the_end moment images old mid (After (GrowsBehind s.slots) (images old (moment old))) first (held mid) left in
+        let has_mid = has_log_still s before.0 (held mid) before.2.others (has before.0 before.1) in
+        let holds_mid = holds_grown s before.0 (held mid) works (has before.0 before.1) (holds before.0 before.1) before.2 in
+        holds_added s new number e is.session (held mid) c has_mid holds_mid numbered is.is is.fit added is.contents is.kept is.lot
+
+    pub since_holds : (tells : Bool) → ((k : ℕ) (c : Files) → images end k c → IsTrue tells) → (IsTrue tells → images mid (moment mid) (held mid)) → (IsTrue tells → IsAdded s new e (held mid))
+        → Since moment images mid end (WithOrWithout number e (images mid (moment mid)) (held mid)) → Since moment images old end (HoldsEither s new)
+    since_holds tells told left is second =
+        wider_where_left moment images old end Either (HoldsEither s new) (since_either works first second) by_end
+      where
+        by_end : (k : ℕ) (c : Files) → images end k c → Either c → HoldsEither s new c
+        by_end k c image (inl after) = inl (holds_following s after.0 c (has after.0 after.1) after.2 (holds after.0 after.1))
+        by_end k c image (inr added) = let t = told k c image in inr (holds_new (left t) (is t) c added)
+
+-- ---- which files change
+
+module _ {D : Type 0} (moment : D → ℕ) (images : D → ℕ → Files → Type 0) where
+  touches_grown : (log : Option ℕ) (old new : Files) (claims : (f : FileName) → (f.kind ≡ Claim → ⊥) → new f ≡ old f) → TouchesOnly (MayTouch log) old new
+  touches_grown log old new claims f not = claims f (λ is. not (inl is))
