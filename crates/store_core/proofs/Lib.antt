@@ -18,4 +18,5 @@ pub mod Referring
 pub mod Refusals
 pub mod Rooms
 pub mod Sound
+pub mod States
 pub mod Whole

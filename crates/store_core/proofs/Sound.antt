@@ -87,7 +87,7 @@ one_sound files refs at is has = subst (IsSoundIn files) has.2 (each_sound files
 abbrev pub content_of : ActiveFile → ContentRef
 content_of a = a.file.content
 
-unmap : (P : ContentRef → Type 0) (files : List ActiveFile) → All P (map content_of files) → All (λ a. P (content_of a)) files
+pub unmap : (P : ContentRef → Type 0) (files : List ActiveFile) → All P (map content_of files) → All (λ a. P (content_of a)) files
 unmap P [] each = All-nil (λ a. P (content_of a))
 unmap P (a ∷ files) each =
     All-cons (λ b. P (content_of b)) a files (All-head P (content_of a) (map content_of files) each) (unmap P files (All-tail P (content_of a) (map content_of files) each))

@@ -11,6 +11,7 @@ use Rattle.record_codec.specs.declared.entry.LogEntry.{LogEntry}
 use Rattle.record_codec.specs.declared.entry.LogEntry.TheVariants.{Session}
 use Rattle.record_codec.specs.declared.entry.SessionEntry.{SessionEntry}
 use Rattle.content_repo.specs.Claims.{claim}
+use Rattle.content_repo.specs.declared.slot.Slot.{Slot}
 use Rattle.flowfile_wal.specs.Calls.{InEach, WithOrWithout}
 use Rattle.flowfile_wal.specs.Current.{CurrentLog, current_log}
 use Rattle.flowfile_wal.specs.Steps.{Keeps, Adds, LogState, IsReadyIn, IsClosedIn, with_entry}
@@ -94,6 +95,41 @@ module _ {D : Type 0} (moment : D → ℕ) (images : D → ℕ → Files → Typ
 
 -- ---- which files change
 
-module _ {D : Type 0} (moment : D → ℕ) (images : D → ℕ → Files → Type 0) where
-  touches_grown : (log : Option ℕ) (old new : Files) (claims : (f : FileName) → (f.kind ≡ Claim → ⊥) → new f ≡ old f) → TouchesOnly (MayTouch log) old new
-  touches_grown log old new claims f not = claims f (λ is. not (inl is))
+not_claim : (log : Option ℕ) (f : FileName) → (MayTouch log f → ⊥) → f.kind ≡ Claim → ⊥
+not_claim log f other is = other (inl is)
+
+not_log : (log : Option ℕ) (number : ℕ) (f : FileName) → log ≡ Some number → (MayTouch log f → ⊥) → f ≡ named Log number → ⊥
+not_log log number f numbered other is = other (inr (number, numbered, is))
+
+pub touches_grown : (log : Option ℕ) (slots : List Slot) (old new : Files) → GrowsBehind slots old new → TouchesOnly (MayTouch log) old new
+touches_grown log slots old new grows f other = grows.others f (not_claim log f other)
+
+module _ {D : Type 0} (moment : D → ℕ) (images : D → ℕ → Files → Type 0) (held : D → Files) (log : Option ℕ) (slots : List Slot) (number : ℕ) (e : LogEntry) (old mid end : D) where
+  abbrev pub Touching : Files → Type 0
+  Touching = After (TouchesOnly (MayTouch log)) (images old (moment old))
+
+  pub since_grown_touches : Since moment images old mid (After (GrowsBehind slots) (images old (moment old))) → Since moment images old mid Touching
+  since_grown_touches since =
+      wider moment images old mid (After (GrowsBehind slots) (images old (moment old))) Touching since (λ c after. (after.0, after.1, touches_grown log slots after.0 c after.2))
+
+  pub since_touches : log ≡ Some number → Since moment images old mid (After (GrowsBehind slots) (images old (moment old)))
+      → Since moment images mid end (WithOrWithout number e (images mid (moment mid)) (held mid))
+      → (tells : Bool) → ((k : ℕ) (c : Files) → images end k c → IsTrue tells) → (IsTrue tells → images mid (moment mid) (held mid)) → Since moment images old end Touching
+  since_touches numbered first second tells told left =
+      wider_where_left moment images old end (λ c. Touching c ⊎ Adds number e (held mid) c) Touching
+      (one_after_another moment images old mid end (After (GrowsBehind slots) (images old (moment old))) (WithOrWithout number e (images mid (moment mid)) (held mid)) (λ c. Touching c ⊎ Adds number e (held mid) c) first second
+      (λ c after. inl (after.0, after.1, touches_grown log slots after.0 c after.2)) by_log)
+      by_end
+    where
+      from_mid : (d c : Files) → images mid (moment mid) d → ((f : FileName) → (f ≡ named Log number → ⊥) → c f ≡ d f) → Touching c
+      from_mid d c image others =
+          let before = at_the_end moment images old mid (After (GrowsBehind slots) (images old (moment old))) first d image in
+          (before.0, before.1, λ f other. others f (not_log log number f numbered other) ∙ before.2.others f (not_claim log f other))
+
+      by_log : (c : Files) → WithOrWithout number e (images mid (moment mid)) (held mid) c → Touching c ⊎ Adds number e (held mid) c
+      by_log c (inl after) = inl (from_mid after.0 c after.1 after.2.others)
+      by_log c (inr added) = inr added
+
+      by_end : (k : ℕ) (c : Files) → images end k c → Touching c ⊎ Adds number e (held mid) c → Touching c
+      by_end k c image (inl touching) = touching
+      by_end k c image (inr added) = from_mid (held mid) c (left (told k c image)) added.others

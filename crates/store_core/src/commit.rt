@@ -53,6 +53,8 @@ impl Store {
         if self.has_failed {
             return Err(StoreError::MustReopen);
         }
+        // It says of what is kept that it is consistent.
+        let _stored = self.state.stored();
         let Prepared { mut entry, settled } = prepared;
         let Ok(()) = place_contents(&mut self.contents, disk, &mut entry, settled.placed.as_slice())
         else {
