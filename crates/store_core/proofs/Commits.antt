@@ -246,3 +246,38 @@ holds_added s new number e se old files has holds numbered is fit added placed k
             (λ i d lt. same_sound number e old files (get_or (live_contents (session_applied k se)) i d) added
             (all_applied (IsSoundIn old) k se (each_sound old (live_in s) holds.contents) placed i d lt));
     }
+
+-- ---- the entry of a prepared change, once its contents are placed
+
+module _ (s : StoreState) (p : PreparedChange) (e : LogEntry) (prepared : IsPrepared s p) (same : placeless_entry e ≡ placeless_entry p.entry) where
+  pub entry_as : placeless_entry e ≡ placeless_entry (Session (session_of (kept_by s) p.settled))
+  entry_as = same ∙ ap placeless_entry prepared.entry
+
+  pub entry_is : IsSessionOf e (session_of (kept_by s) p.settled)
+  entry_is = session_from e (session_of (kept_by s) p.settled) entry_as
+
+  pub entry_fits : fits no_files (kept_by s) e ≡ true
+  entry_fits = fits_placed (kept_by s) p.settled e prepared.may.settles prepared.within.live entry_as
+
+  pub entry_alone : swapped_out e ≡ []
+  entry_alone = ap swapped_out entry_is.is
+
+  pub entry_room : length (placed_in e) ≤ s.memory.room
+  entry_room =
+      omega (
+        arith,
+        prepared.room,
+        ap (λ (l : LogEntry). length (placed_in l)) entry_is.is,
+        as_many e (session_of (kept_by s) p.settled) entry_is,
+        length-map p.settled.placed record_of,
+      )
+
+  pub entry_suits : session_suits no_files (kept_by s) entry_is.session ≡ true
+  entry_suits = (session_parts (kept_by s) entry_is.session (sym (ap (fits no_files (kept_by s)) entry_is.is) ∙ entry_fits)).0
+
+  pub entry_events : entry_is.session.last_event ≡ (kept_by s).last_event
+  entry_events = entry_is.last_event ∙ ap {B = ℕ} (λ (l : List _). (kept_by s).last_event + length l) prepared.may.no_events ∙ omega arith
+
+-- the placed files of the entry that was prepared
+pub recorded_first : (s : StoreState) (p : PreparedChange) → IsPrepared s p → placed_in p.entry ≡ map record_of p.settled.placed
+recorded_first s p prepared = ap placed_in prepared.entry

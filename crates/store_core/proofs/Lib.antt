@@ -1,12 +1,14 @@
 pub mod Agreeing
 pub mod ByKey
 pub mod ClaimsAlone
+pub mod Closing
 pub mod Commits
 pub mod Committing
 pub mod Counting
 pub mod Cutting
 pub mod Discarding
 pub mod Following
+pub mod Giving
 pub mod Growing
 pub mod Machine
 pub mod Making

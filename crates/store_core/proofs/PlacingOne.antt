@@ -16,7 +16,7 @@ use Rattle.record_codec.specs.declared.entry.LogEntry.{LogEntry}
 use Rattle.record_codec.specs.declared.entry.LogEntry.TheVariants.{Begin, Session, Expire, SwapOut, SwapIn}
 use Rattle.content_repo.specs.Append.{IsAppended, IsWritten, MayAppend}
 use Rattle.content_repo.specs.Claims.{content_in}
-use Rattle.content_repo.specs.Slots.{count_of, size_of, held_in, references_to, end_of, with_count, taken, HasRoom}
+use Rattle.content_repo.specs.Slots.{count_of, size_of, held_in, references_to, end_of, with_count, taken, next_slot, HasRoom}
 use Rattle.content_repo.specs.declared.slot.Slot.{Slot}
 use Rattle.kept_state.specs.Changes.{placed_in, recorded, record_of, at_content, with_content, with_content_at, HasContentLike}
 use Rattle.store_core.specs.Change.{IsFresh, fresh_sizes_of}
@@ -136,3 +136,8 @@ new_placed tells files place p bytes old new at before after some fresh is stand
           ∙ ap (with_content_at (length front) at) here
           ∙ with_at front back (active p.connection (placeless p.file)) at;
     }
+
+-- ---- the slot that a new content goes to
+
+pub next_of : (slots : List Slot) (p : Placed) (bytes : List ℕ) → p.fresh ≡ Some bytes → HasRoom slots (fresh_sizes_of (p ∷ [])) → (k : ℕ) × (next_slot slots ≡ Some k)
+next_of slots p bytes some room = let r = subst (HasRoom slots) (sizes_some p bytes some) room in (r.0, r.1)

@@ -154,3 +154,6 @@ pub next_held : (slots : List Slot) (first : ℕ → ℕ) (refs : List ContentRe
 next_held slots first refs i d lt counts enough =
     let at = get_or refs i d in
     omega (arith, counts, enough, take_within at.slot (i + 1) refs, take_next at.slot refs i d lt, one_same at.slot at.slot refl)
+
+pub once_itself : (j : ℕ) → ◌≡◌ {A = ℕ} (one_of j j) 1
+once_itself j = one_same j j refl

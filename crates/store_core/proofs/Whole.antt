@@ -1,5 +1,5 @@
 -- A commit as a whole: what a stop within it leaves.
-use Rattle.std.proofs.Common.{◌≡◌, ◌≢◌, ℕ, ◌+◌, ◌-◌, ◌^◌, ◌<◌, ◌≤◌, Bool, true, false, List, [], ◌∷◌, ◌++◌, length, map, get_or, refl, sym, ap, subst, ◌∙◌, inl, inr, arith, IsTrue}
+use Rattle.std.proofs.Common.{◌≡◌, ◌≢◌, ℕ, ◌+◌, ◌-◌, ◌^◌, ◌<◌, ◌≤◌, Bool, true, false, List, [], ◌∷◌, ◌++◌, length, map, get_or, refl, sym, ap, subst, ◌∙◌, inl, inr, arith, length-append, IsTrue}
 use Rattle.std.specs.Prelude.{Option, None, Some, Result, Ok, Err, All, ◌⊎◌, min}
 use Rattle.disk_trait.specs.Files.{Files, At, named}
 use Rattle.disk_trait.specs.Images.{After, Since}
@@ -21,9 +21,17 @@ use Rattle.kept_state.specs.Changes.{no_files}
 use Rattle.kept_state.specs.Fits.{fits}
 use Rattle.store_core.specs.Committed.{HoldsEither, MayTouch, TouchesOnly}
 use Rattle.store_core.specs.Placing.{GrowsBehind}
-use Rattle.store_core.specs.Store.{StoreState, IsWorking, kept_by, live_in, Holds, HasLog}
+use Rattle.store_core.specs.Store.{StoreState, IsWorking, IsKeptOn, kept_by, live_in, Holds, HasLog}
+use Rattle.disk_trait.specs.declared.damage.Damage.{Damage}
+use Rattle.content_repo.specs.Slots.{size_of}
 use Rattle.store_core.proofs.ClaimsAlone.{has_log_still}
-use Rattle.store_core.proofs.Commits.{holds_added}
+use Rattle.store_core.proofs.Commits.{holds_added, placed_sound, entry_is, entry_fits}
+use Rattle.record_codec.specs.Placeless.{placeless_entry}
+use Rattle.content_repo.specs.Claims.{HasSizes}
+use Rattle.store_core.specs.Change.{HasLiveContents}
+use Rattle.store_core.specs.Committed.{PreparedChange, IsPrepared}
+use Rattle.store_core.specs.Placing.{ArePlaced}
+use Rattle.kept_state.specs.Changes.{placed_in}
 use Rattle.store_core.proofs.Following.{Follows, follows_grown, follows_kept_log, follows_in_turn, holds_following}
 use Rattle.store_core.proofs.Sound.{IsSoundIn, content_of}
 
@@ -133,3 +141,62 @@ module _ {D : Type 0} (moment : D → ℕ) (images : D → ℕ → Files → Typ
       by_end : (k : ℕ) (c : Files) → images end k c → Touching c ⊎ Adds number e (held mid) c → Touching c
       by_end k c image (inl touching) = touching
       by_end k c image (inr added) = from_mid (held mid) c (left (told k c image)) added.others
+
+-- ---- what a commit adds
+
+module _ {D : Type 0} (moment : D → ℕ) (images : D → ℕ → Files → Type 0) (held : D → Files) (s new : StoreState) (p : PreparedChange) (e : LogEntry) (old mid : D) (slots : List Slot) where
+  pub is_added : (works : IsWorking s) → InEach (images old (moment old)) (HasLog s) → InEach (images old (moment old)) (Holds s)
+      → Since moment images old mid (After (GrowsBehind s.slots) (images old (moment old)))
+      → (prepared : IsPrepared s p) → (same : placeless_entry e ≡ placeless_entry p.entry) → HasLiveContents s p.settled
+      → images mid (moment mid) (held mid) → HasSizes slots (held mid) → ArePlaced true slots (held mid) p.settled.placed (placed_in e)
+      → kept_by new ≡ applied no_files (kept_by s) e → new.lot ≡ s.lot → IsAdded s new e (held mid)
+  is_added works has holds first prepared same live left sizes placed kept lot =
+      let is = entry_is s p e prepared same in
+      let before = at_the_end moment images old mid (After (GrowsBehind s.slots) (images old (moment old))) first (held mid) left in
+      let holds_mid = holds_grown s before.0 (held mid) works (has before.0 before.1) (holds before.0 before.1) before.2 in
+      record {
+        session = is.session;
+        is = is.is;
+        fit = entry_fits s p e prepared same;
+        contents =
+            placed_sound (held mid) slots s p.settled.placed is.session.placed sizes holds_mid.contents prepared.may.fresh live
+            (subst (λ (l : LogEntry). ArePlaced true slots (held mid) p.settled.placed (placed_in l)) is.is placed);
+        kept = kept;
+        lot = lot;
+      }
+
+-- ---- behind the log's second sync
+
+entries_more : (s new : StoreState) (e : LogEntry) (old files : Files) (number : ℕ) → HasLog s old → s.log.number ≡ Some number → Adds number e old files → new.entries ≡ min (s.entries + 1) (2 ^ 64 - 1)
+    → (l : CurrentLog) → current_log files ≡ Ok (Some l) → new.entries ≡ min (length l.entries) (2 ^ 64 - 1)
+entries_more s new e old files number has numbered added more l is =
+    let log = has.ready.log in
+    let both : Some number ≡ Some log.number = sym numbered ∙ has.ready.number in
+    let same : number ≡ log.number = cc in
+    let now = with_one_more log e old files has.ready.ready (subst (λ (n : ℕ). Adds n e old files) same added) in
+    let whole : Ok {E = Damage} (Some l) ≡ Ok (Some (with_entry log e)) = sym is ∙ now.current in
+    let last : l ≡ with_entry log e = cc in
+    let long : length l.entries ≡ length log.entries + 1 = ap (λ (m : CurrentLog). length m.entries) last ∙ length-append log.entries ((log.end, e) ∷ []) in
+    let before : s.entries ≡ min (length log.entries) (2 ^ 64 - 1) = has.entries log has.ready.ready.current in
+    omega (arith, more, long, before)
+
+claims_added : (number : ℕ) (e : LogEntry) (slots more : List Slot) (old new : Files) → Adds number e old new → HasSizes slots old → ((k : ℕ) → size_of more k ≡ size_of slots k) → HasSizes more new
+claims_added number e slots more old new added sizes same k lt =
+    ap length (added.others (claim k) (λ (x : claim k ≡ named Log number). let kinds : Claim ≡ Log = ap (λ (f : FileName). f.kind) x in absurd cc)) ∙ sizes k lt ∙ sym (same k)
+
+module _ {D : Type 0} (tells : Bool) (moment : D → ℕ) (images : D → ℕ → Files → Type 0) (held : D → Files) (s new : StoreState) (number : ℕ) (e : LogEntry) (old mid end : D) (slots : List Slot) where
+  pub kept_added : (works : IsWorking s) → InEach (images old (moment old)) (HasLog s) → InEach (images old (moment old)) (Holds s)
+      → Since moment images old mid (After (GrowsBehind s.slots) (images old (moment old))) → s.log.number ≡ Some number
+      → ((c : Files) → images end (moment end) c → IsTrue tells) → (IsTrue tells → images mid (moment mid) (held mid)) → (IsTrue tells → images end (moment end) (held end)) → (IsTrue tells → IsAdded s new e (held mid))
+      → InEach (images end (moment end)) (Adds number e (held mid)) → InEach (images end (moment end)) (IsReadyIn new.log)
+      → new.entries ≡ min (s.entries + 1) (2 ^ 64 - 1) → (IsTrue tells → HasSizes slots (held mid)) → ((k : ℕ) → size_of new.slots k ≡ size_of slots k)
+      → IsKeptOn tells held moment images new end
+  kept_added works has holds first numbered told left last is added ready more sizes same = record {
+    holds = λ f c image. let t = told c image in holds_new moment images held s new number e old mid end works has holds first numbered (left t) (is t) c (added c image);
+    log = λ f c image.
+        let t = told c image in
+        let before = at_the_end moment images old mid (After (GrowsBehind s.slots) (images old (moment old))) first (held mid) (left t) in
+        let has_mid = has_log_still s before.0 (held mid) before.2.others (has before.0 before.1) in
+        record { ready = ready c image; entries = entries_more s new e (held mid) c number has_mid numbered (added c image) more };
+    sizes = λ f t. claims_added number e slots new.slots (held mid) (held end) (added (held end) (last t)) (sizes t) same;
+  }
