@@ -1,9 +1,8 @@
 -- What a settled session asks of a store, and what it makes of the machine's state.
-use Rattle.std.specs.Prelude.{◌≡◌, ◌≢◌, ◌⊎◌, ℕ, ◌+◌, ◌==◌, ◌≤◌, List, [], ◌∷◌, ◌++◌, length, map, filter, fold, slice_set, All, Option, None, Some, unwrap_or}
+use Rattle.std.specs.Prelude.{◌≡◌, ◌≢◌, ◌⊎◌, ℕ, ◌+◌, ◌==◌, ◌≤◌, List, [], ◌∷◌, ◌++◌, length, map, filter, fold, slice_set, All, Contains, Option, None, Some, unwrap_or}
 use Rattle.std.specs.FinSet.{union, from_list}
 use Rattle.std.specs.List.{enumerate_from, filter_map}
 use Rattle.sha2.specs.Sha256.{sha256}
-use Rattle.disk_trait.specs.Files.{Files}
 use Rattle.flowfile_record.specs.Kin.{kin_of_all}
 use Rattle.flowfile_record.specs.Stored.{Kept}
 use Rattle.flowfile_record.specs.declared.TheConstants.{CONTENT_MAX}
@@ -21,17 +20,23 @@ use Rattle.kept_state.specs.declared.limit.Limit.{Limit}
 use Rattle.kept_state.specs.declared.limit.Which.TheVariants.{Claims}
 use Rattle.machine_model.specs.State.{QueuedFile, State}
 use Rattle.machine_model.specs.Stepping.{without_files}
-use Rattle.store_core.specs.State.{content_damage, with_arrival}
-use Rattle.store_core.specs.Store.{StoreState, kept_by}
+use Rattle.store_core.specs.State.{with_arrival}
+use Rattle.store_core.specs.Store.{StoreState, kept_by, live_in}
 
 -- ---- what may be handed in
 
 -- the contents that aren't in the store yet, by place
+abbrev pub fresh_contents_of : List Placed → List (List ℕ)
+fresh_contents_of placed = filter_map (λ p. p.fresh) placed
+
 abbrev pub fresh_contents : Settled → List (List ℕ)
-fresh_contents s = filter_map (λ p. p.fresh) s.placed
+fresh_contents s = fresh_contents_of s.placed
+
+abbrev pub fresh_sizes_of : List Placed → List ℕ
+fresh_sizes_of placed = map length (fresh_contents_of placed)
 
 abbrev pub fresh_sizes : Settled → List ℕ
-fresh_sizes s = map length (fresh_contents s)
+fresh_sizes s = fresh_sizes_of s.placed
 
 -- a content that isn't in the store yet has the size and the digest that its file says
 abbrev pub IsFresh : Placed → Type 0
@@ -45,9 +50,12 @@ pub record MayChange (k : Kept) (s : Settled) : Type 0 where
   pub no_events : s.events ≡ []
   pub fresh : All IsFresh s.placed
 
--- In these files each placed file without a new content refers to one that stands in its claim, with its size and digest.
-abbrev pub HasOldContents : Settled → Files → Type 0
-HasOldContents s files = All (λ p. p.fresh ≡ None → content_damage files p.file.content ≡ None) s.placed
+-- each placed file without a new content has that of a live file
+abbrev pub IsOldLive : StoreState → Placed → Type 0
+IsOldLive store p = p.fresh ≡ None → Contains (live_in store) p.file.content
+
+abbrev pub HasLiveContents : StoreState → Settled → Type 0
+HasLiveContents store s = All (IsOldLive store) s.placed
 
 -- ---- limits
 

@@ -4,6 +4,7 @@
 #![tactic(auto)]
 
 mod commit;
+mod contents;
 mod discard;
 mod error;
 mod flow;

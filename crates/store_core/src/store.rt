@@ -12,8 +12,9 @@ ghost use Rattle.store_core.specs.Change.{MayChange, IsWithinLimits, IsLimitOf};
 ghost use Rattle.store_core.specs.Committed.{IsPrepared};
 ghost use Rattle.store_core.specs.Store.{kept_by, live_in, Holds, IsKeptOn};
 
+use crate::contents::{fresh_sizes, let_go};
 use crate::{Prepared, StoreError};
-use content_repo::{Content, Reclaimed};
+use content_repo::{Content, ContentError, Reclaimed};
 use disk_trait::Disk;
 use flowfile_record::{ContentRef, Settled, Stored};
 use flowfile_wal::Log;
@@ -85,6 +86,7 @@ impl Store {
         self.entries
     }
 
+    #[tactic(none)]
     /// Takes all memory that the commit of a settled session wants, and makes no call of the disk. The session's new
     /// contents are written by the commit from where they are.
     pub fn prepare<'a>(&mut self, settled: &'a Settled) -> Result<Prepared<'a>, StoreError>
@@ -97,7 +99,16 @@ impl Store {
         // But for the room for more files, nothing changes.
         ensures same { self.new ≡ record self.old { memory = record { kept = kept_by self.old; room = self.new.memory.room } } }
     {
-        Err(StoreError::Memory)
+        if let Some(limit) = self.state.live_limit(settled) {
+            return Err(StoreError::Limit(limit));
+        }
+        let sizes = fresh_sizes(self.alloc, settled.placed.as_slice())?;
+        self.contents.room(sizes.as_slice())?;
+        if let Some(limit) = self.state.numbers_limit(settled) {
+            return Err(StoreError::Limit(limit));
+        }
+        let entry = self.state.prepare(self.alloc, settled)?;
+        Ok(Prepared { entry, settled })
     }
 
     /// The bytes of a live content.
@@ -112,7 +123,18 @@ impl Store {
         ensures refusal { RefusesOnFault result self.old self.new (D.faults disk.old) (D.faults disk.new) }
         ensures kept { IsKeptOn D.tells D.held D.moment D.images self.new disk.new }
     {
-        Err(StoreError::Memory)
+        if self.has_failed {
+            return Err(StoreError::MustReopen);
+        }
+        match self.contents.read(self.alloc, disk, at) {
+            Ok(bytes) => Ok(bytes),
+            Err(ContentError::Disk) => {
+                self.has_failed = true;
+                Err(StoreError::Disk)
+            }
+            Err(ContentError::Damaged(damage)) => Err(StoreError::Damaged(damage)),
+            Err(_) => Err(StoreError::Memory),
+        }
     }
 
     /// Empties the claims that no live content and none of the opening stands in. It takes no memory.
@@ -127,9 +149,17 @@ impl Store {
         ensures refusal { RefusesOnFault result self.old self.new (D.faults disk.old) (D.faults disk.new) }
         ensures kinds { IfErr result IsDiskOrReopen }
     {
-        Err(StoreError::Disk)
+        if self.has_failed {
+            return Err(StoreError::MustReopen);
+        }
+        let Ok(reclaimed) = self.contents.reclaim(disk) else {
+            self.has_failed = true;
+            return Err(StoreError::Disk);
+        };
+        Ok(reclaimed)
     }
 
+    #[tactic(none)]
     /// Lets go of the contents of the opening, empties the claims that no live content stands in, and syncs the disk. It
     /// takes no memory.
     pub fn close<D: Disk>(&mut self, disk: &mut D) -> Result<(), StoreError>
@@ -143,7 +173,20 @@ impl Store {
         ensures refusal { RefusesOnFault result self.old self.new (D.faults disk.old) (D.faults disk.new) }
         ensures kinds { IfErr result IsDiskOrReopen }
     {
-        Err(StoreError::Disk)
+        if self.has_failed {
+            return Err(StoreError::MustReopen);
+        }
+        let_go(&mut self.contents, self.opened.as_slice());
+        self.opened.clear();
+        let Ok(_) = self.contents.reclaim(disk) else {
+            self.has_failed = true;
+            return Err(StoreError::Disk);
+        };
+        let Ok(()) = disk.sync() else {
+            self.has_failed = true;
+            return Err(StoreError::Disk);
+        };
+        Ok(())
     }
 
     /// What is kept, once the store isn't wanted any more.
