@@ -70,12 +70,7 @@ pub fn revive<D: Disk>(
 }
 
 // Mends the current log, and cuts all that doesn't matter beside it but the claims.
-fn mend<D: Disk>(
-    alloc: Global,
-    disk: &mut D,
-    log: &mut Log,
-    number: u64,
-) -> Result<(), StoreError>
+fn mend<D: Disk>(alloc: Global, disk: &mut D, log: &mut Log, number: u64) -> Result<(), StoreError>
     requires synced { IsOnly (D.held disk.old) (D.images disk.old (D.moment disk.old)) }
     requires works { log.old.failed ≡ false }
     requires number { log.old.number ≡ Some number }

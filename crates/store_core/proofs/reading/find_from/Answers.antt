@@ -25,7 +25,7 @@ returns-then-number-from-clause-first g c told =
     let held = g.D.Disk.held c.args.disk.now in
     let here : c.args.from ≤ slice_index list index = omega arith in
     let whole = first_is c.args.kind c.args.from held items (c.in_ok-files.ensures.listed told)
-        (AllPairs-from_increasing items c.files.ensures.ascending) c.files.ensures.below index (omega (arith, ap length same, c.loop-number-test.true))
-        (subst (λ (l : List ℕ). c.args.from ≤ slice_index l index) same here)
-        (λ j lt. subst (λ (l : List ℕ). slice_index l j < c.args.from) same (c.loop-number.invariant j lt)) in
+    (AllPairs-from_increasing items c.files.ensures.ascending) c.files.ensures.below index (omega (arith, ap length same, c.loop-number-test.true))
+    (subst (λ (l : List ℕ). c.args.from ≤ slice_index l index) same here)
+    (λ j lt. subst (λ (l : List ℕ). slice_index l j < c.args.from) same (c.loop-number.invariant j lt)) in
     sym (subst (λ (l : List ℕ). first_from c.args.kind c.args.from held ≡ Some (named c.args.kind (slice_index l index))) (sym same) whole)
