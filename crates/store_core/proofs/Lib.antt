@@ -4,6 +4,7 @@ pub mod ClaimsAlone
 pub mod Closing
 pub mod Commits
 pub mod Committing
+pub mod ContentsRead
 pub mod Counting
 pub mod Cutting
 pub mod Discarding
@@ -11,8 +12,10 @@ pub mod Finding
 pub mod Following
 pub mod Giving
 pub mod Growing
+pub mod KeptRead
 pub mod Machine
 pub mod Made
+pub mod MadeSteps
 pub mod Making
 pub mod Opening
 pub mod Placing
@@ -21,6 +24,7 @@ pub mod Queues
 pub mod Reclaiming
 pub mod Referring
 pub mod Refusals
+pub mod Replaying
 pub mod Reviving
 pub mod Rooms
 pub mod Sound

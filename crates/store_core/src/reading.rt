@@ -1,5 +1,5 @@
 //! What the files of a store keep is read: the log, the snapshot of its number, and the live contents. Nothing is written.
-ghost use Rattle.std.specs.Prelude.{◌≡◌, ℕ, [], Some, None, true, false, Ok, Err, IsTrue, IfOk, OnOk, IfErr, IsErrOf, All, map, fold};
+ghost use Rattle.std.specs.Prelude.{◌≡◌, ℕ, [], ◌∷◌, ◌++◌, Some, None, true, false, Ok, Err, IsTrue, IfOk, OnOk, IfErr, IsErrOf, All, map, fold};
 ghost use Rattle.std.specs.List.{flat_map};
 ghost use Rattle.disk_trait.specs.Files.{named};
 ghost use Rattle.disk_trait.specs.Images.{Stays};
@@ -11,13 +11,14 @@ ghost use Rattle.checkpoint_store.specs.Consistent.{IsConsistent};
 ghost use Rattle.checkpoint_store.specs.Snapshot.{snapshot_file};
 ghost use Rattle.content_repo.specs.Slots.{IsNamed};
 ghost use Rattle.flowfile_wal.specs.Calls.{HaveEncodings};
+ghost use Rattle.flowfile_wal.specs.Steps.{numbered};
 ghost use Rattle.kept_state.specs.Applied.{batches_that_matter, swapped_out};
 ghost use Rattle.kept_state.specs.Changes.{no_files};
 ghost use Rattle.kept_state.specs.Fits.{replayed};
 ghost use Rattle.store_core.specs.Calls.{IsReadRefusal, IsDiskOrMemory};
 ghost use Rattle.store_core.specs.Flow.{agrees_with, flow_in};
 ghost use Rattle.store_core.specs.Found.{IsFoundIn, IsStrayDamage};
-ghost use Rattle.store_core.specs.Kept.{snapshot_for, with_least, least_of, unless_swapped, with_entries, fitted, behind_snapshot, kept_in};
+ghost use Rattle.store_core.specs.Kept.{snapshot_for, with_least, least_of, unless_swapped, with_entries, fitted, behind_snapshot, behind_log, kept_in};
 ghost use Rattle.store_core.specs.New.{kept_anew, first_from, first_stray};
 ghost use Rattle.store_core.specs.State.{contents_damage, live_contents};
 
@@ -59,15 +60,39 @@ pub fn read_kept<D: Disk>(
 {
     let (log, entries) = Log::load(alloc, disk)?;
     let count = entries.len() as u64;
-    let state = match log.number() {
-        Some(number) => read_state(alloc, disk, flow, number, entries)?,
-        None => new_state(alloc, disk, flow, lot)?,
-    };
+    let state = read_behind(alloc, disk, flow, lot, log.number(), entries)?;
     Ok(Found {
         log,
         entries: count,
         state,
     })
+}
+
+// What is kept by the current log, or what a new store keeps where none is current.
+fn read_behind<D: Disk>(
+    alloc: Global,
+    disk: &mut D,
+    flow: &FlowIdentity<'_>,
+    lot: u64,
+    current: Option<u64>,
+    entries: LogEntries,
+) -> Result<KeptState, StoreError>
+    requires flow { IsConsistent (kept_anew flow.now lot) }
+    requires encoded { HaveEncodings entries.items }
+    ensures kept { IfOk result (λ state. IsTrue D.tells → (end : ℕ)
+        → behind_log flow.now lot (D.held disk.old) (Ok (numbered current entries.items end)) ≡ Ok state.kept) }
+    ensures damaged { (damage : TheDamage) → IsErrOf result (StoreError.Damaged damage) → IsTrue D.tells → (end : ℕ)
+        → behind_log flow.now lot (D.held disk.old) (Ok (numbered current entries.items end)) ≡ Err damage }
+    ensures flow { IfOk result (λ state. agrees_with flow.now state.kept ≡ true) }
+    ensures anew { IfOk result (λ state. current ≡ None → state.kept ≡ kept_anew flow.now lot) }
+    ensures refusal { IfErr result IsReadRefusal }
+    ensures stays { Stays D.held D.moment D.images disk.old disk.new }
+    ensures cause { CountsFaults (D.faults disk.old) (D.faults disk.new) (IsErrOf result StoreError.Disk) }
+{
+    match current {
+        Some(number) => read_state(alloc, disk, flow, number, entries),
+        None => new_state(alloc, disk, flow, lot),
+    }
 }
 
 // What a new store keeps, where the files are those of a store that isn't made yet.
@@ -329,7 +354,14 @@ pub fn read_contents<D: Disk>(
     for active in stored.files.iter() {
         let content = active.file.content;
         read_content(alloc, disk, &content)?;
-        contents.push(content).map_err(AllocError::from)?;
+        add_content(&mut contents, content)?;
     }
     Ok(contents)
+}
+
+fn add_content(contents: &mut Vec<ContentRef>, content: ContentRef) -> Result<(), AllocError>
+    ensures { OnOk result (contents.new.items ≡ contents.old.items ++ content ∷ []) }
+{
+    contents.push(content)?;
+    Ok(())
 }
