@@ -1,0 +1,70 @@
+-- A step on the files of claims alone leaves the log and what is kept.
+use Rattle.std.proofs.Common.{◌≡◌, ◌≢◌, ℕ, ◌+◌, ◌<◌, ◌≤◌, Bool, true, false, List, length, take, drop, refl, sym, ap, subst, ◌∙◌, arith}
+use Rattle.std.specs.Prelude.{Option, None, Some, Result, Ok, Err, All, MatchBool}
+use Rattle.disk_trait.specs.Files.{Files, Shortened, named}
+use Rattle.disk_trait.specs.declared.damage.Damage.{Damage}
+use Rattle.disk_trait.specs.declared.file_name.FileKind.TheVariants.{Log, Snapshot, Claim}
+use Rattle.disk_trait.specs.declared.file_name.FileName.{FileName}
+use Rattle.flowfile_record.specs.declared.content.ContentRef.{ContentRef}
+use Rattle.checkpoint_store.specs.Snapshot.{snapshot_file}
+use Rattle.content_repo.specs.Claims.{claim, content_in, IsCovered, IdleShortened}
+use Rattle.content_repo.specs.Slots.{count_of, slot_at, is_idle, end_of}
+use Rattle.content_repo.specs.declared.slot.Slot.{Slot}
+use Rattle.flowfile_wal.specs.Current.{CurrentLog, current_log, log_bytes, log_in, log_of_number, of_some, counts, current_number}
+use Rattle.flowfile_wal.specs.Steps.{LogState, IsReadyIn, IsClosedIn, EndsClosed}
+use Rattle.flowfile_wal.proofs.Files.{same_number}
+use Rattle.store_core.specs.Agreement.{SameContent}
+use Rattle.store_core.specs.Flow.{Flow, flow_in}
+use Rattle.store_core.specs.Kept.{kept_in}
+use Rattle.store_core.specs.State.{contents_damage}
+use Rattle.store_core.specs.Store.{StoreState, kept_by, live_in, Holds, HasLog}
+use Rattle.store_core.proofs.Agreeing.{kept_alike, contents_sound}
+
+-- only files of claims change
+abbrev pub OthersStay : Files → Files → Type 0
+OthersStay old new = (f : FileName) → f.kind ≢ Claim → new f ≡ old f
+
+pub log_stays : (old new : Files) → OthersStay old new → (n : ℕ) → new (named Log n) ≡ old (named Log n)
+log_stays old new stay n = stay (named Log n) (λ (e : Log ≡ Claim). absurd cc)
+
+pub snapshot_stays : (old new : Files) → OthersStay old new → (n : ℕ) → new (snapshot_file n) ≡ old (snapshot_file n)
+snapshot_stays old new stay n = stay (snapshot_file n) (λ (e : Snapshot ≡ Claim). absurd cc)
+
+same_of_number : (old new : Files) (n : Option ℕ) → OthersStay old new → log_of_number new n ≡ log_of_number old n
+same_of_number old new None stay = refl
+same_of_number old new (Some n) stay = ap (λ (bytes : List ℕ). of_some (log_in n bytes)) (log_stays old new stay n)
+
+pub current_stays : (old new : Files) → OthersStay old new → current_log new ≡ current_log old
+unfolding current_log
+current_stays old new stay =
+    same_of_number old new (current_number new) stay
+    ∙ ap (log_of_number old) (same_number old new (λ m. ap counts (log_stays old new stay m)))
+
+pub has_log_still : (s : StoreState) (old new : Files) → OthersStay old new → HasLog s old → HasLog s new
+has_log_still s old new stay has =
+    let was = has.ready in
+    let log = was.log in
+    let current = current_stays old new stay in
+    record {
+      ready = record {
+        log = log;
+        number = was.number;
+        end = was.end;
+        ready = record {
+          current = current ∙ was.ready.current;
+          closed = subst (λ (bytes : List ℕ). EndsClosed log.end bytes) (sym (log_stays old new stay log.number)) was.ready.closed;
+        };
+      };
+      entries = λ l is. has.entries l (sym current ∙ is);
+    }
+
+pub holds_still : (s : StoreState) (old new : Files) → OthersStay old new → HasLog s old → All (SameContent old new) (live_in s) → Holds s old → Holds s new
+holds_still s old new stay has same was =
+    let log = has.ready.log in
+    let current = has.ready.ready.current in
+    record {
+      kept =
+          kept_alike (flow_in (kept_by s)) s.lot old new log current (current_stays old new stay ∙ current) (snapshot_stays old new stay log.number)
+          ∙ was.kept;
+      contents = contents_sound old new (live_in s) same was.contents;
+    }

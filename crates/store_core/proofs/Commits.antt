@@ -1,0 +1,283 @@
+-- A session's entry, what a store knows once it is applied, and which files hold it.
+use Rattle.std.proofs.Common.{◌≡◌, ◌≢◌, ℕ, ◌+◌, ◌<◌, ◌≤◌, Bool, true, false, List, [], ◌∷◌, ◌++◌, length, map, take, drop, get_or, refl, sym, ap, subst, ◌∙◌, inl, inr, arith, IsTrue, length-set}
+use Rattle.std.specs.List.{AllZip}
+use Rattle.std.specs.Prelude.{Option, None, Some, is_none, Result, Ok, Err, All, Contains}
+use Rattle.std.proofs.lemmas.Bool.{and_from}
+use Rattle.std.proofs.lemmas.List.{length-map}
+use Rattle.std.proofs.lemmas.List.Elements.{All-nil, All-cons, All-head, All-tail}
+use Rattle.sha2.specs.Sha256.{sha256}
+use Rattle.disk_trait.specs.Files.{Files, At, named}
+use Rattle.disk_trait.specs.declared.damage.Damage.{Damage}
+use Rattle.disk_trait.specs.declared.file_name.FileKind.TheVariants.{Log, Snapshot, Claim}
+use Rattle.disk_trait.specs.declared.file_name.FileName.{FileName}
+use Rattle.flowfile_record.specs.Stored.{Kept}
+use Rattle.flowfile_record.specs.declared.change.Change.TheVariants as change
+use Rattle.flowfile_record.specs.declared.change.Settled.{Settled}
+use Rattle.flowfile_record.specs.declared.content.ContentRef.{ContentRef}
+use Rattle.flowfile_record.specs.declared.limits.TheConstants.{LIVE_FILES_MAX}
+use Rattle.flowfile_record.specs.declared.stored.ActiveFile.{ActiveFile}
+use Rattle.flowfile_record.specs.declared.stored.Counted.{Counted}
+use Rattle.flowfile_record.specs.declared.stored.Placed.{Placed}
+use Rattle.record_codec.specs.Placeless.{placeless_active, placeless_entry}
+use Rattle.record_codec.specs.declared.entry.LogEntry.{LogEntry}
+use Rattle.record_codec.specs.declared.entry.LogEntry.TheVariants.{Begin, Session, Expire, SwapOut, SwapIn}
+use Rattle.record_codec.specs.declared.entry.SessionEntry.{SessionEntry}
+use Rattle.checkpoint_store.specs.Consistent.{IsConsistent}
+use Rattle.content_repo.specs.Claims.{claim, content_in, HasSizes}
+use Rattle.content_repo.specs.Slots.{count_of, size_of, held_in, references_to, end_of, IsNamed}
+use Rattle.content_repo.specs.declared.content.TheConstants.{HELD_MAX}
+use Rattle.content_repo.specs.declared.slot.Slot.{Slot}
+use Rattle.content_repo.specs.declared.slot_set.TheConstants.{SLOTS}
+use Rattle.flowfile_wal.specs.Steps.{Adds, LogState}
+use Rattle.kept_state.specs.Applied.{number_of, left_after, session_applied, applied, swapped_out, with_count}
+use Rattle.kept_state.specs.Changes.{entry_of, session_of, record_of, no_files, placed_in, MaySettle}
+use Rattle.kept_state.specs.Fits.{fits, session_suits}
+use Rattle.kept_state.specs.Limits.{live_limit}
+use Rattle.kept_state.specs.Memory.{InMemory}
+use Rattle.kept_state.proofs.Going.{active_from_one}
+use Rattle.kept_state.proofs.Keeping.{within_limits, session_parts, distinct_of_suits, active_of_suits, length-with_files}
+use Rattle.kept_state.proofs.Placing.{placeless_fits}
+use Rattle.store_core.specs.Change.{IsFresh, IsOldLive, HasLiveContents, MayChange, IsWithinLimits}
+use Rattle.store_core.specs.Committed.{PreparedChange, IsPrepared}
+use Rattle.store_core.specs.Flow.{Flow, flow_in}
+use Rattle.store_core.specs.Kept.{kept_in}
+use Rattle.store_core.specs.Placing.{contents_of, IsHeldIn, MayPlace, IsPlacedAs, ArePlaced, HoldsMore}
+use Rattle.store_core.specs.State.{contents_damage, live_contents}
+use Rattle.store_core.specs.Store.{StoreState, IsWorking, kept_by, live_in, Holds, HasLog}
+use Rattle.store_core.proofs.Committing.{kept_with_entry}
+use Rattle.store_core.proofs.Counting.{references_left, references_applied, length_applied}
+use Rattle.store_core.proofs.Reclaiming.{referred_at, counted}
+use Rattle.store_core.proofs.Sound.{IsSoundIn, content_of, each_sound, all_sound, one_sound, all_applied}
+
+-- ---- the entry
+
+-- it is that of a session, which is this one but for where its contents stand
+pub record IsSessionOf (e : LogEntry) (t : SessionEntry) : Type 0 where
+  pub session : SessionEntry
+  pub is : e ≡ Session session
+  pub gone : session.gone ≡ t.gone
+  pub placed : map placeless_active session.placed ≡ map placeless_active t.placed
+  pub last_event : session.last_event ≡ t.last_event
+
+abbrev part_of : SessionEntry → LogEntry → SessionEntry
+part_of t (Session s) = s
+part_of t _ = t
+
+pub session_from : (e : LogEntry) (t : SessionEntry) → placeless_entry e ≡ placeless_entry (Session t) → IsSessionOf e t
+session_from (Session s) t same = record {
+  session = s;
+  is = refl;
+  gone = ap (λ (e : LogEntry). (part_of t e).gone) same;
+  placed = ap (λ (e : LogEntry). (part_of t e).placed) same;
+  last_event = ap (λ (e : LogEntry). (part_of t e).last_event) same;
+}
+session_from (Begin log) t same = absurd cc
+session_from (Expire e) t same = absurd cc
+session_from (SwapOut s) t same = absurd cc
+session_from (SwapIn connection batch) t same = absurd cc
+
+pub fits_placed : (k : Kept) (s : Settled) (e : LogEntry) → MaySettle k s → live_limit (session_applied k (session_of k s)) ≡ None
+    → placeless_entry e ≡ placeless_entry (Session (session_of k s)) → fits no_files k e ≡ true
+fits_placed k s e may none same =
+    let fit : fits no_files k (Session (session_of k s)) ≡ true =
+    and_from (session_suits no_files k (session_of k s)) (is_none (live_limit (session_applied k (session_of k s)))) may.suits (ap is_none none) in
+    sym (placeless_fits no_files k e) ∙ ap (fits no_files k) same ∙ placeless_fits no_files k (Session (session_of k s)) ∙ fit
+
+pub as_many : (e : LogEntry) (t : SessionEntry) (is : IsSessionOf e t) → length is.session.placed ≡ length t.placed
+as_many e t is = sym (length-map is.session.placed placeless_active) ∙ ap length is.placed ∙ length-map t.placed placeless_active
+
+-- ---- the contents may be placed
+
+held_live : (s : StoreState) → IsWorking s → (at : ContentRef) → Contains (live_in s) at → IsHeldIn s.slots at
+held_live s works at has =
+    let i = has.0 in
+    subst (IsHeldIn s.slots) has.2 (record {
+      held = counted s works i at has.1;
+      named = works.named i at has.1;
+      within = works.within i at has.1;
+    })
+
+pub may_place : (s : StoreState) (p : PreparedChange) → IsPrepared s p → HasLiveContents s p.settled → IsWorking s → IsConsistent (kept_by s) → length s.opened ≤ LIVE_FILES_MAX
+    → MayPlace s.slots p.settled.placed
+may_place s p prepared live works consistent opened =
+    let k = kept_by s in
+    let t = session_of k p.settled in
+    let limits = within_limits (session_applied k t) prepared.within.live in
+    record {
+      fresh = prepared.may.fresh;
+      room = prepared.within.claims;
+      old = λ i d lt none. held_live s works (get_or p.settled.placed i d).file.content (live i d lt none);
+      few =
+          omega (
+            arith,
+            works.held,
+            opened,
+            consistent.live_files,
+            limits.0,
+            length-map k.files (λ a. a.file.content),
+            length-with_files t.placed (left_after t.gone k.files),
+            length-map p.settled.placed record_of,
+          );
+    }
+
+-- ---- what a store knows
+
+zip_all : (P : ContentRef → Type 0) (R : Placed → ActiveFile → Type 0) (placed : List Placed) (files : List ActiveFile) → ((p : Placed) (a : ActiveFile) → R p a → P (content_of a)) → AllZip R placed files
+    → All P (map content_of files)
+zip_all P R [] [] to all = All-nil P
+zip_all P R [] (a ∷ files) to all = absurd all
+zip_all P R (p ∷ placed) [] to all = absurd all
+zip_all P R (p ∷ placed) (a ∷ files) to all = All-cons P (content_of a) (map content_of files) (to p a all.0) (zip_all P R placed files to all.1)
+
+pub working_after : (s : StoreState) (se : SessionEntry) (placed : List Placed) (placed_slots slots : List Slot) (tells : Bool) (files : Files) (new : StoreState) → IsWorking s → IsConsistent (kept_by s)
+    → session_suits no_files (kept_by s) se ≡ true → se.last_event ≡ 0
+    → ArePlaced tells placed_slots files placed se.placed → HoldsMore se.placed s.slots placed_slots
+    → ((k : ℕ) → count_of slots k + references_to k (contents_of (kept_by s).files se.gone) ≡ count_of placed_slots k)
+    → held_in slots + length (contents_of (kept_by s).files se.gone) ≡ held_in placed_slots
+    → ((k : ℕ) → size_of slots k ≡ size_of placed_slots k)
+    → kept_by new ≡ session_applied (kept_by s) se → new.log.failed ≡ false → new.slots ≡ slots → new.opened ≡ s.opened
+    → IsWorking new
+working_after s se placed placed_slots slots tells files new works consistent suits no_event are holds counts held sizes kept log slots_are opened =
+    let k = kept_by s in
+    let distinct = distinct_of_suits k se suits in
+    let active = active_from_one k.files se.gone (active_of_suits k se suits) in
+    let live : live_in new ≡ live_contents (session_applied k se) = ap live_contents kept in
+    record {
+      log = log;
+      last_event = ap (λ (l : Kept). l.last_event) kept ∙ no_event;
+      counts = λ j.
+          omega (
+            arith,
+            ap (λ (l : List Slot). count_of l j) slots_are,
+            counts j,
+            holds.counts j,
+            works.counts j,
+            references_applied j k se consistent.numbers distinct active,
+            ap (references_to j) live,
+            ap (references_to j) opened,
+          );
+      held =
+          omega (
+            arith,
+            ap held_in slots_are,
+            held,
+            holds.held,
+            works.held,
+            length_applied k se consistent.numbers distinct active,
+            ap length live,
+            ap length opened,
+            length-map k.files content_of,
+            length-map (session_applied k se).files content_of,
+          );
+      named = subst (λ (refs : List ContentRef). All IsNamed refs) (sym live) (all_applied IsNamed k se works.named (zip_all IsNamed (IsPlacedAs tells placed_slots files) placed se.placed (λ p a is. is.named) are));
+      within =
+          subst (λ (refs : List ContentRef). All (λ at. end_of at ≤ size_of new.slots at.slot) refs) (sym live)
+          (all_applied (λ at. end_of at ≤ size_of new.slots at.slot) k se
+          (λ i d lt. let at = get_or (live_in s) i d in omega (arith, works.within i d lt, holds.sizes at.slot, sizes at.slot, ap (λ (l : List Slot). size_of l at.slot) slots_are))
+          (zip_all (λ at. end_of at ≤ size_of new.slots at.slot) (IsPlacedAs tells placed_slots files) placed se.placed
+          (λ p a is. omega (arith, is.within, sizes a.file.content.slot, ap (λ (l : List Slot). size_of l a.file.content.slot) slots_are)) are));
+    }
+
+pub referred_gone : (s : StoreState) (se : SessionEntry) (placed_slots : List Slot) → IsWorking s → IsConsistent (kept_by s) → session_suits no_files (kept_by s) se ≡ true → HoldsMore se.placed s.slots placed_slots
+    → (k : ℕ) → references_to k (contents_of (kept_by s).files se.gone) ≤ count_of placed_slots k
+referred_gone s se placed_slots works consistent suits holds j =
+    let k = kept_by s in
+    let active = active_from_one k.files se.gone (active_of_suits k se suits) in
+    omega (arith, references_left j se.gone k.files consistent.numbers (distinct_of_suits k se suits) active, works.counts j, holds.counts j)
+
+-- ---- files
+
+sound_with : (files : Files) (slots : List Slot) (s : StoreState) (p : Placed) (a : ActiveFile) → HasSizes slots files → contents_damage files (live_in s) ≡ None → IsFresh p → IsOldLive s p → IsPlacedAs true slots files p a
+    → IsSoundIn files (content_of a)
+sound_with files slots s p a sizes live fresh old is = by p.fresh refl
+  where
+    by : (o : Option (List ℕ)) → p.fresh ≡ o → IsSoundIn files (content_of a)
+    by None none = subst (IsSoundIn files) (sym (is.old none)) (one_sound files (live_in s) p.file.content live (old none))
+    by (Some bytes) some =
+        let at = content_of a in
+        let f = fresh bytes some in
+        record {
+          covered = omega (arith, is.within, sizes at.slot is.named.0);
+          digest = ap sha256 (is.stands refl bytes some) ∙ sym f.2 ∙ sym is.digest;
+        }
+
+pub placed_sound : (files : Files) (slots : List Slot) (s : StoreState) (placed : List Placed) (recorded : List ActiveFile) → HasSizes slots files → contents_damage files (live_in s) ≡ None
+    → All IsFresh placed → All (IsOldLive s) placed → ArePlaced true slots files placed recorded → All (IsSoundIn files) (map content_of recorded)
+placed_sound files slots s [] [] sizes live fresh old are = All-nil (IsSoundIn files)
+placed_sound files slots s [] (a ∷ recorded) sizes live fresh old are = absurd are
+placed_sound files slots s (p ∷ placed) [] sizes live fresh old are = absurd are
+placed_sound files slots s (p ∷ placed) (a ∷ recorded) sizes live fresh old are =
+    All-cons (IsSoundIn files) (content_of a) (map content_of recorded)
+    (sound_with files slots s p a sizes live (All-head IsFresh p placed fresh) (All-head (IsOldLive s) p placed old) are.0)
+    (placed_sound files slots s placed recorded sizes live (All-tail IsFresh p placed fresh) (All-tail (IsOldLive s) p placed old) are.1)
+
+counts_long : (g : Option Counted) (counts : List ℕ) → length (with_count g counts) ≡ length counts
+counts_long None counts = refl
+counts_long (Some g) counts = length-set counts g.processor g.count
+
+pub same_flow : (k : Kept) (se : SessionEntry) → flow_in (session_applied k se) ≡ flow_in k
+same_flow k se = ap (λ (n : ℕ). record { digest = k.flow; connections = k.connections; processors = n }) (counts_long se.generator k.counts)
+
+same_sound : (number : ℕ) (e : LogEntry) (old new : Files) (at : ContentRef) → Adds number e old new → IsSoundIn old at → IsSoundIn new at
+same_sound number e old new at added is =
+    let same : new (claim at.slot) ≡ old (claim at.slot) = added.others (claim at.slot) (λ (x : claim at.slot ≡ named Log number). let kinds : Claim ≡ Log = ap (λ (f : FileName). f.kind) x in absurd cc) in
+    record {
+      covered = omega (arith, is.covered, ap {B = ℕ} length same);
+      digest = ap (λ (bytes : List ℕ). sha256 (take at.size (drop at.offset bytes))) same ∙ is.digest;
+    }
+
+-- files that held what is kept, and got the session's entry, hold what is kept after it
+pub holds_added : (s new : StoreState) (number : ℕ) (e : LogEntry) (se : SessionEntry) (old files : Files) → HasLog s old → Holds s old → s.log.number ≡ Some number → e ≡ Session se → fits no_files (kept_by s) e ≡ true
+    → Adds number e old files → All (IsSoundIn old) (map content_of se.placed) → kept_by new ≡ applied no_files (kept_by s) e → new.lot ≡ s.lot → Holds new files
+holds_added s new number e se old files has holds numbered is fit added placed kept lot =
+    let k = kept_by s in
+    let log = has.ready.log in
+    let both : Some number ≡ Some log.number = sym numbered ∙ has.ready.number in
+    let same : number ≡ log.number = cc in
+    let kept_as : kept_by new ≡ session_applied k se = kept ∙ ap (applied no_files k) is in
+    let flow : flow_in (kept_by new) ≡ flow_in k = ap flow_in kept_as ∙ same_flow k se in
+    let live : live_in new ≡ live_contents (session_applied k se) = ap live_contents kept_as in
+    let now = kept_with_entry (flow_in k) s.lot old files log k e has.ready.ready (subst (λ (n : ℕ). Adds n e old files) same added) (ap swapped_out is) fit holds.kept in
+    record {
+      kept = ap (λ (f : Flow). kept_in f new.lot files) flow ∙ ap (λ (l : ℕ). kept_in (flow_in k) l files) lot ∙ now ∙ ap (λ (l : Kept). Ok l) (sym kept);
+      contents =
+          ap (contents_damage files) live
+          ∙ all_sound files (live_contents (session_applied k se))
+          (λ i d lt. same_sound number e old files (get_or (live_contents (session_applied k se)) i d) added
+          (all_applied (IsSoundIn old) k se (each_sound old (live_in s) holds.contents) placed i d lt));
+    }
+
+-- ---- the entry of a prepared change, once its contents are placed
+
+module _ (s : StoreState) (p : PreparedChange) (e : LogEntry) (prepared : IsPrepared s p) (same : placeless_entry e ≡ placeless_entry p.entry) where
+  pub entry_as : placeless_entry e ≡ placeless_entry (Session (session_of (kept_by s) p.settled))
+  entry_as = same ∙ ap placeless_entry prepared.entry
+
+  pub entry_is : IsSessionOf e (session_of (kept_by s) p.settled)
+  entry_is = session_from e (session_of (kept_by s) p.settled) entry_as
+
+  pub entry_fits : fits no_files (kept_by s) e ≡ true
+  entry_fits = fits_placed (kept_by s) p.settled e prepared.may.settles prepared.within.live entry_as
+
+  pub entry_alone : swapped_out e ≡ []
+  entry_alone = ap swapped_out entry_is.is
+
+  pub entry_room : length (placed_in e) ≤ s.memory.room
+  entry_room =
+      omega (
+        arith,
+        prepared.room,
+        ap (λ (l : LogEntry). length (placed_in l)) entry_is.is,
+        as_many e (session_of (kept_by s) p.settled) entry_is,
+        length-map p.settled.placed record_of,
+      )
+
+  pub entry_suits : session_suits no_files (kept_by s) entry_is.session ≡ true
+  entry_suits = (session_parts (kept_by s) entry_is.session (sym (ap (fits no_files (kept_by s)) entry_is.is) ∙ entry_fits)).0
+
+  pub entry_events : entry_is.session.last_event ≡ (kept_by s).last_event
+  entry_events = entry_is.last_event ∙ ap {B = ℕ} (λ (l : List _). (kept_by s).last_event + length l) prepared.may.no_events ∙ omega arith
+
+-- the placed files of the entry that was prepared
+pub recorded_first : (s : StoreState) (p : PreparedChange) → IsPrepared s p → placed_in p.entry ≡ map record_of p.settled.placed
+recorded_first s p prepared = ap placed_in prepared.entry

@@ -1,0 +1,83 @@
+-- Files that follow others: what is kept, the log and the live contents are the same.
+use Rattle.std.proofs.Common.{◌≡◌, ◌≢◌, ℕ, ◌+◌, ◌<◌, ◌≤◌, Bool, true, false, List, [], ◌∷◌, length, take, drop, get_or, refl, sym, ap, subst, ◌∙◌, inl, inr, arith}
+use Rattle.std.specs.Prelude.{Option, None, Some, Result, Ok, Err, All}
+use Rattle.disk_trait.specs.Files.{Files, At, named}
+use Rattle.disk_trait.specs.declared.damage.Damage.{Damage}
+use Rattle.disk_trait.specs.declared.file_name.FileKind.TheVariants.{Log, Snapshot, Claim}
+use Rattle.disk_trait.specs.declared.file_name.FileName.{FileName}
+use Rattle.flowfile_record.specs.Stored.{Kept}
+use Rattle.flowfile_record.specs.declared.content.ContentRef.{ContentRef}
+use Rattle.checkpoint_store.specs.Snapshot.{snapshot_file}
+use Rattle.content_repo.specs.Claims.{claim, content_in}
+use Rattle.content_repo.specs.Slots.{size_of, end_of}
+use Rattle.content_repo.specs.declared.slot.Slot.{Slot}
+use Rattle.flowfile_wal.specs.Current.{CurrentLog, current_log}
+use Rattle.flowfile_wal.specs.Steps.{Keeps, SameLog}
+use Rattle.flowfile_wal.proofs.Files.{alike}
+use Rattle.machine_model.specs.State.{State}
+use Rattle.store_core.specs.Agreement.{SameContent}
+use Rattle.store_core.specs.Flow.{flow_in}
+use Rattle.store_core.specs.Kept.{kept_in}
+use Rattle.store_core.specs.Placing.{GrowsBehind}
+use Rattle.store_core.specs.State.{stands_for, contents_damage, live_contents, events_in, state_of, state_with}
+use Rattle.store_core.specs.Store.{StoreState, IsWorking, kept_by, live_in, Holds, HasLog}
+use Rattle.store_core.proofs.Agreeing.{sound, kept_alike, contents_sound, keeps_of, sound_of, state_of_sound, stands_by_kept, same_state, of_state}
+use Rattle.store_core.proofs.ClaimsAlone.{current_stays, snapshot_stays}
+use Rattle.store_core.proofs.Growing.{same_grown}
+use Rattle.store_core.proofs.Reclaiming.{same_claim}
+
+-- the log says the same, its snapshot is the same, and so are the contents of the live files
+pub record Follows (s : StoreState) (old new : Files) : Type 0 where
+  pub current : current_log new ≡ current_log old
+  pub snapshot : (n : ℕ) → new (snapshot_file n) ≡ old (snapshot_file n)
+  pub contents : All (SameContent old new) (live_in s)
+
+pub follows_itself : (s : StoreState) (files : Files) → Follows s files files
+follows_itself s files = record { current = refl; snapshot = λ n. refl; contents = λ k d lt. record { bytes = refl; covered = λ h. h } }
+
+pub follows_in_turn : (s : StoreState) (a b c : Files) → Follows s a b → Follows s b c → Follows s a c
+follows_in_turn s a b c first second = record {
+  current = second.current ∙ first.current;
+  snapshot = λ n. second.snapshot n ∙ first.snapshot n;
+  contents = λ k d lt. record {
+    bytes = (second.contents k d lt).bytes ∙ (first.contents k d lt).bytes;
+    covered = λ h. (second.contents k d lt).covered ((first.contents k d lt).covered h);
+  };
+}
+
+pub follows_grown : (s : StoreState) (old new : Files) → IsWorking s → GrowsBehind s.slots old new → Follows s old new
+follows_grown s old new works grows = record {
+  current = current_stays old new grows.others;
+  snapshot = snapshot_stays old new grows.others;
+  contents = λ k d lt. same_grown s.slots old new (get_or (live_in s) k d) (works.within k d lt) grows;
+}
+
+pub follows_kept_log : (s : StoreState) (number : ℕ) (old new : Files) → Keeps number old new → Follows s old new
+follows_kept_log s number old new keeps = record {
+  current = alike number old new keeps;
+  snapshot = λ n. keeps.others (snapshot_file n) (λ (e : snapshot_file n ≡ named Log number). let kinds : Snapshot ≡ Log = ap (λ (f : FileName). f.kind) e in absurd cc);
+  contents = λ k d lt.
+      let at = get_or (live_in s) k d in
+      same_claim old new at (keeps.others (claim at.slot) (λ (e : claim at.slot ≡ named Log number). let kinds : Claim ≡ Log = ap (λ (f : FileName). f.kind) e in absurd cc));
+}
+
+pub holds_following : (s : StoreState) (old new : Files) → HasLog s old → Follows s old new → Holds s old → Holds s new
+holds_following s old new has follows was =
+    let log = has.ready.log in
+    let current = has.ready.ready.current in
+    record {
+      kept = kept_alike (flow_in (kept_by s)) s.lot old new log current (follows.current ∙ current) (follows.snapshot log.number) ∙ was.kept;
+      contents = contents_sound old new (live_in s) follows.contents was.contents;
+    }
+
+-- the state that they stand for is the same
+pub state_following : (s : StoreState) (state : State) (old new : Files) → HasLog s old → Follows s old new → Holds s old
+    → stands_for (flow_in (kept_by s)) s.lot old ≡ of_state state → stands_for (flow_in (kept_by s)) s.lot new ≡ of_state state
+state_following s state old new has follows was stands =
+    let flow = flow_in (kept_by s) in
+    let k = kept_by s in
+    let now = holds_following s old new has follows was in
+    let sound_old = sound_of old k state (sym (stands_by_kept flow s.lot old k was.kept) ∙ stands) in
+    stands_by_kept flow s.lot new k now.kept
+    ∙ state_of_sound new k sound_old.events now.contents sound_old.events_are
+    ∙ ap of_state (same_state (content_in new) (content_in old) sound_old.events k (λ i d lt. (follows.contents i d lt).bytes) ∙ sym sound_old.is)

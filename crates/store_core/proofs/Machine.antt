@@ -1,0 +1,91 @@
+-- The machine's state that files stand for behind a session.
+use Rattle.std.proofs.Common.{◌≡◌, ◌≢◌, ℕ, ◌+◌, ◌<◌, ◌≤◌, ◌==◌, Bool, true, false, cond, List, [], ◌∷◌, ◌++◌, length, map, refl, sym, ap, subst, ◌∙◌, inl, inr, arith}
+use Rattle.std.specs.Prelude.{All, filter, fold, Option, None, Some, slice_set}
+use Rattle.std.specs.List.{AllZip, enumerate_from}
+use Rattle.std.specs.FinSet.{union, from_list, contains, same_set, contains-union, contains-from_list}
+use Rattle.std.specs.Prelude.{◌||◌}
+use Rattle.machine_model.specs.State.{Kin}
+use Rattle.machine_model.proofs.KinSets.{kin_cmp-total, kin_cmp-IsAntisymmetric}
+use Rattle.flowfile_record.specs.Kin.{kin_of_all}
+use Rattle.flowfile_record.specs.Stored.{Kept}
+use Rattle.flowfile_record.specs.declared.change.Settled.{Settled}
+use Rattle.flowfile_record.specs.declared.content.ContentRef.{ContentRef}
+use Rattle.flowfile_record.specs.declared.event.Event.{Event}
+use Rattle.flowfile_record.specs.declared.stored.ActiveFile.{ActiveFile}
+use Rattle.flowfile_record.specs.declared.stored.Counted.{Counted}
+use Rattle.flowfile_record.specs.declared.stored.Placed.{Placed}
+use Rattle.record_codec.specs.declared.entry.SessionEntry.{SessionEntry}
+use Rattle.kept_state.specs.Applied.{left_after, with_files, session_applied, with_count}
+use Rattle.kept_state.proofs.Apart.{AreApart}
+use Rattle.machine_model.specs.State.{QueuedFile, State}
+use Rattle.machine_model.specs.Stepping.{without_files}
+use Rattle.store_core.specs.Change.{placed_file, placed_into, queue_after, counts_after, state_after}
+use Rattle.store_core.specs.State.{queued, with_arrival, queue_of, state_with}
+use Rattle.store_core.proofs.Queues.{IsQueuedAs, queue_behind, line, arrival_of}
+
+-- the session that is recorded is the settled one, each placed file queued as it was handed in
+pub record IsSessionFor (new old : ContentRef → List ℕ) (k : Kept) (s : Settled) (se : SessionEntry) : Type 0 where
+  pub gone : se.gone ≡ s.gone
+  pub number : se.next_number ≡ s.next_number
+  pub arrival : se.next_arrival ≡ s.next_arrival
+  pub count : se.generator ≡ s.count
+  pub apart : AreApart arrival_of se.placed (left_after se.gone k.files)
+  pub placed : AllZip (IsQueuedAs new old) s.placed se.placed
+  pub left : (place : ℕ) → line new place (left_after se.gone k.files) ≡ line old place (left_after se.gone k.files)
+
+same_queue : (new old : ContentRef → List ℕ) (k : Kept) (s : Settled) (se : SessionEntry) → IsSessionFor new old k s se → (place : ℕ)
+    → queue_of new (session_applied k se).files place ≡ queue_after old s (place, queue_of old k.files place)
+same_queue new old k s se is place =
+    queue_behind new old place se.gone s.placed se.placed k.files is.apart is.placed (is.left place)
+    ∙ ap (λ (gone : List ℕ). fold with_arrival (without_files (queue_of old k.files place) gone) (placed_into old place s.placed)) is.gone
+
+same_queues : (new old : ContentRef → List ℕ) (k : Kept) (s : Settled) (se : SessionEntry) → IsSessionFor new old k s se → (from : ℕ) (connections : List (List ℕ))
+    → map (λ c. queue_of new (session_applied k se).files c.0) (enumerate_from from connections)
+    ≡ map (queue_after old s) (enumerate_from from (map (λ c. queue_of old k.files c.0) (enumerate_from from connections)))
+same_queues new old k s se is from [] = refl
+same_queues new old k s se is from (c ∷ connections) =
+    let one = same_queue new old k s se is from in
+    let rest = same_queues new old k s se is (from + 1) connections in cc
+
+same_counts : (generator : Option Counted) (counts : List ℕ) → with_count generator counts ≡ counts_after generator counts
+same_counts None counts = refl
+same_counts (Some g) counts = refl
+
+abbrev no_kin : Kin
+no_kin = from_list (kin_of_all [])
+
+or_none : (b : Bool) → b ≡ false → (b || b) ≡ b
+or_none true is = refl
+or_none false is = refl
+
+same_kin : no_kin ≡ union no_kin no_kin
+same_kin =
+    same_set kin_cmp-total kin_cmp-IsAntisymmetric no_kin (union no_kin no_kin)
+    (λ q. sym (contains-union kin_cmp-total no_kin no_kin q ∙ or_none (contains no_kin q) (contains-from_list kin_cmp-total [] q)))
+
+pub state_behind : (new old : ContentRef → List ℕ) (k : Kept) (s : Settled) (se : SessionEntry) → IsSessionFor new old k s se → s.events ≡ []
+    → state_with new [] (session_applied k se) ≡ state_after old (state_with old [] k) s
+state_behind new old k s se is none =
+    let queues = same_queues new old k s se is 0 k.connections in
+    let counts : with_count se.generator k.counts ≡ counts_after s.count k.counts = same_counts se.generator k.counts ∙ ap (λ (g : Option Counted). counts_after g k.counts) is.count in
+    let kin : no_kin ≡ union no_kin (from_list (kin_of_all s.events)) = same_kin ∙ ap (λ (events : List Event). union no_kin (from_list (kin_of_all events))) (sym none) in
+    let made : List (List QueuedFile) → List Event → Kin → ℕ → ℕ → List ℕ → State = λ qs es kn n a cs. record {
+      store = k.store;
+      queues = qs;
+      events = es;
+      kin = kn;
+      next_number = n;
+      next_arrival = a;
+      next_batch = k.next_batch;
+      counts = cs;
+    } in
+    let k2 = session_applied k se in
+    let before = map (λ c. queue_of old k.files c.0) (enumerate_from 0 k.connections) in
+    let qs1 = map (λ c. queue_of new k2.files c.0) (enumerate_from 0 k.connections) in
+    let qs2 = map (queue_after old s) (enumerate_from 0 before) in
+    ap (λ (qs : List (List QueuedFile)). made qs [] no_kin se.next_number se.next_arrival (with_count se.generator k.counts)) queues
+    ∙ ap (λ (es : List Event). made qs2 es no_kin se.next_number se.next_arrival (with_count se.generator k.counts)) (sym none)
+    ∙ ap (λ (kn : Kin). made qs2 s.events kn se.next_number se.next_arrival (with_count se.generator k.counts)) kin
+    ∙ ap (λ (n : ℕ). made qs2 s.events (union no_kin (from_list (kin_of_all s.events))) n se.next_arrival (with_count se.generator k.counts)) is.number
+    ∙ ap (λ (a : ℕ). made qs2 s.events (union no_kin (from_list (kin_of_all s.events))) s.next_number a (with_count se.generator k.counts)) is.arrival
+    ∙ ap (λ (cs : List ℕ). made qs2 s.events (union no_kin (from_list (kin_of_all s.events))) s.next_number s.next_arrival cs) counts

@@ -1,0 +1,157 @@
+-- Placed files, one after another.
+use Rattle.std.proofs.Common.{◌≡◌, ◌≢◌, ℕ, ◌+◌, ◌-◌, ◌<◌, ◌≤◌, eqb, Bool, true, false, cond, List, [], ◌∷◌, ◌++◌, length, map, take, drop, get_or, refl, sym, ap, subst, ◌∙◌, inl, inr, arith, add-one, append_assoc, length-append, drop-cons, length-drop, suc, IsTrue}
+use Rattle.std.specs.List.{AllZip}
+use Rattle.std.specs.Prelude.{Option, None, Some, All}
+use Rattle.std.specs.List.{filter_map, cons_option}
+use Rattle.std.proofs.lemmas.List.Sums.{sum_by-append}
+use Rattle.std.proofs.lemmas.List.{take_more, take_all, append-nil, map-append, nil_from_length}
+use Rattle.std.proofs.lemmas.List.Elements.{All-nil, All-cons}
+use Rattle.sha2.specs.Sha256.{sha256}
+use Rattle.disk_trait.specs.Files.{Files}
+use Rattle.flowfile_record.specs.declared.content.ContentRef.{ContentRef}
+use Rattle.flowfile_record.specs.declared.stored.ActiveFile.{ActiveFile}
+use Rattle.flowfile_record.specs.declared.stored.Placed.{Placed}
+use Rattle.record_codec.specs.declared.entry.LogEntry.{LogEntry}
+use Rattle.content_repo.specs.Claims.{content_in}
+use Rattle.content_repo.specs.Slots.{count_of, size_of, held_in, references_to, end_of, taken, HasRoom}
+use Rattle.content_repo.specs.declared.slot.Slot.{Slot}
+use Rattle.kept_state.specs.Changes.{placed_in, record_of}
+use Rattle.store_core.specs.Change.{IsFresh, fresh_sizes_of}
+use Rattle.store_core.specs.Placing.{IsPlacedAs, ArePlaced, HoldsMore, IsHeldIn, IsRecordedAt, MayPlace, MayPlaceOne, PlacesOne, PlacesAll, GrowsBehind}
+use Rattle.store_core.proofs.Growing.{same_grown}
+use Rattle.store_core.proofs.Sound.{content_of}
+
+zip_push : {A B : Type 0} (R : A → B → Type 0) (xs : List A) (ys : List B) (x : A) (y : B) → AllZip R xs ys → R x y → AllZip R (xs ++ x ∷ []) (ys ++ y ∷ [])
+zip_push R [] [] x y all r = (r, tt)
+zip_push R [] (b ∷ ys) x y all r = absurd all
+zip_push R (a ∷ xs) [] x y all r = absurd all
+zip_push R (a ∷ xs) (b ∷ ys) x y all r = (all.0, zip_push R xs ys x y all.1 r)
+
+zip_wider : {A B : Type 0} (R S : A → B → Type 0) (xs : List A) (ys : List B) → ((x : A) (y : B) → R x y → S x y) → AllZip R xs ys → AllZip S xs ys
+zip_wider R S [] [] to all = tt
+zip_wider R S [] (b ∷ ys) to all = absurd all
+zip_wider R S (a ∷ xs) [] to all = absurd all
+zip_wider R S (a ∷ xs) (b ∷ ys) to all = (to a b all.0, zip_wider R S xs ys to all.1)
+
+-- where claims grow, what was placed is placed still
+pub placed_still : (tells : Bool) (slots more : List Slot) (old new : Files) (placed : List Placed) (files : List ActiveFile)
+    → ((k : ℕ) → size_of slots k ≤ size_of more k) → (IsTrue tells → GrowsBehind slots old new)
+    → ArePlaced tells slots old placed files → ArePlaced tells more new placed files
+placed_still tells slots more old new placed files sizes grows =
+    zip_wider (IsPlacedAs tells slots old) (IsPlacedAs tells more new) placed files
+    (λ p a is. record {
+      file = is.file;
+      old = is.old;
+      size = is.size;
+      digest = is.digest;
+      named = is.named;
+      within = omega (arith, is.within, sizes a.file.content.slot);
+      stands = λ told bytes fresh. (same_grown slots old new a.file.content is.within (grows told)).bytes ∙ is.stands told bytes fresh;
+    })
+
+-- the files up to this place are recorded, and the others find room
+pub record IsPlacedTo (tells : Bool) (all : List Placed) (start slots : List Slot) (files : Files) (entry : LogEntry) (i : ℕ) : Type 0 where
+  pub done : List ActiveFile
+  pub long : length done ≡ i
+  pub recorded : placed_in entry ≡ done ++ map record_of (drop i all)
+  pub placed : ArePlaced tells slots files (take i all) done
+  pub holds : HoldsMore done start slots
+  pub room : HasRoom slots (fresh_sizes_of (drop i all))
+
+references-more : (k : ℕ) (done : List ActiveFile) (a : ActiveFile) → references_to k (map content_of (done ++ a ∷ [])) ≡ references_to k (map content_of done) + references_to k (map content_of (a ∷ []))
+references-more k done a =
+    ap (references_to k) (map-append content_of done (a ∷ []))
+    ∙ sum_by-append (λ (r : ContentRef). cond (eqb r.slot k) 1 0) (map content_of done) (content_of a ∷ [])
+
+pub placed_none : (tells : Bool) (placed : List Placed) (slots : List Slot) (files : Files) (entry : LogEntry) → placed_in entry ≡ map record_of placed → HasRoom slots (fresh_sizes_of placed)
+    → IsPlacedTo tells placed slots slots files entry 0
+placed_none tells placed slots files entry recorded room = record {
+  done = [];
+  long = refl;
+  recorded = recorded;
+  placed = tt;
+  holds = record { counts = λ k. omega arith; held = omega arith; sizes = λ k. omega arith };
+  room = room;
+}
+
+sizes-cons : (p : Placed) (placed : List Placed) → fresh_sizes_of (p ∷ placed) ≡ fresh_sizes_of (p ∷ []) ++ fresh_sizes_of placed
+sizes-cons p placed = by p.fresh
+  where
+    by : (fresh : Option (List ℕ)) → map length (cons_option fresh (filter_map (λ q. q.fresh) placed)) ≡ map length (cons_option fresh []) ++ map length (filter_map (λ q. q.fresh) placed)
+    by None = refl
+    by (Some bytes) = refl
+
+split_at : (placed : List Placed) (i : ℕ) (p : Placed) → i < length placed → p ≡ get_or placed i p → drop i placed ≡ p ∷ drop (i + 1) placed
+split_at placed i p lt here =
+    drop-cons placed i p lt ∙ ap (λ (q : Placed). q ∷ drop (suc i) placed) (sym here) ∙ ap (λ (n : ℕ). p ∷ drop n placed) (sym (add-one i))
+
+pub placed_next : (tells : Bool) (placed : List Placed) (start slots more : List Slot) (old new : Files) (before after : LogEntry) (i : ℕ) (p : Placed) → i < length placed → p ≡ get_or placed i p
+    → IsPlacedTo tells placed start slots old before i → PlacesOne tells new i p slots more before after → (IsTrue tells → GrowsBehind slots old new)
+    → IsPlacedTo tells placed start more new after (i + 1)
+placed_next tells placed start slots more old new before after i p lt here so_far one grows =
+    let rest = drop (i + 1) placed in
+    let split : drop i placed ≡ p ∷ rest = split_at placed i p lt here in
+    let a = one.recorded in
+    let recorded : placed_in before ≡ so_far.done ++ record_of p ∷ map record_of rest = so_far.recorded ∙ ap (λ (l : List Placed). so_far.done ++ map record_of l) split in
+    record {
+      done = so_far.done ++ a ∷ [];
+      long = omega (arith, length-append so_far.done (a ∷ []), so_far.long);
+      recorded = one.entry so_far.done (map record_of rest) so_far.long recorded ∙ sym (append_assoc so_far.done (a ∷ []) (map record_of rest));
+      placed =
+          subst (λ (l : List Placed). ArePlaced tells more new l (so_far.done ++ a ∷ [])) (sym (take_more placed i p lt ∙ ap (λ (q : Placed). take i placed ++ q ∷ []) (sym here)))
+          (zip_push (IsPlacedAs tells more new) (take i placed) so_far.done p a (placed_still tells slots more old new (take i placed) so_far.done one.holds.sizes grows so_far.placed) one.placed);
+      holds = record {
+        counts = λ k. omega (arith, one.holds.counts k, so_far.holds.counts k, references-more k so_far.done a);
+        held = omega (arith, one.holds.held, so_far.holds.held, length-append so_far.done (a ∷ []));
+        sizes = λ k. omega (arith, so_far.holds.sizes k, one.holds.sizes k);
+      };
+      room = one.room (fresh_sizes_of rest) (subst (HasRoom slots) (ap fresh_sizes_of split ∙ sizes-cons p rest) so_far.room);
+    }
+
+room_front : (sizes more : List ℕ) (slots : List Slot) → HasRoom slots (sizes ++ more) → HasRoom slots sizes
+room_front [] more slots room = tt
+room_front (n ∷ sizes) more slots room = (room.0, room.1, room_front sizes more (taken slots room.0 (size_of slots room.0 + n)) room.2)
+
+-- the next one stands in the entry, and may be placed
+pub recorded_next : (tells : Bool) (placed : List Placed) (start slots : List Slot) (files : Files) (entry : LogEntry) (i : ℕ) (p : Placed) → i < length placed → p ≡ get_or placed i p
+    → IsPlacedTo tells placed start slots files entry i → IsRecordedAt i p (placed_in entry)
+recorded_next tells placed start slots files entry i p lt here so_far = (
+  so_far.done,
+  map record_of (drop (i + 1) placed),
+  so_far.long,
+  so_far.recorded ∙ ap (λ (l : List Placed). so_far.done ++ map record_of l) (split_at placed i p lt here),
+)
+
+still_held_in : (start slots : List Slot) (done : List ActiveFile) (at : ContentRef) → HoldsMore done start slots → IsHeldIn start at → IsHeldIn slots at
+still_held_in start slots done at more held = record {
+  held = omega (arith, more.counts at.slot, held.held);
+  named = held.named;
+  within = omega (arith, more.sizes at.slot, held.within);
+}
+
+pub may_next : (tells : Bool) (placed : List Placed) (start slots : List Slot) (files : Files) (entry : LogEntry) (i : ℕ) (p : Placed) → i < length placed → p ≡ get_or placed i p
+    → MayPlace start placed → IsPlacedTo tells placed start slots files entry i → MayPlaceOne slots p
+may_next tells placed start slots files entry i p lt here may so_far =
+    let split = split_at placed i p lt here in
+    record {
+      fresh = subst IsFresh (sym here) (may.fresh i p lt);
+      room =
+          room_front (fresh_sizes_of (p ∷ [])) (fresh_sizes_of (drop (i + 1) placed)) slots
+          (subst (HasRoom slots) (ap fresh_sizes_of split ∙ sizes-cons p (drop (i + 1) placed)) so_far.room);
+      old = λ none.
+          still_held_in start slots so_far.done p.file.content so_far.holds
+          ((subst (λ (q : Placed). q.fresh ≡ None → IsHeldIn start q.file.content) (sym here) (may.old i p lt)) none);
+      few = omega (arith, so_far.holds.held, so_far.long, may.few, lt);
+    }
+
+pub placed_all : (tells : Bool) (placed : List Placed) (start slots : List Slot) (files : Files) (entry : LogEntry) (i : ℕ) → length placed ≤ i → IsPlacedTo tells placed start slots files entry i
+    → PlacesAll tells files placed start slots entry
+placed_all tells placed start slots files entry i le so_far =
+    let none : drop i placed ≡ [] = nil_from_length (drop i placed) (omega (arith, length-drop i placed, le)) in
+    let whole : placed_in entry ≡ so_far.done = so_far.recorded ∙ ap (λ (l : List Placed). so_far.done ++ map record_of l) none ∙ append-nil so_far.done in
+    record {
+      placed =
+          subst (λ (l : List ActiveFile). ArePlaced tells slots files placed l) (sym whole)
+          (subst (λ (l : List Placed). ArePlaced tells slots files l so_far.done) (take_all i placed le) so_far.placed);
+      holds = subst (λ (l : List ActiveFile). HoldsMore l start slots) (sym whole) so_far.holds;
+    }

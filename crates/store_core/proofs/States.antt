@@ -1,0 +1,149 @@
+-- The machine's state that files stand for once a session's entry was added.
+use Rattle.std.proofs.Common.{◌≡◌, ◌≢◌, ℕ, ◌+◌, ◌<◌, ◌≤◌, ◌==◌, Bool, true, false, cond, not, List, [], ◌∷◌, ◌++◌, length, map, take, drop, get_or, refl, sym, ap, subst, ◌∙◌, inl, inr, arith, IsTrue}
+use Rattle.std.specs.Prelude.{Option, None, Some, Result, Ok, Err, All, Contains, filter, unwrap_or}
+use Rattle.std.specs.List.{AllZip}
+use Rattle.std.proofs.lemmas.List.Elements.{All-nil, All-cons, All-head, All-tail, All-filter}
+use Rattle.disk_trait.specs.Files.{Files, At, named}
+use Rattle.disk_trait.specs.declared.damage.Damage.{Damage}
+use Rattle.disk_trait.specs.declared.file_name.FileKind.TheVariants.{Log, Claim}
+use Rattle.disk_trait.specs.declared.file_name.FileName.{FileName}
+use Rattle.flowfile_record.specs.Stored.{Kept}
+use Rattle.flowfile_record.specs.declared.change.Settled.{Settled}
+use Rattle.flowfile_record.specs.declared.content.ContentRef.{ContentRef}
+use Rattle.flowfile_record.specs.declared.event.Event.{Event}
+use Rattle.flowfile_record.specs.declared.stored.ActiveFile.{ActiveFile}
+use Rattle.flowfile_record.specs.declared.stored.Counted.{Counted}
+use Rattle.flowfile_record.specs.declared.stored.Placed.{Placed}
+use Rattle.record_codec.specs.ActiveFile.{active}
+use Rattle.record_codec.specs.Placeless.{placeless_entry}
+use Rattle.record_codec.specs.declared.entry.LogEntry.{LogEntry}
+use Rattle.record_codec.specs.declared.entry.SessionEntry.{SessionEntry}
+use Rattle.content_repo.specs.Claims.{claim, content_in}
+use Rattle.content_repo.specs.Slots.{size_of, end_of}
+use Rattle.content_repo.specs.declared.slot.Slot.{Slot}
+use Rattle.flowfile_wal.specs.Steps.{Adds}
+use Rattle.kept_state.specs.Applied.{left_after, session_applied, is_among}
+use Rattle.kept_state.specs.Changes.{at_content, no_files}
+use Rattle.kept_state.specs.Fits.{session_suits}
+use Rattle.kept_state.proofs.Keeping.{suits_from}
+use Rattle.machine_model.specs.State.{State, QueuedFile}
+use Rattle.store_core.specs.Change.{IsOldLive, placed_file, state_after}
+use Rattle.store_core.specs.Flow.{Flow, flow_in}
+use Rattle.store_core.specs.Kept.{kept_in}
+use Rattle.store_core.specs.Placing.{GrowsBehind, IsPlacedAs, ArePlaced}
+use Rattle.store_core.specs.State.{stands_for, state_of, state_with, contents_damage, events_in, live_contents, queued}
+use Rattle.store_core.specs.Store.{StoreState, IsWorking, kept_by, live_in, Holds}
+use Rattle.store_core.proofs.Agreeing.{of_state, sound_of, stands_by_kept, state_of_sound}
+use Rattle.store_core.proofs.Commits.{same_flow}
+use Rattle.store_core.proofs.Growing.{same_grown}
+use Rattle.store_core.proofs.Machine.{IsSessionFor, state_behind}
+use Rattle.store_core.proofs.Queues.{IsQueuedAs, line}
+use Rattle.store_core.proofs.Sound.{content_of, unmap}
+
+added_content : (number : ℕ) (e : LogEntry) (old new : Files) (at : ContentRef) → Adds number e old new → content_in new at ≡ content_in old at
+added_content number e old new at added =
+    ap (λ (bytes : List ℕ). take at.size (drop at.offset bytes))
+    (added.others (claim at.slot) (λ (x : claim at.slot ≡ named Log number). let kinds : Claim ≡ Log = ap (λ (f : FileName). f.kind) x in absurd cc))
+
+-- ---- queues
+
+line_same : (new old : ContentRef → List ℕ) (place : ℕ) (files : List ActiveFile) → All (λ a. new (content_of a) ≡ old (content_of a)) files → line new place files ≡ line old place files
+line_same new old place [] same = refl
+line_same new old place (a ∷ files) same =
+    by (a.connection == place) (All-head (λ b. new (content_of b) ≡ old (content_of b)) a files same) (line_same new old place files (All-tail (λ b. new (content_of b) ≡ old (content_of b)) a files same))
+  where
+    by : (t : Bool) → new (content_of a) ≡ old (content_of a) → line new place files ≡ line old place files
+        → map (queued new) (cond t (a ∷ filter (λ b. b.connection == place) files) (filter (λ b. b.connection == place) files))
+        ≡ map (queued old) (cond t (a ∷ filter (λ b. b.connection == place) files) (filter (λ b. b.connection == place) files))
+    by true one rest =
+        let first : queued new a ≡ queued old a = ap (λ (bytes : List ℕ). record {
+          number = a.file.number;
+          attributes = a.file.attributes;
+          bytes = bytes;
+          entered = a.file.entered;
+          penalty_end = a.file.penalty_end;
+          arrival = a.file.arrival;
+          batch = None;
+        }) one in cc
+    by false one rest = rest
+
+bytes_of : (o : Option (List ℕ)) (p : Placed) (old : ContentRef → List ℕ) (bytes : List ℕ) → p.fresh ≡ o → ((b : List ℕ) → p.fresh ≡ Some b → bytes ≡ b) → (p.fresh ≡ None → bytes ≡ old p.file.content) → bytes ≡ unwrap_or p.fresh (old p.file.content)
+bytes_of None p old bytes is some none = none is ∙ ap (λ (f : Option (List ℕ)). unwrap_or f (old p.file.content)) (sym is)
+bytes_of (Some b) p old bytes is some none = some b is ∙ ap (λ (f : Option (List ℕ)). unwrap_or f (old p.file.content)) (sym is)
+
+-- a placed file is queued with its bytes
+queued_as : (new old : ContentRef → List ℕ) (slots : List Slot) (files : Files) (p : Placed) (a : ActiveFile) → IsPlacedAs true slots files p a
+    → ((at : ContentRef) → new at ≡ content_in files at) → (p.fresh ≡ None → content_in files p.file.content ≡ old p.file.content) → IsQueuedAs new old p a
+queued_as new old slots files p a is reads same =
+    let at = content_of a in
+    let bytes : new at ≡ unwrap_or p.fresh (old p.file.content) =
+    bytes_of p.fresh p old (new at) refl (λ b some. reads at ∙ is.stands refl b some) (λ none. ap new (is.old none) ∙ reads p.file.content ∙ same none) in
+    record {
+      connection = ap (λ (b : ActiveFile). b.connection) is.file;
+      file =
+          ap (λ (b : ActiveFile). record { number = b.file.number; attributes = b.file.attributes; bytes = new at; entered = b.file.entered; penalty_end = b.file.penalty_end; arrival = b.file.arrival; batch = None }) is.file
+          ∙ ap (λ (b : List ℕ). record { number = p.file.number; attributes = p.file.attributes; bytes = b; entered = p.file.entered; penalty_end = p.file.penalty_end; arrival = p.file.arrival; batch = None }) bytes;
+    }
+
+all_queued : (new old : ContentRef → List ℕ) (slots : List Slot) (files : Files) (placed : List Placed) (recorded : List ActiveFile) → ArePlaced true slots files placed recorded
+    → ((at : ContentRef) → new at ≡ content_in files at) → All (λ p. p.fresh ≡ None → content_in files p.file.content ≡ old p.file.content) placed → AllZip (IsQueuedAs new old) placed recorded
+all_queued new old slots files [] [] are reads same = tt
+all_queued new old slots files [] (a ∷ recorded) are reads same = absurd are
+all_queued new old slots files (p ∷ placed) [] are reads same = absurd are
+all_queued new old slots files (p ∷ placed) (a ∷ recorded) are reads same = (
+  queued_as new old slots files p a are.0 reads (All-head (λ q. q.fresh ≡ None → content_in files q.file.content ≡ old q.file.content) p placed same),
+  all_queued new old slots files placed recorded are.1 reads (All-tail (λ q. q.fresh ≡ None → content_in files q.file.content ≡ old q.file.content) p placed same),
+)
+
+-- ---- a state
+
+no_events : (files : Files) (last : ℕ) (events : List Event) → last ≡ 0 → events_in files last ≡ Ok events → events ≡ []
+no_events files last events is read = let none : events_in files 0 ≡ Ok events = ap (events_in files) (sym is) ∙ read in cc
+
+-- what is the same of a session and its entry
+pub record IsSame (s : Settled) (se : SessionEntry) : Type 0 where
+  pub gone : se.gone ≡ s.gone
+  pub number : se.next_number ≡ s.next_number
+  pub arrival : se.next_arrival ≡ s.next_arrival
+  pub count : se.generator ≡ s.count
+  pub last_event : se.last_event ≡ 0
+
+pub state_added : (s new : StoreState) (settled : Settled) (se : SessionEntry) (number : ℕ) (e : LogEntry) (slots : List Slot) (old mid files : Files) (state : State)
+    → IsWorking s → (kept_by s).batches ≡ [] → session_suits no_files (kept_by s) se ≡ true → IsSame settled se → settled.events ≡ []
+    → Holds s old → stands_for (flow_in (kept_by s)) s.lot old ≡ of_state state → GrowsBehind s.slots old mid → Adds number e mid files → ArePlaced true slots mid settled.placed se.placed → All (IsOldLive s) settled.placed
+    → Holds new files → kept_by new ≡ session_applied (kept_by s) se → new.lot ≡ s.lot
+    → stands_for (flow_in (kept_by s)) s.lot files ≡ of_state (state_after (content_in old) state settled)
+state_added s new settled se number e slots old mid files state works batches suits same none holds stands grows added are live now kept lot =
+    let k = kept_by s in
+    let flow = flow_in k in
+    let k2 = session_applied k se in
+    let was = sound_of old k state (sym (stands_by_kept flow s.lot old k holds.kept) ∙ stands) in
+    let started : state ≡ state_with (content_in old) [] k = was.is ∙ ap (λ (events : List Event). state_with (content_in old) events k) (no_events old k.last_event was.events works.last_event was.events_are) in
+    let flow_same : flow_in (kept_by new) ≡ flow = ap flow_in kept ∙ same_flow k se in
+    let keeps : kept_in flow s.lot files ≡ Ok k2 =
+    ap (λ (f : Flow). kept_in f s.lot files) (sym flow_same) ∙ ap (λ (l : ℕ). kept_in (flow_in (kept_by new)) l files) (sym lot) ∙ now.kept ∙ ap (λ (l : Kept). Ok l) kept in
+    let sound2 : contents_damage files (live_contents k2) ≡ None = ap (λ (l : Kept). contents_damage files (live_contents l)) (sym kept) ∙ now.contents in
+    let events2 : events_in files k2.last_event ≡ Ok [] = ap (events_in files) same.last_event in
+    let reads : (at : ContentRef) → content_in files at ≡ content_in mid at = λ at. added_content number e mid files at added in
+    let stay : All (λ (at : ContentRef). content_in files at ≡ content_in old at) (live_in s) =
+    λ i d lt. let at = get_or (live_in s) i d in reads at ∙ (same_grown s.slots old mid at (works.within i d lt) grows).bytes in
+    let placed : All (λ (p : Placed). p.fresh ≡ None → content_in mid p.file.content ≡ content_in old p.file.content) settled.placed =
+    λ i d lt fresh.
+    let at = (get_or settled.placed i d).file.content in
+    let has : Contains (live_in s) at = live i d lt fresh in
+    subst (λ (r : ContentRef). content_in mid r ≡ content_in old r) has.2 (same_grown s.slots old mid (get_or (live_in s) has.0 at) (works.within has.0 at has.1) grows).bytes in
+    let session : IsSessionFor (content_in files) (content_in old) k settled se = record {
+      gone = same.gone;
+      number = same.number;
+      arrival = same.arrival;
+      count = same.count;
+      apart = (suits_from k se batches suits).arrivals;
+      placed = all_queued (content_in files) (content_in old) slots mid settled.placed se.placed are reads placed;
+      left = λ place.
+          line_same (content_in files) (content_in old) place (left_after se.gone k.files)
+          (All-filter (λ a. not (is_among se.gone a)) (λ a. content_in files (content_of a) ≡ content_in old (content_of a)) k.files
+          (unmap (λ at. content_in files at ≡ content_in old at) k.files stay));
+    } in
+    stands_by_kept flow s.lot files k2 keeps
+    ∙ state_of_sound files k2 [] sound2 events2
+    ∙ ap of_state (state_behind (content_in files) (content_in old) k settled se session none ∙ ap (λ (t : State). state_after (content_in old) t settled) (sym started))

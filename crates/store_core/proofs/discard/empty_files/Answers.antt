@@ -1,0 +1,59 @@
+use Rattle.std.proofs.Common.{◌≡◌, ℕ, ◌≤◌, false, [], length, subst, sym, ap, arith, refl}
+use Rattle.std.specs.Prelude.{Option, None}
+use Rattle.disk_trait.specs.Files.{Files, named}
+use Rattle.disk_trait.specs.Images.{After, Since}
+use Rattle.disk_trait.specs.declared.file_name.FileKind.TheVariants.{Log, Snapshot, Swap, Claim, Events}
+use Rattle.store_core.specs.declared.discard.Spared.TheVariants.{UpTo, Only}
+use Rattle.store_core.specs.Discard.{spares, CutsKind, IsAbove, Discards}
+use Rattle.store_core.proofs.Discarding.{discards_in_turn, empties_logs, empties_snapshots, empties_others, since_step, unspared_other, after_snapshots, after_others, swap_apart, events_apart}
+use Rattle.store_core.proofs.discard.empty_files.Goals as goal
+
+-- the names of the steps
+module _ {D : Type 0} (moment : D → ℕ) (images : D → ℕ → Files → Type 0) (current : Option ℕ) where
+  -- the logs go first
+  logs_go : (old new : D) (held : Files) → ((d : Files) → images old (moment old) d → d ≡ held) → ((d : Files) → images old (moment old) d → (n : ℕ) → IsAbove current n → length (held (named Log n)) ≤ 1)
+      → Since moment images old new (After (CutsKind Log (spares (Only current)) 0) (images old (moment old)))
+      → Since moment images old new (After (Discards current) (images old (moment old)))
+  logs_go old new held only short since =
+      since_step moment images current old new (CutsKind Log (spares (Only current)) 0) since
+      (λ d c left step. empties_logs current d c (λ n above. subst (λ (files : Files). length (files (named Log n)) ≤ 1) (sym (only d left)) (short d left n above)) step)
+
+pub returns-in_err-cut_kind-clause-images : goal.returns-in_err-cut_kind-clause-images
+returns-in_err-cut_kind-clause-images g c =
+    let laws = g.met.D.Disk g.world.𝓛 g.world.𝓜 g.world.𝓡 ((λ s x. x), (λ x. x), (λ x. x), λ x. x) in
+    let old = c.args.disk.now in
+    logs_go g.D.Disk.moment g.D.Disk.images c.args.current old c.cut_kind.new.disk (g.D.Disk.held old) c.requires.synced
+    (λ d left. c.requires.short (laws.left_is_told old (g.D.Disk.moment old) d left)) c.cut_kind.ensures.images
+
+pub returns-in_err-cut_kind-2-clause-images : goal.returns-in_err-cut_kind-2-clause-images
+returns-in_err-cut_kind-2-clause-images g c =
+    let laws = g.met.D.Disk g.world.𝓛 g.world.𝓜 g.world.𝓡 ((λ s x. x), (λ x. x), (λ x. x), λ x. x) in
+    let old = c.args.disk.now in
+    after_snapshots g.D.Disk.moment g.D.Disk.images c.args.current old c.cut_kind.new.disk c.cut_kind-2.new.disk
+    (logs_go g.D.Disk.moment g.D.Disk.images c.args.current old c.cut_kind.new.disk (g.D.Disk.held old) c.requires.synced
+    (λ d left. c.requires.short (laws.left_is_told old (g.D.Disk.moment old) d left)) c.cut_kind.ensures.images)
+    c.cut_kind-2.ensures.images
+
+pub returns-in_err-cut_kind-3-clause-images : goal.returns-in_err-cut_kind-3-clause-images
+returns-in_err-cut_kind-3-clause-images g c =
+    let laws = g.met.D.Disk g.world.𝓛 g.world.𝓜 g.world.𝓡 ((λ s x. x), (λ x. x), (λ x. x), λ x. x) in
+    let old = c.args.disk.now in
+    after_others g.D.Disk.moment g.D.Disk.images c.args.current Swap swap_apart.0 swap_apart.1 swap_apart.2 old c.cut_kind-2.new.disk c.cut_kind-3.new.disk
+    (after_snapshots g.D.Disk.moment g.D.Disk.images c.args.current old c.cut_kind.new.disk c.cut_kind-2.new.disk
+    (logs_go g.D.Disk.moment g.D.Disk.images c.args.current old c.cut_kind.new.disk (g.D.Disk.held old) c.requires.synced
+    (λ d left. c.requires.short (laws.left_is_told old (g.D.Disk.moment old) d left)) c.cut_kind.ensures.images)
+    c.cut_kind-2.ensures.images)
+    c.cut_kind-3.ensures.images
+
+pub returns-clause-images : goal.returns-clause-images
+returns-clause-images g c =
+    let laws = g.met.D.Disk g.world.𝓛 g.world.𝓜 g.world.𝓡 ((λ s x. x), (λ x. x), (λ x. x), λ x. x) in
+    let old = c.args.disk.now in
+    after_others g.D.Disk.moment g.D.Disk.images c.args.current Events events_apart.0 events_apart.1 events_apart.2 old c.cut_kind-3.new.disk c.cut_kind-4.new.disk
+    (after_others g.D.Disk.moment g.D.Disk.images c.args.current Swap swap_apart.0 swap_apart.1 swap_apart.2 old c.cut_kind-2.new.disk c.cut_kind-3.new.disk
+    (after_snapshots g.D.Disk.moment g.D.Disk.images c.args.current old c.cut_kind.new.disk c.cut_kind-2.new.disk
+    (logs_go g.D.Disk.moment g.D.Disk.images c.args.current old c.cut_kind.new.disk (g.D.Disk.held old) c.requires.synced
+    (λ d left. c.requires.short (laws.left_is_told old (g.D.Disk.moment old) d left)) c.cut_kind.ensures.images)
+    c.cut_kind-2.ensures.images)
+    c.cut_kind-3.ensures.images)
+    c.cut_kind-4.ensures.images

@@ -1,0 +1,62 @@
+use Rattle.std.proofs.Common.{◌≡◌, ℕ, true, IsTrue, sym, ap, ◌∙◌}
+use Rattle.std.specs.Prelude.{Ok, Err, IfOk}
+use Rattle.std.proofs.lemmas.Result.{err_from_is_err_and}
+use Rattle.disk_trait.specs.declared.damage.Damage.TheVariants.{Form}
+use Rattle.flowfile_record.specs.Stored.{kept_of}
+use Rattle.checkpoint_store.specs.Snapshot.{snapshot_file}
+use Rattle.kept_state.specs.Applied.{batches_that_matter}
+use Rattle.store_core.specs.Errors.{of_check}
+use Rattle.store_core.specs.Flow.{agrees_with, flow_in}
+use Rattle.store_core.specs.Kept.{least_of, unless_swapped, with_entries, snapshot_for, behind_snapshot}
+use Rattle.store_core.specs.declared.error.StoreError.TheVariants.{Damaged}
+use Rattle.store_core.proofs.Finding.{if_ok}
+use Rattle.store_core.proofs.KeptRead.{log_at, agreed_snapshot, other_snapshot, damaged_snapshot}
+use Rattle.store_core.proofs.Opening.{agrees_as}
+use Rattle.store_core.proofs.Refusals.{check_damaged}
+use Rattle.store_core.proofs.reading.read_state.Goals as goal
+
+pub returns-in_err-stored-clause-damaged : goal.returns-in_err-stored-clause-damaged
+returns-in_err-stored-clause-damaged g c damage is told end =
+    let file = snapshot_file c.args.number in
+    let held = g.D.Disk.held c.args.disk.now in
+    let p = err_from_is_err_and c.from_residual.result c.from_residual.ensures.1 in
+    let same : of_check c.in_err-stored.field-0.0 ≡ Damaged damage = cc (p.1, p.2, is) in
+    ap (behind_snapshot held (log_at c.args.number c.args.entries.items end))
+    (damaged_snapshot c.args.flow.now file (held file) damage (c.in_err-stored.ensures.damaged damage (ap Err (check_damaged c.in_err-stored.field-0.0 damage same)) told))
+
+pub returns-then-not-agrees-clause-damaged : goal.returns-then-not-agrees-clause-damaged
+returns-then-not-agrees-clause-damaged g c damage is told end =
+    let same : Form (snapshot_file c.args.number) 0 ≡ damage = cc is in
+    let file = snapshot_file c.args.number in
+    let held = g.D.Disk.held c.args.disk.now in
+    ap (behind_snapshot held (log_at c.args.number c.args.entries.items end))
+    (other_snapshot c.args.flow.now file (held file) (kept_of c.in_ok-stored.stored) (c.in_ok-stored.ensures.read told) (sym c.agrees.ensures ∙ c.if-not-agrees.true))
+    ∙ ap Err same
+
+pub returns-clause-kept : goal.returns-clause-kept
+returns-clause-kept g c =
+    let file = snapshot_file c.args.number in
+    let held = g.D.Disk.held c.args.disk.now in
+    let k = kept_of c.in_ok-stored.stored in
+    let entries = c.args.entries.items in
+    if_ok c.apply_entries.result
+    (λ state. (end : ℕ) → with_entries (log_at c.args.number entries end) k (unless_swapped (least_of (batches_that_matter k entries))) ≡ Ok state.kept)
+    (λ state. IsTrue g.D.Disk.tells → (end : ℕ) → behind_snapshot held (log_at c.args.number entries end) (snapshot_for c.args.flow.now file (held file)) ≡ Ok state.kept)
+    (λ state is told end.
+    ap (behind_snapshot held (log_at c.args.number entries end))
+    (agreed_snapshot c.args.flow.now file (held file) k (c.in_ok-stored.ensures.read told) (sym c.agrees.ensures ∙ c.if-not-agrees.false)) ∙ is end)
+    c.apply_entries.ensures.kept
+
+pub returns-clause-damaged : goal.returns-clause-damaged
+returns-clause-damaged g c damage is told end =
+    let file = snapshot_file c.args.number in
+    let held = g.D.Disk.held c.args.disk.now in
+    ap (behind_snapshot held (log_at c.args.number c.args.entries.items end))
+    (agreed_snapshot c.args.flow.now file (held file) (kept_of c.in_ok-stored.stored) (c.in_ok-stored.ensures.read told) (sym c.agrees.ensures ∙ c.if-not-agrees.false))
+    ∙ c.apply_entries.ensures.damaged damage is end
+
+pub returns-clause-flow : goal.returns-clause-flow
+returns-clause-flow g c =
+    let k = kept_of c.in_ok-stored.stored in
+    if_ok c.apply_entries.result (λ state. flow_in state.kept ≡ flow_in k) (λ state. agrees_with c.args.flow.now state.kept ≡ true)
+    (λ state same. agrees_as c.args.flow.now k state.kept same (sym c.agrees.ensures ∙ c.if-not-agrees.false)) c.apply_entries.ensures.flow

@@ -1,0 +1,38 @@
+use Rattle.std.proofs.Common.{◌≡◌, ℕ, sym, ap, ◌∙◌, subst, refl}
+use Rattle.std.specs.Prelude.{Option, Some, Result, Ok, Err, OnOk}
+use Rattle.disk_trait.specs.Files.{Files}
+use Rattle.disk_trait.specs.Images.{After, Since}
+use Rattle.disk_trait.proofs.Moments.{at_the_end}
+use Rattle.flowfile_wal.specs.Steps.{LogState, Keeps}
+use Rattle.store_core.specs.Agreement.{Needs, IsPlain, Agrees}
+use Rattle.store_core.specs.Discard.{Discards}
+use Rattle.store_core.proofs.Reviving.{mended_agrees, discarded_agrees, ready_number, discarded_ready, since_agrees, since_agreeing}
+use Rattle.store_core.proofs.revival.mend.Goals as goal
+
+ready_if : {A E : Type 0} {P : Type 0} (r : Result A E) → P → OnOk r P
+ready_if (Ok x) p = p
+ready_if (Err e) p = tt
+
+pub returns-in_err-mend-clause-images : goal.returns-in_err-mend-clause-images
+returns-in_err-mend-clause-images g c needs plain =
+    since_agrees g.D.Disk.moment g.D.Disk.images needs c.args.disk.now c.mend.new.disk (Keeps c.args.number) (c.mend.ensures.images c.args.number c.requires.number)
+    (λ d e left step. mended_agrees needs c.args.number d e plain step)
+
+pub returns-clause-images : goal.returns-clause-images
+returns-clause-images g c needs plain =
+    let number = c.args.number in
+    let same : c.mend.new.self.number ≡ Some number = ap (λ (s : LogState). s.number) c.in_ok-mend.ensures.mended ∙ c.requires.number in
+    since_agreeing g.D.Disk.moment g.D.Disk.images needs c.args.disk.now c.mend.new.disk c.discard.new.disk
+    (since_agrees g.D.Disk.moment g.D.Disk.images needs c.args.disk.now c.mend.new.disk (Keeps number) (c.mend.ensures.images number c.requires.number)
+    (λ d e left step. mended_agrees needs number d e plain step))
+    (since_agrees g.D.Disk.moment g.D.Disk.images needs c.mend.new.disk c.discard.new.disk (Discards (Some number)) c.discard.ensures.images
+    (λ d e left step. discarded_agrees needs number d e plain (ready_number c.mend.new.self number d same (c.in_ok-mend.ensures.ready.ready d left)) step))
+
+pub returns-clause-ready : goal.returns-clause-ready
+returns-clause-ready g c = ready_if c.discard.result
+    (λ e left.
+    let number = c.args.number in
+    let same : c.mend.new.self.number ≡ Some number = ap (λ (s : LogState). s.number) c.in_ok-mend.ensures.mended ∙ c.requires.number in
+    let after = at_the_end g.D.Disk.moment g.D.Disk.images c.mend.new.disk c.discard.new.disk
+    (After (Discards (Some number)) (g.D.Disk.images c.mend.new.disk (g.D.Disk.moment c.mend.new.disk))) c.discard.ensures.images e left in
+    discarded_ready c.mend.new.self number after.0 e same (c.in_ok-mend.ensures.ready.ready after.0 after.1) after.2)

@@ -1,0 +1,72 @@
+-- What opening a store finds and leaves.
+use Rattle.std.specs.Prelude.{◌≡◌, ◌≢◌, ◌⊎◌, ℕ, ◌^◌, ◌<◌, Bool, false, IsTrue, List, [], ◌++◌, length, Result, Ok, Err, None}
+use Rattle.disk_trait.specs.declared.file_name.FileKind.TheVariants.{Claim}
+use Rattle.checkpoint_store.specs.Begun.{IsBegun}
+use Rattle.checkpoint_store.specs.Consistent.{IsConsistent}
+use Rattle.checkpoint_store.specs.Snapshot.{snapshot, snapshot_file}
+use Rattle.disk_trait.specs.Files.{Files, named}
+use Rattle.disk_trait.specs.declared.damage.Damage.{Damage}
+use Rattle.flowfile_record.specs.Stored.{Kept}
+use Rattle.machine_model.specs.State.{State}
+use Rattle.store_core.specs.Flow.{Flow, flow_in}
+use Rattle.store_core.specs.Kept.{kept_in}
+use Rattle.store_core.specs.Found.{IsFoundIn}
+use Rattle.store_core.specs.New.{kept_anew}
+use Rattle.store_core.specs.State.{stands_for, contents_damage, live_contents}
+use Rattle.store_core.specs.Store.{StoreState, kept_by, live_in}
+use Rattle.store_core.specs.declared.reading.Found.{Found}
+
+-- the store that was opened: it is of this flow, and works; the live contents are those of the opening
+pub record IsOpenedFor (flow : Flow) (lot : ℕ) (s : StoreState) : Type 0 where
+  pub flow_is : flow_in (kept_by s) ≡ flow
+  pub lot_is : s.lot ≡ lot
+  pub works : s.failed ≡ false
+  pub contents : s.opened ≡ live_in s
+
+-- the files kept what the store has in memory, and stood for a state
+pub record IsFound (flow : Flow) (lot : ℕ) (s : StoreState) (files : Files) : Type 0 where
+  pub kept : kept_in flow lot files ≡ Ok (kept_by s)
+  pub state : State
+  pub stood : stands_for flow lot files ≡ Ok state
+
+-- these files stand for a state of another flow, whose digest is this
+pub record IsOfOther (flow : Flow) (lot : ℕ) (digest : List ℕ) (files : Files) : Type 0 where
+  pub state : State
+  pub stands : stands_for flow lot files ≡ Ok state
+  pub kept : Kept
+  pub keeps : kept_in flow lot files ≡ Ok kept
+  pub is : kept.flow ≡ digest
+  pub other : digest ≢ flow.digest
+
+-- these files may not be opened for this flow: they stand for no state, or for one of another flow
+abbrev pub IsShut : Flow → (lot : ℕ) → Files → Type 0
+IsShut flow lot files =
+    ((damage : Damage) × (stands_for flow lot files ≡ Err damage)) ⊎ ((digest : List ℕ) × IsOfOther flow lot digest files)
+
+-- these files keep and stand for what those do
+pub record SameMeaning (flow : Flow) (lot : ℕ) (old new : Files) : Type 0 where
+  pub kept : kept_in flow lot new ≡ kept_in flow lot old
+  pub state : stands_for flow lot new ≡ stands_for flow lot old
+
+-- what was read is all that the files stand for: nothing of it is damaged
+pub record IsReadWhole (tells : Bool) (lot : ℕ) (files : Files) (found : Found) : Type 0 where
+  pub consistent : IsConsistent found.state.kept
+  pub no_batches : found.state.kept.batches ≡ []
+  pub no_events : found.state.kept.last_event ≡ 0
+  pub anew : found.log.number ≡ None → found.state.kept ≡ kept_anew (flow_in found.state.kept) lot
+  pub works : found.log.failed ≡ false
+  pub told : IsTrue tells → IsFoundIn (flow_in found.state.kept) lot files found
+  pub contents : IsTrue tells → contents_damage files (live_contents found.state.kept) ≡ None
+
+-- the store has in memory what was read
+pub record IsRevived (lot : ℕ) (found : Found) (s : StoreState) : Type 0 where
+  pub kept : kept_by s ≡ found.state.kept
+  pub lot_is : s.lot ≡ lot
+  pub works : s.failed ≡ false
+  pub contents : s.opened ≡ live_in s
+
+-- A store that was just made: its log has its Begin alone, its snapshot says this, and there is nothing else.
+pub record IsMade (k : Kept) (files : Files) : Type 0 where
+  pub log : IsBegun 1 files
+  pub snapshot : (rest : List ℕ) × (files (snapshot_file 1) ≡ snapshot k ++ rest)
+  pub claims : (n : ℕ) → n < 2 ^ 64 → files (named Claim n) ≡ []

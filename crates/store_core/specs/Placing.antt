@@ -1,0 +1,83 @@
+-- The contents of a change, as they are placed and given up.
+use Rattle.std.specs.Prelude.{◌≡◌, ℕ, ◌+◌, ◌<◌, ◌≤◌, IsTrue, Bool, List, [], ◌∷◌, ◌++◌, length, take, map, All, Option, None, Some, option_map}
+use Rattle.std.specs.List.{filter_map}
+use Rattle.std.specs.List.{AllZip}
+use Rattle.disk_trait.specs.Files.{Files}
+use Rattle.flowfile_record.specs.declared.content.ContentRef.{ContentRef}
+use Rattle.flowfile_record.specs.declared.stored.ActiveFile.{ActiveFile}
+use Rattle.flowfile_record.specs.declared.stored.Placed.{Placed}
+use Rattle.record_codec.specs.ActiveFile.{active}
+use Rattle.record_codec.specs.declared.entry.LogEntry.{LogEntry}
+use Rattle.content_repo.specs.Claims.{content_in, OnClaims}
+use Rattle.content_repo.specs.Slots.{count_of, size_of, held_in, references_to, end_of, IsNamed, HasRoom}
+use Rattle.content_repo.specs.declared.content.TheConstants.{HELD_MAX}
+use Rattle.content_repo.specs.declared.slot.Slot.{Slot}
+use Rattle.kept_state.specs.Changes.{placed_in, record_of, at_content}
+use Rattle.kept_state.specs.Fits.{active_of}
+use Rattle.store_core.specs.Change.{IsFresh, fresh_sizes_of}
+
+-- the contents of the files of these numbers
+abbrev pub contents_of : List ActiveFile → List ℕ → List ContentRef
+contents_of files numbers = filter_map (λ n. option_map (λ a. a.file.content) (active_of n files)) numbers
+
+-- the content of a claim to which references are held
+pub record IsHeldIn (slots : List Slot) (at : ContentRef) : Type 0 where
+  pub held : 0 < count_of slots at.slot
+  pub named : IsNamed at
+  pub within : end_of at ≤ size_of slots at.slot
+
+-- in claims of these sizes nothing changes but behind their ends
+abbrev pub GrowsBehind : List Slot → Files → Files → Type 0
+GrowsBehind slots = OnClaims (λ k old new. (take (size_of slots k) new ≡ take (size_of slots k) old) × (length old ≤ length new))
+
+-- The placed file as it is recorded: a new content stands in its claim, an old one where it stood.
+pub record IsPlacedAs (tells : Bool) (slots : List Slot) (files : Files) (p : Placed) (a : ActiveFile) : Type 0 where
+  pub file : a ≡ at_content a.file.content (active p.connection p.file)
+  pub old : p.fresh ≡ None → a.file.content ≡ p.file.content
+  pub size : a.file.content.size ≡ p.file.content.size
+  pub digest : a.file.content.digest ≡ p.file.content.digest
+  pub named : IsNamed a.file.content
+  pub within : end_of a.file.content ≤ size_of slots a.file.content.slot
+  pub stands : IsTrue tells → (bytes : List ℕ) → p.fresh ≡ Some bytes → content_in files a.file.content ≡ bytes
+
+-- these files are recorded, one for each placed one
+abbrev pub ArePlaced : (tells : Bool) → List Slot → Files → List Placed → List ActiveFile → Type 0
+ArePlaced tells slots files = AllZip (IsPlacedAs tells slots files)
+
+-- The contents of these files are held once more, and claims only grow.
+pub record HoldsMore (files : List ActiveFile) (old new : List Slot) : Type 0 where
+  pub counts : (k : ℕ) → count_of new k ≡ count_of old k + references_to k (map (λ a. a.file.content) files)
+  pub held : held_in new ≡ held_in old + length files
+  pub sizes : (k : ℕ) → size_of old k ≤ size_of new k
+
+-- This file's content may be placed: a new one is as its file says and finds a slot, an old one is held.
+pub record MayPlaceOne (slots : List Slot) (p : Placed) : Type 0 where
+  pub fresh : IsFresh p
+  pub room : HasRoom slots (fresh_sizes_of (p ∷ []))
+  pub old : p.fresh ≡ None → IsHeldIn slots p.file.content
+  pub few : held_in slots < HELD_MAX
+
+-- so may each of these, one after the other
+pub record MayPlace (slots : List Slot) (placed : List Placed) : Type 0 where
+  pub fresh : All IsFresh placed
+  pub room : HasRoom slots (fresh_sizes_of placed)
+  pub old : All (λ p. p.fresh ≡ None → IsHeldIn slots p.file.content) placed
+  pub few : held_in slots + length placed ≤ HELD_MAX
+
+-- the file stands at this place, without its new content
+abbrev pub IsRecordedAt : ℕ → Placed → List ActiveFile → Type 0
+IsRecordedAt place p files = (front : List ActiveFile) × (back : List ActiveFile) × (length front ≡ place) × (files ≡ front ++ record_of p ∷ back)
+
+-- The file at this place is recorded in the entry, and each other file as before.
+pub record PlacesOne (tells : Bool) (files : Files) (place : ℕ) (p : Placed) (old new : List Slot) (before after : LogEntry) : Type 0 where
+  pub recorded : ActiveFile
+  pub placed : IsPlacedAs tells new files p recorded
+  pub holds : HoldsMore (recorded ∷ []) old new
+  pub room : (sizes : List ℕ) → HasRoom old (fresh_sizes_of (p ∷ []) ++ sizes) → HasRoom new sizes
+  pub entry : (front back : List ActiveFile) → length front ≡ place → placed_in before ≡ front ++ record_of p ∷ back
+      → placed_in after ≡ front ++ recorded ∷ back
+
+-- All are recorded.
+pub record PlacesAll (tells : Bool) (files : Files) (all : List Placed) (old new : List Slot) (after : LogEntry) : Type 0 where
+  pub placed : ArePlaced tells new files all (placed_in after)
+  pub holds : HoldsMore (placed_in after) old new

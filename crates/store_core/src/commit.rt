@@ -1,0 +1,85 @@
+//! A change becomes part of the store: its contents first, then the log.
+ghost use Rattle.std.specs.Prelude.{◌≡◌, ℕ, ◌⊎◌, true, false, Ok, IfOk, OnOk, IfErr, IsErrOf, IsTrue};
+ghost use Rattle.disk_trait.specs.Images.{After, Since};
+ghost use Rattle.machine_model.specs.State.{State};
+ghost use Rattle.content_repo.specs.Claims.{content_in};
+ghost use Rattle.store_core.specs.Calls.{RefusesOnFault, IsDiskOrReopen};
+ghost use Rattle.store_core.specs.Change.{HasLiveContents, state_after};
+ghost use Rattle.store_core.specs.Committed.{IsPrepared, HasChange, HoldsEither, MayTouch, TouchesOnly};
+ghost use Rattle.store_core.specs.Flow.{flow_in};
+ghost use Rattle.store_core.specs.State.{stands_for};
+ghost use Rattle.store_core.specs.Store.{kept_by, IsKeptOn, EachStandsFor};
+
+use crate::contents::{give_up, place_contents};
+use crate::{Prepared, Store, StoreError};
+use disk_trait::Disk;
+
+impl Store {
+    #[tactic(none)]
+    /// Makes a prepared change. Answers the disk's moment at which it was acknowledged. Neither a commit nor a reclaim
+    /// comes between the two. It takes no memory.
+    ///
+    /// After `Disk` the store in memory has the change too, a stop may leave it or not, and the store has to be opened
+    /// anew.
+    pub fn commit<D: Disk>(
+        &mut self,
+        disk: &mut D,
+        prepared: Prepared<'_>,
+    ) -> Result<u64, StoreError>
+        requires kept { IsKeptOn D.tells D.held D.moment D.images self.old disk.old }
+        requires prepared { IsPrepared self.old prepared }
+        requires contents { HasLiveContents self.old prepared.settled }
+        // The change is made in memory, and once it is acknowledged whatever a stop leaves has it: see `kept`.
+        ensures changed { self.old.failed ≡ false → HasChange prepared.entry self.old self.new }
+        ensures acknowledged { IfOk result (λ moment. moment ≡ D.moment disk.new) }
+        ensures kept { IsKeptOn D.tells D.held D.moment D.images self.new disk.new }
+        // Within the call whatever a stop leaves has all of the change or nothing of it.
+        ensures images { self.old.failed ≡ false → Since D.moment D.images disk.old disk.new (HoldsEither self.old self.new) }
+        ensures states { self.old.failed ≡ false → (state : State)
+            → EachStandsFor (flow_in (kept_by self.old)) self.old.lot state (D.images disk.old (D.moment disk.old))
+            → Since D.moment D.images disk.old disk.new (λ c.
+            (stands_for (flow_in (kept_by self.old)) self.old.lot c ≡ Ok state)
+            ⊎ (stands_for (flow_in (kept_by self.old)) self.old.lot c
+            ≡ Ok (state_after (content_in (D.held disk.old)) state prepared.entry.settled))) }
+        ensures acknowledged_state { OnOk result ((state : State)
+            → EachStandsFor (flow_in (kept_by self.old)) self.old.lot state (D.images disk.old (D.moment disk.old))
+            → EachStandsFor (flow_in (kept_by self.old)) self.old.lot
+            (state_after (content_in (D.held disk.old)) state prepared.entry.settled) (D.images disk.new (D.moment disk.new))) }
+        ensures alone { Since D.moment D.images disk.old disk.new
+            (After (TouchesOnly (MayTouch self.old.log.number)) (D.images disk.old (D.moment disk.old))) }
+        ensures refusal { RefusesOnFault result self.old self.new (D.faults disk.old) (D.faults disk.new) }
+        ensures kinds { IfErr result IsDiskOrReopen }
+        ensures untouched { self.old.failed ≡ true → (self.new ≡ self.old) × (disk.new ≡ disk.old) }
+    {
+        if self.has_failed {
+            return Err(StoreError::MustReopen);
+        }
+        // It says of what is kept that it is consistent.
+        let _stored = self.state.stored();
+        let Prepared { mut entry, settled } = prepared;
+        let Ok(()) = place_contents(
+            &mut self.contents,
+            disk,
+            &mut entry,
+            settled.placed.as_slice(),
+        ) else {
+            let (entry, _) = entry.into_frame();
+            self.state.apply(entry);
+            self.has_failed = true;
+            return Err(StoreError::Disk);
+        };
+        give_up(
+            &mut self.contents,
+            &self.state.stored().files,
+            settled.gone.as_slice(),
+        );
+        let (entry, frame) = entry.into_frame();
+        self.state.apply(entry);
+        let Ok(moment) = self.log.append(disk, frame.as_slice()) else {
+            self.has_failed = true;
+            return Err(StoreError::Disk);
+        };
+        self.entries = self.entries.saturating_add(1);
+        Ok(moment)
+    }
+}

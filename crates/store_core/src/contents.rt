@@ -1,0 +1,108 @@
+//! The contents of a change: each is written or held once more, and those of the files that go are given up.
+ghost use Rattle.std.specs.Prelude.{◌≡◌, ℕ, ◌+◌, ◌≤◌, length, map, IsTrue, IfOk, OnOk};
+ghost use Rattle.disk_trait.specs.Images.{After, Since};
+ghost use Rattle.record_codec.specs.Placeless.{placeless_entry};
+ghost use Rattle.content_repo.specs.Claims.{HasSizes};
+ghost use Rattle.content_repo.specs.Errors.{RefusesOnFault};
+ghost use Rattle.content_repo.specs.Slots.{count_of, size_of, held_in, references_to};
+ghost use Rattle.kept_state.specs.Changes.{placed_in, record_of};
+ghost use Rattle.store_core.specs.Change.{fresh_contents_of};
+ghost use Rattle.store_core.specs.Placing.{contents_of, GrowsBehind, MayPlace, MayPlaceOne, IsRecordedAt, PlacesOne, PlacesAll};
+
+use content_repo::{Content, ContentError};
+use disk_trait::Disk;
+use flowfile_record::{ActiveList, ContentRef, Placed};
+use kept_state::PreparedEntry;
+use std::alloc::{AllocError, Global};
+
+/// How many bytes each new content has, by place.
+pub(crate) fn fresh_sizes(alloc: Global, placed: &[Placed]) -> Result<Vec<u64>, AllocError>
+    ensures { IfOk result (λ sizes. sizes.items ≡ map length (fresh_contents_of placed.now)) }
+{
+    let mut sizes = Vec::new(alloc);
+    for one in placed {
+        if let Some(bytes) = &one.fresh {
+            sizes.push(bytes.len())?;
+        }
+    }
+    Ok(sizes)
+}
+
+/// Places the contents of these files, which an entry records: a new one is written, and each is held once more.
+pub(crate) fn place_contents<D: Disk>(
+    contents: &mut Content,
+    disk: &mut D,
+    entry: &mut PreparedEntry,
+    placed: &[Placed],
+) -> Result<(), ContentError>
+    requires recorded { placed_in entry.old ≡ map record_of placed.now }
+    requires may { MayPlace contents.old placed.now }
+    requires sizes { IsTrue D.tells → HasSizes contents.old (D.held disk.old) }
+    ensures placed { OnOk result (PlacesAll D.tells (D.held disk.new) placed.now contents.old contents.new entry.new) }
+    ensures same { placeless_entry entry.new ≡ placeless_entry entry.old }
+    ensures sizes { OnOk result (IsTrue D.tells → HasSizes contents.new (D.held disk.new)) }
+    ensures held { IsTrue D.tells → GrowsBehind contents.old (D.held disk.old) (D.held disk.new) }
+    ensures images { Since D.moment D.images disk.old disk.new
+        (After (GrowsBehind contents.old) (D.images disk.old (D.moment disk.old))) }
+    ensures refusal { RefusesOnFault result (D.faults disk.old) (D.faults disk.new) }
+{
+    for (place, one) in placed.iter().enumerate() {
+        place_content(contents, disk, entry, place as u64, one)?;
+    }
+    Ok(())
+}
+
+// Places the content of the file that an entry records at a place.
+fn place_content<D: Disk>(
+    contents: &mut Content,
+    disk: &mut D,
+    entry: &mut PreparedEntry,
+    place: u64,
+    one: &Placed,
+) -> Result<(), ContentError>
+    requires recorded { IsRecordedAt place one.now (placed_in entry.old) }
+    requires may { MayPlaceOne contents.old one.now }
+    requires sizes { IsTrue D.tells → HasSizes contents.old (D.held disk.old) }
+    ensures placed { OnOk result (PlacesOne D.tells (D.held disk.new) place one.now contents.old contents.new entry.old entry.new) }
+    ensures same { placeless_entry entry.new ≡ placeless_entry entry.old }
+    ensures sizes { OnOk result (IsTrue D.tells → HasSizes contents.new (D.held disk.new)) }
+    ensures held { IsTrue D.tells → GrowsBehind contents.old (D.held disk.old) (D.held disk.new) }
+    ensures images { Since D.moment D.images disk.old disk.new
+        (After (GrowsBehind contents.old) (D.images disk.old (D.moment disk.old))) }
+    ensures refusal { RefusesOnFault result (D.faults disk.old) (D.faults disk.new) }
+{
+    let Some(bytes) = &one.fresh else {
+        contents.hold(&one.file.content);
+        return Ok(());
+    };
+    let at = contents.append(disk, bytes.as_slice(), one.file.content.digest)?;
+    entry.set_content(place, at);
+    Ok(())
+}
+
+/// Gives up the contents of the files of these numbers.
+pub(crate) fn give_up(contents: &mut Content, files: &ActiveList, gone: &[u64])
+    requires { (k : ℕ) → references_to k (contents_of files.now.items gone.now) ≤ count_of contents.old k }
+    ensures counts { (k : ℕ) → count_of contents.new k + references_to k (contents_of files.now.items gone.now)
+        ≡ count_of contents.old k }
+    ensures held { held_in contents.new + length (contents_of files.now.items gone.now) ≡ held_in contents.old }
+    ensures sizes { (k : ℕ) → size_of contents.new k ≡ size_of contents.old k }
+{
+    for number in gone {
+        if let Some(active) = files.get(*number) {
+            contents.unhold(&active.file.content);
+        }
+    }
+}
+
+/// Gives up these contents.
+pub(crate) fn let_go(contents: &mut Content, refs: &[ContentRef])
+    requires { (k : ℕ) → references_to k refs.now ≤ count_of contents.old k }
+    ensures counts { (k : ℕ) → count_of contents.new k + references_to k refs.now ≡ count_of contents.old k }
+    ensures held { held_in contents.new + length refs.now ≡ held_in contents.old }
+    ensures sizes { (k : ℕ) → size_of contents.new k ≡ size_of contents.old k }
+{
+    for at in refs {
+        contents.unhold(at);
+    }
+}

@@ -1,0 +1,150 @@
+//! What a stop left of a store's files is made whole again, or a store is made.
+ghost use Rattle.std.specs.Prelude.{◌≡◌, ◌⊎◌, ◌+◌, ◌<◌, ◌≤◌, ℕ, [], true, false, None, Some, Ok, Err, IfOk, OnOk, IfErr, IsErrOf, IsTrue, All, length};
+ghost use Rattle.disk_trait.specs.Files.{Files};
+ghost use Rattle.disk_trait.specs.Faults.{CountsFaults};
+ghost use Rattle.disk_trait.specs.Images.{After, Since, IsOnly};
+ghost use Rattle.flowfile_record.specs.Stored.{kept_of};
+ghost use Rattle.content_repo.specs.Claims.{HasSizes, IsCovered, ShortenedTo};
+ghost use Rattle.content_repo.specs.Slots.{count_of, size_of, held_in, end_of, covered, references_to, IsNamed};
+ghost use Rattle.flowfile_wal.specs.Calls.{InEach};
+ghost use Rattle.flowfile_wal.specs.Steps.{IsReadyIn, IsCurrentIn};
+ghost use Rattle.checkpoint_store.specs.Consistent.{IsConsistent};
+ghost use Rattle.store_core.specs.Agreement.{Needs, IsPlain, Agrees, IsUnmade};
+ghost use Rattle.store_core.specs.Calls.{IsDiskOrMemory};
+ghost use Rattle.store_core.specs.Flow.{flow_in};
+ghost use Rattle.store_core.specs.New.{kept_anew};
+ghost use Rattle.store_core.specs.Opened.{IsReadWhole, IsRevived, SameMeaning, IsMade};
+ghost use Rattle.store_core.specs.State.{live_contents};
+ghost use Rattle.store_core.specs.Store.{IsKeptOn};
+
+use crate::discard::discard;
+use crate::reading::Found;
+use crate::{Store, StoreError};
+use content_repo::{Content, HELD_MAX};
+use disk_trait::Disk;
+use flowfile_record::{ContentRef, LIVE_FILES_MAX, Stored};
+use flowfile_wal::Log;
+use std::alloc::Global;
+
+// The number of a new store's log and snapshot.
+const FIRST_LOG: u64 = 1;
+
+/// The store of what was read, on a disk with nothing pending.
+pub fn revive<D: Disk>(
+    alloc: Global,
+    disk: &mut D,
+    found: Found,
+    opened: Vec<ContentRef>,
+    lot: u64,
+) -> Result<Store, StoreError>
+    requires synced { IsOnly (D.held disk.old) (D.images disk.old (D.moment disk.old)) }
+    requires found { IsReadWhole D.tells lot (D.held disk.old) found }
+    requires opened { opened.items ≡ live_contents found.state.kept }
+    requires named { All IsNamed opened.items }
+    ensures revived { IfOk result (IsRevived lot found) }
+    ensures kept { IfOk result (λ store. IsKeptOn D.tells D.held D.moment D.images store disk.new) }
+    ensures images { Since D.moment D.images disk.old disk.new (SameMeaning (flow_in found.state.kept) lot (D.held disk.old)) }
+    ensures refusal { IfErr result IsDiskOrMemory }
+    ensures cause { CountsFaults (D.faults disk.old) (D.faults disk.new) (IsErrOf result StoreError.Disk) }
+{
+    let Found {
+        mut log,
+        entries,
+        state,
+    } = found;
+    match log.number() {
+        Some(number) => mend(alloc, disk, &mut log, number)?,
+        None => make(alloc, disk, &mut log, state.stored())?,
+    }
+    let contents = hold_opened(alloc, disk, opened.as_slice())?;
+    Ok(Store {
+        alloc,
+        state,
+        log,
+        entries,
+        contents,
+        opened,
+        lot,
+        has_failed: false,
+    })
+}
+
+// Mends the current log, and cuts all that doesn't matter beside it but the claims.
+fn mend<D: Disk>(alloc: Global, disk: &mut D, log: &mut Log, number: u64) -> Result<(), StoreError>
+    requires synced { IsOnly (D.held disk.old) (D.images disk.old (D.moment disk.old)) }
+    requires works { log.old.failed ≡ false }
+    requires number { log.old.number ≡ Some number }
+    requires current { IsTrue D.tells → IsCurrentIn log.old (D.held disk.old) }
+    ensures log { OnOk result (log.new ≡ record log.old { mended = true }) }
+    ensures ready { OnOk result (InEach (D.images disk.new (D.moment disk.new)) (IsReadyIn log.new)) }
+    // What matters beside it stays, wherever a stop comes.
+    ensures images { (needs : Needs) → IsPlain needs number
+        → Since D.moment D.images disk.old disk.new (After (Agrees needs) (D.images disk.old (D.moment disk.old))) }
+    ensures refusal { IfErr result IsDiskOrMemory }
+    ensures cause { CountsFaults (D.faults disk.old) (D.faults disk.new) (IsErrOf result StoreError.Disk) }
+{
+    log.mend(disk)?;
+    discard(alloc, disk, Some(number))
+}
+
+// Makes a store: a snapshot of what it keeps, and a log.
+fn make<D: Disk>(
+    alloc: Global,
+    disk: &mut D,
+    log: &mut Log,
+    stored: &Stored,
+) -> Result<(), StoreError>
+    requires synced { IsOnly (D.held disk.old) (D.images disk.old (D.moment disk.old)) }
+    requires works { log.old.failed ≡ false }
+    requires unmade { IsTrue D.tells → IsUnmade (D.held disk.old) }
+    requires consistent { IsConsistent (kept_of stored.now) }
+    ensures log { OnOk result ((log.new.number ≡ Some FIRST_LOG) × (log.new.mended ≡ true) × (log.new.failed ≡ false)) }
+    ensures ready { OnOk result (InEach (D.images disk.new (D.moment disk.new)) (IsReadyIn log.new)) }
+    // Wherever a stop comes, no store is made yet, or it is made.
+    ensures images { Since D.moment D.images disk.old disk.new (λ c. IsUnmade c ⊎ IsMade (kept_of stored.now) c) }
+    ensures made { OnOk result (InEach (D.images disk.new (D.moment disk.new)) (IsMade (kept_of stored.now))) }
+    ensures refusal { IfErr result IsDiskOrMemory }
+    ensures cause { CountsFaults (D.faults disk.old) (D.faults disk.new) (IsErrOf result StoreError.Disk) }
+{
+    discard(alloc, disk, None)?;
+    checkpoint_store::write(alloc, disk, FIRST_LOG, stored)?;
+    checkpoint_store::begin(disk, FIRST_LOG)?;
+    log.begun(disk, FIRST_LOG);
+    Ok(())
+}
+
+// A repository of the contents that a store is opened with, each held twice. The claims are cut to what they cover.
+fn hold_opened<D: Disk>(
+    alloc: Global,
+    disk: &mut D,
+    opened: &[ContentRef],
+) -> Result<Content, StoreError>
+    requires few { length opened.now ≤ LIVE_FILES_MAX }
+    requires named { All IsNamed opened.now }
+    requires within { IsTrue D.tells → All (IsCovered (D.held disk.old)) opened.now }
+    ensures counts { IfOk result (λ contents. (k : ℕ) → count_of contents k ≡ references_to k opened.now + references_to k opened.now) }
+    ensures held { IfOk result (λ contents. held_in contents ≡ length opened.now + length opened.now) }
+    ensures sizes { IfOk result (λ contents. (k : ℕ) → size_of contents k ≡ covered k opened.now) }
+    ensures files { IfOk result (λ contents. IsTrue D.tells → HasSizes contents (D.held disk.new)) }
+    ensures images { Since D.moment D.images disk.old disk.new
+        (After (ShortenedTo (λ k. covered k opened.now)) (D.images disk.old (D.moment disk.old))) }
+    ensures refusal { IfErr result IsDiskOrMemory }
+    ensures cause { CountsFaults (D.faults disk.old) (D.faults disk.new) (IsErrOf result StoreError.Disk) }
+{
+    let mut contents = Content::load(alloc, disk, opened)?;
+    hold_all(&mut contents, opened);
+    Ok(contents)
+}
+
+// Holds each of these contents once more.
+fn hold_all(contents: &mut Content, refs: &[ContentRef])
+    requires few { held_in contents.old + length refs.now < HELD_MAX }
+    requires held { All (λ at. 0 < count_of contents.old at.slot) refs.now }
+    ensures counts { (k : ℕ) → count_of contents.new k ≡ count_of contents.old k + references_to k refs.now }
+    ensures held { held_in contents.new ≡ held_in contents.old + length refs.now }
+    ensures sizes { (k : ℕ) → size_of contents.new k ≡ size_of contents.old k }
+{
+    for at in refs {
+        contents.hold(at);
+    }
+}
