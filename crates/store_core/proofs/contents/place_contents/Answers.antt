@@ -18,12 +18,12 @@ loop-place-init g c = record {
 }
 
 pub place_content-requires-clause-recorded : goal.place_content-requires-clause-recorded
-place_content-requires-clause-recorded g c =
+place_content-requires-clause-recorded g c κs within =
     recorded_next g.D.Disk.tells c.args.placed.now c.args.contents.now c.loop-place.contents (g.D.Disk.held c.loop-place.disk) c.loop-place.entry c.loop-place.place c.index-placed-place.result
     c.loop-place-test.true c.index-placed-place.is c.loop-place.invariant.placed
 
 pub place_content-requires-clause-may : goal.place_content-requires-clause-may
-place_content-requires-clause-may g c =
+place_content-requires-clause-may g c κs within =
     may_next g.D.Disk.tells c.args.placed.now c.args.contents.now c.loop-place.contents (g.D.Disk.held c.loop-place.disk) c.loop-place.entry c.loop-place.place c.index-placed-place.result
     c.loop-place-test.true c.index-placed-place.is c.requires.may c.loop-place.invariant.placed
 
