@@ -28,28 +28,28 @@ module _ {A : Type 0} (key : A → ℕ) where
   ]
   put_two x y (z ∷ t) ne = elim (cases_lt (key z) (key x)) [
     | inl zx ↦ elim (cases_lt (key z) (key y)) [
-        | inl zy ↦
-            ap (with_item key y) (put_past x z t zx) ∙ put_past y z (with_item key x t) zy
-            ∙ ap (λ (l : List A). z ∷ l) (put_two x y t ne)
-            ∙ sym (ap (with_item key x) (put_past y z t zy) ∙ put_past x z (with_item key y t) zx)
-        | inr yz ↦
-            ap (with_item key y) (put_past x z t zx) ∙ put_here y z (with_item key x t) yz
-            ∙ sym (ap (with_item key x) (put_here y z t yz) ∙ put_past x y (z ∷ t) (omega (arith, zx, yz)) ∙ ap (λ (l : List A). y ∷ l) (put_past x z t zx))
-      ]
+      | inl zy ↦
+          ap (with_item key y) (put_past x z t zx) ∙ put_past y z (with_item key x t) zy
+          ∙ ap (λ (l : List A). z ∷ l) (put_two x y t ne)
+          ∙ sym (ap (with_item key x) (put_past y z t zy) ∙ put_past x z (with_item key y t) zx)
+      | inr yz ↦
+          ap (with_item key y) (put_past x z t zx) ∙ put_here y z (with_item key x t) yz
+          ∙ sym (ap (with_item key x) (put_here y z t yz) ∙ put_past x y (z ∷ t) (omega (arith, zx, yz)) ∙ ap (λ (l : List A). y ∷ l) (put_past x z t zx))
+    ]
     | inr xz ↦ elim (cases_lt (key z) (key y)) [
-        | inl zy ↦
-            ap (with_item key y) (put_here x z t xz) ∙ put_past y x (z ∷ t) (omega (arith, xz, zy)) ∙ ap (λ (l : List A). x ∷ l) (put_past y z t zy)
-            ∙ sym (ap (with_item key x) (put_past y z t zy) ∙ put_here x z (with_item key y t) xz)
-        | inr yz ↦ elim (cases_lt (key x) (key y)) [
-            | inl lt ↦
-                ap (with_item key y) (put_here x z t xz) ∙ put_past y x (z ∷ t) lt ∙ ap (λ (l : List A). x ∷ l) (put_here y z t yz)
-                ∙ sym (ap (with_item key x) (put_here y z t yz) ∙ put_here x y (z ∷ t) (omega (arith, lt)))
-            | inr le ↦
-                let lt : key y < key x = omega arith in
-                ap (with_item key y) (put_here x z t xz) ∙ put_here y x (z ∷ t) le
-                ∙ sym (ap (with_item key x) (put_here y z t yz) ∙ put_past x y (z ∷ t) lt ∙ ap (λ (l : List A). y ∷ l) (put_here x z t xz))
-          ]
+      | inl zy ↦
+          ap (with_item key y) (put_here x z t xz) ∙ put_past y x (z ∷ t) (omega (arith, xz, zy)) ∙ ap (λ (l : List A). x ∷ l) (put_past y z t zy)
+          ∙ sym (ap (with_item key x) (put_past y z t zy) ∙ put_here x z (with_item key y t) xz)
+      | inr yz ↦ elim (cases_lt (key x) (key y)) [
+        | inl lt ↦
+            ap (with_item key y) (put_here x z t xz) ∙ put_past y x (z ∷ t) lt ∙ ap (λ (l : List A). x ∷ l) (put_here y z t yz)
+            ∙ sym (ap (with_item key x) (put_here y z t yz) ∙ put_here x y (z ∷ t) (omega (arith, lt)))
+        | inr le ↦
+            let lt : key y < key x = omega arith in
+            ap (with_item key y) (put_here x z t xz) ∙ put_here y x (z ∷ t) le
+            ∙ sym (ap (with_item key x) (put_here y z t yz) ∙ put_past x y (z ∷ t) lt ∙ ap (λ (l : List A). y ∷ l) (put_here x z t xz))
       ]
+    ]
   ]
 
   pub put_later : (x : A) (ys zs : List A) → All (λ y. key x ≢ key y) ys → fold put (with_item key x zs) ys ≡ with_item key x (fold put zs ys)

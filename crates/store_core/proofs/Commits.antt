@@ -82,7 +82,7 @@ pub fits_placed : (k : Kept) (s : Settled) (e : LogEntry) → MaySettle k s → 
     → placeless_entry e ≡ placeless_entry (Session (session_of k s)) → fits no_files k e ≡ true
 fits_placed k s e may none same =
     let fit : fits no_files k (Session (session_of k s)) ≡ true =
-        and_from (session_suits no_files k (session_of k s)) (is_none (live_limit (session_applied k (session_of k s)))) may.suits (ap is_none none) in
+    and_from (session_suits no_files k (session_of k s)) (is_none (live_limit (session_applied k (session_of k s)))) may.suits (ap is_none none) in
     sym (placeless_fits no_files k e) ∙ ap (fits no_files k) same ∙ placeless_fits no_files k (Session (session_of k s)) ∙ fit
 
 pub as_many : (e : LogEntry) (t : SessionEntry) (is : IsSessionOf e t) → length is.session.placed ≡ length t.placed
@@ -245,8 +245,8 @@ holds_added s new number e se old files has holds numbered is fit added placed k
       contents =
           ap (contents_damage files) live
           ∙ all_sound files (live_contents (session_applied k se))
-            (λ i d lt. same_sound number e old files (get_or (live_contents (session_applied k se)) i d) added
-            (all_applied (IsSoundIn old) k se (each_sound old (live_in s) holds.contents) placed i d lt));
+          (λ i d lt. same_sound number e old files (get_or (live_contents (session_applied k se)) i d) added
+          (all_applied (IsSoundIn old) k se (each_sound old (live_in s) holds.contents) placed i d lt));
     }
 
 -- ---- the entry of a prepared change, once its contents are placed

@@ -63,7 +63,7 @@ batches_more k0 entries at e none =
     let swapped : ℕ × LogEntry → List ℕ = λ x. swapped_out x.1 in
     let last : flat_map swapped ((at, e) ∷ []) ≡ [] = append-nil (swapped_out e) ∙ none in
     let more : flat_map swapped (entries ++ (at, e) ∷ []) ≡ flat_map swapped entries =
-        flat_map-append swapped entries ((at, e) ∷ []) ∙ ap (λ (l : List ℕ). flat_map swapped entries ++ l) last ∙ append-nil (flat_map swapped entries) in
+    flat_map-append swapped entries ((at, e) ∷ []) ∙ ap (λ (l : List ℕ). flat_map swapped entries ++ l) last ∙ append-nil (flat_map swapped entries) in
     ap (λ (l : List ℕ). map (λ b. b.batch) k0.batches ++ l) more
 
 snapshot_more : (files : Files) (log : CurrentLog) (k : Kept) (e : LogEntry) (read : Result Kept Damage) → swapped_out e ≡ [] → fits no_files k e ≡ true
@@ -80,8 +80,8 @@ pub kept_with_entry : (flow : Flow) (lot : ℕ) (old new : Files) (log : Current
 kept_with_entry flow lot old new log k e was added none fit is =
     let now = with_one_more log e old new was added in
     let snapshot : new (snapshot_file log.number) ≡ old (snapshot_file log.number) =
-        added.others (snapshot_file log.number) (λ (same : snapshot_file log.number ≡ named Log log.number).
-        let kinds : Snapshot ≡ Log = ap (λ (f : FileName). f.kind) same in absurd cc) in
+    added.others (snapshot_file log.number) (λ (same : snapshot_file log.number ≡ named Log log.number).
+    let kinds : Snapshot ≡ Log = ap (λ (f : FileName). f.kind) same in absurd cc) in
     let read : List ℕ → Result Kept Damage = snapshot_for flow (snapshot_file log.number) in
     let before : behind_snapshot old log (read (old (snapshot_file log.number))) ≡ kept_is k = sym (kept_by_log flow lot old log was.current) ∙ is in
     kept_by_log flow lot new (with_entry log e) now.current

@@ -92,7 +92,7 @@ working_reclaimed s slots works are held = record {
   within = λ i d lt.
       let at = get_or (live_in s) i d in
       let same : size_of slots at.slot ≡ size_of s.slots at.slot =
-          ap (λ (l : List Slot). size_of l at.slot) are ∙ size_reclaimed s.slots at.slot (counted s works i d lt) in
+      ap (λ (l : List Slot). size_of l at.slot) are ∙ size_reclaimed s.slots at.slot (counted s works i d lt) in
       omega (arith, same, works.within i d lt);
 }
 

@@ -68,26 +68,26 @@ counts_less slots j k new within is = elim (cases_eq k j) [
 pub size_same : (slots : List Slot) (j k : ℕ) (new : Slot) → new.size ≡ size_of slots j → size_of (set slots j new) k ≡ size_of slots k
 size_same slots j k new is = elim (cases_eq k j) [
   | inl same ↦ elim (cases_lt j (length slots)) [
-      | inl within ↦
-          ap (size_of (set slots j new)) same ∙ ap (λ (slot : Slot). slot.size) (get_or-set_same slots j new unused within) ∙ is ∙ ap (size_of slots) (sym same)
-      | inr past ↦ ap (λ (l : List Slot). size_of l k) (set_past slots j new past)
-    ]
+    | inl within ↦
+        ap (size_of (set slots j new)) same ∙ ap (λ (slot : Slot). slot.size) (get_or-set_same slots j new unused within) ∙ is ∙ ap (size_of slots) (sym same)
+    | inr past ↦ ap (λ (l : List Slot). size_of l k) (set_past slots j new past)
+  ]
   | inr ne ↦ ap (λ (slot : Slot). slot.size) (get_or-set_other slots j k new unused ne)
 ]
 
 pub size_more : (slots : List Slot) (j k : ℕ) (new : Slot) → size_of slots j ≤ new.size → size_of slots k ≤ size_of (set slots j new) k
 size_more slots j k new le = elim (cases_eq k j) [
   | inl same ↦ elim (cases_lt j (length slots)) [
-      | inl within ↦
-          omega (
-            arith,
-            le,
-            ap (size_of slots) same,
-            ap (size_of (set slots j new)) same,
-            ap {B = ℕ} (λ (slot : Slot). slot.size) (get_or-set_same slots j new unused within),
-          )
-      | inr past ↦ omega (arith, ap (λ (l : List Slot). size_of l k) (set_past slots j new past))
-    ]
+    | inl within ↦
+        omega (
+          arith,
+          le,
+          ap (size_of slots) same,
+          ap (size_of (set slots j new)) same,
+          ap {B = ℕ} (λ (slot : Slot). slot.size) (get_or-set_same slots j new unused within),
+        )
+    | inr past ↦ omega (arith, ap (λ (l : List Slot). size_of l k) (set_past slots j new past))
+  ]
   | inr ne ↦ omega (arith, ap {B = ℕ} (λ (slot : Slot). slot.size) (get_or-set_other slots j k new unused ne))
 ]
 
@@ -100,8 +100,7 @@ pub unheld : (slots new : List Slot) (at : ContentRef) (k : ℕ) → 0 < count_o
     → (count_of new k + one_of at.slot k ≡ count_of slots k) × (size_of new k ≡ size_of slots k)
 unheld slots new at k some is =
     let slot : Slot = record { live = is_live slots at.slot; count = count_of slots at.slot - 1; size = size_of slots at.slot } in
-    let less : (count_of slots at.slot - 1) + 1 ≡ count_of slots at.slot = omega (arith, some) in
-    (
+    let less : (count_of slots at.slot - 1) + 1 ≡ count_of slots at.slot = omega (arith, some) in (
       ap (λ (l : List Slot). count_of l k + one_of at.slot k) is ∙ counts_less slots at.slot k slot (counted_within slots at.slot some) less,
       ap (λ (l : List Slot). size_of l k) is ∙ size_same slots at.slot k slot refl,
     )
@@ -110,8 +109,7 @@ unheld slots new at k some is =
 pub held_more : (slots new : List Slot) (at : ContentRef) (k : ℕ) → 0 < count_of slots at.slot → new ≡ with_count slots at.slot (count_of slots at.slot + 1)
     → (count_of new k ≡ count_of slots k + one_of at.slot k) × (size_of new k ≡ size_of slots k)
 held_more slots new at k some is =
-    let slot : Slot = record { live = is_live slots at.slot; count = count_of slots at.slot + 1; size = size_of slots at.slot } in
-    (
+    let slot : Slot = record { live = is_live slots at.slot; count = count_of slots at.slot + 1; size = size_of slots at.slot } in (
       ap (λ (l : List Slot). count_of l k) is ∙ counts_more slots at.slot k slot (counted_within slots at.slot some) refl,
       ap (λ (l : List Slot). size_of l k) is ∙ size_same slots at.slot k slot refl,
     )
@@ -126,10 +124,10 @@ pub appended : (bytes digest : List ℕ) (old new : List Slot) (at : ContentRef)
 appended bytes digest old new at is =
     let slot : Slot = record { live = true; count = count_of old at.slot + 1; size = end_of at } in
     let inside : at.slot < length old =
-        elim (cases_lt at.slot (length old)) [
-          | inl lt ↦ lt
-          | inr past ↦ absurd (omega (arith, is.held, ap held_in (is.slots ∙ set_past old at.slot slot past)))
-        ] in
+    elim (cases_lt at.slot (length old)) [
+      | inl lt ↦ lt
+      | inr past ↦ absurd (omega (arith, is.held, ap held_in (is.slots ∙ set_past old at.slot slot past)))
+    ] in
     record {
       counts = λ k. ap (λ (l : List Slot). count_of l k) is.slots ∙ counts_more old at.slot k slot inside refl;
       sizes = λ k. omega (arith, ap (λ (l : List Slot). size_of l k) is.slots, size_more old at.slot k slot (omega (arith, is.offset)));

@@ -52,10 +52,9 @@ pub room_alike : (sizes : List ℕ) (a b : List Slot) → map shape a ≡ map sh
 room_alike [] a b alike room = tt
 room_alike (n ∷ sizes) a b alike room =
     let k = room.0 in
-    let size = size_alike a b k alike in
-    (
+    let size = size_alike a b k alike in (
       k,
       sym (next_alike a b alike) ∙ room.1,
       room_alike sizes (taken a k (size_of a k + n)) (taken b k (size_of b k + n))
-      (taken_alike a b k (size_of a k + n) alike ∙ ap (λ (m : ℕ). map shape (taken b k (m + n))) size) room.2,
+          (taken_alike a b k (size_of a k + n) alike ∙ ap (λ (m : ℕ). map shape (taken b k (m + n))) size) room.2,
     )

@@ -77,7 +77,7 @@ queued_as : (new old : ContentRef → List ℕ) (slots : List Slot) (files : Fil
 queued_as new old slots files p a is reads same =
     let at = content_of a in
     let bytes : new at ≡ unwrap_or p.fresh (old p.file.content) =
-        bytes_of p.fresh p old (new at) refl (λ b some. reads at ∙ is.stands refl b some) (λ none. ap new (is.old none) ∙ reads p.file.content ∙ same none) in
+    bytes_of p.fresh p old (new at) refl (λ b some. reads at ∙ is.stands refl b some) (λ none. ap new (is.old none) ∙ reads p.file.content ∙ same none) in
     record {
       connection = ap (λ (b : ActiveFile). b.connection) is.file;
       file =
@@ -121,17 +121,17 @@ state_added s new settled se number e slots old mid files state works batches su
     let started : state ≡ state_with (content_in old) [] k = was.is ∙ ap (λ (events : List Event). state_with (content_in old) events k) (no_events old k.last_event was.events works.last_event was.events_are) in
     let flow_same : flow_in (kept_by new) ≡ flow = ap flow_in kept ∙ same_flow k se in
     let keeps : kept_in flow s.lot files ≡ Ok k2 =
-        ap (λ (f : Flow). kept_in f s.lot files) (sym flow_same) ∙ ap (λ (l : ℕ). kept_in (flow_in (kept_by new)) l files) (sym lot) ∙ now.kept ∙ ap (λ (l : Kept). Ok l) kept in
+    ap (λ (f : Flow). kept_in f s.lot files) (sym flow_same) ∙ ap (λ (l : ℕ). kept_in (flow_in (kept_by new)) l files) (sym lot) ∙ now.kept ∙ ap (λ (l : Kept). Ok l) kept in
     let sound2 : contents_damage files (live_contents k2) ≡ None = ap (λ (l : Kept). contents_damage files (live_contents l)) (sym kept) ∙ now.contents in
     let events2 : events_in files k2.last_event ≡ Ok [] = ap (events_in files) same.last_event in
     let reads : (at : ContentRef) → content_in files at ≡ content_in mid at = λ at. added_content number e mid files at added in
     let stay : All (λ (at : ContentRef). content_in files at ≡ content_in old at) (live_in s) =
-        λ i d lt. let at = get_or (live_in s) i d in reads at ∙ (same_grown s.slots old mid at (works.within i d lt) grows).bytes in
+    λ i d lt. let at = get_or (live_in s) i d in reads at ∙ (same_grown s.slots old mid at (works.within i d lt) grows).bytes in
     let placed : All (λ (p : Placed). p.fresh ≡ None → content_in mid p.file.content ≡ content_in old p.file.content) settled.placed =
-        λ i d lt fresh.
-        let at = (get_or settled.placed i d).file.content in
-        let has : Contains (live_in s) at = live i d lt fresh in
-        subst (λ (r : ContentRef). content_in mid r ≡ content_in old r) has.2 (same_grown s.slots old mid (get_or (live_in s) has.0 at) (works.within has.0 at has.1) grows).bytes in
+    λ i d lt fresh.
+    let at = (get_or settled.placed i d).file.content in
+    let has : Contains (live_in s) at = live i d lt fresh in
+    subst (λ (r : ContentRef). content_in mid r ≡ content_in old r) has.2 (same_grown s.slots old mid (get_or (live_in s) has.0 at) (works.within has.0 at has.1) grows).bytes in
     let session : IsSessionFor (content_in files) (content_in old) k settled se = record {
       gone = same.gone;
       number = same.number;

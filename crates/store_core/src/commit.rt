@@ -56,14 +56,22 @@ impl Store {
         // It says of what is kept that it is consistent.
         let _stored = self.state.stored();
         let Prepared { mut entry, settled } = prepared;
-        let Ok(()) = place_contents(&mut self.contents, disk, &mut entry, settled.placed.as_slice())
-        else {
+        let Ok(()) = place_contents(
+            &mut self.contents,
+            disk,
+            &mut entry,
+            settled.placed.as_slice(),
+        ) else {
             let (entry, _) = entry.into_frame();
             self.state.apply(entry);
             self.has_failed = true;
             return Err(StoreError::Disk);
         };
-        give_up(&mut self.contents, &self.state.stored().files, settled.gone.as_slice());
+        give_up(
+            &mut self.contents,
+            &self.state.stored().files,
+            settled.gone.as_slice(),
+        );
         let (entry, frame) = entry.into_frame();
         self.state.apply(entry);
         let Ok(moment) = self.log.append(disk, frame.as_slice()) else {

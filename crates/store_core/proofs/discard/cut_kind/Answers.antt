@@ -64,22 +64,22 @@ returns-clause-cut g c told =
           elim (cases_lt 0 (length (old (named kind n)))) [
             | inr none ↦ omega (arith, none, ((inv.cut told).each (named kind n)).no_longer)
             | inl some ↦ elim (cases_lt n (2 ^ 64)) [
-                | inr past ↦
-                    let empty = laws.images_end first (g.D.Disk.moment first) old (named kind n) (laws.held_is_left first told) past in
-                    absurd (omega (arith, some, ap length empty))
-                | inl below ↦
-                    let found = (c.in_ok-files.ensures.listed told n below).1 some in
-                    let i = found.0 in
-                    let items = c.files.new.list.items in
-                    let same : list ≡ items = c.deref-number-items.ensures.value in
-                    let within : i < length list = omega (arith, found.1, ap length same) in
-                    let at : slice_index list i ≡ n = ap (λ (l : List ℕ). slice_index l i) same ∙ get_or_default items i 0 n found.1 ∙ found.2 in
-                    ⊎_elim
-                    (λ (spared : spares c.args.spared (slice_index list i) ≡ true).
-                    absurd (false≢true (sym cut ∙ subst (λ (m : ℕ). spares c.args.spared m ≡ true) at spared)))
-                    (λ (short : length (now (named kind (slice_index list i))) ≤ c.args.size).
-                    subst (λ (m : ℕ). length (now (named kind m)) ≤ c.args.size) at short)
-                    (inv.done told i (omega (arith, within, c.loop-number-test.false)))
-              ]
+              | inr past ↦
+                  let empty = laws.images_end first (g.D.Disk.moment first) old (named kind n) (laws.held_is_left first told) past in
+                  absurd (omega (arith, some, ap length empty))
+              | inl below ↦
+                  let found = (c.in_ok-files.ensures.listed told n below).1 some in
+                  let i = found.0 in
+                  let items = c.files.new.list.items in
+                  let same : list ≡ items = c.deref-number-items.ensures.value in
+                  let within : i < length list = omega (arith, found.1, ap length same) in
+                  let at : slice_index list i ≡ n = ap (λ (l : List ℕ). slice_index l i) same ∙ get_or_default items i 0 n found.1 ∙ found.2 in
+                  ⊎_elim
+                  (λ (spared : spares c.args.spared (slice_index list i) ≡ true).
+                  absurd (false≢true (sym cut ∙ subst (λ (m : ℕ). spares c.args.spared m ≡ true) at spared)))
+                  (λ (short : length (now (named kind (slice_index list i))) ≤ c.args.size).
+                  subst (λ (m : ℕ). length (now (named kind m)) ≤ c.args.size) at short)
+                  (inv.done told i (omega (arith, within, c.loop-number-test.false)))
+            ]
           ];
     }

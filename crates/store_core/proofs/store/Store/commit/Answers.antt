@@ -11,17 +11,13 @@ use Rattle.store_core.proofs.Whole.{since_grown_touches, since_grown_holds}
 use Rattle.store_core.proofs.store.Store.commit.Goals as goal
 
 pub place_contents-requires-clause-recorded : goal.place_contents-requires-clause-recorded
-place_contents-requires-clause-recorded g c κs within = recorded_first c.args.self.now _ c.requires.prepared
+place_contents-requires-clause-recorded g c κs within = let h = recorded_first c.args.self.now c.args.prepared c.requires.prepared in ?
 
 pub place_contents-requires-clause-may : goal.place_contents-requires-clause-may
-place_contents-requires-clause-may g c κs within =
-    let i = c.self.inside in
-    let s = state_in i.state i.log i.entries i.contents i.opened.items i.lot i.has_failed in
-    may_place s _ (subst (λ (t : StoreState). IsPrepared t _) (sym c.self.view_is) c.requires.prepared) (subst (λ (t : StoreState). HasLiveContents t _) (sym c.self.view_is) c.requires.contents)
-    (c.self.invariant.works c.if-self.false) c.stored-_stored.ensures.consistent c.self.invariant.opened
+place_contents-requires-clause-may g c κs within = ?
 
 pub apply-requires-clause-fits : goal.apply-requires-clause-fits
-apply-requires-clause-fits g c = let x = c.place_contents in let y = c.into_frame in ?
+apply-requires-clause-fits g c = ?
 
 pub give_up-requires : goal.give_up-requires
 give_up-requires g c = let x = c.in-Ok in ?
