@@ -1,16 +1,16 @@
 -- How many files go, and how many bytes their records have.
-use Rattle.std.proofs.Common.{◌≡◌, ◌≢◌, ℕ, ◌+◌, ◌==◌, ◌&&◌, not, Bool, true, false, List, [], ◌∷◌, length, map, Option, None, Some, is_some, refl, sym, ap, ◌∙◌, inl, inr, arith}
-use Rattle.std.specs.List.{sum, list_any, list_all}
+use Rattle.std.proofs.Common.{◌≡◌, ◌≢◌, ℕ, ◌+◌, ◌==◌, ◌&&◌, not, true, false, List, [], ◌∷◌, length, map, Option, None, Some, is_some, refl, sym, ap, ◌∙◌, arith}
+use Rattle.std.specs.List.{sum, list_any}
 use Rattle.std.specs.Option.{option_or}
 use Rattle.std.proofs.lemmas.Bool.{and_parts, and_from, or_parts, not-true, eq-eqb, false≢true}
 use Rattle.std.proofs.lemmas.List.Sums.{sum_by-cons}
-use Rattle.flowfile_record.specs.NumberedItems.{item_of, without_item, AscendsByNumber}
+use Rattle.flowfile_record.specs.NumberedItems.{without_item, AscendsByNumber}
 use Rattle.flowfile_record.specs.Stored.{Kept}
 use Rattle.flowfile_record.specs.declared.limits.TheConstants.{LIVE_FILES_MAX, LIVE_BYTES_MAX}
 use Rattle.flowfile_record.specs.declared.stored.ActiveFile.{ActiveFile}
 use Rattle.record_codec.specs.declared.entry.SessionEntry.{SessionEntry}
 use Rattle.checkpoint_store.specs.Consistent.{record_size}
-use Rattle.kept_state.specs.Applied.{number_of, left_after, with_files, session_applied}
+use Rattle.kept_state.specs.Applied.{number_of, left_after, session_applied}
 use Rattle.kept_state.specs.Fits.{active_of, are_distinct, is_in, are_active_in, are_active_with, are_active_in_one}
 use Rattle.kept_state.specs.Limits.{live_files, live_bytes, live_limit, passed}
 use Rattle.kept_state.specs.Moves.{size_at, are_active}

@@ -1,13 +1,13 @@
 -- What an entry that fits leaves is consistent.
-use Rattle.std.proofs.Common.{◌≡◌, ◌≢◌, ℕ, ◌+◌, ◌^◌, ◌<◌, ◌≤◌, ◌==◌, ◌||◌, ◌&&◌, not, nat_lt, nat_le, Bool, true, false, List, [], ◌∷◌, ◌++◌, length, map, All, Option, None, Some, is_some, refl, sym, ap, ◌∙◌, inl, inr, subst, arith, set, length-set}
+use Rattle.std.proofs.Common.{◌≡◌, ◌≢◌, ℕ, ◌+◌, ◌^◌, ◌<◌, ◌≤◌, ◌==◌, ◌&&◌, not, nat_lt, nat_le, Bool, true, false, List, [], ◌∷◌, length, map, All, Option, None, Some, refl, sym, ap, ◌∙◌, inl, inr, subst, arith, length-set}
 use Rattle.std.specs.Prelude.{is_none}
 use Rattle.std.specs.List.{sum, list_any, list_all, filter}
 use Rattle.std.specs.Option.{option_or}
-use Rattle.std.proofs.lemmas.Bool.{cases_Bool, and_parts, or_parts, ltb-true, leb-true, eqb-true, ltb-false, eq-eqb, false≢true}
+use Rattle.std.proofs.lemmas.Bool.{cases_Bool, and_parts, or_parts, ltb-true, leb-true, ltb-false, eq-eqb, false≢true}
 use Rattle.std.proofs.lemmas.List.Elements.{All-nil, All-cons, All-head, All-tail, All-filter, All-set, All-weaker}
 use Rattle.std.proofs.lemmas.List.Sums.{sum_by-cons}
 use Rattle.flowfile_record.specs.Encoding.{IsNumber}
-use Rattle.flowfile_record.specs.NumberedItems.{item_of, with_item, AscendsByNumber}
+use Rattle.flowfile_record.specs.NumberedItems.{with_item, AscendsByNumber}
 use Rattle.flowfile_record.specs.Stored.{Kept}
 use Rattle.flowfile_record.specs.declared.limits.TheConstants.{LIVE_FILES_MAX, LIVE_BYTES_MAX}
 use Rattle.flowfile_record.specs.declared.stored.ActiveFile.{ActiveFile}
@@ -15,8 +15,6 @@ use Rattle.flowfile_record.specs.declared.stored.Counted.{Counted}
 use Rattle.flowfile_record.specs.declared.stored.SwapBatch.{SwapBatch}
 use Rattle.record_codec.specs.ActiveFile.{IsActiveFile}
 use Rattle.record_codec.specs.EntryEncoding.{IsSession, IsExpire, IsGenerator}
-use Rattle.record_codec.specs.StoreHead.{head}
-use Rattle.record_codec.specs.declared.block.TheConstants.{PAYLOAD_MAX}
 use Rattle.record_codec.specs.declared.entry.SessionEntry.{SessionEntry}
 use Rattle.record_codec.specs.declared.entry.ExpireEntry.{ExpireEntry}
 use Rattle.record_codec.specs.declared.entry.LogEntry.TheVariants.{Session, Expire}
@@ -30,8 +28,8 @@ use Rattle.kept_state.specs.Fits.{are_distinct, are_active_in, are_active_in_one
 use Rattle.kept_state.specs.Limits.{live_files, live_bytes, live_limit, passed}
 use Rattle.kept_state.specs.declared.limit.Which.{Which}
 use Rattle.kept_state.specs.declared.limit.Which.TheVariants as which
-use Rattle.kept_state.proofs.Apart.{AreApart, apart, absent, unused-files, lives, are_unused}
-use Rattle.kept_state.proofs.Items.{All-with, ascends-with, any-with, length-with, sum-with, eqb_comm}
+use Rattle.kept_state.proofs.Apart.{AreApart, apart, absent, unused-files, lives}
+use Rattle.kept_state.proofs.Items.{All-with, ascends-with, length-with, sum-with}
 
 -- ---- what goes leaves the rest in order
 

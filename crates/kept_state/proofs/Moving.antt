@@ -1,8 +1,8 @@
 -- Files that go and files that are placed.
-use Rattle.std.proofs.Common.{◌≡◌, ◌≢◌, ℕ, ◌+◌, ◌==◌, ◌||◌, not, Bool, true, false, List, [], ◌∷◌, length, map, All, Option, None, Some, refl, sym, ap, ◌∙◌, inl, inr, arith}
-use Rattle.std.specs.List.{sum, list_any, filter}
-use Rattle.std.proofs.lemmas.Bool.{cases_Bool, or_parts, eqb-true, ne_eqb, false≢true, eq-eqb}
-use Rattle.flowfile_record.specs.NumberedItems.{item_of, with_item, without_item}
+use Rattle.std.proofs.Common.{◌≡◌, ◌≢◌, ℕ, ◌==◌, true, false, List, [], ◌∷◌, map, refl, sym, ap, ◌∙◌, inl, inr}
+use Rattle.std.specs.List.{list_any}
+use Rattle.std.proofs.lemmas.Bool.{cases_Bool, or_parts, false≢true, eq-eqb}
+use Rattle.flowfile_record.specs.NumberedItems.{with_item, without_item}
 use Rattle.flowfile_record.specs.declared.stored.ActiveFile.{ActiveFile}
 use Rattle.kept_state.specs.Applied.{number_of, is_among, left_after, with_files}
 use Rattle.kept_state.specs.Fits.{active_of}

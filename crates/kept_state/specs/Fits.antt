@@ -76,7 +76,8 @@ has_count counts (Some g) = nat_lt g.processor (length counts)
 
 -- no counter falls
 abbrev pub keeps_counters : Kept → SessionEntry → Bool
-keeps_counters k s = nat_le k.next_number s.next_number && nat_le k.next_arrival s.next_arrival && nat_le k.last_event s.last_event
+keeps_counters k s =
+    nat_le k.next_number s.next_number && nat_le k.next_arrival s.next_arrival && nat_le k.last_event s.last_event
 
 -- ---- which entries fit
 
@@ -88,7 +89,9 @@ session_suits files k s =
     && has_count k.counts s.generator && keeps_counters k s
 
 abbrev pub expire_fits : Kept → ExpireEntry → Bool
-expire_fits k e = are_distinct e.numbers && are_active_in k.files e.connection e.numbers && (e.last_event == k.last_event + length e.numbers)
+expire_fits k e =
+    are_distinct e.numbers && are_active_in k.files e.connection e.numbers
+    && (e.last_event == k.last_event + length e.numbers)
 
 abbrev pub swap_out_fits : Kept → SwapOutEntry → Bool
 swap_out_fits k s =

@@ -1,5 +1,5 @@
 -- The limits of what a store keeps, and which of them a state passes.
-use Rattle.std.specs.Prelude.{ℕ, ◌+◌, nat_lt, List, length, map, Option, None, Some, if◌then◌else◌}
+use Rattle.std.specs.Prelude.{ℕ, ◌+◌, nat_lt, length, map, Option, None, Some, if◌then◌else◌}
 use Rattle.std.specs.List.{sum}
 use Rattle.std.specs.Option.{option_or}
 use Rattle.flowfile_record.specs.Stored.{Kept}
@@ -20,7 +20,8 @@ live_bytes k = sum (map record_size k.files) + sum (map (λ b. b.encoded) k.batc
 
 -- the limit that a quantity passes
 abbrev pub passed : Which → (number wanted : ℕ) → Option Limit
-passed which number wanted = if nat_lt number wanted then Some (record { which = which; number = number; wanted = wanted }) else None
+passed which number wanted =
+    if nat_lt number wanted then Some (record { which = which; number = number; wanted = wanted }) else None
 
 -- the first limit of what lives that is passed
 abbrev pub live_limit : Kept → Option Limit

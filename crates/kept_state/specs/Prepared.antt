@@ -1,5 +1,5 @@
 -- What is kept true of an entry that is ready to be written.
-use Rattle.std.specs.Prelude.{◌≡◌, ℕ, ◌+◌, ◌≤◌, [], length, vec_len, vec_capacity}
+use Rattle.std.specs.Prelude.{◌≡◌, ◌≤◌, [], length, vec_capacity}
 use Rattle.record_codec.specs.EntryEncoding.{entry as encoding, IsEntry}
 use Rattle.record_codec.specs.declared.block.TheConstants.{PAYLOAD_MAX}
 use Rattle.kept_state.specs.Memory.{frame}

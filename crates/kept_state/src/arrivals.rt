@@ -1,5 +1,5 @@
 //! The arrivals of a state's files, and sets of numbers.
-ghost use Rattle.std.specs.Prelude.{◌≡◌, ℕ, ◌==◌, ◌||◌, true, false, IfOk, MatchOption};
+ghost use Rattle.std.specs.Prelude.{◌≡◌, ℕ, ◌==◌, ◌||◌, not, true, false, IfOk, OnOk, MatchOption};
 ghost use Rattle.std.specs.List.{list_any};
 ghost use Rattle.std.specs.Ordering.{nat_cmp};
 ghost use Rattle.std.specs.BTreeSet.{contains, IsOrdered};
@@ -43,21 +43,41 @@ pub(crate) fn add_all(set: &mut BTreeSet<u64>, numbers: &[u64]) -> Result<bool, 
     requires ordered { IsOrdered nat_cmp set.old }
     ensures fresh { IfOk result (λ fresh. fresh ≡ are_fresh (contains nat_cmp set.old) numbers.now) }
     ensures ordered { IsOrdered nat_cmp set.new }
-    ensures added { IfOk result (λ fresh. fresh ≡ true → (n : ℕ) → contains nat_cmp set.new n ≡ (contains nat_cmp set.old n || list_any (λ m. m == n) numbers.now)) }
+    ensures added { IfOk result (λ fresh. fresh ≡ true → (n : ℕ)
+        → contains nat_cmp set.new n ≡ (contains nat_cmp set.old n || list_any (λ m. m == n) numbers.now)) }
 {
     for number in numbers {
-        if !set.insert(*number)? {
+        if !add_one(set, *number)? {
             return Ok(false);
         }
     }
     Ok(true)
 }
 
+// Adds a number to a set. Answers whether it wasn't there.
+fn add_one(set: &mut BTreeSet<u64>, number: u64) -> Result<bool, AllocError>
+    requires ordered { IsOrdered nat_cmp set.old }
+    ensures new { IfOk result (λ new. new ≡ not (contains nat_cmp set.old number)) }
+    ensures added { OnOk result ((n : ℕ) → contains nat_cmp set.new n ≡ (contains nat_cmp set.old n || (number == n))) }
+    ensures ordered { IsOrdered nat_cmp set.new }
+{
+    Ok(set.insert(number)?)
+}
+
+// A set without numbers.
+fn empty_set(alloc: Global) -> BTreeSet<u64>
+    ensures none { (n : ℕ) → contains nat_cmp result n ≡ false }
+    ensures ordered { IsOrdered nat_cmp result }
+{
+    BTreeSet::new(alloc)
+}
+
 /// The set of numbers, or none where one of them stands twice.
 pub(crate) fn set_of(alloc: Global, numbers: &[u64]) -> Result<Option<BTreeSet<u64>>, AllocError>
-    ensures { IfOk result (λ set. MatchOption set (are_distinct numbers.now ≡ false) (λ s. (are_distinct numbers.now ≡ true) × IsSetOf s numbers.now)) }
+    ensures { IfOk result (λ set. MatchOption set (are_distinct numbers.now ≡ false)
+        (λ s. (are_distinct numbers.now ≡ true) × IsSetOf s numbers.now)) }
 {
-    let mut set = BTreeSet::new(alloc);
+    let mut set = empty_set(alloc);
     if !add_all(&mut set, numbers)? {
         return Ok(None);
     }

@@ -1,6 +1,8 @@
 //! What the entries of a log make of a snapshot's state, one after the other.
-ghost use Rattle.std.specs.Prelude.{◌≡◌, ℕ, ◌&&◌, [], true, false, List, map, IfOk, Err};
+ghost use Rattle.std.specs.Prelude.{◌≡◌, ℕ, ◌&&◌, not, [], true, false, is_some, List, map, IfOk, Err};
 ghost use Rattle.std.specs.List.{list_all};
+ghost use Rattle.std.specs.Ordering.{nat_cmp};
+ghost use Rattle.std.specs.BTreeSet.{contains};
 ghost use Rattle.flowfile_record.specs.Stored.{kept_of};
 ghost use Rattle.flowfile_record.specs.declared.flow_file.FlowFile.{FlowFile as File};
 ghost use Rattle.record_codec.specs.EntryEncoding.{IsEntry, IsSession, IsExpire};
@@ -9,7 +11,7 @@ ghost use Rattle.checkpoint_store.specs.Consistent.{IsConsistent};
 ghost use Rattle.kept_state.specs.Applied.{left_after, session_applied, applied, swapped_out};
 ghost use Rattle.kept_state.specs.Arrivals.{AreArrivalsOf, IsSetOf};
 ghost use Rattle.kept_state.specs.Changes.{no_files};
-ghost use Rattle.kept_state.specs.Fits.{are_new, has_count, has_place, keeps_counters, expire_fits, fits};
+ghost use Rattle.kept_state.specs.Fits.{active_of, are_new, has_count, has_place, keeps_counters, expire_fits, fits};
 
 use crate::KeptState;
 use crate::arrivals::{add_all, arrivals_of, remove_arrivals, set_of};
@@ -122,7 +124,8 @@ fn entry_fits(
     requires no_batch { swapped_out entry.now ≡ [] }
     requires arrivals { AreArrivalsOf arrivals.old state.now.kept.files }
     ensures fits { IfOk result (λ fit. fit ≡ fits no_files state.now.kept entry.now) }
-    ensures arrivals { IfOk result (λ fit. fit ≡ true → AreArrivalsOf arrivals.new (applied no_files state.now.kept entry.now).files) }
+    ensures arrivals { IfOk result (λ fit. fit ≡ true
+        → AreArrivalsOf arrivals.new (applied no_files state.now.kept entry.now).files) }
     ensures no_batches { state.now.kept.batches ≡ [] }
 {
     let stored = state.stored();
@@ -144,7 +147,8 @@ fn session_fits(
     requires encoded { IsSession session.now }
     requires arrivals { AreArrivalsOf arrivals.old state.now.kept.files }
     ensures fits { IfOk result (λ fit. fit ≡ fits no_files state.now.kept (entries.Session session.now)) }
-    ensures arrivals { IfOk result (λ fit. fit ≡ true → AreArrivalsOf arrivals.new (session_applied state.now.kept session.now).files) }
+    ensures arrivals { IfOk result (λ fit. fit ≡ true
+        → AreArrivalsOf arrivals.new (session_applied state.now.kept session.now).files) }
 {
     let stored = state.stored();
     let gone = session.gone.as_slice();
@@ -162,12 +166,11 @@ fn session_fits(
     if !add_all(arrivals, arrivals_in(alloc, placed)?.as_slice())? {
         return Ok(false);
     }
-    Ok(
-        suits_counters(stored, session)
-            && state
-                .limit_with(gone, placed.len() as u64, bytes_of(placed))
-                .is_none(),
-    )
+    if !suits_counters(stored, session) {
+        return Ok(false);
+    }
+    let limit = state.limit_with(gone, placed.len() as u64, bytes_of(placed));
+    Ok(limit.is_none())
 }
 
 // Whether the placed files have numbers that no other file has once those that go are gone.
@@ -177,18 +180,35 @@ fn numbers_are_new(
     gone_set: &BTreeSet<u64>,
     placed: &[ActiveFile],
 ) -> Result<bool, AllocError>
-    ensures { (gone : List ℕ) → IsSetOf gone_set.now gone → IfOk result (λ new. new ≡ are_new (λ f. f.number) (map (λ a. a.file.number) placed.now) (map (λ a. a.file) (left_after gone files.now.items))) }
+    ensures { (gone : List ℕ) → IsSetOf gone_set.now gone
+        → IfOk result (λ new. new ≡ are_new (λ f. f.number) (map (λ a. a.file.number) placed.now)
+        (map (λ a. a.file) (left_after gone files.now.items))) }
 {
     let numbers = numbers_in(alloc, placed)?;
     if set_of(alloc, numbers.as_slice())?.is_none() {
         return Ok(false);
     }
-    for number in numbers.as_slice() {
-        if files.get(*number).is_some() && !gone_set.contains(number) {
-            return Ok(false);
+    Ok(none_is_left(files, gone_set, numbers.as_slice()))
+}
+
+// Whether no file has one of these numbers once those that go are gone.
+fn none_is_left(files: &ActiveList, gone_set: &BTreeSet<u64>, numbers: &[u64]) -> bool
+    ensures { result ≡ list_all
+        (λ n. not (is_some (active_of n files.now.items) && not (contains nat_cmp gone_set.now n))) numbers.now }
+{
+    for number in numbers {
+        if is_left(files, gone_set, *number) {
+            return false;
         }
     }
-    Ok(true)
+    true
+}
+
+// Whether a file has this number once those that go are gone.
+fn is_left(files: &ActiveList, gone_set: &BTreeSet<u64>, number: u64) -> bool
+    ensures { result ≡ (is_some (active_of number files.now.items) && not (contains nat_cmp gone_set.now number)) }
+{
+    files.get(number).is_some() && !gone_set.contains(&number)
 }
 
 // The numbers of files.
@@ -248,7 +268,8 @@ fn expire_fits(
     requires consistent { IsConsistent (kept_of stored.now) }
     requires arrivals { AreArrivalsOf arrivals.old stored.now.files.items }
     ensures fits { IfOk result (λ fit. fit ≡ expire_fits (kept_of stored.now) expire.now) }
-    ensures arrivals { IfOk result (λ fit. fit ≡ true → AreArrivalsOf arrivals.new (left_after expire.now.numbers stored.now.files.items)) }
+    ensures arrivals { IfOk result (λ fit. fit ≡ true
+        → AreArrivalsOf arrivals.new (left_after expire.now.numbers stored.now.files.items)) }
 {
     let numbers = expire.numbers.as_slice();
     remove_arrivals(arrivals, &stored.files, numbers);

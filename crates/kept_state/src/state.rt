@@ -121,7 +121,8 @@ impl KeptState {
         requires placed { placed < 2 ^ 32 }
         requires bytes { bytes < 2 ^ 49 }
         ensures limit { let left = left_after gone.now self.now.kept.files in
-            result ≡ option_or (passed which.Files FILES_MOST (length left + placed)) (passed which.FileBytes BYTES_MOST (sum (map record_size left) + bytes)) }
+            result ≡ option_or (passed which.Files FILES_MOST (length left + placed))
+            (passed which.FileBytes BYTES_MOST (sum (map record_size left) + bytes)) }
         ensures no_batches { self.now.kept.batches ≡ [] }
     {
         let files = self.stored.files.len() - gone.len() as u64 + placed;
@@ -212,6 +213,7 @@ impl KeptState {
         ensures kept { self.new.kept ≡ applied no_files self.old.kept entry }
         ensures room { self.old.room ≤ self.new.room + length (placed_in entry) }
     {
+        // No batch is swapped out, so none comes in.
         let _ = &self.stored;
         match entry {
             LogEntry::Session(session) => self.apply_session(session),

@@ -1,12 +1,10 @@
-use Rattle.std.proofs.Common.{◌≡◌, ◌+◌, List, map, true, sym, ap, ◌∙◌, subst, arith}
+use Rattle.std.proofs.Common.{◌≡◌, List, map, true, sym, ap, subst, arith}
 use Rattle.std.specs.List.{sum}
-use Rattle.flowfile_record.specs.NumberedItems.{AscendsByNumber}
 use Rattle.flowfile_record.specs.declared.stored.ActiveFile.{ActiveFile}
 use Rattle.checkpoint_store.specs.Consistent.{record_size}
 use Rattle.kept_state.specs.Applied.{left_after}
-use Rattle.kept_state.specs.Fits.{active_of}
 use Rattle.kept_state.specs.Memory.{InMemory}
-use Rattle.kept_state.specs.Moves.{size_at, are_active}
+use Rattle.kept_state.specs.Moves.{are_active}
 use Rattle.kept_state.proofs.Going.{bytes_gone}
 use Rattle.kept_state.proofs.state.KeptState.bytes_with.Goals as goal
 

@@ -1,9 +1,7 @@
-use Rattle.std.proofs.Common.{◌≡◌, ◌+◌, ◌-◌, ℕ, List, length, map, true, sym, ap, ◌∙◌, subst, arith}
-use Rattle.std.specs.List.{sum}
+use Rattle.std.proofs.Common.{◌≡◌, ◌+◌, ◌-◌, List, length, true, sym, ap, ◌∙◌, subst, arith}
 use Rattle.std.specs.Option.{option_or}
 use Rattle.flowfile_record.specs.declared.limits.TheConstants.{LIVE_FILES_MAX, LIVE_BYTES_MAX}
 use Rattle.flowfile_record.specs.declared.stored.ActiveFile.{ActiveFile}
-use Rattle.checkpoint_store.specs.Consistent.{record_size}
 use Rattle.kept_state.specs.Applied.{left_after}
 use Rattle.kept_state.specs.Limits.{passed}
 use Rattle.kept_state.specs.Memory.{InMemory}
