@@ -12,6 +12,7 @@ pub mod Giving
 pub mod Growing
 pub mod Machine
 pub mod Making
+pub mod Outcomes
 pub mod Placing
 pub mod PlacingOne
 pub mod Queues
