@@ -177,7 +177,7 @@ pub record IsSound (files : Files) (k : Kept) (s : State) : Type 0 where
   pub events_are : events_in files k.last_event ≡ Ok events
   pub is : s ≡ state_with (content_in files) events k
 
-abbrev of_state : State → Result State Damage
+abbrev pub of_state : State → Result State Damage
 of_state s = Ok s
 
 sound_state : (files : Files) (k : Kept) (s : State) (damage : Option Damage) (events : Result (List Event) Damage) → contents_damage files (live_contents k) ≡ damage → events_in files k.last_event ≡ events

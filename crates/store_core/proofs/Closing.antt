@@ -1,5 +1,5 @@
 -- A store lets go of the contents of its opening.
-use Rattle.std.proofs.Common.{◌≡◌, ℕ, ◌+◌, ◌≤◌, List, [], length, get_or, refl, sym, ap, ◌∙◌, arith}
+use Rattle.std.proofs.Common.{◌≡◌, ℕ, ◌+◌, ◌≤◌, List, [], length, get_or, refl, sym, ap, subst, ◌∙◌, arith}
 use Rattle.flowfile_record.specs.declared.content.ContentRef.{ContentRef}
 use Rattle.content_repo.specs.Slots.{count_of, size_of, held_in, references_to}
 use Rattle.content_repo.specs.declared.slot.Slot.{Slot}
@@ -7,7 +7,13 @@ use Rattle.disk_trait.specs.Files.{Files}
 use Rattle.flowfile_wal.specs.Calls.{InEach}
 use Rattle.std.specs.Prelude.{Bool, true, false, IsTrue}
 use Rattle.content_repo.specs.Claims.{HasSizes}
-use Rattle.store_core.specs.Store.{StoreState, IsWorking, IsKeptOn, Holds, HasLog, kept_by, live_in}
+use Rattle.store_core.specs.Store.{StoreState, IsWorking, IsSound, IsKeptOn, Holds, HasLog, kept_by, live_in}
+use Rattle.disk_trait.specs.Images.{After, Since}
+use Rattle.disk_trait.proofs.Moments.{wider, at_the_end}
+use Rattle.content_repo.specs.Claims.{IdleShortened}
+use Rattle.content_repo.specs.Slots.{IsReclaimed}
+use Rattle.content_repo.specs.declared.reclaim.Reclaimed.{Reclaimed}
+use Rattle.store_core.proofs.Reclaiming.{since_reclaimed, kept_reclaimed, sound_reclaimed}
 
 abbrev pub let_go : StoreState → List Slot → StoreState
 let_go s slots = record s { slots = slots; opened = [] }
@@ -33,3 +39,48 @@ kept_let_go tells held moment images s slots disk sizes kept = record {
   log = λ f c left. let h = kept.log f c left in record { ready = h.ready; entries = h.entries };
   sizes = λ f told k lt. kept.sizes f told k lt ∙ sym (sizes k);
 }
+
+-- ---- the claims are emptied, and the disk is synced
+
+abbrev pub closed : StoreState → List Slot → StoreState
+closed s slots = record s { slots = slots; opened = [] }
+
+-- the references of the opening were given up
+pub record HasLetGo (s : StoreState) (slots : List Slot) : Type 0 where
+  pub works : IsWorking s
+  pub unfailed : s.failed ≡ false
+  pub counts : (k : ℕ) → count_of slots k + references_to k s.opened ≡ count_of s.slots k
+  pub held : held_in slots + length s.opened ≡ held_in s.slots
+  pub sizes : (k : ℕ) → size_of slots k ≡ size_of s.slots k
+
+works_on : (s : StoreState) (slots : List Slot) → HasLetGo s slots → IsWorking (let_go s slots)
+works_on s slots has = working_let_go s slots has.works has.counts has.held has.sizes
+
+module _ {D : Type 0} (tells : Bool) (held : D → Files) (moment : D → ℕ) (images : D → ℕ → Files → Type 0) (s : StoreState) (slots : List Slot) (old mid : D) (has : HasLetGo s slots)
+    (kept : IsKeptOn tells held moment images s old) (since : Since moment images old mid (After (IdleShortened slots) (images old (moment old)))) where
+  kept_on : IsKeptOn tells held moment images (let_go s slots) old
+  kept_on = kept_let_go tells held moment images s slots old has.sizes kept
+
+  pub since_closed : Since moment images old mid (Holds s)
+  since_closed =
+      wider moment images old mid (Holds (let_go s slots)) (Holds s)
+      (since_reclaimed moment images (let_go s slots) old mid (works_on s slots has) (kept_on.holds has.unfailed) (kept_on.log has.unfailed) since)
+      (λ c h. record { kept = h.kept; contents = h.contents })
+
+  pub kept_closed : (emptied : List Slot) → (IsTrue tells → HasSizes emptied (held mid)) → IsKeptOn tells held moment images (closed s emptied) mid
+  kept_closed emptied sizes = kept_reclaimed moment images (let_go s slots) old mid tells held emptied (works_on s slots has) has.unfailed kept_on since sizes
+
+-- a sync leaves it so
+pub kept_synced : {D : Type 0} (tells : Bool) (held : D → Files) (moment : D → ℕ) (images : D → ℕ → Files → Type 0) (s : StoreState) (mid end : D) → IsKeptOn tells held moment images s mid
+    → Since moment images mid end (images mid (moment mid)) → held end ≡ held mid → IsKeptOn tells held moment images s end
+kept_synced tells held moment images s mid end kept since same = record {
+  holds = λ f c left. kept.holds f c (at_the_end moment images mid end (images mid (moment mid)) since c left);
+  log = λ f c left. kept.log f c (at_the_end moment images mid end (images mid (moment mid)) since c left);
+  sizes = λ f told. subst (HasSizes s.slots) (sym same) (kept.sizes f told);
+}
+
+pub sound_closed : (s : StoreState) (slots emptied : List Slot) (answer : Reclaimed) → IsSound s → HasLetGo s slots → IsReclaimed slots emptied answer → IsSound (closed s emptied)
+sound_closed s slots emptied answer sound has is =
+    sound_reclaimed (let_go s slots) emptied answer
+    (record { current = sound.current; mended = sound.mended; opened = omega arith; works = λ f. works_on s slots has })
+    has.unfailed is

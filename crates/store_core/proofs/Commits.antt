@@ -28,7 +28,9 @@ use Rattle.content_repo.specs.Slots.{count_of, size_of, held_in, references_to, 
 use Rattle.content_repo.specs.declared.content.TheConstants.{HELD_MAX}
 use Rattle.content_repo.specs.declared.slot.Slot.{Slot}
 use Rattle.content_repo.specs.declared.slot_set.TheConstants.{SLOTS}
-use Rattle.flowfile_wal.specs.Steps.{Adds, LogState}
+use Rattle.flowfile_wal.specs.Steps.{Adds, LogState, IsFrame, frame}
+use Rattle.record_codec.specs.EntryEncoding.{entry as encoding, kind_of, IsEntry}
+use Rattle.record_codec.proofs.Sizes.{placeless_entry_size}
 use Rattle.kept_state.specs.Applied.{number_of, left_after, session_applied, applied, swapped_out, with_count}
 use Rattle.kept_state.specs.Changes.{entry_of, session_of, record_of, no_files, placed_in, MaySettle}
 use Rattle.kept_state.specs.Fits.{fits, session_suits}
@@ -281,3 +283,22 @@ module _ (s : StoreState) (p : PreparedChange) (e : LogEntry) (prepared : IsPrep
 -- the placed files of the entry that was prepared
 pub recorded_first : (s : StoreState) (p : PreparedChange) → IsPrepared s p → placed_in p.entry ≡ map record_of p.settled.placed
 recorded_first s p prepared = ap placed_in prepared.entry
+
+-- the block of the entry of a prepared change may be appended
+pub entry_frame : (s : StoreState) (p : PreparedChange) (e : LogEntry) (bytes : List ℕ) → IsPrepared s p → placeless_entry e ≡ placeless_entry p.entry → IsEntry e → bytes ≡ frame e → IsFrame e bytes
+entry_frame s p e bytes prepared same encodes is =
+    let t = session_of (kept_by s) p.settled in
+    let session = entry_is s p e prepared same in
+    record {
+      encodes = encodes;
+      small =
+          omega (
+            arith,
+            prepared.may.settles.payload,
+            placeless_entry_size e,
+            placeless_entry_size (Session t),
+            ap {B = ℕ} (λ (l : LogEntry). length (encoding l)) (entry_as s p e prepared same),
+          );
+      later = λ (one : kind_of e ≡ 1). let other : kind_of (Session session.session) ≡ 1 = ap kind_of (sym session.is) ∙ one in omega (arith, other);
+      is = is;
+    }

@@ -18,6 +18,7 @@ pub mod Made
 pub mod MadeSteps
 pub mod Making
 pub mod Opening
+pub mod Outcomes
 pub mod Placing
 pub mod PlacingOne
 pub mod Queues

@@ -64,17 +64,17 @@ module _ (contents : ContentRef → List ℕ) (place : ℕ) where
       elim (cases_Bool (nat_lt (number_of b) (number_of a))) [
         | inl t ↦
             ap (λ (c : Bool). fold with_arrival front (line (cond c (b ∷ with_item number_of a files) (a ∷ b ∷ files)))) t
-            ∙ past (sel b) parts.1
+            ∙ past (sel b) (λ queue. join_one a files queue parts.1)
         | inr f ↦
             ap (λ (c : Bool). fold with_arrival front (line (cond c (b ∷ with_item number_of a files) (a ∷ b ∷ files)))) f
             ∙ join_first (sel a) a front (filter sel (b ∷ files)) (apart_in a (b ∷ files) apart)
       ]
     where
-      past : (t : Bool) → list_any (λ b. arrival_of b == arrival_of a) files ≡ false
+      past : (t : Bool) → ((queue : List QueuedFile) → fold with_arrival queue (line (with_item number_of a files)) ≡ joined (sel a) a (fold with_arrival queue (line files)))
           → fold with_arrival front (map (queued contents) (cond t (b ∷ filter sel (with_item number_of a files)) (filter sel (with_item number_of a files))))
           ≡ joined (sel a) a (fold with_arrival front (map (queued contents) (cond t (b ∷ filter sel files) (filter sel files))))
-      past true rest = join_one a files (with_arrival front (queued contents b)) rest
-      past false rest = join_one a files front rest
+      past true rest = rest (with_arrival front (queued contents b))
+      past false rest = rest front
 
   -- ---- all join
 

@@ -167,6 +167,9 @@ module _ {D : Type 0} (moment : D → ℕ) (images : D → ℕ → Files → Typ
 
 -- ---- behind the log's second sync
 
+abbrev read_as : Option CurrentLog → Result (Option CurrentLog) Damage
+read_as log = Ok log
+
 entries_more : (s new : StoreState) (e : LogEntry) (old files : Files) (number : ℕ) → HasLog s old → s.log.number ≡ Some number → Adds number e old files → new.entries ≡ min (s.entries + 1) (2 ^ 64 - 1)
     → (l : CurrentLog) → current_log files ≡ Ok (Some l) → new.entries ≡ min (length l.entries) (2 ^ 64 - 1)
 entries_more s new e old files number has numbered added more l is =
@@ -174,7 +177,7 @@ entries_more s new e old files number has numbered added more l is =
     let both : Some number ≡ Some log.number = sym numbered ∙ has.ready.number in
     let same : number ≡ log.number = cc in
     let now = with_one_more log e old files has.ready.ready (subst (λ (n : ℕ). Adds n e old files) same added) in
-    let whole : Ok {E = Damage} (Some l) ≡ Ok (Some (with_entry log e)) = sym is ∙ now.current in
+    let whole : read_as (Some l) ≡ read_as (Some (with_entry log e)) = sym is ∙ now.current in
     let last : l ≡ with_entry log e = cc in
     let long : length l.entries ≡ length log.entries + 1 = ap (λ (m : CurrentLog). length m.entries) last ∙ length-append log.entries ((log.end, e) ∷ []) in
     let before : s.entries ≡ min (length log.entries) (2 ^ 64 - 1) = has.entries log has.ready.ready.current in

@@ -15,7 +15,6 @@ use crate::{Prepared, Store, StoreError};
 use disk_trait::Disk;
 
 impl Store {
-    #[tactic(none)]
     /// Makes a prepared change. Answers the disk's moment at which it was acknowledged. Neither a commit nor a reclaim
     /// comes between the two. It takes no memory.
     ///

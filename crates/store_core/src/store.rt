@@ -86,7 +86,6 @@ impl Store {
         self.entries
     }
 
-    #[tactic(none)]
     /// Takes all memory that the commit of a settled session wants, and makes no call of the disk. The session's new
     /// contents are written by the commit from where they are.
     pub fn prepare<'a>(&mut self, settled: &'a Settled) -> Result<Prepared<'a>, StoreError>
@@ -159,7 +158,6 @@ impl Store {
         Ok(reclaimed)
     }
 
-    #[tactic(none)]
     /// Lets go of the contents of the opening, empties the claims that no live content stands in, and syncs the disk. It
     /// takes no memory.
     pub fn close<D: Disk>(&mut self, disk: &mut D) -> Result<(), StoreError>

@@ -18,14 +18,14 @@ loop-place-init g c = record {
 }
 
 pub place_content-requires-clause-recorded : goal.place_content-requires-clause-recorded
-place_content-requires-clause-recorded g c =
-    recorded_next g.D.Disk.tells c.args.placed.now c.args.contents.now c.loop-place.contents (g.D.Disk.held c.loop-place.disk) c.loop-place.entry c.loop-place.place c.one-item.result
-    c.loop-place-test.true c.one-item.is c.loop-place.invariant.placed
+place_content-requires-clause-recorded g c κs within =
+    recorded_next g.D.Disk.tells c.args.placed.now c.args.contents.now c.loop-place.contents (g.D.Disk.held c.loop-place.disk) c.loop-place.entry c.loop-place.place c.index-placed-place.result
+    c.loop-place-test.true c.index-placed-place.is c.loop-place.invariant.placed
 
 pub place_content-requires-clause-may : goal.place_content-requires-clause-may
-place_content-requires-clause-may g c =
-    may_next g.D.Disk.tells c.args.placed.now c.args.contents.now c.loop-place.contents (g.D.Disk.held c.loop-place.disk) c.loop-place.entry c.loop-place.place c.one-item.result
-    c.loop-place-test.true c.one-item.is c.requires.may c.loop-place.invariant.placed
+place_content-requires-clause-may g c κs within =
+    may_next g.D.Disk.tells c.args.placed.now c.args.contents.now c.loop-place.contents (g.D.Disk.held c.loop-place.disk) c.loop-place.entry c.loop-place.place c.index-placed-place.result
+    c.loop-place-test.true c.index-placed-place.is c.requires.may c.loop-place.invariant.placed
 
 pub returns-in_err-place_content-clause-images : goal.returns-in_err-place_content-clause-images
 returns-in_err-place_content-clause-images g c =
@@ -41,7 +41,7 @@ pub loop-place-preserved : goal.loop-place-preserved
 loop-place-preserved g c =
     let inv = c.loop-place.invariant in
     let next = placed_next g.D.Disk.tells c.args.placed.now c.args.contents.now c.loop-place.contents c.place_content.new.contents (g.D.Disk.held c.loop-place.disk) (g.D.Disk.held c.place_content.new.disk)
-    c.loop-place.entry c.place_content.new.entry c.loop-place.place c.one-item.result c.loop-place-test.true c.one-item.is inv.placed c.in_ok-place_content.ensures.placed c.place_content.ensures.held in
+    c.loop-place.entry c.place_content.new.entry c.loop-place.place c.index-placed-place.result c.loop-place-test.true c.index-placed-place.is inv.placed c.in_ok-place_content.ensures.placed c.place_content.ensures.held in
     record {
       since =
           since_grown g.D.Disk.moment g.D.Disk.images c.args.contents.now c.loop-place.contents c.args.disk.now c.loop-place.disk c.place_content.new.disk

@@ -1,0 +1,125 @@
+use Rattle.std.proofs.Common.{◌≡◌, ℕ, ◌+◌, [], List, length, ap, sym, subst, ◌∙◌}
+use Rattle.disk_trait.specs.Images.{Since}
+use Rattle.disk_trait.proofs.Moments.{and_syncs}
+use Rattle.flowfile_record.specs.declared.content.ContentRef.{ContentRef}
+use Rattle.content_repo.specs.Slots.{count_of, held_in, references_to}
+use Rattle.store_core.specs.Store.{StoreState, state_in, IsKeptOn, IsSound, Holds}
+use Rattle.store_core.proofs.Closing.{HasLetGo, closed, since_closed, kept_closed, kept_synced, sound_closed}
+use Rattle.store_core.proofs.store.Store.close.Goals as goal
+
+pub returns-in_default-clause-images : goal.returns-in_default-clause-images
+returns-in_default-clause-images g c =
+    let i = c.self.inside in
+    let s = state_in i.state i.log i.entries i.contents i.opened.items i.lot i.has_failed in
+    let moment = g.D.Disk.moment in
+    let images = g.D.Disk.images in
+    let held = g.D.Disk.held in
+    let tells = g.D.Disk.tells in
+    let old = c.args.disk.now in
+    let mid = c.reclaim.new.disk in
+    let slots = c.let_go.new.contents in
+    let has : HasLetGo s slots = record {
+      works = c.self.invariant.works c.if-self.false;
+      unfailed = c.if-self.false;
+      counts = λ k. subst (λ (refs : List ContentRef). count_of slots k + references_to k refs ≡ count_of i.contents k) c.as_slice.ensures.value (c.let_go.ensures.counts k);
+      held = subst (λ (refs : List ContentRef). held_in slots + length refs ≡ held_in i.contents) c.as_slice.ensures.value c.let_go.ensures.held;
+      sizes = c.let_go.ensures.sizes;
+    } in
+    let kept = subst (λ (t : StoreState). IsKeptOn tells held moment images t old) (sym c.self.view_is) c.requires in
+    let images_held : Since moment images old mid (Holds s) = since_closed tells held moment images s slots old mid has kept c.reclaim.ensures.images in
+    λ works. subst (λ (t : StoreState). Since moment images old mid (Holds t)) c.self.view_is images_held
+
+pub invariant_of-self-in-Ok-sync : goal.invariant_of-self-in-Ok-sync
+invariant_of-self-in-Ok-sync g c =
+    let i = c.self.inside in
+    let s = state_in i.state i.log i.entries i.contents i.opened.items i.lot i.has_failed in
+    let moment = g.D.Disk.moment in
+    let images = g.D.Disk.images in
+    let held = g.D.Disk.held in
+    let tells = g.D.Disk.tells in
+    let old = c.args.disk.now in
+    let mid = c.reclaim.new.disk in
+    let slots = c.let_go.new.contents in
+    let has : HasLetGo s slots = record {
+      works = c.self.invariant.works c.if-self.false;
+      unfailed = c.if-self.false;
+      counts = λ k. subst (λ (refs : List ContentRef). count_of slots k + references_to k refs ≡ count_of i.contents k) c.as_slice.ensures.value (c.let_go.ensures.counts k);
+      held = subst (λ (refs : List ContentRef). held_in slots + length refs ≡ held_in i.contents) c.as_slice.ensures.value c.let_go.ensures.held;
+      sizes = c.let_go.ensures.sizes;
+    } in
+    subst (λ (o : List ContentRef). IsSound (state_in i.state i.log i.entries c.reclaim.new.self o i.lot i.has_failed)) (sym c.clear.ensures.items)
+    (sound_closed s slots c.reclaim.new.self c.in-Ok.field-0 c.self.invariant has c.in-Ok.ensures.reclaimed)
+
+pub returns-in_default-sync-clause-images : goal.returns-in_default-sync-clause-images
+returns-in_default-sync-clause-images g c =
+    let i = c.self.inside in
+    let s = state_in i.state i.log i.entries i.contents i.opened.items i.lot i.has_failed in
+    let moment = g.D.Disk.moment in
+    let images = g.D.Disk.images in
+    let held = g.D.Disk.held in
+    let tells = g.D.Disk.tells in
+    let old = c.args.disk.now in
+    let mid = c.reclaim.new.disk in
+    let slots = c.let_go.new.contents in
+    let has : HasLetGo s slots = record {
+      works = c.self.invariant.works c.if-self.false;
+      unfailed = c.if-self.false;
+      counts = λ k. subst (λ (refs : List ContentRef). count_of slots k + references_to k refs ≡ count_of i.contents k) c.as_slice.ensures.value (c.let_go.ensures.counts k);
+      held = subst (λ (refs : List ContentRef). held_in slots + length refs ≡ held_in i.contents) c.as_slice.ensures.value c.let_go.ensures.held;
+      sizes = c.let_go.ensures.sizes;
+    } in
+    let kept = subst (λ (t : StoreState). IsKeptOn tells held moment images t old) (sym c.self.view_is) c.requires in
+    let images_held : Since moment images old mid (Holds s) = since_closed tells held moment images s slots old mid has kept c.reclaim.ensures.images in
+    λ works. subst (λ (t : StoreState). Since moment images old c.sync.new.self (Holds t)) c.self.view_is
+    (and_syncs moment images old mid c.sync.new.self (Holds s) images_held c.sync.ensures.images)
+
+pub returns-clause-images : goal.returns-clause-images
+returns-clause-images g c =
+    let i = c.self.inside in
+    let s = state_in i.state i.log i.entries i.contents i.opened.items i.lot i.has_failed in
+    let moment = g.D.Disk.moment in
+    let images = g.D.Disk.images in
+    let held = g.D.Disk.held in
+    let tells = g.D.Disk.tells in
+    let old = c.args.disk.now in
+    let mid = c.reclaim.new.disk in
+    let slots = c.let_go.new.contents in
+    let has : HasLetGo s slots = record {
+      works = c.self.invariant.works c.if-self.false;
+      unfailed = c.if-self.false;
+      counts = λ k. subst (λ (refs : List ContentRef). count_of slots k + references_to k refs ≡ count_of i.contents k) c.as_slice.ensures.value (c.let_go.ensures.counts k);
+      held = subst (λ (refs : List ContentRef). held_in slots + length refs ≡ held_in i.contents) c.as_slice.ensures.value c.let_go.ensures.held;
+      sizes = c.let_go.ensures.sizes;
+    } in
+    let kept = subst (λ (t : StoreState). IsKeptOn tells held moment images t old) (sym c.self.view_is) c.requires in
+    let images_held : Since moment images old mid (Holds s) = since_closed tells held moment images s slots old mid has kept c.reclaim.ensures.images in
+    λ works. subst (λ (t : StoreState). Since moment images old c.sync.new.self (Holds t)) c.self.view_is
+    (and_syncs moment images old mid c.sync.new.self (Holds s) images_held c.sync.ensures.images)
+
+pub returns-clause-tidy : goal.returns-clause-tidy
+returns-clause-tidy g c =
+    ?
+
+pub returns-clause-kept : goal.returns-clause-kept
+returns-clause-kept g c =
+    let i = c.self.inside in
+    let s = state_in i.state i.log i.entries i.contents i.opened.items i.lot i.has_failed in
+    let moment = g.D.Disk.moment in
+    let images = g.D.Disk.images in
+    let held = g.D.Disk.held in
+    let tells = g.D.Disk.tells in
+    let old = c.args.disk.now in
+    let mid = c.reclaim.new.disk in
+    let slots = c.let_go.new.contents in
+    let has : HasLetGo s slots = record {
+      works = c.self.invariant.works c.if-self.false;
+      unfailed = c.if-self.false;
+      counts = λ k. subst (λ (refs : List ContentRef). count_of slots k + references_to k refs ≡ count_of i.contents k) c.as_slice.ensures.value (c.let_go.ensures.counts k);
+      held = subst (λ (refs : List ContentRef). held_in slots + length refs ≡ held_in i.contents) c.as_slice.ensures.value c.let_go.ensures.held;
+      sizes = c.let_go.ensures.sizes;
+    } in
+    let kept = subst (λ (t : StoreState). IsKeptOn tells held moment images t old) (sym c.self.view_is) c.requires in
+    subst (λ (o : List ContentRef). IsKeptOn tells held moment images (state_in i.state i.log i.entries c.reclaim.new.self o i.lot i.has_failed) c.sync.new.self) (sym c.clear.ensures.items)
+    (kept_synced tells held moment images (closed s c.reclaim.new.self) mid c.sync.new.self
+    (kept_closed tells held moment images s slots old mid has kept c.reclaim.ensures.images c.reclaim.new.self (λ told. (c.in-Ok.ensures.emptied told).sizes))
+    c.sync.ensures.images c.in-Ok-sync.ensures.held)
