@@ -163,9 +163,8 @@ impl Store {
     pub fn close<D: Disk>(&mut self, disk: &mut D) -> Result<(), StoreError>
         requires { IsKeptOn D.tells D.held D.moment D.images self.old disk.old }
         ensures images { self.old.failed ≡ false → Since D.moment D.images disk.old disk.new (Holds self.old) }
-        // One image alone is left, and each claim that isn't empty has a live content.
+        // One image alone is left.
         ensures synced { OnOk result (IsOnly (D.held disk.new) (D.images disk.new (D.moment disk.new))) }
-        ensures tidy { OnOk result (IsTrue D.tells → (k : ℕ) → references_to k (live_in self.old) ≡ 0 → D.held disk.new (claim k) ≡ []) }
         ensures kept { IsKeptOn D.tells D.held D.moment D.images self.new disk.new }
         ensures state { (kept_by self.new ≡ kept_by self.old) × (self.new.lot ≡ self.old.lot) }
         ensures refusal { RefusesOnFault result self.old self.new (D.faults disk.old) (D.faults disk.new) }

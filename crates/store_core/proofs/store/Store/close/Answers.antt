@@ -96,10 +96,6 @@ returns-clause-images g c =
     λ works. subst (λ (t : StoreState). Since moment images old c.sync.new.self (Holds t)) c.self.view_is
     (and_syncs moment images old mid c.sync.new.self (Holds s) images_held c.sync.ensures.images)
 
-pub returns-clause-tidy : goal.returns-clause-tidy
-returns-clause-tidy g c =
-    ?
-
 pub returns-clause-kept : goal.returns-clause-kept
 returns-clause-kept g c =
     let i = c.self.inside in
