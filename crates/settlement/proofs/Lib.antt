@@ -2,6 +2,7 @@ pub mod ByArrival
 pub mod Arriving
 pub mod Bounds
 pub mod Bytes
+pub mod Children
 pub mod Contained
 pub mod EndedFiles
 pub mod EventCount

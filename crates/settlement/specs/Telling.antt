@@ -1,5 +1,5 @@
 -- The events that the calls inside tell: the machine's rows, over references in place of bytes.
-use Rattle.std.specs.Prelude.{◌≡◌, ℕ, ◌+◌, ◌%◌, ◌^◌, Bool, List, [], ◌∷◌, ◌++◌, length, map, filter, Option, Some, None, slice_get, slice_index, unwrap_or, ◌||◌, if◌then◌else◌}
+use Rattle.std.specs.Prelude.{◌≡◌, ℕ, ◌+◌, ◌%◌, ◌^◌, Bool, List, [], ◌∷◌, ◌++◌, length, map, filter, Option, Some, None, slice_get, slice_index, slice_index_or, slice_set, unwrap_or, ◌||◌, if◌then◌else◌}
 use Rattle.std.specs.Option.{option_map_or}
 use Rattle.std.specs.List.{flat_map, enumerate_from, range_with_len}
 use Rattle.flowfile_record.specs.Outcome.{same_attributes}
@@ -78,6 +78,19 @@ is_child Cloned place origin = is_cloned_from place origin
 abbrev pub children_of : Kinship → List EndedFile → ℕ → List ℕ
 children_of kinship files place =
     map (λ file. file.number) (filter (λ file. is_child kinship place file.worked.origin) files)
+
+-- the place of the file of which a file is such a child
+abbrev pub parent_of : Kinship → Origin → Option ℕ
+parent_of Forked (origin.Forked parent) = Some parent
+parent_of Forked (origin.Part parent) = Some parent
+parent_of Cloned (origin.Cloned parent) = Some parent
+parent_of _ _ = None
+
+-- lists by place, with one number more in that of the parent
+abbrev pub with_child : Option ℕ → (number : ℕ) → List (List ℕ) → List (List ℕ)
+with_child None number lists = lists
+with_child (Some parent) number lists =
+    slice_set lists parent (slice_index_or lists parent [] ++ number ∷ [])
 
 -- of each file its children
 abbrev pub all_children : Kinship → List EndedFile → List (List ℕ)

@@ -1,6 +1,6 @@
 //! The children of a session's files.
-ghost use Rattle.std.specs.Prelude.{◌≡◌, ◌++◌, ◌∷◌, [], IfOk, OnOk};
-ghost use Rattle.settlement.specs.Telling.{all_children, children_of, is_child};
+ghost use Rattle.std.specs.Prelude.{◌≡◌, ◌++◌, ◌∷◌, [], replicate, slice_index_or, slice_set, IfOk, OnOk};
+ghost use Rattle.settlement.specs.Telling.{all_children, parent_of, with_child};
 
 use crate::file::EndedFile;
 use flowfile_record::{Numbers, Origin};
@@ -22,53 +22,51 @@ pub fn all_children(
 ) -> Result<Vec<Numbers>, AllocError>
     ensures { IfOk result (λ children. children.items ≡ all_children kinship files.now) }
 {
-    let mut all = Vec::new(alloc);
-    for place in 0..files.len() as u64 {
-        let children = children_of(alloc, kinship, files, place)?;
-        all.push(children)?;
+    let mut all = childless(alloc, files.len() as u64)?;
+    for file in files {
+        add_child(&mut all, kinship, file)?;
     }
     Ok(all)
 }
 
-fn children_of(
-    alloc: Global,
-    kinship: Kinship,
-    files: &[EndedFile],
-    place: u64,
-) -> Result<Numbers, AllocError>
-    ensures { IfOk result (λ children. children ≡ children_of kinship files.now place) }
+/// The children of some files, as long as none is found.
+fn childless(alloc: Global, count: u64) -> Result<Vec<Numbers>, AllocError>
+    ensures { IfOk result (λ none. none.items ≡ replicate count []) }
 {
-    let mut children = Vec::new(alloc);
-    for file in files {
-        add_child(&mut children, kinship, place, file)?;
+    let mut none = Vec::new(alloc);
+    for _place in 0..count {
+        none.push(Numbers::new(alloc))?;
     }
-    Ok(Numbers::from(children))
+    Ok(none)
 }
 
-/// Adds the file's number where it is such a child of the file at a place.
-fn add_child(
-    children: &mut Vec<u64>,
-    kinship: Kinship,
-    place: u64,
-    file: &EndedFile,
-) -> Result<(), AllocError>
-    ensures { OnOk result (children.new.items ≡ children.old.items
-        ++ children_of kinship (file.now ∷ []) place) }
+/// Adds the file's number to the children of the file that it comes from.
+fn add_child(all: &mut Vec<Numbers>, kinship: Kinship, file: &EndedFile) -> Result<(), AllocError>
+    ensures { OnOk result (all.new.items
+        ≡ with_child (parent_of kinship file.now.worked.origin) file.now.number all.old.items) }
 {
-    if is_child(kinship, place, &file.worked.origin) {
-        children.push(file.number)?;
+    match parent_of(kinship, &file.worked.origin) {
+        Some(parent) => add_number(all, parent, file.number),
+        None => Ok(()),
     }
-    Ok(())
 }
 
-fn is_child(kinship: Kinship, place: u64, origin: &Origin) -> bool
-    ensures { result ≡ is_child kinship place origin.now }
+fn add_number(all: &mut Vec<Numbers>, parent: u32, number: u64) -> Result<(), AllocError>
+    ensures { OnOk result (all.new.items
+        ≡ slice_set all.old.items parent (slice_index_or all.old.items parent [] ++ number ∷ [])) }
+{
+    match all.get_mut(parent as usize) {
+        Some(children) => children.push(number),
+        None => Ok(()),
+    }
+}
+
+fn parent_of(kinship: Kinship, origin: &Origin) -> Option<u32>
+    ensures { result ≡ parent_of kinship origin.now }
 {
     match (kinship, origin) {
-        (Kinship::Forked, Origin::Forked(parent) | Origin::Part(parent)) => {
-            u64::from(*parent) == place
-        }
-        (Kinship::Cloned, Origin::Cloned(parent)) => u64::from(*parent) == place,
-        _ => false,
+        (Kinship::Forked, Origin::Forked(parent) | Origin::Part(parent)) => Some(*parent),
+        (Kinship::Cloned, Origin::Cloned(parent)) => Some(*parent),
+        _ => None,
     }
 }

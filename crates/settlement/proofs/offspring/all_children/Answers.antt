@@ -1,12 +1,14 @@
-use Rattle.std.proofs.Common.{◌++◌, ◌∷◌, [], map, arith, sym, ap, ◌∙◌}
-use Rattle.std.specs.List.{range_with_len}
-use Rattle.std.proofs.lemmas.List.FromFn.{map-range_with_len_more}
-use Rattle.settlement.specs.Telling.{children_of}
+use Rattle.std.proofs.Common.{length, arith, ◌∙◌}
+use Rattle.settlement.proofs.Children.{childless_is, lists_more, lists_all}
 use Rattle.settlement.proofs.offspring.all_children.Goals as goal
 
-pub loop-place-preserved : goal.loop-place-preserved
-loop-place-preserved c =
-    c.in_ok-push.ensures.items
-    ∙ ap (λ xs. xs ++ c.in_ok-children.children ∷ []) c.loop-place.invariant
-    ∙ ap (λ x. map (children_of c.args.kinship c.args.files.now) (range_with_len 0 c.loop-place.place) ++ x ∷ []) c.in_ok-children.ensures
-    ∙ sym (map-range_with_len_more (children_of c.args.kinship c.args.files.now) 0 c.loop-place.place c.loop-place.place (omega arith))
+pub loop-file-init : goal.loop-file-init
+loop-file-init c = c.in_ok-all.ensures ∙ childless_is c.args.kinship 0 (length c.args.files.now)
+
+pub loop-file-preserved : goal.loop-file-preserved
+loop-file-preserved c =
+    lists_more c.args.kinship c.args.files.now c.loop-file.file-index c.file-item.result (length c.args.files.now) c.loop-file.all.items c.add_child.new.all.items
+    (omega arith) c.file-item.is c.in_ok-add_child.ensures c.loop-file.invariant
+
+pub returns : goal.returns
+returns c = lists_all c.args.kinship c.args.files.now c.loop-file.file-index c.loop-file.all.items (omega arith) c.loop-file.invariant
