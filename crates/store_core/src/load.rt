@@ -92,9 +92,10 @@ fn restore<D: Disk>(
     ensures cause { CountsFaults (D.faults disk.old) (D.faults disk.new) (IsErrOf result StoreError.Disk) }
 {
     let found = read_kept(alloc, disk, flow, lot)?;
-    let opened = read_contents(alloc, disk, found.state.stored())?;
-    check_events(found.state.stored())?;
-    check_flow(found.state.stored(), flow)?;
+    let kept = found.state.stored();
+    let opened = read_contents(alloc, disk, kept)?;
+    check_events(kept)?;
+    check_flow(kept, flow)?;
     revive(alloc, disk, found, opened, lot)
 }
 

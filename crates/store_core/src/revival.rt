@@ -1,5 +1,5 @@
 //! What a stop left of a store's files is made whole again, or a store is made.
-ghost use Rattle.std.specs.Prelude.{◌≡◌, ◌⊎◌, ◌+◌, ◌<◌, ◌≤◌, ℕ, [], true, false, None, Some, Ok, Err, IfOk, OnOk, IfErr, IsErrOf, IsTrue, All, length};
+ghost use Rattle.std.specs.Prelude.{◌≡◌, ◌⊎◌, ◌+◌, ◌<◌, ◌≤◌, ℕ, [], true, false, None, Some, Ok, Err, IfOk, OnOk, IfErr, IsErrOf, IsTrue, All, length, is_some};
 ghost use Rattle.disk_trait.specs.Files.{Files};
 ghost use Rattle.disk_trait.specs.Faults.{CountsFaults};
 ghost use Rattle.disk_trait.specs.Images.{After, Since, IsOnly};
@@ -52,10 +52,7 @@ pub fn revive<D: Disk>(
         entries,
         state,
     } = found;
-    match log.number() {
-        Some(number) => mend(alloc, disk, &mut log, number)?,
-        None => make(alloc, disk, &mut log, state.stored())?,
-    }
+    make_whole(alloc, disk, &mut log, state.stored())?;
     let contents = hold_opened(alloc, disk, opened.as_slice())?;
     Ok(Store {
         alloc,
@@ -67,6 +64,35 @@ pub fn revive<D: Disk>(
         lot,
         has_failed: false,
     })
+}
+
+// Mends the current log, or makes a store where there is none.
+fn make_whole<D: Disk>(
+    alloc: Global,
+    disk: &mut D,
+    log: &mut Log,
+    stored: &Stored,
+) -> Result<(), StoreError>
+    requires synced { IsOnly (D.held disk.old) (D.images disk.old (D.moment disk.old)) }
+    requires works { log.old.failed ≡ false }
+    requires current { (number : ℕ) → log.old.number ≡ Some number → IsTrue D.tells → IsCurrentIn log.old (D.held disk.old) }
+    requires unmade { log.old.number ≡ None → IsTrue D.tells → IsUnmade (D.held disk.old) }
+    requires consistent { IsConsistent (kept_of stored.now) }
+    ensures log { OnOk result (IsTrue (is_some log.new.number) × (log.new.mended ≡ true) × (log.new.failed ≡ false)) }
+    ensures ready { OnOk result (InEach (D.images disk.new (D.moment disk.new)) (IsReadyIn log.new)) }
+    ensures mended { (number : ℕ) (needs : Needs) → log.old.number ≡ Some number → IsPlain needs number
+        → Since D.moment D.images disk.old disk.new (After (Agrees needs) (D.images disk.old (D.moment disk.old))) }
+    ensures images { log.old.number ≡ None
+        → Since D.moment D.images disk.old disk.new (λ c. IsUnmade c ⊎ IsMade (kept_of stored.now) c) }
+    ensures made { OnOk result (log.old.number ≡ None
+        → InEach (D.images disk.new (D.moment disk.new)) (IsMade (kept_of stored.now))) }
+    ensures refusal { IfErr result IsDiskOrMemory }
+    ensures cause { CountsFaults (D.faults disk.old) (D.faults disk.new) (IsErrOf result StoreError.Disk) }
+{
+    match log.number() {
+        Some(number) => mend(alloc, disk, log, number),
+        None => make(alloc, disk, log, stored),
+    }
 }
 
 // Mends the current log, and cuts all that doesn't matter beside it but the claims.
