@@ -29,12 +29,12 @@ returns-in_err-check_events-clause-damaged g c damage is told =
     let p = err_from_is_err_and c.from_residual-in_err-check_events.result c.from_residual-in_err-check_events.ensures.1 in
     let same : c.in_err-check_events.field-0.0 ≡ Damaged damage = cc (p.1, p.2, is) in
     let some = c.in_err-check_events.ensures.some in
-    let both : Damaged some.0 ≡ Damaged damage = sym some.1.0 ∙ same in
+    let both : Damaged some.0 ≡ Damaged damage = sym some.1 ∙ same in
     let same_damage : some.0 ≡ damage = cc in
     events_told c.args.flow.now c.args.lot (g.D.Disk.held c.args.disk.now) c.in_ok-found.found.state.kept (kept_of c.stored-kept.result.now) damage some.0 (c.in_ok-found.ensures.found told).kept
     (moved (g.D.Disk.held c.args.disk.now) (g.D.Disk.held c.read_kept.new.disk) c.in_ok-found.found.state.kept (kept_of c.stored-kept.result.now) None
     c.read_kept.ensures.stays.files c.stored-kept.ensures.kept (c.in_ok-opened.ensures.sound told))
-    c.stored-kept.ensures.kept (some.1.1 (g.D.Disk.held c.args.disk.now)) same_damage
+    c.stored-kept.ensures.kept (some.2 (g.D.Disk.held c.args.disk.now)) same_damage
 
 pub returns-in_err-check_flow-clause-images : goal.returns-in_err-check_flow-clause-images
 returns-in_err-check_flow-clause-images g c =
@@ -51,14 +51,15 @@ returns-in_err-check_flow-clause-other_flow g c digest other is =
     let both : OtherFlow (kept_of c.stored-kept.result.now).flow c.args.flow.now.digest ≡ OtherFlow digest other = sym told_of.1 ∙ same in
     let is_digest : (kept_of c.stored-kept.result.now).flow ≡ digest = cc in
     let is_ours : other ≡ c.args.flow.now.digest = cc in
-    let flows : k.flow ≡ (kept_of c.stored-kept.result.now).flow = ap (λ (x : Kept). x.flow) (sym kept_is) in
-    (is_ours,
-    λ told.
-    is_other c.args.flow.now c.args.lot (g.D.Disk.held c.args.disk.now) k digest (c.in_ok-found.ensures.found told).kept
-    (moved (g.D.Disk.held c.args.disk.now) (g.D.Disk.held c.read_kept.new.disk) k (kept_of c.stored-kept.result.now) None
-    c.read_kept.ensures.stays.files kept_is (c.in_ok-opened.ensures.sound told))
-    (ap (λ (x : Kept). x.last_event) (sym kept_is) ∙ c.in_ok-check_events.ensures.none)
-    (flows ∙ is_digest) (λ e. told_of.0 (sym flows ∙ e)))
+    let flows : k.flow ≡ (kept_of c.stored-kept.result.now).flow = ap (λ (x : Kept). x.flow) (sym kept_is) in (
+      is_ours,
+      λ told.
+          is_other c.args.flow.now c.args.lot (g.D.Disk.held c.args.disk.now) k digest (c.in_ok-found.ensures.found told).kept
+          (moved (g.D.Disk.held c.args.disk.now) (g.D.Disk.held c.read_kept.new.disk) k (kept_of c.stored-kept.result.now) None
+          c.read_kept.ensures.stays.files kept_is (c.in_ok-opened.ensures.sound told))
+          (ap (λ (x : Kept). x.last_event) (sym kept_is) ∙ c.in_ok-check_events.ensures.none)
+          (flows ∙ is_digest) (λ e. told_of.0 (sym flows ∙ e)),
+    )
 
 pub returns-clause-found : goal.returns-clause-found
 returns-clause-found g c =

@@ -37,7 +37,7 @@ hold_opened-requires-clause-within g c κs within told =
     let k = c.args.found.state.kept in
     let made = subst (λ (x : Kept). c.args.found.log.number ≡ None → Since moment images d0 d1 (λ e. IsUnmade e ⊎ IsMade x e)) c.stored.ensures.kept c.make_whole.ensures.images in
     let since = since_still g.D.Disk.tells g.D.Disk.held moment images (λ disk j e left. laws.left_is_told disk j e left) c.args.lot c.args.found d0 d1
-        c.requires.synced c.requires.found c.make_whole.ensures.mended made in
+    c.requires.synced c.requires.found c.make_whole.ensures.mended made in
     let still = since.each (moment d1) (g.D.Disk.held d1) since.later (omega arith) (laws.held_is_left d1 told) in
     subst (λ (refs : List ContentRef). All (IsCovered (g.D.Disk.held d1)) refs) (sym (c.as_slice.ensures.value ∙ c.requires.opened))
     (still_covered _ c.args.lot k (g.D.Disk.held d0) (g.D.Disk.held d1) (c.requires.found.contents told) still)
@@ -84,9 +84,9 @@ returns-clause-kept g c =
     let s = state_in c.args.found.state c.make_whole.new.log c.args.found.entries c.in_ok-contents.contents c.args.opened.items c.args.lot false in
     record {
       holds = λ works. new_holds g.D.Disk.tells g.D.Disk.held moment images (λ disk j e left. laws.left_is_told disk j e left) c.args.lot c.args.found d0 d1
-    c.requires.synced c.requires.found c.make_whole.ensures.mended made s refl c.in_ok-make_whole.ensures.ready is_made d2 c.as_slice.result.now live c.hold_opened.ensures.images refl refl;
+          c.requires.synced c.requires.found c.make_whole.ensures.mended made s refl c.in_ok-make_whole.ensures.ready is_made d2 c.as_slice.result.now live c.hold_opened.ensures.images refl refl;
       log = λ works. new_log g.D.Disk.tells g.D.Disk.held moment images (λ disk j e left. laws.left_is_told disk j e left) c.args.lot c.args.found d0 d1
-    c.requires.synced c.requires.found c.make_whole.ensures.mended made s refl c.in_ok-make_whole.ensures.ready is_made d2 c.as_slice.result.now live c.hold_opened.ensures.images;
+          c.requires.synced c.requires.found c.make_whole.ensures.mended made s refl c.in_ok-make_whole.ensures.ready is_made d2 c.as_slice.result.now live c.hold_opened.ensures.images;
       sizes = λ works told. c.in_ok-contents.ensures.files told;
     }
 
@@ -95,8 +95,8 @@ invariant_of-result g c =
     let s = state_in c.args.found.state c.make_whole.new.log c.args.found.entries c.in_ok-contents.contents c.args.opened.items c.args.lot false in
     record {
       current = c.in_ok-make_whole.ensures.log.0;
-      mended = c.in_ok-make_whole.ensures.log.1.0;
+      mended = c.in_ok-make_whole.ensures.log.1;
       opened = few_live c.args.found.state.kept c.args.opened.items c.requires.found.consistent c.requires.opened;
-      works = λ works. working s c.as_slice.result.now c.in_ok-make_whole.ensures.log.1.1 c.requires.found.no_events c.requires.opened c.as_slice.ensures.value c.requires.named
+      works = λ works. working s c.as_slice.result.now c.in_ok-make_whole.ensures.log.2 c.requires.found.no_events c.requires.opened c.as_slice.ensures.value c.requires.named
           c.in_ok-contents.ensures.counts c.in_ok-contents.ensures.held c.in_ok-contents.ensures.sizes;
     }
