@@ -1,22 +1,18 @@
 -- What opening a store answers, by what was read of its files.
-use Rattle.std.proofs.Common.{◌≡◌, ◌≢◌, ◌⊎◌, inl, inr, ℕ, ◌+◌, ◌-◌, ◌^◌, ◌<◌, ◌≤◌, min, List, refl, sym, ap, subst, ◌∙◌, arith}
+use Rattle.std.proofs.Common.{◌≡◌, ◌≢◌, ◌⊎◌, inl, inr, ℕ, List, sym, ap, subst, ◌∙◌}
 use Rattle.std.specs.Prelude.{Option, Some, None, Result, Ok, Err}
 use Rattle.disk_trait.specs.Files.{Files}
-use Rattle.disk_trait.specs.Images.{SinceMoment, Since, Stays, IsOnly, next_moment}
+use Rattle.disk_trait.specs.Images.{Stays}
 use Rattle.disk_trait.specs.declared.damage.Damage.{Damage}
-use Rattle.disk_trait.proofs.Moments.{wider, one_after_another, behind_a_call}
 use Rattle.flowfile_record.specs.Stored.{Kept}
 use Rattle.machine_model.specs.State.{State}
-use Rattle.store_core.specs.Calls.{SinceSync, IsUnwritten}
 use Rattle.store_core.specs.Flow.{Flow, flow_in}
-use Rattle.store_core.specs.Found.{IsFoundIn}
 use Rattle.store_core.specs.Kept.{kept_in}
-use Rattle.store_core.specs.Opened.{IsFound, IsOfOther, IsShut, SameMeaning}
+use Rattle.store_core.specs.Opened.{IsFound, IsOfOther, IsShut}
 use Rattle.store_core.specs.State.{stands_for, contents_damage, live_contents, events_in}
 use Rattle.store_core.specs.Store.{StoreState, kept_by}
 use Rattle.flowfile_record.specs.declared.event.Event.{Event}
-use Rattle.store_core.specs.declared.reading.Found.{Found}
-use Rattle.store_core.proofs.Opening.{stands_whole, since_read, events_damaged}
+use Rattle.store_core.proofs.Opening.{stands_whole, events_damaged}
 
 abbrev of_state : State → Result State Damage
 of_state s = Ok s
@@ -54,14 +50,6 @@ is_other flow lot files k digest is contents none same other = record {
   other = λ e. other (same ∙ e);
 }
 
-pub found_for : (flow other : Flow) (lot : ℕ) (old new : Files) (found : Found) → flow ≡ other → old ≡ new → IsFoundIn flow lot old found → IsFoundIn other lot new found
-found_for flow other lot old new found same files is =
-    subst (λ (f : Flow). IsFoundIn f lot new found) same (subst (λ (x : Files). IsFoundIn flow lot x found) files is)
-
-meaning_for : (flow other : Flow) (lot : ℕ) (old mid c : Files) → other ≡ flow → mid ≡ old → SameMeaning other lot mid c → SameMeaning flow lot old c
-meaning_for flow other lot old mid c same files is =
-    subst (λ (f : Flow). SameMeaning f lot old c) same (subst (λ (x : Files). SameMeaning other lot x c) files is)
-
 -- ---- what reading told
 
 pub moved : (a b : Files) (k other : Kept) (told : Option Damage) → b ≡ a → other ≡ k → contents_damage b (live_contents other) ≡ told → contents_damage a (live_contents k) ≡ told
@@ -89,31 +77,3 @@ module _ {D : Type 0} (holds : D → Files) (moment : D → ℕ) (images : D →
     past = λ k c left. first.past k c (second.past k c left);
     kept = λ k c left. second.kept k c (first.kept k c left);
   }
-
-  pub only_still : (old new : D) → IsOnly (holds old) (images old (moment old)) → Stays holds moment images old new → IsOnly (holds new) (images new (moment new))
-  only_still old new only stays c left =
-      only c (subst (λ (k : ℕ). images old k c) stays.time (stays.past (moment new) c left)) ∙ sym stays.files
-
-  -- reading, and then what leaves the meaning
-  pub since_both : (flow : Flow) (lot : ℕ) (k : Kept) (old mid new : D) → IsOnly (holds old) (images old (moment old)) → Stays holds moment images old mid → flow_in k ≡ flow
-      → Since moment images mid new (SameMeaning (flow_in k) lot (holds mid)) → Since moment images old new (SameMeaning flow lot (holds old))
-  since_both flow lot k old mid new only stays same since =
-      one_after_another moment images old mid new (SameMeaning flow lot (holds old)) (SameMeaning (flow_in k) lot (holds mid)) (SameMeaning flow lot (holds old))
-      (since_read holds moment images flow lot old mid only stays) since (λ c m. m)
-      (λ c m. meaning_for flow (flow_in k) lot (holds old) (holds mid) c same stays.files m)
-
-  -- ---- behind the first sync
-
-  next_is : (m now : ℕ) → now ≡ next_moment m → m ≤ now → (m ≡ 2 ^ 64 - 1 → ⊥) → now ≡ m + 1
-  next_is m now is le not = omega (arith, is, not, le)
-
-  pub since_sync : (flow : Flow) (lot : ℕ) (P : Files → Type 0) (old mid new : D) → Since moment images old mid P → moment mid ≡ next_moment (moment old) → (moment old ≡ 2 ^ 64 - 1 → ⊥) → holds mid ≡ holds old
-      → Since moment images mid new (SameMeaning flow lot (holds mid)) → SinceSync moment images old new (SameMeaning flow lot (holds old))
-  since_sync flow lot P old mid new first next not files second =
-      let time = next_is (moment old) (moment mid) next first.later not in
-      behind_a_call moment images (moment old) (moment old + 1) old mid new (λ k. P) (λ k. SameMeaning flow lot (holds old)) first
-      (subst (λ (x : Files). SinceMoment moment images (moment old + 1) mid new (λ k. SameMeaning flow lot x)) files
-      (subst (λ (k : ℕ). SinceMoment moment images k mid new (λ j. SameMeaning flow lot (holds mid))) time second))
-
-  pub unwritten : (old mid new : D) → holds mid ≡ holds old → moment mid ≡ next_moment (moment old) → Stays holds moment images mid new → IsUnwritten holds moment old new
-  unwritten old mid new files time stays = record { files = stays.files ∙ files; one_sync = stays.time ∙ time }
