@@ -26,6 +26,8 @@ pub mod Reclaiming
 pub mod Referring
 pub mod Refusals
 pub mod Replaying
+pub mod Restoring
+pub mod RevivedFiles
 pub mod Reviving
 pub mod Rooms
 pub mod Sound

@@ -167,7 +167,7 @@ covered_more : (b : Bool) (n m : ℕ) → m ≤ cond b (max n m) m
 covered_more true n m = omega arith
 covered_more false n m = omega arith
 
-covered_end : (refs : List ContentRef) (k : ℕ) → All (λ at. at.slot ≡ k → end_of at ≤ covered k refs) refs
+pub covered_end : (refs : List ContentRef) (k : ℕ) → All (λ at. at.slot ≡ k → end_of at ≤ covered k refs) refs
 covered_end [] k = All-nil (λ at. at.slot ≡ k → end_of at ≤ 0)
 covered_end (at ∷ refs) k =
     All-cons (λ other. other.slot ≡ k → end_of other ≤ covered k (at ∷ refs)) at refs

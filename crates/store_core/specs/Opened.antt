@@ -54,6 +54,8 @@ pub record IsReadWhole (tells : Bool) (lot : ℕ) (files : Files) (found : Found
   pub no_batches : found.state.kept.batches ≡ []
   pub no_events : found.state.kept.last_event ≡ 0
   pub anew : found.log.number ≡ None → found.state.kept ≡ kept_anew (flow_in found.state.kept) lot
+  pub empty : found.log.number ≡ None → found.entries ≡ 0
+  pub small : found.entries < 2 ^ 64
   pub works : found.log.failed ≡ false
   pub told : IsTrue tells → IsFoundIn (flow_in found.state.kept) lot files found
   pub contents : IsTrue tells → contents_damage files (live_contents found.state.kept) ≡ None

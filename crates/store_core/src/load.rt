@@ -1,18 +1,106 @@
-//! What is kept is tested: no event, and this flow.
-ghost use Rattle.std.specs.Prelude.{◌≡◌, true, Err, IfErr, OnOk};
+//! A store is opened, whatever a stop left of it.
+ghost use Rattle.std.specs.Prelude.{◌≡◌, ◌⊎◌, ℕ, List, true, None, Ok, Err, IfOk, OnOk, IfErr, IsErrOf, IsTrue, Result};
+ghost use Rattle.disk_trait.specs.Faults.{CountsFaults};
 ghost use Rattle.disk_trait.specs.Files.{Files};
+ghost use Rattle.disk_trait.specs.Images.{Since, Stays, IsOnly};
 ghost use Rattle.disk_trait.specs.declared.damage.Damage.{Damage as TheDamage};
 ghost use Rattle.flowfile_record.specs.Stored.{kept_of};
+ghost use Rattle.checkpoint_store.specs.Consistent.{IsConsistent};
+ghost use Rattle.kept_state.specs.declared.limit.Limit.{Limit as TheLimit};
+ghost use Rattle.store_core.specs.Calls.{SinceSync, IsUnsynced, IsUnwritten};
 ghost use Rattle.store_core.specs.Flow.{agrees_with, flow_in};
-ghost use Rattle.store_core.specs.State.{events_in};
+ghost use Rattle.store_core.specs.New.{kept_anew};
+ghost use Rattle.store_core.specs.Opened.{IsOpenedFor, IsFound, IsOfOther, IsShut, SameMeaning};
+ghost use Rattle.store_core.specs.State.{stands_for, events_in};
+ghost use Rattle.store_core.specs.Store.{IsKeptOn};
 
-use crate::{FlowIdentity, StoreError};
-use disk_trait::{Damage, FileKind, FileName};
+use crate::reading::{read_contents, read_kept};
+use crate::revival::revive;
+use crate::{FlowIdentity, Store, StoreError};
+use disk_trait::{Damage, Disk, FileKind, FileName};
 use flowfile_record::Stored;
 use record_codec::HEADER_SIZE;
+use std::alloc::Global;
+
+impl Store {
+    /// Opens the store that stands on a disk, or makes one where there is none. The id of a new one is the low 60 bits of
+    /// the lot.
+    ///
+    /// It begins with a sync, reads all that the files stand for, block by block and content by content, and then mends
+    /// the log, cuts what doesn't matter, or makes the store. After any error open again.
+    pub fn load<D: Disk>(
+        alloc: Global,
+        disk: &mut D,
+        flow: &FlowIdentity<'_>,
+        lot: u64,
+    ) -> Result<Store, StoreError>
+        requires { IsConsistent (kept_anew flow.now lot) }
+        // The store is what the files stand for, and of this flow.
+        ensures opened { IfOk result (IsOpenedFor flow.now lot) }
+        ensures found { IfOk result (λ store. IsTrue D.tells → IsFound flow.now lot store (D.held disk.old)) }
+        ensures kept { IfOk result (λ store. IsKeptOn D.tells D.held D.moment D.images store disk.new) }
+        // From behind the first sync on, whatever a stop leaves keeps and stands for the same; or that sync failed.
+        ensures images { SinceSync D.moment D.images disk.old disk.new (SameMeaning flow.now lot (D.held disk.old))
+            ⊎ IsUnsynced D.moment D.images disk.old disk.new result }
+        // The first damage is told, and so is another flow; where the disk tells, nothing else is.
+        ensures damaged { (damage : TheDamage) → IsErrOf result (StoreError.Damaged damage) → IsTrue D.tells
+            → stands_for flow.now lot (D.held disk.old) ≡ Err damage }
+        ensures other_flow { (digest other : List ℕ) → IsErrOf result (StoreError.OtherFlow digest other)
+            → (other ≡ flow.now.digest) × (IsTrue D.tells → IsOfOther flow.now lot digest (D.held disk.old)) }
+        // Files that may not be opened are only read, whatever the answer, unless the first sync failed.
+        ensures unwritten { (damage : TheDamage) → IsErrOf result (StoreError.Damaged damage)
+            → IsUnwritten D.held D.moment disk.old disk.new }
+        ensures other_unwritten { (digest other : List ℕ) → IsErrOf result (StoreError.OtherFlow digest other)
+            → IsUnwritten D.held D.moment disk.old disk.new }
+        ensures shut { IsTrue D.tells → IsShut flow.now lot (D.held disk.old)
+            → IsUnwritten D.held D.moment disk.old disk.new ⊎ IsUnsynced D.moment D.images disk.old disk.new result }
+        ensures kinds { (IsErrOf result StoreError.MustReopen → ⊥)
+            × ((limit : TheLimit) → IsErrOf result (StoreError.Limit limit) → ⊥) }
+        ensures cause { CountsFaults (D.faults disk.old) (D.faults disk.new) (IsErrOf result StoreError.Disk) }
+    {
+        disk.sync()?;
+        let store = restore(alloc, disk, flow, lot)?;
+        Ok(store)
+    }
+}
+
+// Opens the store on a disk with nothing pending.
+fn restore<D: Disk>(
+    alloc: Global,
+    disk: &mut D,
+    flow: &FlowIdentity<'_>,
+    lot: u64,
+) -> Result<Store, StoreError>
+    requires synced { IsOnly (D.held disk.old) (D.images disk.old (D.moment disk.old)) }
+    requires flow { IsConsistent (kept_anew flow.now lot) }
+    ensures opened { IfOk result (IsOpenedFor flow.now lot) }
+    ensures found { IfOk result (λ store. IsTrue D.tells → IsFound flow.now lot store (D.held disk.old)) }
+    ensures kept { IfOk result (λ store. IsKeptOn D.tells D.held D.moment D.images store disk.new) }
+    ensures images { Since D.moment D.images disk.old disk.new (SameMeaning flow.now lot (D.held disk.old)) }
+    ensures damaged { (damage : TheDamage) → IsErrOf result (StoreError.Damaged damage) → IsTrue D.tells
+        → stands_for flow.now lot (D.held disk.old) ≡ Err damage }
+    ensures other_flow { (digest other : List ℕ) → IsErrOf result (StoreError.OtherFlow digest other)
+        → (other ≡ flow.now.digest) × (IsTrue D.tells → IsOfOther flow.now lot digest (D.held disk.old)) }
+    ensures unwritten { (damage : TheDamage) → IsErrOf result (StoreError.Damaged damage)
+        → Stays D.held D.moment D.images disk.old disk.new }
+    ensures other_unwritten { (digest other : List ℕ) → IsErrOf result (StoreError.OtherFlow digest other)
+        → Stays D.held D.moment D.images disk.old disk.new }
+    ensures shut { IsTrue D.tells → IsShut flow.now lot (D.held disk.old)
+        → Stays D.held D.moment D.images disk.old disk.new }
+    ensures kinds { (IsErrOf result StoreError.MustReopen → ⊥)
+        × ((limit : TheLimit) → IsErrOf result (StoreError.Limit limit) → ⊥) }
+    ensures cause { CountsFaults (D.faults disk.old) (D.faults disk.new) (IsErrOf result StoreError.Disk) }
+{
+    let found = read_kept(alloc, disk, flow, lot)?;
+    let kept = found.state.stored();
+    let opened = read_contents(alloc, disk, kept)?;
+    check_events(kept)?;
+    check_flow(kept, flow)?;
+    revive(alloc, disk, found, opened, lot)
+}
 
 // No event is kept yet: where there is one, its file counts as absent.
-pub fn check_events(stored: &Stored) -> Result<(), StoreError>
+fn check_events(stored: &Stored) -> Result<(), StoreError>
     ensures none { OnOk result ((kept_of stored.now).last_event ≡ 0) }
     ensures some { IfErr result (λ error. (damage : TheDamage) × (error ≡ StoreError.Damaged damage)
         × ((files : Files) → events_in files (kept_of stored.now).last_event ≡ Err damage)) }
@@ -32,7 +120,7 @@ pub fn check_events(stored: &Stored) -> Result<(), StoreError>
 }
 
 // What is kept is of this flow.
-pub fn check_flow(stored: &Stored, flow: &FlowIdentity<'_>) -> Result<(), StoreError>
+fn check_flow(stored: &Stored, flow: &FlowIdentity<'_>) -> Result<(), StoreError>
     requires { agrees_with flow.now (kept_of stored.now) ≡ true }
     ensures same { OnOk result (flow_in (kept_of stored.now) ≡ flow.now) }
     ensures other { IfErr result (λ error. ((kept_of stored.now).flow ≡ flow.now.digest → ⊥)

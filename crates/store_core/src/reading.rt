@@ -1,5 +1,5 @@
 //! What the files of a store keep is read: the log, the snapshot of its number, and the live contents. Nothing is written.
-ghost use Rattle.std.specs.Prelude.{◌≡◌, ℕ, [], ◌∷◌, ◌++◌, Some, None, true, false, Ok, Err, IsTrue, IfOk, OnOk, IfErr, IsErrOf, All, map, fold};
+ghost use Rattle.std.specs.Prelude.{◌≡◌, ◌<◌, ◌^◌, ℕ, [], ◌∷◌, ◌++◌, Some, None, true, false, Ok, Err, IsTrue, IfOk, OnOk, IfErr, IsErrOf, All, map, fold};
 ghost use Rattle.std.specs.List.{flat_map};
 ghost use Rattle.disk_trait.specs.Files.{named};
 ghost use Rattle.disk_trait.specs.Images.{Stays};
@@ -51,6 +51,8 @@ pub fn read_kept<D: Disk>(
     ensures found { IfOk result (λ found. IsTrue D.tells → IsFoundIn flow.now lot (D.held disk.old) found) }
     ensures log { IfOk result (λ found. (found.log.mended ≡ false) × (found.log.failed ≡ false)) }
     ensures flow { IfOk result (λ found. agrees_with flow.now found.state.kept ≡ true) }
+    ensures empty { IfOk result (λ found. found.log.number ≡ None → found.entries ≡ 0) }
+    ensures small { IfOk result (λ found. found.entries < 2 ^ 64) }
     ensures anew { IfOk result (λ found. found.log.number ≡ None → found.state.kept ≡ kept_anew flow.now lot) }
     ensures damaged { (damage : TheDamage) → IsErrOf result (StoreError.Damaged damage) → IsTrue D.tells
         → kept_in flow.now lot (D.held disk.old) ≡ Err damage }

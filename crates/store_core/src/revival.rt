@@ -1,5 +1,5 @@
 //! What a stop left of a store's files is made whole again, or a store is made.
-ghost use Rattle.std.specs.Prelude.{◌≡◌, ◌⊎◌, ◌+◌, ◌<◌, ◌≤◌, ℕ, [], true, false, None, Some, Ok, Err, IfOk, OnOk, IfErr, IsErrOf, IsTrue, All, length};
+ghost use Rattle.std.specs.Prelude.{◌≡◌, ◌⊎◌, ◌+◌, ◌<◌, ◌≤◌, ℕ, [], true, false, None, Some, Ok, Err, IfOk, OnOk, IfErr, IsErrOf, IsTrue, All, length, is_some};
 ghost use Rattle.disk_trait.specs.Files.{Files};
 ghost use Rattle.disk_trait.specs.Faults.{CountsFaults};
 ghost use Rattle.disk_trait.specs.Images.{After, Since, IsOnly};
@@ -17,8 +17,9 @@ ghost use Rattle.store_core.specs.Opened.{IsReadWhole, IsRevived, SameMeaning, I
 ghost use Rattle.store_core.specs.State.{live_contents};
 ghost use Rattle.store_core.specs.Store.{IsKeptOn};
 
-use crate::StoreError;
 use crate::discard::discard;
+use crate::reading::Found;
+use crate::{Store, StoreError};
 use content_repo::{Content, HELD_MAX};
 use disk_trait::Disk;
 use flowfile_record::{ContentRef, LIVE_FILES_MAX, Stored};
@@ -28,13 +29,74 @@ use std::alloc::Global;
 // The number of a new store's log and snapshot.
 const FIRST_LOG: u64 = 1;
 
-// Mends the current log, and cuts all that doesn't matter beside it but the claims.
-pub fn mend<D: Disk>(
+/// The store of what was read, on a disk with nothing pending.
+pub fn revive<D: Disk>(
+    alloc: Global,
+    disk: &mut D,
+    found: Found,
+    opened: Vec<ContentRef>,
+    lot: u64,
+) -> Result<Store, StoreError>
+    requires synced { IsOnly (D.held disk.old) (D.images disk.old (D.moment disk.old)) }
+    requires found { IsReadWhole D.tells lot (D.held disk.old) found }
+    requires opened { opened.items ≡ live_contents found.state.kept }
+    requires named { All IsNamed opened.items }
+    ensures revived { IfOk result (IsRevived lot found) }
+    ensures kept { IfOk result (λ store. IsKeptOn D.tells D.held D.moment D.images store disk.new) }
+    ensures images { Since D.moment D.images disk.old disk.new (SameMeaning (flow_in found.state.kept) lot (D.held disk.old)) }
+    ensures refusal { IfErr result IsDiskOrMemory }
+    ensures cause { CountsFaults (D.faults disk.old) (D.faults disk.new) (IsErrOf result StoreError.Disk) }
+{
+    let Found {
+        mut log,
+        entries,
+        state,
+    } = found;
+    make_whole(alloc, disk, &mut log, state.stored())?;
+    let contents = hold_opened(alloc, disk, opened.as_slice())?;
+    Ok(Store {
+        alloc,
+        state,
+        log,
+        entries,
+        contents,
+        opened,
+        lot,
+        has_failed: false,
+    })
+}
+
+// Mends the current log, or makes a store where there is none.
+fn make_whole<D: Disk>(
     alloc: Global,
     disk: &mut D,
     log: &mut Log,
-    number: u64,
+    stored: &Stored,
 ) -> Result<(), StoreError>
+    requires synced { IsOnly (D.held disk.old) (D.images disk.old (D.moment disk.old)) }
+    requires works { log.old.failed ≡ false }
+    requires current { (number : ℕ) → log.old.number ≡ Some number → IsTrue D.tells → IsCurrentIn log.old (D.held disk.old) }
+    requires unmade { log.old.number ≡ None → IsTrue D.tells → IsUnmade (D.held disk.old) }
+    requires consistent { IsConsistent (kept_of stored.now) }
+    ensures log { OnOk result (IsTrue (is_some log.new.number) × (log.new.mended ≡ true) × (log.new.failed ≡ false)) }
+    ensures ready { OnOk result (InEach (D.images disk.new (D.moment disk.new)) (IsReadyIn log.new)) }
+    ensures mended { (number : ℕ) (needs : Needs) → log.old.number ≡ Some number → IsPlain needs number
+        → Since D.moment D.images disk.old disk.new (After (Agrees needs) (D.images disk.old (D.moment disk.old))) }
+    ensures images { log.old.number ≡ None
+        → Since D.moment D.images disk.old disk.new (λ c. IsUnmade c ⊎ IsMade (kept_of stored.now) c) }
+    ensures made { OnOk result (log.old.number ≡ None
+        → InEach (D.images disk.new (D.moment disk.new)) (IsMade (kept_of stored.now))) }
+    ensures refusal { IfErr result IsDiskOrMemory }
+    ensures cause { CountsFaults (D.faults disk.old) (D.faults disk.new) (IsErrOf result StoreError.Disk) }
+{
+    match log.number() {
+        Some(number) => mend(alloc, disk, log, number),
+        None => make(alloc, disk, log, stored),
+    }
+}
+
+// Mends the current log, and cuts all that doesn't matter beside it but the claims.
+fn mend<D: Disk>(alloc: Global, disk: &mut D, log: &mut Log, number: u64) -> Result<(), StoreError>
     requires synced { IsOnly (D.held disk.old) (D.images disk.old (D.moment disk.old)) }
     requires works { log.old.failed ≡ false }
     requires number { log.old.number ≡ Some number }
@@ -52,7 +114,7 @@ pub fn mend<D: Disk>(
 }
 
 // Makes a store: a snapshot of what it keeps, and a log.
-pub fn make<D: Disk>(
+fn make<D: Disk>(
     alloc: Global,
     disk: &mut D,
     log: &mut Log,
@@ -78,7 +140,7 @@ pub fn make<D: Disk>(
 }
 
 // A repository of the contents that a store is opened with, each held twice. The claims are cut to what they cover.
-pub fn hold_opened<D: Disk>(
+fn hold_opened<D: Disk>(
     alloc: Global,
     disk: &mut D,
     opened: &[ContentRef],

@@ -1,0 +1,79 @@
+-- What opening a store answers, by what was read of its files.
+use Rattle.std.proofs.Common.{◌≡◌, ◌≢◌, ◌⊎◌, inl, inr, ℕ, List, sym, ap, subst, ◌∙◌}
+use Rattle.std.specs.Prelude.{Option, Some, None, Result, Ok, Err}
+use Rattle.disk_trait.specs.Files.{Files}
+use Rattle.disk_trait.specs.Images.{Stays}
+use Rattle.disk_trait.specs.declared.damage.Damage.{Damage}
+use Rattle.flowfile_record.specs.Stored.{Kept}
+use Rattle.machine_model.specs.State.{State}
+use Rattle.store_core.specs.Flow.{Flow, flow_in}
+use Rattle.store_core.specs.Kept.{kept_in}
+use Rattle.store_core.specs.Opened.{IsFound, IsOfOther, IsShut}
+use Rattle.store_core.specs.State.{stands_for, contents_damage, live_contents, events_in}
+use Rattle.store_core.specs.Store.{StoreState, kept_by}
+use Rattle.flowfile_record.specs.declared.event.Event.{Event}
+use Rattle.store_core.proofs.Opening.{stands_whole, events_damaged}
+
+abbrev of_state : State → Result State Damage
+of_state s = Ok s
+
+abbrev of_kept : Kept → Result Kept Damage
+of_kept k = Ok k
+
+abbrev of_damage : Damage → Result State Damage
+of_damage damage = Err damage
+
+abbrev of_no_events : Damage → Result (List Event) Damage
+of_no_events damage = Err damage
+
+one_kept : (flow : Flow) (lot : ℕ) (files : Files) (k other : Kept) → kept_in flow lot files ≡ Ok k → kept_in flow lot files ≡ Ok other → other ≡ k
+one_kept flow lot files k other is also = let both : of_kept other ≡ of_kept k = sym also ∙ is in cc
+
+-- files that keep something of this flow, all sound, may be opened
+pub not_shut : (flow : Flow) (lot : ℕ) (files : Files) (k : Kept) → kept_in flow lot files ≡ Ok k → contents_damage files (live_contents k) ≡ None
+    → k.last_event ≡ 0 → flow_in k ≡ flow → IsShut flow lot files → ⊥
+not_shut flow lot files k is contents none same (inl damaged) =
+    let both : of_state _ ≡ Err damaged.0 = sym (stands_whole flow lot files k is contents none) ∙ damaged.1 in absurd cc
+not_shut flow lot files k is contents none same (inr other) =
+    let o = other.1 in
+    let kept : o.kept ≡ k = one_kept flow lot files k o.kept is o.keeps in
+    o.other (sym o.is ∙ ap (λ (x : Kept). x.flow) kept ∙ ap (λ (f : Flow). f.digest) same)
+
+pub is_other : (flow : Flow) (lot : ℕ) (files : Files) (k : Kept) (digest : List ℕ) → kept_in flow lot files ≡ Ok k → contents_damage files (live_contents k) ≡ None
+    → k.last_event ≡ 0 → k.flow ≡ digest → (k.flow ≡ flow.digest → ⊥) → IsOfOther flow lot digest files
+is_other flow lot files k digest is contents none same other = record {
+  state = _;
+  stands = stands_whole flow lot files k is contents none;
+  kept = k;
+  keeps = is;
+  is = same;
+  other = λ e. other (same ∙ e);
+}
+
+-- ---- what reading told
+
+pub moved : (a b : Files) (k other : Kept) (told : Option Damage) → b ≡ a → other ≡ k → contents_damage b (live_contents other) ≡ told → contents_damage a (live_contents k) ≡ told
+moved a b k other told files kept is =
+    ap (λ (f : Files). contents_damage f (live_contents k)) (sym files) ∙ ap (λ (x : Kept). contents_damage b (live_contents x)) (sym kept) ∙ is
+
+pub events_told : (flow : Flow) (lot : ℕ) (files : Files) (k other : Kept) (damage told : Damage) → kept_in flow lot files ≡ Ok k → contents_damage files (live_contents k) ≡ None
+    → other ≡ k → events_in files other.last_event ≡ Err told → told ≡ damage → stands_for flow lot files ≡ of_damage damage
+events_told flow lot files k other damage told is contents same events same_damage =
+    events_damaged flow lot files k damage is contents
+    (ap (λ (x : Kept). events_in files x.last_event) (sym same) ∙ events ∙ ap of_no_events same_damage)
+
+pub is_found : (flow : Flow) (lot : ℕ) (files : Files) (k : Kept) (s : StoreState) → kept_in flow lot files ≡ Ok k → contents_damage files (live_contents k) ≡ None → k.last_event ≡ 0 → kept_by s ≡ k
+    → IsFound flow lot s files
+is_found flow lot files k s is contents none same = record { kept = is ∙ ap of_kept (sym same); state = _; stood = stands_whole flow lot files k is contents none }
+
+pub found_at : (flow : Flow) (lot : ℕ) (s : StoreState) (a b : Files) → a ≡ b → IsFound flow lot s a → IsFound flow lot s b
+found_at flow lot s a b same is = subst (λ (files : Files). IsFound flow lot s files) same is
+
+module _ {D : Type 0} (holds : D → Files) (moment : D → ℕ) (images : D → ℕ → Files → Type 0) where
+  pub stays_in_turn : (old mid new : D) → Stays holds moment images old mid → Stays holds moment images mid new → Stays holds moment images old new
+  stays_in_turn old mid new first second = record {
+    files = second.files ∙ first.files;
+    time = second.time ∙ first.time;
+    past = λ k c left. first.past k c (second.past k c left);
+    kept = λ k c left. second.kept k c (first.kept k c left);
+  }

@@ -1,0 +1,13 @@
+use Rattle.std.proofs.Common.{◌≡◌, ℕ, sym, subst, ◌∙◌}
+use Rattle.std.specs.Prelude.{Option, Some}
+use Rattle.store_core.specs.Agreement.{IsPlain}
+use Rattle.store_core.proofs.revival.make_whole.Goals as goal
+
+abbrev some : ℕ → Option ℕ
+some n = Some n
+
+pub returns-in-Some-clause-mended : goal.returns-in-Some-clause-mended
+returns-in-Some-clause-mended g c number needs is plain =
+    let both : some number ≡ some c.in-Some.number = sym is ∙ sym c.number.ensures ∙ c.in-Some.is in
+    let same : number ≡ c.in-Some.number = cc in
+    c.mend.ensures.images needs (subst (λ (n : ℕ). IsPlain needs n) same plain)

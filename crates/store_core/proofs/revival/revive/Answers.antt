@@ -1,0 +1,102 @@
+use Rattle.std.proofs.Common.{◌≡◌, ◌⊎◌, ℕ, ◌<◌, ◌≤◌, IsTrue, List, [], length, get_or, refl, sym, ap, subst, ◌∙◌, arith}
+use Rattle.std.specs.Prelude.{Option, None, Some, Ok, Err, All, false, true}
+use Rattle.disk_trait.specs.Files.{Files}
+use Rattle.disk_trait.specs.Images.{Since}
+use Rattle.disk_trait.proofs.Moments.{at_the_end}
+use Rattle.flowfile_record.specs.Stored.{Kept, kept_of}
+use Rattle.flowfile_record.specs.declared.content.ContentRef.{ContentRef}
+use Rattle.content_repo.specs.Claims.{IsCovered}
+use Rattle.flowfile_wal.specs.Calls.{InEach}
+use Rattle.store_core.specs.Agreement.{IsUnmade}
+use Rattle.store_core.specs.Opened.{IsMade}
+use Rattle.store_core.specs.Store.{StoreState, state_in}
+use Rattle.store_core.proofs.RevivedFiles.{unmade_found, means_mid, means_new, new_holds, new_log, since_still, still_covered, working, few_live}
+use Rattle.store_core.proofs.revival.revive.Goals as goal
+
+pub make_whole-requires-clause-unmade : goal.make_whole-requires-clause-unmade
+make_whole-requires-clause-unmade g c κs within = λ none told. unmade_found c.args.lot (g.D.Disk.held c.args.disk.now) c.args.found none (c.requires.found.told told)
+
+pub returns-in_err-make_whole-clause-images : goal.returns-in_err-make_whole-clause-images
+returns-in_err-make_whole-clause-images g c =
+    let moment = g.D.Disk.moment in
+    let images = g.D.Disk.images in
+    let laws = g.met.D.Disk g.world.𝓛 g.world.𝓜 g.world.𝓡 ((λ s x. x), (λ x. x), (λ x. x), λ x. x) in
+    let d0 = c.args.disk.now in
+    let d1 = c.make_whole.new.disk in
+    let made = subst (λ (k : Kept). c.args.found.log.number ≡ None → Since moment images d0 d1 (λ e. IsUnmade e ⊎ IsMade k e)) c.stored.ensures.kept c.make_whole.ensures.images in
+    means_mid g.D.Disk.tells g.D.Disk.held moment images (λ disk k e left. laws.left_is_told disk k e left) c.args.lot c.args.found d0 d1
+    c.requires.synced c.requires.found c.make_whole.ensures.mended made
+
+pub hold_opened-requires-clause-within : goal.hold_opened-requires-clause-within
+hold_opened-requires-clause-within g c κs within told =
+    let moment = g.D.Disk.moment in
+    let images = g.D.Disk.images in
+    let laws = g.met.D.Disk g.world.𝓛 g.world.𝓜 g.world.𝓡 ((λ s x. x), (λ x. x), (λ x. x), λ x. x) in
+    let d0 = c.args.disk.now in
+    let d1 = c.make_whole.new.disk in
+    let k = c.args.found.state.kept in
+    let made = subst (λ (x : Kept). c.args.found.log.number ≡ None → Since moment images d0 d1 (λ e. IsUnmade e ⊎ IsMade x e)) c.stored.ensures.kept c.make_whole.ensures.images in
+    let since = since_still g.D.Disk.tells g.D.Disk.held moment images (λ disk j e left. laws.left_is_told disk j e left) c.args.lot c.args.found d0 d1
+    c.requires.synced c.requires.found c.make_whole.ensures.mended made in
+    let still = since.each (moment d1) (g.D.Disk.held d1) since.later (omega arith) (laws.held_is_left d1 told) in
+    subst (λ (refs : List ContentRef). All (IsCovered (g.D.Disk.held d1)) refs) (sym (c.as_slice.ensures.value ∙ c.requires.opened))
+    (still_covered _ c.args.lot k (g.D.Disk.held d0) (g.D.Disk.held d1) (c.requires.found.contents told) still)
+
+pub returns-in_err-contents-clause-images : goal.returns-in_err-contents-clause-images
+returns-in_err-contents-clause-images g c =
+    let moment = g.D.Disk.moment in
+    let images = g.D.Disk.images in
+    let laws = g.met.D.Disk g.world.𝓛 g.world.𝓜 g.world.𝓡 ((λ s x. x), (λ x. x), (λ x. x), λ x. x) in
+    let d0 = c.args.disk.now in
+    let d1 = c.make_whole.new.disk in
+    let d2 = c.hold_opened.new.disk in
+    let made = subst (λ (x : Kept). c.args.found.log.number ≡ None → Since moment images d0 d1 (λ e. IsUnmade e ⊎ IsMade x e)) c.stored.ensures.kept c.make_whole.ensures.images in
+    let is_made = subst (λ (x : Kept). c.args.found.log.number ≡ None → InEach (images d1 (moment d1)) (IsMade x)) c.stored.ensures.kept c.in_ok-make_whole.ensures.made in
+    let live = c.as_slice.ensures.value ∙ c.requires.opened in
+    means_new g.D.Disk.tells g.D.Disk.held moment images (λ disk j e left. laws.left_is_told disk j e left) c.args.lot c.args.found d0 d1
+    c.requires.synced c.requires.found c.make_whole.ensures.mended made (state_in c.args.found.state c.make_whole.new.log c.args.found.entries [] c.args.opened.items c.args.lot false) refl c.in_ok-make_whole.ensures.ready is_made d2 c.as_slice.result.now live c.hold_opened.ensures.images
+
+pub returns-clause-images : goal.returns-clause-images
+returns-clause-images g c =
+    let moment = g.D.Disk.moment in
+    let images = g.D.Disk.images in
+    let laws = g.met.D.Disk g.world.𝓛 g.world.𝓜 g.world.𝓡 ((λ s x. x), (λ x. x), (λ x. x), λ x. x) in
+    let d0 = c.args.disk.now in
+    let d1 = c.make_whole.new.disk in
+    let d2 = c.hold_opened.new.disk in
+    let made = subst (λ (x : Kept). c.args.found.log.number ≡ None → Since moment images d0 d1 (λ e. IsUnmade e ⊎ IsMade x e)) c.stored.ensures.kept c.make_whole.ensures.images in
+    let is_made = subst (λ (x : Kept). c.args.found.log.number ≡ None → InEach (images d1 (moment d1)) (IsMade x)) c.stored.ensures.kept c.in_ok-make_whole.ensures.made in
+    let live = c.as_slice.ensures.value ∙ c.requires.opened in
+    means_new g.D.Disk.tells g.D.Disk.held moment images (λ disk j e left. laws.left_is_told disk j e left) c.args.lot c.args.found d0 d1
+    c.requires.synced c.requires.found c.make_whole.ensures.mended made (state_in c.args.found.state c.make_whole.new.log c.args.found.entries [] c.args.opened.items c.args.lot false) refl c.in_ok-make_whole.ensures.ready is_made d2 c.as_slice.result.now live c.hold_opened.ensures.images
+
+pub returns-clause-kept : goal.returns-clause-kept
+returns-clause-kept g c =
+    let moment = g.D.Disk.moment in
+    let images = g.D.Disk.images in
+    let laws = g.met.D.Disk g.world.𝓛 g.world.𝓜 g.world.𝓡 ((λ s x. x), (λ x. x), (λ x. x), λ x. x) in
+    let d0 = c.args.disk.now in
+    let d1 = c.make_whole.new.disk in
+    let d2 = c.hold_opened.new.disk in
+    let made = subst (λ (x : Kept). c.args.found.log.number ≡ None → Since moment images d0 d1 (λ e. IsUnmade e ⊎ IsMade x e)) c.stored.ensures.kept c.make_whole.ensures.images in
+    let is_made = subst (λ (x : Kept). c.args.found.log.number ≡ None → InEach (images d1 (moment d1)) (IsMade x)) c.stored.ensures.kept c.in_ok-make_whole.ensures.made in
+    let live = c.as_slice.ensures.value ∙ c.requires.opened in
+    let s = state_in c.args.found.state c.make_whole.new.log c.args.found.entries c.in_ok-contents.contents c.args.opened.items c.args.lot false in
+    record {
+      holds = λ works. new_holds g.D.Disk.tells g.D.Disk.held moment images (λ disk j e left. laws.left_is_told disk j e left) c.args.lot c.args.found d0 d1
+          c.requires.synced c.requires.found c.make_whole.ensures.mended made s refl c.in_ok-make_whole.ensures.ready is_made d2 c.as_slice.result.now live c.hold_opened.ensures.images refl refl;
+      log = λ works. new_log g.D.Disk.tells g.D.Disk.held moment images (λ disk j e left. laws.left_is_told disk j e left) c.args.lot c.args.found d0 d1
+          c.requires.synced c.requires.found c.make_whole.ensures.mended made s refl c.in_ok-make_whole.ensures.ready is_made d2 c.as_slice.result.now live c.hold_opened.ensures.images;
+      sizes = λ works told. c.in_ok-contents.ensures.files told;
+    }
+
+pub invariant_of-result : goal.invariant_of-result
+invariant_of-result g c =
+    let s = state_in c.args.found.state c.make_whole.new.log c.args.found.entries c.in_ok-contents.contents c.args.opened.items c.args.lot false in
+    record {
+      current = c.in_ok-make_whole.ensures.log.0;
+      mended = c.in_ok-make_whole.ensures.log.1;
+      opened = few_live c.args.found.state.kept c.args.opened.items c.requires.found.consistent c.requires.opened;
+      works = λ works. working s c.as_slice.result.now c.in_ok-make_whole.ensures.log.2 c.requires.found.no_events c.requires.opened c.as_slice.ensures.value c.requires.named
+          c.in_ok-contents.ensures.counts c.in_ok-contents.ensures.held c.in_ok-contents.ensures.sizes;
+    }

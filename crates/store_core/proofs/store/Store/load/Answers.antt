@@ -1,0 +1,19 @@
+use Rattle.std.proofs.Common.{◌≡◌, ℕ, List, sym, ap, subst, ◌∙◌}
+use Rattle.std.specs.Prelude.{Ok, Err}
+use Rattle.std.proofs.lemmas.Result.{err_from_is_err_and}
+use Rattle.disk_trait.specs.Files.{Files}
+use Rattle.store_core.specs.Opened.{IsOfOther}
+use Rattle.store_core.specs.declared.error.StoreError.TheVariants.{OtherFlow}
+use Rattle.store_core.proofs.Restoring.{found_at}
+use Rattle.store_core.proofs.store.Store.load.Goals as goal
+
+pub returns-in_err-store-clause-other_flow : goal.returns-in_err-store-clause-other_flow
+returns-in_err-store-clause-other_flow g c digest other is =
+    let p = err_from_is_err_and c.from_residual-in_err-store.result c.from_residual-in_err-store.ensures.1 in
+    let same : c.in_err-store.field-0.0 ≡ OtherFlow digest other = cc (p.1, p.2, is) in
+    let told_of = c.in_err-store.ensures.other_flow digest other (ap Err same) in
+    (told_of.0, λ told. subst (λ (files : Files). IsOfOther c.args.flow.now c.args.lot digest files) c.in_ok-sync.ensures.held (told_of.1 told))
+
+pub returns-clause-found : goal.returns-clause-found
+returns-clause-found g c told =
+    found_at c.args.flow.now c.args.lot _ (g.D.Disk.held c.sync.new.self) (g.D.Disk.held c.args.disk.now) c.in_ok-sync.ensures.held (c.in_ok-store.ensures.found told)
