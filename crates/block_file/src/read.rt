@@ -1,15 +1,14 @@
 //! The block at an offset of a file.
-ghost use Rattle.std.specs.Prelude.{◌≡◌, ℕ, ◌+◌, ◌<◌, ◌≤◌, [], length, vec_capacity, take, drop, slice_range, IsTrue, IfOk, OnOk, IsErrOf, Some};
+ghost use Rattle.std.specs.Prelude.{◌≡◌, ◌+◌, ◌<◌, ◌≤◌, length, vec_capacity, take, IsTrue, IfOk, OnOk, IfErr, IsErrOf, Some};
 ghost use Rattle.disk_trait.specs.Images.{Stays};
 ghost use Rattle.disk_trait.specs.Faults.{CountsFaults};
 ghost use Rattle.disk_trait.specs.declared.damage.Damage.{Damage as TheDamage};
-ghost use Rattle.record_codec.specs.Block.{Whole, reading_of};
 ghost use Rattle.record_codec.specs.Head.{IsWholeHead};
+ghost use Rattle.block_file.specs.Address.{bytes_at, reading_at, IsAddress, IsBlockAt, IsBlockRefusal};
 ghost use Rattle.block_file.specs.Damage.{damage_by, damage_in};
 
 use crate::BlockError;
 use disk_trait::{Damage, Disk, FileName};
-use flowfile_record::DIGEST_SIZE;
 use record_codec::{
     BLOCK_OVERHEAD, Block, BlockEnd, HEADER_SIZE, PAYLOAD_MAX, read_block, size_by_header,
 };
@@ -31,17 +30,10 @@ pub fn read_block_at<D: Disk>(
     address: BlockAddress,
     buffer: &mut Vec<u8>,
 ) -> Result<Block, BlockError>
-    requires within { address.offset ≤ address.size }
-    requires size { IsTrue D.tells → address.size ≡ length (D.held disk.old address.file) }
-    // The block of the answer stands in the file.
-    ensures found { IfOk result (λ block. IsTrue D.tells → reading_of (drop address.offset (D.held disk.old address.file)) ≡ Whole block.kind (slice_range buffer.new.items block.start block.end)) }
-    ensures within { IfOk result (λ block. (block.start ≡ HEADER_SIZE) × (block.start ≤ block.end) × (block.end + DIGEST_SIZE ≡ block.next) × (block.next ≤ length buffer.new.items) × (address.offset + block.next ≤ address.size)) }
-    // What is damaged is told as it is.
-    ensures damaged { (damage : TheDamage) → IsErrOf result (BlockError.Damaged damage) → IsTrue D.tells → damage_in address.file address.at (reading_of (drop address.offset (D.held disk.old address.file))) ≡ Some damage }
-    // Memory is taken only for a block that its header lets stand there whole, and that the buffer has no room for.
-    ensures memory { IsErrOf result BlockError.Memory → IsTrue D.tells → (n : ℕ) × IsWholeHead n (drop address.offset (D.held disk.old address.file)) × (vec_capacity buffer.old < n) }
-    // Whatever the disk tells, a buffer with room for the rest of the file takes none.
-    ensures room { IsErrOf result BlockError.Memory → address.offset + vec_capacity buffer.old < address.size }
+    requires { IsAddress D.tells (D.held disk.old) address }
+    ensures block { IfOk result (IsBlockAt D.tells (D.held disk.old) address buffer.new.items) }
+    ensures refusal { IfErr result
+        (IsBlockRefusal D.tells (D.held disk.old) address (vec_capacity buffer.old)) }
     ensures capacity { vec_capacity buffer.old ≤ vec_capacity buffer.new }
     ensures stays { Stays D.held D.moment D.images disk.old disk.new }
     ensures cause { CountsFaults (D.faults disk.old) (D.faults disk.new) (IsErrOf result BlockError.Disk) }
@@ -56,11 +48,12 @@ pub fn read_block_at<D: Disk>(
 
 // How many bytes the block there has, by its header; or why it can't be whole.
 fn size_at<D: Disk>(disk: &mut D, address: BlockAddress) -> Result<u64, BlockError>
-    requires within { address.offset ≤ address.size }
-    requires size { IsTrue D.tells → address.size ≡ length (D.held disk.old address.file) }
-    ensures whole { IfOk result (λ n. IsTrue D.tells → IsWholeHead n (drop address.offset (D.held disk.old address.file))) }
-    ensures fits { IfOk result (λ n. (BLOCK_OVERHEAD ≤ n) × (address.offset + n ≤ address.size) × (n ≤ PAYLOAD_MAX + BLOCK_OVERHEAD)) }
-    ensures damaged { (damage : TheDamage) → IsErrOf result (BlockError.Damaged damage) → IsTrue D.tells → damage_in address.file address.at (reading_of (drop address.offset (D.held disk.old address.file))) ≡ Some damage }
+    requires { IsAddress D.tells (D.held disk.old) address }
+    ensures whole { IfOk result (λ n. IsTrue D.tells → IsWholeHead n (bytes_at (D.held disk.old) address)) }
+    ensures fits { IfOk result (λ n. (BLOCK_OVERHEAD ≤ n)
+        × (address.offset + n ≤ address.size) × (n ≤ PAYLOAD_MAX + BLOCK_OVERHEAD)) }
+    ensures damaged { (damage : TheDamage) → IsErrOf result (BlockError.Damaged damage) → IsTrue D.tells
+        → damage_in address.file address.at (reading_at (D.held disk.old) address) ≡ Some damage }
     ensures kinds { IsErrOf result BlockError.Memory → ⊥ }
     ensures stays { Stays D.held D.moment D.images disk.old disk.new }
     ensures cause { CountsFaults (D.faults disk.old) (D.faults disk.new) (IsErrOf result BlockError.Disk) }
@@ -90,7 +83,7 @@ fn read_bytes<D: Disk>(
     buffer: &mut Vec<u8>,
 ) -> Result<(), BlockError>
     requires { IsTrue D.tells → address.offset + size ≤ length (D.held disk.old address.file) }
-    ensures bytes { OnOk result (IsTrue D.tells → buffer.new.items ≡ take size (drop address.offset (D.held disk.old address.file))) }
+    ensures bytes { OnOk result (IsTrue D.tells → buffer.new.items ≡ take size (bytes_at (D.held disk.old) address)) }
     ensures len { OnOk result (length buffer.new.items ≡ size) }
     ensures kinds { (damage : TheDamage) → IsErrOf result (BlockError.Damaged damage) → ⊥ }
     ensures memory { IsErrOf result BlockError.Memory → vec_capacity buffer.old < size }

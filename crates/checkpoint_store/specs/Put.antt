@@ -16,4 +16,5 @@ pub record IsPut {D : Type 0} (tells : Bool) (holds : D → Files) (moment : D �
 
 -- From a call's start to now at most the first so many bytes of the file were written.
 abbrev pub Within : {D : Type 0} → (D → ℕ) → (D → ℕ → Files → Type 0) → FileName → (start now : D) → ℕ → Type 0
-Within moment images file start now size = Since moment images start now (After (At file (Torn 0 size)) (images start (moment start)))
+Within moment images file start now size =
+    Since moment images start now (After (At file (Torn 0 size)) (images start (moment start)))

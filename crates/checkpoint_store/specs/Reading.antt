@@ -1,6 +1,7 @@
 -- What the bytes of a snapshot say: what is kept, or the first damage.
 use Rattle.std.specs.Prelude.{ℕ, zero, suc, ◌+◌, ◌==◌, ◌&&◌, nat_lt, nat_le, not, Bool, true, List, [], ◌∷◌, ◌++◌, length, map, drop, Option, None, Some, Result, Ok, Err, bytes_eq, if◌then◌else◌}
 use Rattle.std.specs.List.{sum, list_any}
+use Rattle.disk_trait.specs.Files.{Files}
 use Rattle.disk_trait.specs.declared.damage.Damage.{Damage}
 use Rattle.disk_trait.specs.declared.damage.Damage.TheVariants.{Digest, Short, Form}
 use Rattle.disk_trait.specs.declared.file_name.FileName.{FileName}
@@ -8,6 +9,7 @@ use Rattle.flowfile_record.specs.Stored.{Kept}
 use Rattle.flowfile_record.specs.Reading.{whole}
 use Rattle.flowfile_record.specs.declared.stored.ActiveFile.{ActiveFile}
 use Rattle.flowfile_record.specs.declared.stored.SwapBatch.{SwapBatch}
+use Rattle.block_file.specs.declared.read.BlockAddress.{BlockAddress}
 use Rattle.record_codec.specs.ActiveFile.{active_file_at}
 use Rattle.record_codec.specs.Block.{Reading, Whole, Cut, Long, Differs, reading_of}
 use Rattle.record_codec.specs.Snapshot.{kind_code}
@@ -112,8 +114,10 @@ abbrev pub said : {A : Type 0} → FileName → ℕ → ℕ → (A → ℕ → R
 said file at size following None = Err (Form file at)
 said file at size following (Some a) = following a size
 
-abbrev pub behind_block : {A : Type 0} → FileName → ℕ → (ℕ → List ℕ → Option A) → Reading → (A → ℕ → Result Kept Damage) → Result Kept Damage
-behind_block file at says (Whole kind payload) following = said file at (length payload + BLOCK_OVERHEAD) following (says kind payload)
+abbrev pub behind_block : {A : Type 0} → FileName → ℕ → (ℕ → List ℕ → Option A) → Reading
+    → (A → ℕ → Result Kept Damage) → Result Kept Damage
+behind_block file at says (Whole kind payload) following =
+    said file at (length payload + BLOCK_OVERHEAD) following (says kind payload)
 behind_block file at says (Cut need have) following = Err (Short file at need have)
 behind_block file at says (Long size) following = Err (Form file at)
 behind_block file at says (Differs stored found) following = Err (Digest file at stored found)
@@ -129,7 +133,20 @@ blocks_from (suc most) file at k bytes =
     behind_block file at (next_in k) (reading_of bytes)
     (λ next size. go_on k size (λ more n. blocks_from most file (at + n) more (drop n bytes)) next)
 
+-- the address of the block at an offset of a file of this size
+abbrev pub address_of : FileName → ℕ → ℕ → BlockAddress
+address_of file size at = record { file = file; size = size; offset = at; at = at }
+
+-- what the blocks from this offset of a file on say, of which there are no more than this
+abbrev pub blocks_in_file : (most : ℕ) → Files → FileName → (at : ℕ) → Kept → Result Kept Damage
+blocks_in_file most files file at k = blocks_from most file at k (drop at (files file))
+
 -- what the bytes of this file say; no file has more blocks than bytes
 abbrev pub snapshot_of : FileName → List ℕ → Result Kept Damage
 snapshot_of file bytes =
-    behind_block file 0 first_in (reading_of bytes) (λ k size. blocks_from (suc (length bytes)) file size k (drop size bytes))
+    behind_block file 0 first_in (reading_of bytes)
+    (λ k size. blocks_from (suc (length bytes)) file size k (drop size bytes))
+
+-- what this file says
+abbrev pub snapshot_in : Files → FileName → Result Kept Damage
+snapshot_in files file = snapshot_of file (files file)

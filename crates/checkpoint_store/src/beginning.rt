@@ -10,16 +10,13 @@ ghost use Rattle.checkpoint_store.specs.Begun.{log_file, begin_frame, begun_log,
 use crate::CheckError;
 use disk_trait::{Disk, Failed, FileKind, FileName, write_synced};
 use flowfile_record::DIGEST_SIZE;
-use record_codec::{BLOCK_OVERHEAD, CLOSED_GATE, FORMAT_VERSION, HEADER_SIZE, OPEN_GATE};
+use record_codec::{BLOCK_OVERHEAD, CLOSED_GATE, FORMAT_VERSION, LogEntry, OPEN_GATE};
 use sha2::{Digest, Sha256};
 
-// The kind of the entry that begins a log.
-const BEGIN_KIND: u8 = 1;
-
-// How many bytes that entry has: the version of the format, and the log's number.
+// How many bytes the entry has that begins a log: the version of the format, and the log's number.
 const BEGIN_SIZE: u64 = 9;
 
-// The block of that entry with a closed gate behind it.
+// Its block with a closed gate behind it.
 const FRAME_SIZE: usize = (BLOCK_OVERHEAD + BEGIN_SIZE) as usize + 1;
 
 /// Begins the log of this number, and makes it the current one. It takes no memory.
@@ -35,7 +32,8 @@ pub fn begin<D: Disk>(disk: &mut D, number: u64) -> Result<(), CheckError>
     ensures images { Since D.moment D.images disk.old disk.new
         (After (At (log_file number) (λ old new. IsBegunOrNot number new)) (D.images disk.old (D.moment disk.old))) }
     ensures synced { OnOk result (IsOnly (D.held disk.new) (D.images disk.new (D.moment disk.new))) }
-    ensures kinds { (IsErrOf result CheckError.Memory → ⊥) × ((damage : TheDamage) → IsErrOf result (CheckError.Damaged damage) → ⊥) }
+    ensures kinds { (IsErrOf result CheckError.Memory → ⊥)
+        × ((damage : TheDamage) → IsErrOf result (CheckError.Damaged damage) → ⊥) }
     ensures cause { CountsFaults (D.faults disk.old) (D.faults disk.new) (IsErrOf result CheckError.Disk) }
 {
     let file = FileName {
@@ -50,7 +48,8 @@ pub fn begin<D: Disk>(disk: &mut D, number: u64) -> Result<(), CheckError>
 // Writes a closed gate into an empty file, and then bytes behind it.
 fn stage<D: Disk>(disk: &mut D, file: FileName, frame: &[u8]) -> Result<(), Failed>
     requires empty { (c : Files) → D.images disk.old (D.moment disk.old) c → c file ≡ [] }
-    ensures staged { OnOk result (IsTrue D.tells → At file (λ old new. new ≡ CLOSED_GATE ∷ frame.now) (D.held disk.old) (D.held disk.new)) }
+    ensures staged { OnOk result (IsTrue D.tells
+        → At file (λ old new. new ≡ CLOSED_GATE ∷ frame.now) (D.held disk.old) (D.held disk.new)) }
     ensures synced { OnOk result (IsOnly (D.held disk.new) (D.images disk.new (D.moment disk.new))) }
     ensures images { Since D.moment D.images disk.old disk.new
         (After (At file (λ old new. IsPassedOver new)) (D.images disk.old (D.moment disk.old))) }
@@ -65,7 +64,8 @@ fn stage<D: Disk>(disk: &mut D, file: FileName, frame: &[u8]) -> Result<(), Fail
 fn frame_of(number: u64) -> [u8; FRAME_SIZE]
     ensures { result ≡ begin_frame number }
 {
-    let mut entry = [BEGIN_KIND; 1 + BEGIN_SIZE as usize];
+    let begin = LogEntry::Begin { log: number };
+    let mut entry = [begin.kind(); 1 + BEGIN_SIZE as usize];
     entry[1] = FORMAT_VERSION;
     entry[2..].copy_from_slice(&number.to_be_bytes());
     let digest: [u8; DIGEST_SIZE] = Sha256::digest(&entry);

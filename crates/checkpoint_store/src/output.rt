@@ -132,10 +132,13 @@ impl Output {
         ensures room { OnOk result (HasFreeRoom self.new) }
         ensures reaches { OnOk result (IsTrue D.tells → self.new.offset ≤ length (D.held disk.new self.new.file)) }
         ensures put { OnOk result ((start : D) (bytes : List ℕ)
-            → IsPut D.tells D.held D.moment D.images self.old.file start disk.old self.old.offset self.old.piece.items bytes
-            → IsPut D.tells D.held D.moment D.images self.old.file start disk.new self.new.offset self.new.piece.items bytes) }
+            → IsPut D.tells D.held D.moment D.images self.old.file start disk.old
+            self.old.offset self.old.piece.items bytes
+            → IsPut D.tells D.held D.moment D.images self.old.file start disk.new
+            self.new.offset self.new.piece.items bytes) }
         ensures left { (start : D) (bytes : List ℕ)
-            → IsPut D.tells D.held D.moment D.images self.old.file start disk.old self.old.offset self.old.piece.items bytes
+            → IsPut D.tells D.held D.moment D.images self.old.file start disk.old
+            self.old.offset self.old.piece.items bytes
             → Within D.moment D.images self.old.file start disk.new (length bytes) }
         ensures same { (self.new.file ≡ self.old.file) × (self.new.longest ≡ self.old.longest) }
         ensures cause { CountsFaults (D.faults disk.old) (D.faults disk.new) (IsErr result) }
@@ -154,10 +157,13 @@ impl Output {
         ensures empty { OnOk result (self.new.piece.items ≡ []) }
         ensures reaches { OnOk result (IsTrue D.tells → self.new.offset ≤ length (D.held disk.new self.new.file)) }
         ensures put { OnOk result ((start : D) (bytes : List ℕ)
-            → IsPut D.tells D.held D.moment D.images self.old.file start disk.old self.old.offset self.old.piece.items bytes
-            → IsPut D.tells D.held D.moment D.images self.old.file start disk.new self.new.offset self.new.piece.items bytes) }
+            → IsPut D.tells D.held D.moment D.images self.old.file start disk.old
+            self.old.offset self.old.piece.items bytes
+            → IsPut D.tells D.held D.moment D.images self.old.file start disk.new
+            self.new.offset self.new.piece.items bytes) }
         ensures left { (start : D) (bytes : List ℕ)
-            → IsPut D.tells D.held D.moment D.images self.old.file start disk.old self.old.offset self.old.piece.items bytes
+            → IsPut D.tells D.held D.moment D.images self.old.file start disk.old
+            self.old.offset self.old.piece.items bytes
             → Within D.moment D.images self.old.file start disk.new (length bytes) }
         ensures same { (self.new.file ≡ self.old.file) × (self.new.longest ≡ self.old.longest) }
         ensures cause { CountsFaults (D.faults disk.old) (D.faults disk.new) (IsErr result) }

@@ -1,5 +1,5 @@
 //! What a block of a snapshot says.
-ghost use Rattle.std.specs.Prelude.{◌≡◌, true, false, IsTrue, IfOk, OnOk, IsErrOf, Some, None};
+ghost use Rattle.std.specs.Prelude.{◌≡◌, ◌≤◌, true, false, length, IsTrue, IfOk, OnOk, IsErrOf, Some, None};
 ghost use Rattle.flowfile_record.specs.Reading.{whole};
 ghost use Rattle.flowfile_record.specs.Stored.{kept_of};
 ghost use Rattle.record_codec.specs.ActiveFile.{active_file_at};
@@ -10,11 +10,14 @@ ghost use Rattle.checkpoint_store.specs.SoFar.{IsSoFar, next_is};
 
 use crate::so_far::{SoFar, Unfit};
 use flowfile_record::Text;
-use record_codec::{SnapshotKind, read_active_file, read_head, read_snapshot_end, read_swap_batch};
+use record_codec::{
+    PAYLOAD_MAX, SnapshotKind, read_active_file, read_head, read_snapshot_end, read_swap_batch,
+};
 use std::alloc::Global;
 
 /// What the first block says, which is a Head.
 pub fn first_part(alloc: Global, kind: u8, payload: &[u8]) -> Result<SoFar, Unfit>
+    requires size { length payload.now ≤ PAYLOAD_MAX }
     ensures found { IfOk result (λ so_far. first_in kind payload.now ≡ Some (kept_of so_far.state)) }
     ensures so_far { IfOk result IsSoFar }
     ensures unfit { IsErrOf result Unfit.Form → first_in kind payload.now ≡ None }
@@ -29,6 +32,7 @@ pub fn first_part(alloc: Global, kind: u8, payload: &[u8]) -> Result<SoFar, Unfi
 }
 
 fn take_head(alloc: Global, payload: &[u8]) -> Result<SoFar, Unfit>
+    requires size { length payload.now ≤ PAYLOAD_MAX }
     ensures found { IfOk result (λ so_far. head_next (whole head_at payload.now) ≡ Some (kept_of so_far.state)) }
     ensures so_far { IfOk result IsSoFar }
     ensures unfit { IsErrOf result Unfit.Form → head_next (whole head_at payload.now) ≡ None }
@@ -58,7 +62,8 @@ impl SoFar {
     /// A later block joins those before it. Answers whether it is the End.
     pub fn take_part(&mut self, alloc: Global, kind: u8, payload: &[u8]) -> Result<bool, Unfit>
         requires { IsSoFar self.old }
-        ensures next { IfOk result (λ ended. next_in (kept_of self.old.state) kind payload.now ≡ Some (next_is ended (kept_of self.new.state))) }
+        ensures next { IfOk result (λ ended. next_in (kept_of self.old.state) kind payload.now
+            ≡ Some (next_is ended (kept_of self.new.state))) }
         ensures ended { IfOk result (λ ended. IsTrue ended → kept_of self.new.state ≡ kept_of self.old.state) }
         ensures so_far { OnOk result (IsSoFar self.new) }
         ensures unfit { IsErrOf result Unfit.Form → next_in (kept_of self.old.state) kind payload.now ≡ None }
@@ -74,9 +79,12 @@ impl SoFar {
 
     fn take_file(&mut self, alloc: Global, payload: &[u8]) -> Result<bool, Unfit>
         requires { IsSoFar self.old }
-        ensures next { IfOk result (λ ended. (ended ≡ false) × (file_next (kept_of self.old.state) (whole active_file_at payload.now) ≡ Some (More (kept_of self.new.state)))) }
+        ensures next { IfOk result (λ ended. (ended ≡ false)
+            × (file_next (kept_of self.old.state) (whole active_file_at payload.now)
+            ≡ Some (More (kept_of self.new.state)))) }
         ensures so_far { OnOk result (IsSoFar self.new) }
-        ensures unfit { IsErrOf result Unfit.Form → file_next (kept_of self.old.state) (whole active_file_at payload.now) ≡ None }
+        ensures unfit { IsErrOf result Unfit.Form
+            → file_next (kept_of self.old.state) (whole active_file_at payload.now) ≡ None }
     {
         let active = read_active_file(alloc, payload)?;
         self.add_file(active)?;
@@ -85,9 +93,12 @@ impl SoFar {
 
     fn take_batch(&mut self, payload: &[u8]) -> Result<bool, Unfit>
         requires { IsSoFar self.old }
-        ensures next { IfOk result (λ ended. (ended ≡ false) × (batch_next (kept_of self.old.state) (whole batch_at payload.now) ≡ Some (More (kept_of self.new.state)))) }
+        ensures next { IfOk result (λ ended. (ended ≡ false)
+            × (batch_next (kept_of self.old.state) (whole batch_at payload.now)
+            ≡ Some (More (kept_of self.new.state)))) }
         ensures so_far { OnOk result (IsSoFar self.new) }
-        ensures unfit { IsErrOf result Unfit.Form → batch_next (kept_of self.old.state) (whole batch_at payload.now) ≡ None }
+        ensures unfit { IsErrOf result Unfit.Form
+            → batch_next (kept_of self.old.state) (whole batch_at payload.now) ≡ None }
     {
         let batch = read_swap_batch(payload)?;
         self.add_batch(batch)?;
@@ -96,8 +107,10 @@ impl SoFar {
 
     fn take_end(&self, payload: &[u8]) -> Result<bool, Unfit>
         requires { IsSoFar self.now }
-        ensures next { IfOk result (λ ended. (ended ≡ true) × (end_next (kept_of self.now.state) (whole ending_at payload.now) ≡ Some Last)) }
-        ensures unfit { IsErrOf result Unfit.Form → end_next (kept_of self.now.state) (whole ending_at payload.now) ≡ None }
+        ensures next { IfOk result (λ ended. (ended ≡ true)
+            × (end_next (kept_of self.now.state) (whole ending_at payload.now) ≡ Some Last)) }
+        ensures unfit { IsErrOf result Unfit.Form
+            → end_next (kept_of self.now.state) (whole ending_at payload.now) ≡ None }
     {
         let blocks = read_snapshot_end(payload)?;
         if blocks != self.blocks() {

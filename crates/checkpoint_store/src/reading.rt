@@ -1,15 +1,15 @@
 //! Reading a snapshot.
-ghost use Rattle.std.specs.Prelude.{◌≡◌, ℕ, suc, ◌+◌, ◌<◌, ◌≤◌, List, ◌++◌, length, drop, slice_range, IsTrue, IfOk, OnOk, IsErrOf, Ok, Err, Some, MatchOption};
+ghost use Rattle.std.specs.Prelude.{◌≡◌, ℕ, suc, ◌<◌, ◌≤◌, List, [], ◌++◌, length, IsTrue, IfOk, OnOk, IsErrOf, Ok, Err, Some, MatchOption};
 ghost use Rattle.disk_trait.specs.Images.{Stays};
 ghost use Rattle.disk_trait.specs.Faults.{CountsFaults};
 ghost use Rattle.disk_trait.specs.declared.damage.Damage.{Damage as TheDamage};
+ghost use Rattle.disk_trait.specs.declared.file_name.FileName.{FileName as TheName};
 ghost use Rattle.flowfile_record.specs.Stored.{Kept, kept_of};
-ghost use Rattle.record_codec.specs.Block.{Whole, reading_of};
+ghost use Rattle.block_file.specs.Address.{reading_at, IsAddress, IsBlockAt};
 ghost use Rattle.block_file.specs.Damage.{damage_in};
-ghost use Rattle.checkpoint_store.specs.Reading.{blocks_from, snapshot_of};
+ghost use Rattle.checkpoint_store.specs.Reading.{address_of, blocks_in_file, snapshot_of, snapshot_in};
 ghost use Rattle.checkpoint_store.specs.Snapshot.{snapshot, snapshot_file};
 ghost use Rattle.checkpoint_store.specs.Consistent.{IsConsistent};
-ghost use Rattle.disk_trait.specs.declared.file_name.FileName.{FileName as TheName};
 ghost use Rattle.checkpoint_store.specs.SoFar.{IsSoFar};
 
 use crate::CheckError;
@@ -17,8 +17,8 @@ use crate::part::first_part;
 use crate::so_far::{SoFar, Unfit};
 use block_file::{BlockAddress, BlockError, read_block_at};
 use disk_trait::{Damage, Disk, FileKind, FileName};
-use flowfile_record::{DIGEST_SIZE, Stored};
-use record_codec::{Block, HEADER_SIZE};
+use flowfile_record::Stored;
+use record_codec::Block;
 use std::alloc::Global;
 
 // A file that is read, of this size.
@@ -30,9 +30,13 @@ struct Source {
 
 /// What the snapshot of this number says. It is read block by block, with memory for one block beside the state.
 pub fn read<D: Disk>(alloc: Global, disk: &mut D, number: u64) -> Result<Stored, CheckError>
-    ensures read { IfOk result (λ state. IsTrue D.tells → snapshot_of (snapshot_file number) (D.held disk.old (snapshot_file number)) ≡ Ok (kept_of state)) }
+    ensures read { IfOk result (λ state. IsTrue D.tells
+        → snapshot_in (D.held disk.old) (snapshot_file number) ≡ Ok (kept_of state)) }
+    // Whatever the disk tells, a state without batches agrees with itself.
+    ensures consistent { IfOk result (λ state. (kept_of state).batches ≡ [] → IsConsistent (kept_of state)) }
     // The first damage is told, where there is one.
-    ensures damaged { (damage : TheDamage) → IsErrOf result (CheckError.Damaged damage) → IsTrue D.tells → snapshot_of (snapshot_file number) (D.held disk.old (snapshot_file number)) ≡ Err damage }
+    ensures damaged { (damage : TheDamage) → IsErrOf result (CheckError.Damaged damage) → IsTrue D.tells
+        → snapshot_in (D.held disk.old) (snapshot_file number) ≡ Err damage }
     ensures stays { Stays D.held D.moment D.images disk.old disk.new }
     ensures cause { CountsFaults (D.faults disk.old) (D.faults disk.new) (IsErrOf result CheckError.Disk) }
 {
@@ -58,11 +62,13 @@ fn read_first<D: Disk>(
     buffer: &mut Vec<u8>,
 ) -> Result<(SoFar, u64), CheckError>
     requires size { IsTrue D.tells → source.size ≡ length (D.held disk.old source.file) }
-    ensures found { IfOk result (λ first. IsTrue D.tells
-        → snapshot_of source.file (D.held disk.old source.file) ≡ blocks_from (suc (length (D.held disk.old source.file))) source.file first.1 (kept_of first.0.state) (drop first.1 (D.held disk.old source.file))) }
+    ensures found { IfOk result (λ first. IsTrue D.tells → snapshot_in (D.held disk.old) source.file
+        ≡ blocks_in_file (suc (length (D.held disk.old source.file))) (D.held disk.old) source.file
+        first.1 (kept_of first.0.state)) }
     ensures so_far { IfOk result (λ first. IsSoFar first.0) }
     ensures within { IfOk result (λ first. first.1 ≤ source.size) }
-    ensures damaged { (damage : TheDamage) → IsErrOf result (CheckError.Damaged damage) → IsTrue D.tells → snapshot_of source.file (D.held disk.old source.file) ≡ Err damage }
+    ensures damaged { (damage : TheDamage) → IsErrOf result (CheckError.Damaged damage) → IsTrue D.tells
+        → snapshot_in (D.held disk.old) source.file ≡ Err damage }
     ensures stays { Stays D.held D.moment D.images disk.old disk.new }
     ensures cause { CountsFaults (D.faults disk.old) (D.faults disk.new) (IsErrOf result CheckError.Disk) }
 {
@@ -91,11 +97,15 @@ fn read_next<D: Disk>(
     requires within { at ≤ source.size }
     requires so_far { IsSoFar so_far.old }
     ensures next { IfOk result (λ next. IsTrue D.tells → (most : ℕ) → MatchOption next
-        (blocks_from (suc most) source.file at (kept_of so_far.old.state) (drop at (D.held disk.old source.file)) ≡ Ok (kept_of so_far.new.state))
-        (λ n. blocks_from (suc most) source.file at (kept_of so_far.old.state) (drop at (D.held disk.old source.file)) ≡ blocks_from most source.file n (kept_of so_far.new.state) (drop n (D.held disk.old source.file)))) }
+        (blocks_in_file (suc most) (D.held disk.old) source.file at (kept_of so_far.old.state)
+        ≡ Ok (kept_of so_far.new.state))
+        (λ n. blocks_in_file (suc most) (D.held disk.old) source.file at (kept_of so_far.old.state)
+        ≡ blocks_in_file most (D.held disk.old) source.file n (kept_of so_far.new.state))) }
     ensures so_far { OnOk result (IsSoFar so_far.new) }
     ensures within { IfOk result (λ next. MatchOption next (Unit {0}) (λ n. (at < n) × (n ≤ source.size))) }
-    ensures damaged { (damage : TheDamage) → IsErrOf result (CheckError.Damaged damage) → IsTrue D.tells → (most : ℕ) → blocks_from (suc most) source.file at (kept_of so_far.old.state) (drop at (D.held disk.old source.file)) ≡ Err damage }
+    ensures damaged { (damage : TheDamage) → IsErrOf result (CheckError.Damaged damage) → IsTrue D.tells
+        → (most : ℕ) → blocks_in_file (suc most) (D.held disk.old) source.file at (kept_of so_far.old.state)
+        ≡ Err damage }
     ensures stays { Stays D.held D.moment D.images disk.old disk.new }
     ensures cause { CountsFaults (D.faults disk.old) (D.faults disk.new) (IsErrOf result CheckError.Disk) }
 {
@@ -118,11 +128,12 @@ fn read_block<D: Disk>(
     at: u64,
     buffer: &mut Vec<u8>,
 ) -> Result<Block, CheckError>
-    requires size { IsTrue D.tells → source.size ≡ length (D.held disk.old source.file) }
-    requires within { at ≤ source.size }
-    ensures found { IfOk result (λ block. IsTrue D.tells → reading_of (drop at (D.held disk.old source.file)) ≡ Whole block.kind (slice_range buffer.new.items block.start block.end)) }
-    ensures within { IfOk result (λ block. (block.start ≡ HEADER_SIZE) × (block.start ≤ block.end) × (block.end + DIGEST_SIZE ≡ block.next) × (block.next ≤ length buffer.new.items) × (at + block.next ≤ source.size)) }
-    ensures damaged { (damage : TheDamage) → IsErrOf result (CheckError.Damaged damage) → IsTrue D.tells → damage_in source.file at (reading_of (drop at (D.held disk.old source.file))) ≡ Some damage }
+    requires { IsAddress D.tells (D.held disk.old) (address_of source.file source.size at) }
+    ensures found { IfOk result
+        (IsBlockAt D.tells (D.held disk.old) (address_of source.file source.size at) buffer.new.items) }
+    ensures damaged { (damage : TheDamage) → IsErrOf result (CheckError.Damaged damage) → IsTrue D.tells
+        → damage_in source.file at (reading_at (D.held disk.old) (address_of source.file source.size at))
+        ≡ Some damage }
     ensures stays { Stays D.held D.moment D.images disk.old disk.new }
     ensures cause { CountsFaults (D.faults disk.old) (D.faults disk.new) (IsErrOf result CheckError.Disk) }
 {
@@ -156,5 +167,6 @@ fn refused(source: Source, at: u64, unfit: Unfit) -> CheckError
 
 /// What was written is read back, whatever stands behind it.
 pub fn snapshots_are_read_back()
-    ensures { (file : TheName) (k : Kept) (rest : List ℕ) → IsConsistent k → snapshot_of file (snapshot k ++ rest) ≡ Ok k }
+    ensures { (file : TheName) (k : Kept) (rest : List ℕ) → IsConsistent k
+        → snapshot_of file (snapshot k ++ rest) ≡ Ok k }
 {}

@@ -5,6 +5,7 @@ ghost use Rattle.std.specs.BTreeSet.{contains, IsOrdered};
 ghost use Rattle.flowfile_record.specs.Stored.{kept_of};
 ghost use Rattle.record_codec.specs.ActiveFile.{IsActiveFile};
 ghost use Rattle.record_codec.specs.Snapshot.{IsBatch};
+ghost use Rattle.checkpoint_store.specs.Consistent.{IsConsistent};
 ghost use Rattle.checkpoint_store.specs.Reading.{has_place, may_join, may_follow, kept_by};
 ghost use Rattle.checkpoint_store.specs.Snapshot.{blocks_in};
 ghost use Rattle.checkpoint_store.specs.SoFar.{IsSoFar};
@@ -12,7 +13,8 @@ ghost use Rattle.checkpoint_store.specs.Unfit.{unfit_of};
 ghost use Rattle.checkpoint_store.specs.declared.so_far.Unfit.TheVariants as unfit;
 
 use flowfile_record::{
-    ActiveFile, ActiveList, BatchList, CodecError, LIVE_BYTES_MAX, LIVE_FILES_MAX, Stored, SwapBatch,
+    ActiveFile, ActiveList, BatchList, CodecError, LIVE_BYTES_MAX, LIVE_FILES_MAX, Stored,
+    SwapBatch,
 };
 use record_codec::{Head, file_size};
 use std::alloc::{AllocError, Global};
@@ -62,6 +64,7 @@ pub struct SoFar {
 impl SoFar {
     /// What a Head alone says.
     pub fn new(alloc: Global, head: Head) -> SoFar
+        requires consistent { IsConsistent (kept_by head) }
         ensures kept { kept_of result.state ≡ kept_by head }
         ensures so_far { IsSoFar result }
     {
@@ -91,7 +94,8 @@ impl SoFar {
         requires file { IsActiveFile active }
         requires so_far { IsSoFar self.old }
         ensures joined { OnOk result ((may_join (kept_of self.old.state) active ≡ true)
-            × (kept_of self.new.state ≡ record (kept_of self.old.state) { files = (kept_of self.old.state).files ++ active ∷ [] })) }
+            × (kept_of self.new.state
+            ≡ record (kept_of self.old.state) { files = (kept_of self.old.state).files ++ active ∷ [] })) }
         ensures so_far { OnOk result (IsSoFar self.new) }
         ensures unfit { IsErrOf result Unfit.Form → may_join (kept_of self.old.state) active ≡ false }
     {
@@ -130,7 +134,8 @@ impl SoFar {
         requires batch { IsBatch batch }
         requires so_far { IsSoFar self.old }
         ensures joined { OnOk result ((may_follow (kept_of self.old.state) batch ≡ true)
-            × (kept_of self.new.state ≡ record (kept_of self.old.state) { batches = (kept_of self.old.state).batches ++ batch ∷ [] })) }
+            × (kept_of self.new.state
+            ≡ record (kept_of self.old.state) { batches = (kept_of self.old.state).batches ++ batch ∷ [] })) }
         ensures so_far { OnOk result (IsSoFar self.new) }
         ensures unfit { IsErrOf result Unfit.Form → may_follow (kept_of self.old.state) batch ≡ false }
     {
@@ -156,7 +161,8 @@ impl SoFar {
 fn add_arrival(arrivals: &mut BTreeSet<u64>, arrival: u64) -> Result<bool, AllocError>
     requires { IsOrdered nat_cmp arrivals.old }
     ensures added { IfOk result (λ added. added ≡ not (contains nat_cmp arrivals.old arrival)) }
-    ensures now { OnOk result ((n : ℕ) → contains nat_cmp arrivals.new n ≡ (contains nat_cmp arrivals.old n || (arrival == n))) }
+    ensures now { OnOk result ((n : ℕ) → contains nat_cmp arrivals.new n
+        ≡ (contains nat_cmp arrivals.old n || (arrival == n))) }
     ensures ordered { OnOk result (IsOrdered nat_cmp arrivals.new) }
 {
     Ok(arrivals.insert(arrival)?)

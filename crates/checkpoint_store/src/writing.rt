@@ -30,11 +30,13 @@ pub fn write<D: Disk>(
 ) -> Result<(), CheckError>
     requires { IsConsistent (kept_of state.now) }
     // The file begins with the snapshot, and what stood behind it there and in other files is as it was.
-    ensures written { OnOk result (IsTrue D.tells → At (snapshot_file number) (Overwritten 0 (snapshot (kept_of state.now))) (D.held disk.old) (D.held disk.new)) }
+    ensures written { OnOk result (IsTrue D.tells
+        → At (snapshot_file number) (Overwritten 0 (snapshot (kept_of state.now))) (D.held disk.old) (D.held disk.new)) }
     // Each image is that.
     ensures synced { OnOk result (IsOnly (D.held disk.new) (D.images disk.new (D.moment disk.new))) }
     // A stop within the call leaves all as it was but for the bytes that the snapshot has.
-    ensures images { Within D.moment D.images (snapshot_file number) disk.old disk.new (length (snapshot (kept_of state.now))) }
+    ensures images { Within D.moment D.images (snapshot_file number) disk.old disk.new
+        (length (snapshot (kept_of state.now))) }
     ensures spared { IsErrOf result CheckError.Memory → disk.new ≡ disk.old }
     ensures kinds { (damage : TheDamage) → IsErrOf result (CheckError.Damaged damage) → ⊥ }
     ensures cause { CountsFaults (D.faults disk.old) (D.faults disk.new) (IsErrOf result CheckError.Disk) }
@@ -55,7 +57,8 @@ fn write_blocks<D: Disk>(disk: &mut D, state: &Stored, out: &mut Output) -> Resu
     requires room { HasFreeRoom out.old }
     requires head { length (head (head_of state.now)) ≤ out.old.longest }
     requires empty { (out.old.offset ≡ 0) × (out.old.piece.items ≡ []) }
-    ensures written { OnOk result (IsTrue D.tells → At out.old.file (Overwritten 0 (snapshot (kept_of state.now))) (D.held disk.old) (D.held disk.new)) }
+    ensures written { OnOk result (IsTrue D.tells
+        → At out.old.file (Overwritten 0 (snapshot (kept_of state.now))) (D.held disk.old) (D.held disk.new)) }
     ensures images { Within D.moment D.images out.old.file disk.old disk.new (length (snapshot (kept_of state.now))) }
     ensures cause { CountsFaults (D.faults disk.old) (D.faults disk.new) (IsErr result) }
 {
@@ -77,10 +80,12 @@ fn write_files<D: Disk>(disk: &mut D, files: &ActiveList, out: &mut Output) -> R
     ensures reaches { OnOk result (IsTrue D.tells → out.new.offset ≤ length (D.held disk.new out.new.file)) }
     ensures put { OnOk result ((start : D) (bytes : List ℕ)
         → IsPut D.tells D.held D.moment D.images out.old.file start disk.old out.old.offset out.old.piece.items bytes
-        → IsPut D.tells D.held D.moment D.images out.old.file start disk.new out.new.offset out.new.piece.items (bytes ++ flat_map file_block files.now.items)) }
+        → IsPut D.tells D.held D.moment D.images out.old.file start disk.new out.new.offset out.new.piece.items
+        (bytes ++ flat_map file_block files.now.items)) }
     ensures left { (start : D) (bytes : List ℕ)
         → IsPut D.tells D.held D.moment D.images out.old.file start disk.old out.old.offset out.old.piece.items bytes
-        → Within D.moment D.images out.old.file start disk.new (length (bytes ++ flat_map file_block files.now.items)) }
+        → Within D.moment D.images out.old.file start disk.new
+        (length (bytes ++ flat_map file_block files.now.items)) }
     ensures same { (out.new.file ≡ out.old.file) × (out.new.longest ≡ out.old.longest) }
     ensures cause { CountsFaults (D.faults disk.old) (D.faults disk.new) (IsErr result) }
 {
@@ -100,10 +105,12 @@ fn write_batches<D: Disk>(disk: &mut D, batches: &BatchList, out: &mut Output) -
     ensures reaches { OnOk result (IsTrue D.tells → out.new.offset ≤ length (D.held disk.new out.new.file)) }
     ensures put { OnOk result ((start : D) (bytes : List ℕ)
         → IsPut D.tells D.held D.moment D.images out.old.file start disk.old out.old.offset out.old.piece.items bytes
-        → IsPut D.tells D.held D.moment D.images out.old.file start disk.new out.new.offset out.new.piece.items (bytes ++ flat_map batch_block batches.now.items)) }
+        → IsPut D.tells D.held D.moment D.images out.old.file start disk.new out.new.offset out.new.piece.items
+        (bytes ++ flat_map batch_block batches.now.items)) }
     ensures left { (start : D) (bytes : List ℕ)
         → IsPut D.tells D.held D.moment D.images out.old.file start disk.old out.old.offset out.old.piece.items bytes
-        → Within D.moment D.images out.old.file start disk.new (length (bytes ++ flat_map batch_block batches.now.items)) }
+        → Within D.moment D.images out.old.file start disk.new
+        (length (bytes ++ flat_map batch_block batches.now.items)) }
     ensures same { (out.new.file ≡ out.old.file) × (out.new.longest ≡ out.old.longest) }
     ensures cause { CountsFaults (D.faults disk.old) (D.faults disk.new) (IsErr result) }
 {

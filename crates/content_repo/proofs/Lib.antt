@@ -4,3 +4,4 @@ pub mod Cuts
 pub mod Rooms
 pub mod SlotLists
 pub mod SlotSets
+pub mod ForCallers

@@ -1,5 +1,5 @@
 -- The files of the claims.
-use Rattle.std.specs.Prelude.{◌≡◌, ◌≢◌, ℕ, ◌<◌, ◌≤◌, List, [], length, take, drop, MatchBool}
+use Rattle.std.specs.Prelude.{◌≡◌, ◌≢◌, ℕ, ◌<◌, ◌≤◌, Bool, IsTrue, List, [], length, take, drop, MatchBool}
 use Rattle.sha2.specs.Sha256.{sha256}
 use Rattle.disk_trait.specs.Files.{Files, named, At, Shortened}
 use Rattle.disk_trait.specs.declared.damage.Damage.{Damage}
@@ -7,9 +7,11 @@ use Rattle.disk_trait.specs.declared.damage.Damage.TheVariants.{Digest, Short, F
 use Rattle.disk_trait.specs.declared.file_name.FileKind.TheVariants.{Claim}
 use Rattle.disk_trait.specs.declared.file_name.FileName.{FileName}
 use Rattle.flowfile_record.specs.declared.content.ContentRef.{ContentRef}
+use Rattle.content_repo.specs.declared.error.ContentError.{ContentError}
+use Rattle.content_repo.specs.declared.error.ContentError.TheVariants.{Memory, SlotsFull, Damaged}
 use Rattle.content_repo.specs.declared.slot.Slot.{Slot}
 use Rattle.content_repo.specs.declared.slot_set.TheConstants.{SLOTS}
-use Rattle.content_repo.specs.Slots.{size_of, end_of, is_idle, slot_at}
+use Rattle.content_repo.specs.Slots.{size_of, end_of, covered, is_idle, slot_at}
 
 -- the file of a slot
 abbrev pub claim : ℕ → FileName
@@ -40,9 +42,19 @@ ShortenedTo ends = OnClaims (λ k. Shortened (ends k))
 abbrev pub CutTo : (ℕ → ℕ) → Files → Files → Type 0
 CutTo ends = OnClaims (λ k old new. new ≡ take (ends k) old)
 
--- where an idle slot's file is to end
+-- each claim ends where the last of these contents does, and that is its size in these slots
+pub record AreCut (refs : List ContentRef) (slots : List Slot) (old new : Files) : Type 0 where
+  pub claims : CutTo (λ k. covered k refs) old new
+  pub sizes : HasSizes slots new
+
+-- the claims of idle slots are emptied, and each other file is as it was
 abbrev pub IdleEmptied : List Slot → Files → Files → Type 0
 IdleEmptied slots = OnClaims (λ k old new. MatchBool (is_idle (slot_at slots k)) (new ≡ []) (new ≡ old))
+
+-- and that is known of the slots
+pub record AreEmptied (old_slots new_slots : List Slot) (old new : Files) : Type 0 where
+  pub claims : IdleEmptied old_slots old new
+  pub sizes : HasSizes new_slots new
 
 abbrev pub IdleShortened : List Slot → Files → Files → Type 0
 IdleShortened slots = OnClaims (λ k old new. MatchBool (is_idle (slot_at slots k)) (Shortened 0 old new) (new ≡ old))
@@ -63,3 +75,16 @@ IsDamage at bytes (Short file offset need have) =
     (file ≡ claim at.slot) × (offset ≡ at.offset) × (length bytes < end_of at)
     × (need ≡ end_of at) × (have ≡ length bytes)
 IsDamage at bytes (Form file offset) = ⊥
+
+-- the bytes of a content: they have its size and its digest, and where the disk tells they stand in its claim
+pub record IsRead (tells : Bool) (files : Files) (at : ContentRef) (bytes : List ℕ) : Type 0 where
+  pub size : length bytes ≡ at.size
+  pub digest : sha256 bytes ≡ at.digest
+  pub whole : IsTrue tells → IsCovered files at
+  pub content : IsTrue tells → bytes ≡ content_in files at
+
+-- why a content isn't read: what is damaged is told as it is, and memory is taken only for bytes that are there
+pub record IsReadRefusal (tells : Bool) (files : Files) (at : ContentRef) (error : ContentError) : Type 0 where
+  pub damaged : (damage : Damage) → error ≡ Damaged damage → IsTrue tells → IsDamage at (files (claim at.slot)) damage
+  pub memory : error ≡ Memory → IsTrue tells → IsCovered files at
+  pub not_full : error ≢ SlotsFull

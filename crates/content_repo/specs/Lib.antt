@@ -1,3 +1,4 @@
+pub mod Append
 pub mod Claims
 pub mod Errors
 pub mod Room

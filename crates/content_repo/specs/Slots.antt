@@ -1,6 +1,8 @@
 -- The slots of a repository of contents: what is known of each, by number.
-use Rattle.std.specs.Prelude.{◌≡◌, ℕ, ◌+◌, ◌^◌, ◌<◌, ◌==◌, nat_lt, ◌&&◌, not, Bool, true, false, List, [], ◌∷◌, length, sum_by, count_by, position, slice_index_or, slice_set, max, Option, None, Some, if◌then◌else◌}
+use Rattle.std.specs.Prelude.{◌≡◌, ℕ, ◌+◌, ◌^◌, ◌<◌, ◌≤◌, ◌==◌, nat_lt, ◌&&◌, not, Bool, true, false, List, [], ◌∷◌, length, sum_by, count_by, position, All, map, slice_index_or, slice_set, max, Option, None, Some, if◌then◌else◌}
 use Rattle.flowfile_record.specs.declared.content.ContentRef.{ContentRef}
+use Rattle.content_repo.specs.declared.load.TheConstants.{LIVE_MAX}
+use Rattle.content_repo.specs.declared.reclaim.Reclaimed.{Reclaimed}
 use Rattle.content_repo.specs.declared.slot.Slot.{Slot}
 use Rattle.content_repo.specs.declared.slot.TheConstants.{OPEN_SIZE}
 use Rattle.content_repo.specs.declared.slot_set.TheConstants.{SLOTS}
@@ -69,6 +71,12 @@ HasRoom slots (n ∷ ns) = (k : ℕ) × (next_slot slots ≡ Some k) × HasRoom 
 abbrev pub reclaimed : Slot → Slot
 reclaimed slot = if is_idle slot then unused else slot
 
+-- so many claims were emptied, none was left as claimed, and their slots are free
+pub record IsReclaimed (old new : List Slot) (answer : Reclaimed) : Type 0 where
+  pub emptied : answer ≡ record { emptied = count_by is_idle old; claimed = 0 }
+  pub slots : new ≡ map reclaimed old
+  pub held : held_in new ≡ held_in old
+
 -- where a content ends
 abbrev pub end_of : ContentRef → ℕ
 end_of at = at.offset + at.size
@@ -98,6 +106,11 @@ pub record AreSorted (slots : List Slot) (open_slots free_slots : List ℕ) : Ty
 -- a reference names a slot, and its end is a number of bytes
 abbrev pub IsNamed : ContentRef → Type 0
 IsNamed at = (at.slot < SLOTS) × (end_of at < 2 ^ 64)
+
+-- the references that a repository is loaded with
+pub record AreLive (refs : List ContentRef) : Type 0 where
+  pub few : length refs ≤ LIVE_MAX
+  pub named : All IsNamed refs
 
 -- the file of a free slot is empty, and nothing refers to it
 abbrev pub HasUnused : List Slot → Type 0

@@ -1,13 +1,11 @@
 //! A repository is made from the references that are live, and its claims cut to what these cover.
-ghost use Rattle.std.specs.Prelude.{◌≡◌, ℕ, ◌+◌, ◌^◌, ◌<◌, ◌≤◌, All, length, take, IsTrue, IfOk, OnOk, IsErr, IsErrOf};
+ghost use Rattle.std.specs.Prelude.{◌≡◌, ℕ, ◌≤◌, All, length, take, IsTrue, IfOk, OnOk, IfErr, IsErr, IsErrOf};
 ghost use Rattle.disk_trait.specs.Files.{At, Shortened};
 ghost use Rattle.disk_trait.specs.Images.{After, Since};
 ghost use Rattle.disk_trait.specs.Faults.{CountsFaults};
-ghost use Rattle.disk_trait.specs.declared.damage.Damage.{Damage as TheDamage};
-ghost use Rattle.flowfile_record.specs.declared.content.ContentRef.{ContentRef as TheRef};
-ghost use Rattle.content_repo.specs.declared.slot_set.TheConstants.{SLOTS};
-ghost use Rattle.content_repo.specs.Claims.{claim, IsCovered, HasSizes, ShortenedTo, CutTo};
-ghost use Rattle.content_repo.specs.Slots.{count_of, size_of, end_of, held_in, covered, IsLoaded, IsNamed, slot_at, unused};
+ghost use Rattle.content_repo.specs.Claims.{claim, IsCovered, ShortenedTo, CutTo, AreCut};
+ghost use Rattle.content_repo.specs.Errors.{IsDiskOrMemory};
+ghost use Rattle.content_repo.specs.Slots.{size_of, held_in, covered, AreLive, IsLoaded, slot_at, unused};
 
 use crate::{Content, ContentError};
 use disk_trait::{Disk, Failed, FileKind, FileName};
@@ -25,19 +23,16 @@ impl Content {
         disk: &mut D,
         live: &[ContentRef],
     ) -> Result<Content, ContentError>
-        requires few { length live.now ≤ LIVE_MAX }
-        requires named { All IsNamed live.now }
+        requires live { AreLive live.now }
         requires within { IsTrue D.tells → All (IsCovered (D.held disk.old)) live.now }
         ensures loaded { IfOk result (IsLoaded live.now) }
         ensures held { IfOk result (λ content. held_in content ≡ length live.now) }
-        ensures sizes { IfOk result (λ content. IsTrue D.tells → HasSizes content (D.held disk.new)) }
-        ensures cut { OnOk result (IsTrue D.tells
-            → CutTo (λ k. covered k live.now) (D.held disk.old) (D.held disk.new)) }
+        ensures cut { IfOk result (λ content. IsTrue D.tells
+            → AreCut live.now content (D.held disk.old) (D.held disk.new)) }
         // A stop leaves what it would have left, but for bytes that no reference covers.
         ensures images { Since D.moment D.images disk.old disk.new
             (After (ShortenedTo (λ k. covered k live.now)) (D.images disk.old (D.moment disk.old))) }
-        ensures not_full { IsErrOf result ContentError.SlotsFull → ⊥ }
-        ensures not_damaged { (damage : TheDamage) → IsErrOf result (ContentError.Damaged damage) → ⊥ }
+        ensures refusal { IfErr result IsDiskOrMemory }
         ensures cause { CountsFaults (D.faults disk.old) (D.faults disk.new) (IsErrOf result ContentError.Disk) }
     {
         let mut content = Content::new(alloc)?;
@@ -48,8 +43,7 @@ impl Content {
 
     // Holds each reference once, in a repository of no contents.
     fn hold_all(&mut self, live: &[ContentRef])
-        requires few { length live.now ≤ LIVE_MAX }
-        requires named { All IsNamed live.now }
+        requires live { AreLive live.now }
         requires none { (k : ℕ) → slot_at self.old k ≡ unused }
         requires unheld { held_in self.old ≡ 0 }
         ensures loaded { IsLoaded live.now self.new }
@@ -68,8 +62,7 @@ impl Content {
         ensures cut { OnOk result (IsTrue D.tells → CutTo (size_of self.now) (D.held disk.old) (D.held disk.new)) }
         ensures images { Since D.moment D.images disk.old disk.new
             (After (ShortenedTo (size_of self.now)) (D.images disk.old (D.moment disk.old))) }
-        ensures not_full { IsErrOf result ContentError.SlotsFull → ⊥ }
-        ensures not_damaged { (damage : TheDamage) → IsErrOf result (ContentError.Damaged damage) → ⊥ }
+        ensures refusal { IfErr result IsDiskOrMemory }
         ensures cause { CountsFaults (D.faults disk.old) (D.faults disk.new) (IsErrOf result ContentError.Disk) }
     {
         let mut numbers = Vec::new(alloc);

@@ -1,10 +1,9 @@
 //! A content is read, and its digest compared.
-ghost use Rattle.std.specs.Prelude.{◌≡◌, ℕ, ◌+◌, ◌^◌, ◌<◌, ◌≤◌, length, take, drop, IsTrue, IfOk, OnOk, IsErrOf};
-ghost use Rattle.sha2.specs.Sha256.{sha256};
+ghost use Rattle.std.specs.Prelude.{◌≡◌, ◌+◌, ◌^◌, ◌<◌, ◌≤◌, length, take, drop, IsTrue, IfOk, IfErr, IsErrOf};
 ghost use Rattle.disk_trait.specs.Images.{Stays};
 ghost use Rattle.disk_trait.specs.Faults.{CountsFaults};
-ghost use Rattle.disk_trait.specs.declared.damage.Damage.{Damage as TheDamage};
-ghost use Rattle.content_repo.specs.Claims.{claim, content_in, IsCovered, IsDamage};
+ghost use Rattle.content_repo.specs.Claims.{IsRead, IsReadRefusal};
+ghost use Rattle.content_repo.specs.Errors.{IsDiskOrMemory};
 ghost use Rattle.content_repo.specs.Slots.{count_of, size_of, end_of};
 
 use crate::append::claim_file;
@@ -24,15 +23,8 @@ impl Content {
     ) -> Result<Vec<u8>, ContentError>
         requires held { 0 < count_of self.old at.now.slot }
         requires within { end_of at.now ≤ size_of self.old at.now.slot }
-        ensures bytes { IfOk result (λ bytes. IsTrue D.tells → bytes.items ≡ content_in (D.held disk.old) at.now) }
-        ensures whole { OnOk result (IsTrue D.tells → IsCovered (D.held disk.old) at.now) }
-        ensures size { IfOk result (λ bytes. length bytes.items ≡ at.now.size) }
-        ensures digest { IfOk result (λ bytes. sha256 bytes.items ≡ at.now.digest) }
-        ensures damaged { (damage : TheDamage) → IsErrOf result (ContentError.Damaged damage) → IsTrue D.tells
-            → IsDamage at.now (D.held disk.old (claim at.now.slot)) damage }
-        // Memory is taken only for bytes that are there.
-        ensures memory { IsErrOf result ContentError.Memory → IsTrue D.tells → IsCovered (D.held disk.old) at.now }
-        ensures not_full { IsErrOf result ContentError.SlotsFull → ⊥ }
+        ensures read { IfOk result (λ bytes. IsRead D.tells (D.held disk.old) at.now bytes.items) }
+        ensures refusal { IfErr result (IsReadRefusal D.tells (D.held disk.old) at.now) }
         ensures value { self.new ≡ self.old }
         ensures stays { Stays D.held D.moment D.images disk.old disk.new }
         ensures cause { CountsFaults (D.faults disk.old) (D.faults disk.new) (IsErrOf result ContentError.Disk) }
@@ -49,15 +41,8 @@ pub fn read_content<D: Disk>(
     at: &ContentRef,
 ) -> Result<Vec<u8>, ContentError>
     requires { end_of at.now < 2 ^ 64 }
-    ensures bytes { IfOk result (λ bytes. IsTrue D.tells → bytes.items ≡ content_in (D.held disk.old) at.now) }
-    ensures whole { OnOk result (IsTrue D.tells → IsCovered (D.held disk.old) at.now) }
-    ensures size { IfOk result (λ bytes. length bytes.items ≡ at.now.size) }
-    ensures digest { IfOk result (λ bytes. sha256 bytes.items ≡ at.now.digest) }
-    ensures damaged { (damage : TheDamage) → IsErrOf result (ContentError.Damaged damage) → IsTrue D.tells
-        → IsDamage at.now (D.held disk.old (claim at.now.slot)) damage }
-    // Memory is taken only for bytes that are there.
-    ensures memory { IsErrOf result ContentError.Memory → IsTrue D.tells → IsCovered (D.held disk.old) at.now }
-    ensures not_full { IsErrOf result ContentError.SlotsFull → ⊥ }
+    ensures read { IfOk result (λ bytes. IsRead D.tells (D.held disk.old) at.now bytes.items) }
+    ensures refusal { IfErr result (IsReadRefusal D.tells (D.held disk.old) at.now) }
     ensures stays { Stays D.held D.moment D.images disk.old disk.new }
     ensures cause { CountsFaults (D.faults disk.old) (D.faults disk.new) (IsErrOf result ContentError.Disk) }
 {
@@ -97,8 +82,7 @@ fn read_bytes<D: Disk>(
     ensures bytes { IfOk result (λ bytes. IsTrue D.tells
         → bytes.items ≡ take size (drop offset (D.held disk.old file))) }
     ensures len { IfOk result (λ bytes. length bytes.items ≡ size) }
-    ensures not_full { IsErrOf result ContentError.SlotsFull → ⊥ }
-    ensures not_damaged { (damage : TheDamage) → IsErrOf result (ContentError.Damaged damage) → ⊥ }
+    ensures refusal { IfErr result IsDiskOrMemory }
     ensures stays { Stays D.held D.moment D.images disk.old disk.new }
     ensures cause { CountsFaults (D.faults disk.old) (D.faults disk.new) (IsErrOf result ContentError.Disk) }
 {

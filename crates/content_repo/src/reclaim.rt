@@ -1,11 +1,11 @@
 //! The claims that nothing refers to are emptied.
-ghost use Rattle.std.specs.Prelude.{◌≡◌, ℕ, ◌+◌, ◌<◌, ◌≤◌, map, count_by, slice_set, IsTrue, IfOk, OnOk, IsErr, IfErr};
+ghost use Rattle.std.specs.Prelude.{◌≡◌, ◌<◌, slice_set, IsTrue, IfOk, OnOk, IsErr};
 ghost use Rattle.disk_trait.specs.Images.{After, Since};
 ghost use Rattle.disk_trait.specs.Faults.{CountsFaults};
-ghost use Rattle.content_repo.specs.declared.error.ContentError.TheVariants.{Disk as DiskFault};
-ghost use Rattle.content_repo.specs.Claims.{HasSizes, IdleEmptied, IdleShortened, EmptiedAt, ShortenedAt};
+ghost use Rattle.content_repo.specs.Claims.{HasSizes, AreEmptied, IdleShortened, EmptiedAt, ShortenedAt};
+ghost use Rattle.content_repo.specs.Errors.{RefusesOnFault};
 ghost use Rattle.content_repo.specs.SlotSet.{bit_of};
-ghost use Rattle.content_repo.specs.Slots.{held_in, slot_at, is_idle, reclaimed};
+ghost use Rattle.content_repo.specs.Slots.{held_in, slot_at, is_idle, reclaimed, IsReclaimed};
 
 use crate::append::claim_file;
 use crate::{Content, ContentError, SLOTS};
@@ -24,16 +24,14 @@ impl Content {
     /// Empties each claim without references and makes its slot free. It takes no memory.
     pub fn reclaim<D: Disk>(&mut self, disk: &mut D) -> Result<Reclaimed, ContentError>
         requires { IsTrue D.tells → HasSizes self.old (D.held disk.old) }
-        ensures answer { IfOk result (λ answer. answer ≡ record { emptied = count_by is_idle self.old; claimed = 0 }) }
-        ensures value { OnOk result (self.new ≡ map reclaimed self.old) }
-        ensures held { OnOk result (held_in self.new ≡ held_in self.old) }
-        ensures sizes { OnOk result (IsTrue D.tells → HasSizes self.new (D.held disk.new)) }
-        ensures emptied { OnOk result (IsTrue D.tells → IdleEmptied self.old (D.held disk.old) (D.held disk.new)) }
+        ensures reclaimed { IfOk result (IsReclaimed self.old self.new) }
+        ensures emptied { OnOk result (IsTrue D.tells
+            → AreEmptied self.old self.new (D.held disk.old) (D.held disk.new)) }
+        // Whatever a stop leaves, only claims that nothing refers to are changed.
         ensures shortened { IsTrue D.tells → IdleShortened self.old (D.held disk.old) (D.held disk.new) }
         ensures images { Since D.moment D.images disk.old disk.new
             (After (IdleShortened self.old) (D.images disk.old (D.moment disk.old))) }
-        ensures refusal { IfErr result (λ error. error ≡ DiskFault) }
-        ensures cause { CountsFaults (D.faults disk.old) (D.faults disk.new) (IsErr result) }
+        ensures refusal { RefusesOnFault result (D.faults disk.old) (D.faults disk.new) }
     {
         let mut emptied = 0;
         for number in 0..self.len() {

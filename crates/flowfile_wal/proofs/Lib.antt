@@ -6,3 +6,4 @@ pub mod Mending
 pub mod States
 pub mod Searching
 pub mod Reading
+pub mod Beginnings

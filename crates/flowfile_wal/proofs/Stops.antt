@@ -7,6 +7,7 @@ use Rattle.disk_trait.specs.declared.file_name.FileKind.TheVariants.{Log}
 use Rattle.disk_trait.proofs.Moments.{wider, one_after_another}
 use Rattle.record_codec.specs.declared.entry.LogEntry.{LogEntry}
 use Rattle.record_codec.specs.declared.log.TheConstants.{OPEN_GATE, CLOSED_GATE}
+use Rattle.flowfile_wal.specs.Calls.{WithOrWithout}
 use Rattle.flowfile_wal.specs.Steps.{SameLog, RestsAt, IsFrame, OneMore}
 use Rattle.flowfile_wal.proofs.Appending.{torn_behind, written_behind, torn_gate, written_gate, has_one_more}
 
@@ -35,18 +36,13 @@ module _ (number end : ℕ) (bytes : List ℕ) (rests : RestsAt number end bytes
     gate_written c over =
         open_then c (written_gate rests.0 bytes rests.3 entry bs is_frame c (subst (λ (e : ℕ). Overwritten e (OPEN_GATE ∷ []) (take e bytes ++ CLOSED_GATE ∷ bs) c) (sym rests.2) over))
 
--- what a stop leaves while an entry is added: the log of before, or what was held with the entry
-abbrev pub WithOrWithout : {D : Type 0} → (D → ℕ) → (D → ℕ → Files → Type 0) → D → Files → ℕ → LogEntry → Files → Type 0
-WithOrWithout moment images old held number entry c =
-    After (At (named Log number) (SameLog number)) (images old (moment old)) c ⊎ At (named Log number) (OneMore number entry) held c
-
 module _ {D : Type 0} (moment : D → ℕ) (images : D → ℕ → Files → Type 0) (old : D) (held : Files) (number end : ℕ)
     (ready : (c : Files) → images old (moment old) c → RestsAt number end (c (named Log number))) where
   -- the block is written
   pub staging : (mid : D) (n : ℕ) (entry : LogEntry) → Since moment images old mid (After (At (named Log number) (Torn (end + 1) n)) (images old (moment old)))
-      → Since moment images old mid (WithOrWithout moment images old held number entry)
+      → Since moment images old mid (WithOrWithout number entry (images old (moment old)) held)
   staging mid n entry first =
-      wider moment images old mid _ (WithOrWithout moment images old held number entry) first
+      wider moment images old mid _ (WithOrWithout number entry (images old (moment old)) held) first
       (λ c after. inl (after.0, after.1, record { here = block_torn number end (after.0 (named Log number)) (ready after.0 after.1) n (c (named Log number)) after.2.here; others = after.2.others }))
 
   module _ (entry : LogEntry) (bs : List ℕ) (is_frame : IsFrame entry bs) (mid new : D) (now : Files) where
@@ -55,9 +51,9 @@ module _ {D : Type 0} (moment : D → ℕ) (images : D → ℕ → Files → Typ
         → IsOnly now (images mid (moment mid))
         → Since moment images old mid (After (At (named Log number) (Torn (end + 1) (length bs))) (images old (moment old)))
         → Since moment images mid new (After (At (named Log number) (Torn end 1)) (images mid (moment mid)))
-        → Since moment images old new (WithOrWithout moment images old held number entry)
+        → Since moment images old new (WithOrWithout number entry (images old (moment old)) held)
     with_or_without staged only first second =
-        one_after_another moment images old mid new _ _ (WithOrWithout moment images old held number entry) (staging mid (length bs) entry first) second
+        one_after_another moment images old mid new _ _ (WithOrWithout number entry (images old (moment old)) held) (staging mid (length bs) entry first) second
         (λ c p. p)
         (λ c after.
         let before = staged after.0 after.1 in

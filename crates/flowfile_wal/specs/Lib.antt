@@ -1,3 +1,4 @@
+pub mod Calls
 pub mod Current
 pub mod Errors
 pub mod Steps

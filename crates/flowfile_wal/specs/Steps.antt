@@ -1,5 +1,5 @@
 -- What a log holds in memory, and what calls leave of its file.
-use Rattle.std.specs.Prelude.{◌≡◌, ◌≢◌, ℕ, ◌+◌, ◌<◌, ◌≤◌, slice_index, Bool, true, List, [], ◌∷◌, ◌++◌, length, take, Option, None, Some, Ok}
+use Rattle.std.specs.Prelude.{◌≡◌, ◌≢◌, ◌⊎◌, ℕ, ◌+◌, ◌<◌, ◌≤◌, slice_index, Bool, true, List, [], ◌∷◌, ◌++◌, length, take, Option, None, Some, Ok}
 use Rattle.disk_trait.specs.Files.{Files, At, named}
 use Rattle.disk_trait.specs.declared.file_name.FileKind.TheVariants.{Log}
 use Rattle.record_codec.specs.Block.{block}
@@ -83,6 +83,10 @@ OneMore number entry old new =
 -- a log that has its Begin alone, and a closed gate behind it
 abbrev pub only_begun : ℕ → List ℕ
 only_begun number = OPEN_GATE ∷ frame (Begin number)
+
+-- a log that is passed over where the current one is looked for: it has at most a byte, or its first gate isn't open
+abbrev pub IsPassedOver : List ℕ → Type 0
+IsPassedOver bytes = (length bytes ≤ 1) ⊎ (slice_index bytes 0 ≢ OPEN_GATE)
 
 -- ---- all files
 

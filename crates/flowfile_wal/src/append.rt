@@ -1,12 +1,12 @@
 //! An entry is written behind a closed gate and synced, with a closed gate of its own behind it, and only then is the
 //! gate opened, by a write of its own: a stop leaves the entry whole or without effect, whatever a torn write leaves.
-ghost use Rattle.std.specs.Prelude.{◌≡◌, ◌⊎◌, ℕ, ◌+◌, ◌^◌, ◌<◌, length, OnOk, IsErr};
-ghost use Rattle.disk_trait.specs.Files.{Files};
-ghost use Rattle.disk_trait.specs.Images.{After, Since, IsOnly};
+ghost use Rattle.std.specs.Prelude.{◌+◌, ◌^◌, ◌<◌, length, OnOk, IsErr};
+ghost use Rattle.disk_trait.specs.Images.{Since, IsOnly};
 ghost use Rattle.disk_trait.specs.Faults.{CountsFaults};
 ghost use Rattle.record_codec.specs.declared.entry.LogEntry.{LogEntry};
+ghost use Rattle.flowfile_wal.specs.Calls.{InEach, WithOrWithout};
 ghost use Rattle.flowfile_wal.specs.Current.{log_bytes};
-ghost use Rattle.flowfile_wal.specs.Steps.{RestsAt, IsFrame, Keeps, Adds};
+ghost use Rattle.flowfile_wal.specs.Steps.{RestsAt, IsFrame, Adds};
 
 use disk_trait::{Disk, Failed, FileKind, FileName, write_synced};
 use record_codec::OPEN_GATE;
@@ -20,14 +20,14 @@ pub fn append_frame<D: Disk>(
     frame: &[u8],
 ) -> Result<(), Failed>
     requires room { end + 1 < 2 ^ 64 }
-    requires at_rest { (c : Files) → D.images disk.old (D.moment disk.old) c → RestsAt number end (log_bytes c number) }
+    requires at_rest { InEach (D.images disk.old (D.moment disk.old)) (λ c. RestsAt number end (log_bytes c number)) }
     // A stop within the call leaves a log of before it, or what was held with the entry.
     ensures images { (entry : LogEntry) → IsFrame entry frame.now
         → Since D.moment D.images disk.old disk.new
-        (λ c. After (Keeps number) (D.images disk.old (D.moment disk.old)) c ⊎ Adds number entry (D.held disk.old) c) }
+        (WithOrWithout number entry (D.images disk.old (D.moment disk.old)) (D.held disk.old)) }
     // Once it has answered Ok, a stop leaves the entry.
     ensures added { OnOk result ((entry : LogEntry) → IsFrame entry frame.now
-        → (c : Files) → D.images disk.new (D.moment disk.new) c → Adds number entry (D.held disk.old) c) }
+        → InEach (D.images disk.new (D.moment disk.new)) (Adds number entry (D.held disk.old))) }
     ensures synced { OnOk result (IsOnly (D.held disk.new) (D.images disk.new (D.moment disk.new))) }
     ensures room { OnOk result (end + length frame.now + 1 < 2 ^ 64) }
     ensures cause { CountsFaults (D.faults disk.old) (D.faults disk.new) (IsErr result) }

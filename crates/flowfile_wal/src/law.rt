@@ -1,9 +1,10 @@
 //! What follows of all logs where one log's file changed.
-ghost use Rattle.std.specs.Prelude.{◌≡◌, ℕ};
+ghost use Rattle.std.specs.Prelude.{◌≡◌, ℕ, ◌<◌};
 ghost use Rattle.disk_trait.specs.Files.{Files};
+ghost use Rattle.flowfile_record.specs.Encoding.{IsNumber};
 ghost use Rattle.record_codec.specs.declared.entry.LogEntry.{LogEntry};
-ghost use Rattle.flowfile_wal.specs.Current.{CurrentLog, current_log};
-ghost use Rattle.flowfile_wal.specs.Steps.{Keeps, Adds, IsClosedIn, with_entry};
+ghost use Rattle.flowfile_wal.specs.Current.{CurrentLog, current_log, log_bytes};
+ghost use Rattle.flowfile_wal.specs.Steps.{Keeps, Adds, IsClosedIn, with_entry, IsBegunIn, IsPassedOver, only_begun};
 
 /// Files that differ in one log, which says the same, have the same current log.
 pub fn logs_that_change_alike()
@@ -14,4 +15,10 @@ pub fn logs_that_change_alike()
 pub fn logs_with_one_entry_more()
     ensures { (log : CurrentLog) (entry : LogEntry) (old new : Files) → IsClosedIn log old
         → Adds log.number entry old new → IsClosedIn (with_entry log entry) new }
+{}
+
+/// A log that has its Begin alone is the current one where each greater log is passed over.
+pub fn logs_that_were_begun()
+    ensures { (number : ℕ) (files : Files) → IsNumber number → log_bytes files number ≡ only_begun number
+        → ((n : ℕ) → number < n → IsPassedOver (log_bytes files n)) → IsBegunIn number files }
 {}

@@ -1,10 +1,10 @@
 //! The current log: loaded, mended, begun and appended to.
-ghost use Rattle.std.specs.Prelude.{◌≡◌, ◌⊎◌, ℕ, ◌+◌, true, false, [], length, IsTrue, IfOk, OnOk, OnErr, IsErrOf, Ok, Err, None, Some};
-ghost use Rattle.disk_trait.specs.Files.{Files};
+ghost use Rattle.std.specs.Prelude.{◌≡◌, ℕ, true, false, [], IsTrue, IfOk, OnOk, IsErrOf, Ok, Err, None, Some};
 ghost use Rattle.disk_trait.specs.Images.{After, Since, IsOnly, Stays};
 ghost use Rattle.disk_trait.specs.Faults.{CountsFaults};
 ghost use Rattle.disk_trait.specs.declared.damage.Damage.{Damage as TheDamage};
 ghost use Rattle.record_codec.specs.declared.entry.LogEntry.{LogEntry as Entry};
+ghost use Rattle.flowfile_wal.specs.Calls.{HaveEncodings, InEach, IsAtWork, LeavesReady, WithOrWithout, with_frame, RefusesOnFault};
 ghost use Rattle.flowfile_wal.specs.Current.{current_log};
 ghost use Rattle.flowfile_wal.specs.Steps.{IsFrame, Keeps, Adds, IsCurrentIn, IsReadyIn, IsBegunIn, log_with};
 
@@ -61,6 +61,8 @@ impl Log {
     pub fn load<D: Disk>(alloc: Global, disk: &mut D) -> Result<(Log, LogEntries), LogError>
         ensures loaded { IfOk result (λ loaded. IsTrue D.tells
             → current_log (D.held disk.old) ≡ Ok (log_with loaded.0 loaded.1.items)) }
+        // Whatever the disk tells.
+        ensures encoded { IfOk result (λ loaded. HaveEncodings loaded.1.items) }
         ensures unmended { IfOk result (λ loaded. (loaded.0.mended ≡ false) × (loaded.0.failed ≡ false)) }
         ensures empty { IfOk result (λ loaded. loaded.0.number ≡ None → loaded.1.items ≡ []) }
         ensures damaged { (damage : TheDamage) → IsErrOf result (LogError.Damaged damage) → IsTrue D.tells
@@ -102,12 +104,9 @@ impl Log {
         // Whatever a stop within the call leaves has the same entries.
         ensures images { (number : ℕ) → self.old.number ≡ Some number
             → Since D.moment D.images disk.old disk.new (After (Keeps number) (D.images disk.old (D.moment disk.old))) }
-        ensures ready { OnOk result ((c : Files) → D.images disk.new (D.moment disk.new) c → IsReadyIn self.new c) }
-        ensures synced { OnOk result (IsOnly (D.held disk.new) (D.images disk.new (D.moment disk.new))) }
+        ensures ready { OnOk result (LeavesReady self.new (D.held disk.new) (D.images disk.new (D.moment disk.new))) }
         ensures mended { OnOk result (self.new ≡ record self.old { mended = true }) }
-        ensures failed { OnErr result (self.new ≡ record self.old { failed = true }) }
-        ensures error { OnErr result (result ≡ Err LogError.Disk) }
-        ensures cause { CountsFaults (D.faults disk.old) (D.faults disk.new) (IsErrOf result LogError.Disk) }
+        ensures refusal { RefusesOnFault result self.old self.new (D.faults disk.old) (D.faults disk.new) }
     {
         let Some(number) = self.current else {
             return Ok(());
@@ -122,10 +121,10 @@ impl Log {
 
     /// The log that was begun on the disk, which has its Begin alone, is the current one from now on.
     pub fn begun<D: Disk>(&mut self, disk: &D, number: u64)
-        requires begun { (c : Files) → D.images disk.now (D.moment disk.now) c → IsBegunIn number c }
+        requires { InEach (D.images disk.now (D.moment disk.now)) (IsBegunIn number) }
         ensures state { self.new
             ≡ record { number = Some number; end = BEGUN_END; mended = true; failed = self.old.failed } }
-        ensures ready { (c : Files) → D.images disk.now (D.moment disk.now) c → IsReadyIn self.new c }
+        ensures ready { InEach (D.images disk.now (D.moment disk.now)) (IsReadyIn self.new) }
     {
         self.current = Some(number);
         self.gate = BEGUN_END;
@@ -135,25 +134,21 @@ impl Log {
     /// Adds an entry. `block` is its block with a closed gate behind it. Answers the disk's moment at which the entry
     /// was acknowledged. It makes four calls of the disk, takes no memory, and its one error is `Disk`.
     pub fn append<D: Disk>(&mut self, disk: &mut D, block: &[u8]) -> Result<u64, LogError>
-        requires mended { self.old.mended ≡ true }
-        requires works { self.old.failed ≡ false }
+        requires works { IsAtWork self.old }
         requires block { (entry : Entry) × IsFrame entry block.now }
-        requires ready { (c : Files) → D.images disk.old (D.moment disk.old) c → IsReadyIn self.old c }
+        requires ready { InEach (D.images disk.old (D.moment disk.old)) (IsReadyIn self.old) }
         // A stop within the call leaves the log of before it, or what was held with the entry.
         ensures images { (number : ℕ) (entry : Entry) → self.old.number ≡ Some number → IsFrame entry block.now
             → Since D.moment D.images disk.old disk.new
-            (λ c. After (Keeps number) (D.images disk.old (D.moment disk.old)) c ⊎ Adds number entry (D.held disk.old) c) }
+            (WithOrWithout number entry (D.images disk.old (D.moment disk.old)) (D.held disk.old)) }
         // Once it has answered Ok, a stop leaves the entry.
         ensures added { OnOk result ((number : ℕ) (entry : Entry) → self.old.number ≡ Some number
-            → IsFrame entry block.now → (c : Files) → D.images disk.new (D.moment disk.new) c
-            → Adds number entry (D.held disk.old) c) }
-        ensures ready { OnOk result ((c : Files) → D.images disk.new (D.moment disk.new) c → IsReadyIn self.new c) }
-        ensures synced { OnOk result (IsOnly (D.held disk.new) (D.images disk.new (D.moment disk.new))) }
-        ensures acknowledged { IfOk result (λ moment. moment ≡ D.moment disk.new) }
-        ensures longer { OnOk result (self.new ≡ record self.old { end = self.old.end + length block.now }) }
-        ensures failed { OnErr result (self.new ≡ record self.old { failed = true }) }
-        ensures error { OnErr result (result ≡ Err LogError.Disk) }
-        ensures cause { CountsFaults (D.faults disk.old) (D.faults disk.new) (IsErrOf result LogError.Disk) }
+            → IsFrame entry block.now
+            → InEach (D.images disk.new (D.moment disk.new)) (Adds number entry (D.held disk.old))) }
+        ensures ready { OnOk result (LeavesReady self.new (D.held disk.new) (D.images disk.new (D.moment disk.new))) }
+        ensures acknowledged { IfOk result (λ moment.
+            (moment ≡ D.moment disk.new) × (self.new ≡ with_frame self.old block.now)) }
+        ensures refusal { RefusesOnFault result self.old self.new (D.faults disk.old) (D.faults disk.new) }
     {
         let Some(number) = self.current else {
             self.has_failed = true;

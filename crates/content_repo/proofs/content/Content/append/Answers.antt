@@ -1,14 +1,15 @@
-use Rattle.std.proofs.Common.{◌≡◌, ℕ, ◌+◌, ◌≤◌, List, length, sym, ap, subst, ◌∙◌, arith}
+use Rattle.std.proofs.Common.{◌≡◌, ℕ, ◌+◌, length, sym, ap, subst, ◌∙◌, arith}
 use Rattle.disk_trait.specs.Files.{At, Overwritten, Torn}
 use Rattle.disk_trait.specs.declared.file_name.FileName.{FileName}
 use Rattle.content_repo.specs.declared.slot.Slot.{Slot}
+use Rattle.content_repo.specs.Append.{IsWritten}
 use Rattle.content_repo.specs.Claims.{claim}
-use Rattle.content_repo.specs.Slots.{size_of, end_of, taken}
-use Rattle.content_repo.proofs.Appends.{torn_kept, appended_sizes, written_at_end}
+use Rattle.content_repo.specs.Slots.{size_of, taken}
+use Rattle.content_repo.proofs.Appends.{keeps_contents, is_written}
 use Rattle.content_repo.proofs.content.Content.append.Goals as goal
 
-pub returns-clause-sizes : goal.returns-clause-sizes
-returns-clause-sizes g c told k below =
+pub returns-clause-written : goal.returns-clause-written
+returns-clause-written g c told =
     let slots = c.args.self.now in
     let slot = c.in-Some.slot in
     let bytes = c.args.bytes.now in
@@ -16,32 +17,36 @@ returns-clause-sizes g c told k below =
     let new = g.D.Disk.held c.write.new.self in
     let offset = c.slot-offset.result.size in
     let size : offset ≡ size_of slots slot = ap (λ (s : Slot). s.size) c.slot-offset.ensures.slot in
-    let written = subst (λ (f : FileName). At f (Overwritten offset bytes) old new) c.claim_file.ensures (c.in_ok-write.ensures.written told) in
-    let step = written_at_end slot offset bytes old new (size ∙ sym (c.requires.sizes told slot c.in-Some.ensures.within)) written in
-    subst (λ (l : List Slot). length (new (claim k)) ≡ size_of l k)
-    (sym (c.take.ensures.value ∙ ap (λ (n : ℕ). taken slots slot (n + length bytes)) size))
-    (appended_sizes slots slot bytes old new (omega (arith, c.in-Some.ensures.within, c.slot-offset.ensures.long)) (c.requires.sizes told) step k below)
+    let at_file = subst (λ (f : FileName). At f (Overwritten offset bytes) old new) c.claim_file.ensures (c.in_ok-write.ensures.written told) in
+    let at_end = subst (λ (n : ℕ). At (claim slot) (Overwritten n bytes) old new) size at_file in
+    let written =
+    is_written slots slot bytes c.args.digest old new c.in-Some.ensures.within (omega (arith, c.in-Some.ensures.within, c.slot-offset.ensures.long)) (c.requires.sizes told) at_end in
+    let slots_now = c.take.ensures.value ∙ ap (λ (n : ℕ). taken slots slot (n + length bytes)) size in
+    subst (λ (n : ℕ). IsWritten bytes (record { slot = slot; offset = n; size = length bytes; digest = c.args.digest }) c.take.new.self old new) (sym size)
+    (rw slots_now written)
 
 pub returns-clause-kept : goal.returns-clause-kept
-returns-clause-kept g c at within told =
+returns-clause-kept g c told =
     let slots = c.args.self.now in
     let slot = c.in-Some.slot in
+    let bytes = c.args.bytes.now in
     let old = g.D.Disk.held c.args.disk.now in
     let new = g.D.Disk.held c.write.new.self in
     let offset = c.slot-offset.result.size in
     let size : offset ≡ size_of slots slot = ap (λ (s : Slot). s.size) c.slot-offset.ensures.slot in
-    let torn = subst (λ (f : FileName). At f (Torn offset (length c.args.bytes.now)) old new) c.claim_file.ensures (c.write.ensures.torn told) in
-    torn_kept slot offset (length c.args.bytes.now) old new at torn
-    (λ same. subst (λ (n : ℕ). end_of at ≤ n) (ap (size_of slots) same ∙ sym size) within)
+    let at_file = subst (λ (f : FileName). At f (Torn offset (length bytes)) old new) c.claim_file.ensures (c.write.ensures.torn told) in
+    keeps_contents slots slot (length bytes) old new (sym c.in-Some.ensures.next)
+    (subst (λ (n : ℕ). At (claim slot) (Torn n (length bytes)) old new) size at_file)
 
 pub returns-in_err-write-clause-kept : goal.returns-in_err-write-clause-kept
-returns-in_err-write-clause-kept g c at within told =
+returns-in_err-write-clause-kept g c told =
     let slots = c.args.self.now in
     let slot = c.in-Some.slot in
+    let bytes = c.args.bytes.now in
     let old = g.D.Disk.held c.args.disk.now in
     let new = g.D.Disk.held c.write.new.self in
     let offset = c.slot-offset.result.size in
     let size : offset ≡ size_of slots slot = ap (λ (s : Slot). s.size) c.slot-offset.ensures.slot in
-    let torn = subst (λ (f : FileName). At f (Torn offset (length c.args.bytes.now)) old new) c.claim_file.ensures (c.write.ensures.torn told) in
-    torn_kept slot offset (length c.args.bytes.now) old new at torn
-    (λ same. subst (λ (n : ℕ). end_of at ≤ n) (ap (size_of slots) same ∙ sym size) within)
+    let at_file = subst (λ (f : FileName). At f (Torn offset (length bytes)) old new) c.claim_file.ensures (c.write.ensures.torn told) in
+    keeps_contents slots slot (length bytes) old new (sym c.in-Some.ensures.next)
+    (subst (λ (n : ℕ). At (claim slot) (Torn n (length bytes)) old new) size at_file)

@@ -13,7 +13,7 @@ loop-at-preserved c =
     let i = c.loop-at.at-index in
     let none : ContentRef = record { slot = 0; offset = 0; size = 0; digest = [] } in
     let at = get_or refs i none in
-    let named : IsNamed at = All-get_or IsNamed refs i none c.loop-at-test.true c.requires.named in
+    let named : IsNamed at = All-get_or IsNamed refs i none c.loop-at-test.true c.requires.live.named in
     let within : at.slot < length c.loop-at.self = omega (arith, named.0, c.slot.ensures.long) in
     let sized : c.max-size.result ≡ max (size_of c.loop-at.self at.slot) (end_of at) = c.max-size.ensures ∙ ap (λ (s : Slot). max s.size (end_of at)) c.slot.ensures.slot in
     record {

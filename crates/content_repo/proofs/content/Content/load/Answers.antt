@@ -1,4 +1,4 @@
-use Rattle.std.proofs.Common.{ℕ, ◌≤◌, length, subst, ap, ◌∙◌, arith, length-take}
+use Rattle.std.proofs.Common.{◌≡◌, ℕ, ◌≤◌, length, take, subst, ap, ◌∙◌, arith, length-take}
 use Rattle.disk_trait.specs.Files.{Shortened}
 use Rattle.disk_trait.proofs.Moments.{wider}
 use Rattle.content_repo.specs.Claims.{claim}
@@ -31,8 +31,20 @@ returns-clause-images g c =
           (λ k a b step. subst (λ (n : ℕ). Shortened n a b) (c.hold_all.ensures.loaded.size k) step) after.2,
     ))
 
-pub returns-clause-sizes : goal.returns-clause-sizes
-returns-clause-sizes g c told k below =
-    let old = g.D.Disk.held c.args.disk.now (claim k) in
-    let fits : size_of c.hold_all.new.self k ≤ length old = rw (c.hold_all.ensures.loaded.size k) (covered_within k c.args.live.now (g.D.Disk.held c.args.disk.now) (c.requires.within told)) in
-    ap length ((c.in_ok-cut_claims.ensures.cut told).claims k) ∙ length-take (size_of c.hold_all.new.self k) old ∙ omega (arith, fits)
+pub returns-clause-cut : goal.returns-clause-cut
+returns-clause-cut g c told =
+    let old = g.D.Disk.held c.args.disk.now in
+    let new = g.D.Disk.held c.cut_claims.new.disk in
+    let slots = c.hold_all.new.self in
+    let loaded = c.hold_all.ensures.loaded in
+    let cut = c.in_ok-cut_claims.ensures.cut told in
+    let within = c.requires.within told in
+    record {
+      claims = record {
+        claims = λ k. subst (λ (n : ℕ). new (claim k) ≡ take n (old (claim k))) (loaded.size k) (cut.claims k);
+        others = cut.others;
+      };
+      sizes = λ k below.
+          let fits : size_of slots k ≤ length (old (claim k)) = rw (loaded.size k) (covered_within k c.args.live.now old within) in
+          ap length (cut.claims k) ∙ length-take (size_of slots k) (old (claim k)) ∙ omega (arith, fits);
+    }

@@ -1,5 +1,6 @@
-use Rattle.std.proofs.Common.{◌≡◌, ℕ, ◌<◌, [], true, List, length, set, subst, sym, ap, ◌∙◌, inl, inr, arith, length-set, get_or-set_same, get_or-set_other}
+use Rattle.std.proofs.Common.{◌≡◌, ℕ, ◌<◌, [], true, List, length, set, subst, sym, ap, ◌∙◌, inl, inr, count_by, arith, length-set, get_or-set_same, get_or-set_other}
 use Rattle.std.proofs.lemmas.Bool.{cases_lt, cases_eq}
+use Rattle.std.proofs.lemmas.List.{take_all}
 use Rattle.content_repo.specs.declared.slot.Slot.{Slot}
 use Rattle.content_repo.specs.Claims.{claim}
 use Rattle.content_repo.specs.SlotSet.{bit_of}
@@ -56,7 +57,15 @@ loop-number-preserved g c =
       emptied = omega (arith, inv.emptied, c.in_ok-emptied.ensures.emptied, ap {B = ℕ} (λ (s : Slot). bit_of (is_idle s)) same, count_more slots k in_slots);
     }
 
-pub returns-clause-value : goal.returns-clause-value
-returns-clause-value g c =
-    reclaimed_list c.args.self.now c.loop-number.self c.loop-number.invariant.long
-    (λ k within. c.loop-number.invariant.before k (omega (arith, within, c.loop-number-test.false, c.len-number-end.ensures.len)))
+pub returns-clause-reclaimed : goal.returns-clause-reclaimed
+returns-clause-reclaimed g c =
+    let slots = c.args.self.now in
+    let inv = c.loop-number.invariant in
+    let all = take_all c.loop-number.number slots (omega (arith, c.loop-number-test.false, c.len-number-end.ensures.len)) in
+    record {
+      emptied = ap (λ (n : ℕ). record { emptied = n; claimed = 0 }) (inv.emptied ∙ ap (count_by is_idle) all);
+      slots =
+          reclaimed_list slots c.loop-number.self inv.long
+          (λ k within. inv.before k (omega (arith, within, c.loop-number-test.false, c.len-number-end.ensures.len)));
+      held = inv.held;
+    }

@@ -7,5 +7,5 @@ returns-clause-ready g c c' left = record {
   log = record { number = c.args.number; entries = []; end = 47 };
   number = refl;
   end = refl;
-  ready = begun_ready c.args.number c' (c.requires.begun c' left);
+  ready = begun_ready c.args.number c' (c.requires c' left);
 }

@@ -15,25 +15,30 @@ mend_log-requires-clause-log g c lfts out told =
     log_at c.args.self.now c.in-Some.number c.self.inside.gate has (sym (ap (λ (s : LogState). s.end) c.self.view_is)) (g.D.Disk.held c.args.disk.now) (c.requires.current told)
 
 pub returns-clause-ready : goal.returns-clause-ready
-returns-clause-ready g c c' left =
+returns-clause-ready g c =
     let laws = g.met.D.Disk g.world.𝓛 g.world.𝓜 g.world.𝓡 ((λ s x. x), (λ x. x), (λ x. x), λ x. x) in
     let old = c.args.disk.now in
     let new = c.mend_log.new.disk in
-    let told = laws.left_is_told new (g.D.Disk.moment new) c' left in
     let number = c.in-Some.number in
     let gate = c.self.inside.gate in
     let state : LogState = c.args.self.now in
-    let is = c.requires.current told in
     let has : state.number ≡ Some number = sym (ap (λ (s : LogState). s.number) c.self.view_is) ∙ c.in-Some.is in
-    let log : CurrentLog = record { number = number; entries = is.entries; end = gate } in
-    let after = at_the_end g.D.Disk.moment g.D.Disk.images old new _ c.in-Ok.ensures.images c' left in
-    let was = current_by state number gate has (sym (ap (λ (s : LogState). s.end) c.self.view_is)) (g.D.Disk.held old) is in
+    let ends = sym (ap (λ (s : LogState). s.end) c.self.view_is) in
     record {
-      log = log;
-      number = c.in-Some.is;
-      end = refl;
-      ready = record {
-        current = alike number after.0 c' after.2 ∙ ap current_log (c.requires.synced after.0 after.1) ∙ was;
-        closed = subst (λ (f : Files). EndsClosed gate (f (named Log number))) (sym (c.in-Ok.ensures.synced c' left)) (c.in-Ok.ensures.closed told);
-      };
+      ready = λ c' left.
+          let told = laws.left_is_told new (g.D.Disk.moment new) c' left in
+          let is = c.requires.current told in
+          let log : CurrentLog = record { number = number; entries = is.entries; end = gate } in
+          let after = at_the_end g.D.Disk.moment g.D.Disk.images old new _ c.in-Ok.ensures.images c' left in
+          let was = current_by state number gate has ends (g.D.Disk.held old) is in
+          record {
+            log = log;
+            number = c.in-Some.is;
+            end = refl;
+            ready = record {
+              current = alike number after.0 c' after.2 ∙ ap current_log (c.requires.synced after.0 after.1) ∙ was;
+              closed = subst (λ (f : Files). EndsClosed gate (f (named Log number))) (sym (c.in-Ok.ensures.synced c' left)) (c.in-Ok.ensures.closed told);
+            };
+          };
+      synced = c.in-Ok.ensures.synced;
     }
