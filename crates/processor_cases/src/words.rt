@@ -1,0 +1,89 @@
+//! An outcome in words.
+use anyhow::{Result, bail};
+use flowfile_record::{Attributes, Body, End, Origin, Outcome, Worked};
+use std::alloc::Global;
+
+/// Of a longer text the size is told.
+const LONG: usize = 60;
+
+/// The files of an outcome, and what it sends.
+pub fn outcome_in_words(alloc: Global, outcome: &Outcome) -> Result<String> {
+    let mut told = String::new(alloc);
+    for file in outcome.files.as_slice() {
+        told.push_str(file_in_words(alloc, file)?.as_str())?;
+    }
+    if let Some(sent) = &outcome.sent {
+        let place = sent.place;
+        let name = text_in_words(alloc, sent.name.text())?;
+        told.push_str(format!(in alloc; " sends {place} as {name}")?.as_str())?;
+    }
+    Ok(told)
+}
+
+fn file_in_words(alloc: Global, file: &Worked) -> Result<String> {
+    let origin = origin_in_words(alloc, &file.origin)?;
+    let attributes = attributes_in_words(alloc, &file.attributes)?;
+    let body = body_in_words(alloc, &file.body)?;
+    let end = end_in_words(alloc, file.end)?;
+    let written = if file.written { ", written" } else { "" };
+    let penalised = if file.penalised { ", penalised" } else { "" };
+    let routed = if file.routed.is_some() {
+        ", routed"
+    } else {
+        ""
+    };
+    Ok(format!(in alloc;
+        "[{origin}, {{{attributes} }}, {body}, {end}{written}{penalised}{routed}]"
+    )?)
+}
+
+fn origin_in_words(alloc: Global, origin: &Origin) -> Result<String> {
+    match origin {
+        Origin::Taken(place) => Ok(format!(in alloc; "taken {place}")?),
+        Origin::Created => Ok(String::from_str(alloc, "created")?),
+        Origin::Received => Ok(String::from_str(alloc, "received")?),
+        _ => Ok(String::from_str(alloc, "a child")?),
+    }
+}
+
+// The pairs in their order.
+fn attributes_in_words(alloc: Global, attributes: &Attributes) -> Result<String> {
+    let mut told = String::new(alloc);
+    for place in 0..attributes.len() {
+        let Some((key, value)) = attributes.pair(place) else {
+            bail!("a pair is missing")
+        };
+        let value = text_in_words(alloc, value)?;
+        told.push_str(format!(in alloc; " {key}={value}")?.as_str())?;
+    }
+    Ok(told)
+}
+
+fn body_in_words(alloc: Global, body: &Body) -> Result<String> {
+    match body {
+        Body::Whole { of } => Ok(format!(in alloc; "all of {of}")?),
+        Body::Part { of, offset, size } => {
+            Ok(format!(in alloc; "{size} bytes of {of} from {offset}")?)
+        }
+        Body::New(bytes) => match std::str::from_utf8(bytes.as_slice()) {
+            Ok(text) => text_in_words(alloc, text),
+            Err(_) => bail!("a content that is no text"),
+        },
+    }
+}
+
+fn end_in_words(alloc: Global, end: End) -> Result<String> {
+    match end {
+        End::To(relationship) => Ok(format!(in alloc; "to {relationship}")?),
+        End::Back => Ok(String::from_str(alloc, "back")?),
+        End::Removed => Ok(String::from_str(alloc, "removed")?),
+    }
+}
+
+fn text_in_words(alloc: Global, text: &str) -> Result<String> {
+    let size = text.len();
+    if size > LONG {
+        return Ok(format!(in alloc; "{size} bytes")?);
+    }
+    Ok(format!(in alloc; "{text:?}")?)
+}

@@ -1,0 +1,69 @@
+//! One session of a case's processor.
+ghost use Rattle.std.specs.Prelude.{◌≤◌, length, IfSome, IsTrue};
+ghost use Rattle.flowfile_record.specs.declared.TheConstants.{CONTENT_MAX};
+ghost use Rattle.machine_model.specs.Laws.{MayTake};
+ghost use Rattle.processor_api.specs.Acts.{IsGivenTo, MayBeHanded};
+
+use crate::case;
+use anyhow::{Result, bail};
+use flowfile_record::Outcome;
+use machine_model::{Given, Kind, TakeRule};
+use proc_source::{GenerateFlowFile, GetFile, PutFile};
+use process_session::TakenList;
+use processor_api::work_on;
+use serde_json::Value;
+use std::alloc::Global;
+
+/// What the processor of a case makes of what it takes and is given.
+pub fn outcome_of(alloc: Global, case: &Value) -> Result<Outcome> {
+    let kind = case::kind(alloc, case)?;
+    let taken = case::taken(alloc, case)?;
+    let given = case::given(alloc, case)?;
+    if !may_take(kind.take_rule(), taken.len()) {
+        bail!("it takes another number of files");
+    }
+    if !is_given(&kind, &given) {
+        bail!("it is given no file");
+    }
+    worked(alloc, &kind, taken, &given)
+}
+
+/// Whether a rule takes so many files. The rules of several files are nobody's here.
+fn may_take(rule: TakeRule, count: u64) -> bool
+    ensures { IsTrue result → MayTake rule count }
+{
+    match rule {
+        TakeRule::Source => count == 0,
+        TakeRule::One => count == 1,
+        TakeRule::Bin { .. } | TakeRule::Defragment => false,
+    }
+}
+
+/// Whether a GetFile is given a file of the inbox.
+fn is_given(kind: &Kind, given: &Given) -> bool
+    requires { IfSome given.now.bytes (λ bytes. length bytes ≤ CONTENT_MAX) }
+    ensures { IsTrue result → IsGivenTo kind.now given.now }
+{
+    match kind {
+        Kind::GetFile { .. } => given.file.is_some() && given.bytes.is_some(),
+        _ => true,
+    }
+}
+
+fn worked(alloc: Global, kind: &Kind, taken: TakenList, given: &Given) -> Result<Outcome>
+    requires { MayBeHanded kind.now taken given.now }
+{
+    if let Some(get_file) = GetFile::of(kind) {
+        let (outcome, _) = work_on(alloc, &get_file, 1, taken, given)?;
+        return Ok(outcome);
+    }
+    if let Some(generator) = GenerateFlowFile::of(kind) {
+        let (outcome, _) = work_on(alloc, &generator, 1, taken, given)?;
+        return Ok(outcome);
+    }
+    if let Some(put_file) = PutFile::of(kind) {
+        let (outcome, _) = work_on(alloc, &put_file, 2, taken, given)?;
+        return Ok(outcome);
+    }
+    bail!("no processor of this type")
+}
