@@ -1,8 +1,8 @@
 #!/usr/bin/env python3
-"""What parts of the store cost, measured by the program `bench_parts`: each with one size and with a greater one.
+"""What appends to the repository of contents cost, measured by the program `bench_parts` with few live claims and many.
 
-It prints both times, the second as a ratio to the first, and the peak of memory. Twice the size should take about
-twice the time; how many claims are live should change nothing.
+It prints both times, the second as a ratio to the first, and the peak of memory. How many claims are live should
+change nothing.
 
 Figures depend on the machine: this is no test, and isn't run by one.
 """
@@ -25,9 +25,6 @@ CRATE = ROOT / "crates" / "bench_parts"
 # The word, what it measures, the two counts, and the ratio of their times that is wanted.
 PARTS = [
     ("appends", "1,000 contents appended, by live claims", 10, 60_000, 1),
-    ("log", "a log loaded, by entries", 50_000, 100_000, 2),
-    ("read", "a snapshot read, by files", 100_000, 200_000, 2),
-    ("write", "a snapshot written, by files", 100_000, 200_000, 2),
 ]
 
 

@@ -3,7 +3,6 @@ ghost use Rattle.std.specs.Prelude.{◌≡◌, ◌+◌, ◌<◌, ◌≤◌, leng
 ghost use Rattle.content_repo.specs.Slots.{held_in, IsNamed};
 
 use crate::disk::BenchDisk;
-use crate::files::CONTENT_SIZE;
 use crate::measured::Measured;
 use anyhow::{Result, bail};
 use content_repo::{Content, ContentError, OPEN_SIZE, SLOTS};
@@ -14,6 +13,9 @@ use std::time::{Clock, Instant};
 
 /// How many contents are appended.
 const APPENDS: u32 = 1_000;
+
+/// The size of a content, in bytes.
+const CONTENT_SIZE: usize = 100;
 
 /// The time that the appends take where so many claims are live.
 pub fn measure<R: Clock>(rt: &R, alloc: Global, live: u32) -> Result<Measured> {

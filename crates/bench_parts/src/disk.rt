@@ -5,17 +5,16 @@ ghost use Rattle.disk_trait.specs.Faults.{CountsFaults};
 ghost use Rattle.disk_trait.specs.Images.{next_moment};
 ghost use Rattle.bench_parts.specs.Untold.{told_by_none, left_by_none};
 
-mod kept;
+mod claims;
 
+use claims::Claims;
 use disk_trait::{Disk, DiskError, Failed, FileKind, FileName};
-use kept::Kept;
-use std::alloc::Global;
 
-/// Claims whose sizes alone are kept, and one other file. It tells nothing of them, and no call fails but one that asks
-/// for what isn't kept, for want of memory, or after the last moment.
+/// Claims whose sizes alone are kept. It tells nothing of them, and no call fails but one that asks for what isn't kept,
+/// for want of memory, or after the last moment.
 #[derive(Drop)]
 pub struct BenchDisk {
-    kept: Kept,
+    claims: Claims,
     moment: u64,
     faults: u64,
 }
@@ -23,29 +22,8 @@ pub struct BenchDisk {
 impl BenchDisk {
     /// Claims of these sizes, by their numbers.
     pub fn of_claims(sizes: Vec<u64>) -> BenchDisk {
-        let bytes = Vec::new(*sizes.allocator());
-        BenchDisk::new(Kept {
-            sizes,
-            name: FileName {
-                kind: FileKind::Log,
-                number: 0,
-            },
-            bytes,
-        })
-    }
-
-    /// One file of these bytes, and no claims.
-    pub fn of_file(alloc: Global, name: FileName, bytes: Vec<u8>) -> BenchDisk {
-        BenchDisk::new(Kept {
-            sizes: Vec::new(alloc),
-            name,
-            bytes,
-        })
-    }
-
-    fn new(kept: Kept) -> BenchDisk {
         BenchDisk {
-            kept,
+            claims: Claims { sizes },
             moment: 0,
             faults: 0,
         }
@@ -105,7 +83,7 @@ impl Disk for BenchDisk {
     ghost images_end = { λ _ _ _ _. left_by_none };
 
     fn files(&mut self, kind: FileKind, list: &mut Vec<u64>) -> Result<(), DiskError> {
-        match self.kept.list(kind, list) {
+        match self.claims.list(kind, list) {
             Ok(()) => Ok(()),
             Err(_) => {
                 list.clear();
@@ -115,23 +93,22 @@ impl Disk for BenchDisk {
     }
 
     fn size(&mut self, file: FileName) -> Result<u64, Failed> {
-        Ok(self.kept.size(file))
+        Ok(self.claims.size(file))
     }
 
-    fn read(&mut self, file: FileName, at: u64, into: &mut [u8]) -> Result<(), Failed> {
-        let answer = self.kept.read(file, at, into);
-        self.answer(answer)
+    fn read(&mut self, _file: FileName, _at: u64, _into: &mut [u8]) -> Result<(), Failed> {
+        Err(self.fault())
     }
 
     fn write(&mut self, file: FileName, at: u64, bytes: &[u8]) -> Result<(), Failed> {
         self.begin()?;
-        let answer = self.kept.write(file, at, bytes);
+        let answer = self.claims.write(file, at, bytes);
         self.answer(answer)
     }
 
     fn cut(&mut self, file: FileName, size: u64) -> Result<(), Failed> {
         self.begin()?;
-        let answer = self.kept.cut(file, size);
+        let answer = self.claims.put(file, size);
         self.answer(answer)
     }
 
