@@ -1,0 +1,73 @@
+#!/usr/bin/env python3
+"""What appends to the repository of contents cost, measured by the program `bench_parts` with few live claims and many.
+
+It prints both times, the second as a ratio to the first, and the peak of memory. How many claims are live should
+change nothing.
+
+Figures depend on the machine: this is no test, and isn't run by one.
+"""
+
+import os
+import pathlib
+import platform
+import re
+import subprocess
+import sys
+import time
+
+sys.path.insert(0, str(pathlib.Path(__file__).resolve().parent.parent / "tests"))
+sys.dont_write_bytecode = True
+
+from support import ROOT, need, need_status, new_folder, options, run
+
+CRATE = ROOT / "crates" / "bench_parts"
+
+# The word, what it measures, the two counts, and the ratio of their times that is wanted.
+PARTS = [
+    ("appends", "1,000 contents appended, by live claims", 10, 60_000, 1),
+]
+
+
+def built():
+    """The program as the gate builds it, made anew where a source may be newer."""
+    with open(os.devnull) as nothing:
+        subprocess.run(["rt", "run", "--", "check"], cwd=CRATE, stdin=nothing, stdout=sys.stderr, check=True)
+    return str(CRATE / "out" / "bench_parts")
+
+
+def least(program, folder, word, count, times):
+    """The seconds of the fastest of some runs, and the least peak of their memory."""
+    seconds, peaks = [], []
+    for _ in range(times):
+        ended = run(program, folder, (word, str(count)))
+        need_status(ended, 0)
+        said = re.fullmatch(rb"\w+ \d+: (\d+) in (\d+) microseconds\n", ended.said)
+        need(said is not None, f"it printed {ended.said!r}")
+        seconds.append(int(said.group(2)) / 1e6)
+        peaks.append(ended.peak)
+    return min(seconds), min(peaks)
+
+
+def machine():
+    model = re.search(r"^model name\s*: (.*)$", pathlib.Path("/proc/cpuinfo").read_text(), re.MULTILINE)
+    return (f"{time.strftime('%Y-%m-%d %H:%M')}, {os.cpu_count()} processors"
+            f"{' ' + model.group(1) if model else ''}, Linux {platform.release()}, "
+            f"load {os.getloadavg()[0]:.0f}")
+
+
+def main():
+    parser = options(__doc__)
+    parser.add_argument("--times", type=int, default=5, help="runs of each, the fastest counts (default 5)")
+    given = parser.parse_args()
+    program = str(pathlib.Path(given.program).resolve()) if given.program else built()
+    print(machine())
+    print(f"bench/parts.py --times {given.times}")
+    with new_folder(given.folder) as folder:
+        for word, text, once, more, wanted in PARTS:
+            one, one_peak = least(program, folder, word, once, given.times)
+            two, two_peak = least(program, folder, word, more, given.times)
+            print(f"{text}: {once:,} {one:.4f} s, {one_peak / 1e6:.1f} MB; {more:,} {two:.4f} s, {two_peak / 1e6:.1f} MB; "
+                  f"ratio {two / one:.2f}, about {wanted} is wanted", flush=True)
+
+
+main()

@@ -1,0 +1,84 @@
+//! Appends to a repository of contents.
+ghost use Rattle.std.specs.Prelude.{◌≡◌, ◌+◌, ◌<◌, ◌≤◌, length, All, IfOk};
+ghost use Rattle.content_repo.specs.Slots.{held_in, IsNamed};
+
+use crate::disk::BenchDisk;
+use crate::measured::Measured;
+use anyhow::{Result, bail};
+use content_repo::{Content, ContentError, OPEN_SIZE, SLOTS};
+use flowfile_record::{ContentRef, DIGEST_SIZE};
+use sha2::{Digest, Sha256};
+use std::alloc::{AllocError, Global};
+use std::time::{Clock, Instant};
+
+/// How many contents are appended.
+const APPENDS: u32 = 1_000;
+
+/// The size of a content, in bytes.
+const CONTENT_SIZE: usize = 100;
+
+/// The time that the appends take where so many claims are live.
+pub fn measure<R: Clock>(rt: &R, alloc: Global, live: u32) -> Result<Measured> {
+    if live == 0 || live > SLOTS {
+        bail!("there are 1 to {SLOTS} claims");
+    }
+    let references = references(alloc, live)?;
+    let mut disk = BenchDisk::of_claims(sizes(alloc, references.as_slice())?);
+    let mut content = Content::load(alloc, &mut disk, references.as_slice())?;
+    let start = Instant::now(rt)?;
+    append_all(&mut content, &mut disk)?;
+    let took = start.elapsed(rt)?;
+    Ok(Measured {
+        count: u64::from(APPENDS),
+        took,
+    })
+}
+
+// One content in each claim, which fills it but in the last one.
+fn references(alloc: Global, live: u32) -> Result<Vec<ContentRef>, AllocError>
+    requires { live ≤ SLOTS }
+    ensures named { IfOk result (λ references. All IsNamed references.items) }
+    ensures long { IfOk result (λ references. length references.items ≡ live) }
+{
+    let mut references = Vec::with_capacity(alloc, live as usize)?;
+    for slot in 0..live {
+        let size = if slot + 1 < live { OPEN_SIZE } else { 0 };
+        references.push(reference(slot, size))?;
+    }
+    Ok(references)
+}
+
+// A content that stands at the beginning of a claim.
+fn reference(slot: u32, size: u64) -> ContentRef
+    requires { slot < SLOTS }
+    ensures { IsNamed result }
+{
+    ContentRef {
+        slot,
+        offset: 0,
+        size,
+        digest: [0; DIGEST_SIZE],
+    }
+}
+
+// The sizes of the claims, one for each slot.
+fn sizes(alloc: Global, references: &[ContentRef]) -> Result<Vec<u64>, AllocError> {
+    let mut sizes = Vec::with_capacity(alloc, SLOTS as usize)?;
+    for at in references {
+        sizes.push(at.size)?;
+    }
+    sizes.resize(SLOTS as usize, 0)?;
+    Ok(sizes)
+}
+
+fn append_all(content: &mut Content, disk: &mut BenchDisk) -> Result<(), ContentError>
+    requires { held_in content.old ≤ SLOTS }
+{
+    let bytes = [b'x'; CONTENT_SIZE];
+    let digest = Sha256::digest(&bytes);
+    for number in 0..APPENDS {
+        content.room(&[CONTENT_SIZE as u64])?;
+        content.append(disk, &bytes, digest)?;
+    }
+    Ok(())
+}
