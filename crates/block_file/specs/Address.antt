@@ -6,7 +6,7 @@ use Rattle.flowfile_record.specs.declared.limits.TheConstants.{DIGEST_SIZE}
 use Rattle.record_codec.specs.Block.{Reading, Whole, reading_of}
 use Rattle.record_codec.specs.Head.{IsWholeHead}
 use Rattle.record_codec.specs.declared.block.Block.{Block}
-use Rattle.record_codec.specs.declared.block.TheConstants.{HEADER_SIZE}
+use Rattle.record_codec.specs.declared.block.TheConstants.{HEADER_SIZE, PAYLOAD_MAX}
 use Rattle.block_file.specs.Damage.{damage_in}
 use Rattle.block_file.specs.declared.error.BlockError.{BlockError}
 use Rattle.block_file.specs.declared.error.BlockError.TheVariants.{Memory, Damaged}
@@ -25,10 +25,12 @@ pub record IsAddress (tells : Bool) (files : Files) (address : BlockAddress) : T
   pub within : address.offset ≤ address.size
   pub size : IsTrue tells → address.size ≡ length (files address.file)
 
--- the payload and the digest of a block lie behind one another in a buffer, and the block within its file
+-- the payload and the digest of a block lie behind one another in a buffer, and the block within its file; no payload
+-- is longer than a block may hold
 pub record LiesIn (address : BlockAddress) (buffer : List ℕ) (block : Block) : Type 0 where
   pub start : block.start ≡ HEADER_SIZE
   pub payload : block.start ≤ block.end
+  pub longest : block.end ≤ block.start + PAYLOAD_MAX
   pub digest : block.end + DIGEST_SIZE ≡ block.next
   pub buffered : block.next ≤ length buffer
   pub filed : address.offset + block.next ≤ address.size

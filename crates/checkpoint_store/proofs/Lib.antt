@@ -1,4 +1,5 @@
 pub mod Beginnings
+pub mod Consistency
 pub mod Numbering
 pub mod Parts
 pub mod Puts

@@ -1,11 +1,11 @@
 -- A snapshot that is read as far as some block.
-use Rattle.std.specs.Prelude.{◌≡◌, ℕ, ◌==◌, ◌<◌, ◌≤◌, Bool, true, false, List, length, map, All}
+use Rattle.std.specs.Prelude.{◌≡◌, ℕ, ◌==◌, ◌<◌, ◌≤◌, Bool, true, false, List, [], length, map, All}
 use Rattle.std.specs.List.{sum, list_any}
 use Rattle.std.specs.Ordering.{nat_cmp}
 use Rattle.std.specs.BTreeSet.{contains, IsOrdered}
-use Rattle.flowfile_record.specs.Stored.{Kept}
+use Rattle.flowfile_record.specs.Stored.{Kept, kept_of}
 use Rattle.flowfile_record.specs.declared.limits.TheConstants.{NUMBER_LIMIT, LIVE_BYTES_MAX}
-use Rattle.checkpoint_store.specs.Consistent.{record_size}
+use Rattle.checkpoint_store.specs.Consistent.{IsConsistent, record_size}
 use Rattle.checkpoint_store.specs.Reading.{Next, More, Last, last_number}
 use Rattle.checkpoint_store.specs.declared.so_far.SoFar.{SoFar}
 
@@ -16,7 +16,7 @@ pub record AreNumbered {A : Type 0} (number : A → ℕ) (items : List A) (great
   pub count : length items ≤ greatest
   pub limit : greatest < NUMBER_LIMIT
 
--- what is kept beside the state itself
+-- what is kept beside the state itself, which agrees with itself as long as no batch has joined it
 pub record IsSoFar (s : SoFar) : Type 0 where
   pub files : AreNumbered (λ a. a.file.number) s.state.files.items s.last_file
   pub batches : AreNumbered (λ b. b.batch) s.state.batches.items s.last_batch
@@ -24,6 +24,7 @@ pub record IsSoFar (s : SoFar) : Type 0 where
   pub ordered : IsOrdered nat_cmp s.arrivals
   pub bytes : s.bytes ≡ sum (map record_size s.state.files.items)
   pub within : s.bytes ≤ LIVE_BYTES_MAX
+  pub consistent : s.state.batches.items ≡ [] → IsConsistent (kept_of s.state)
 
 -- the End, or one part more
 abbrev pub next_is : Bool → Kept → Next

@@ -1,5 +1,5 @@
 //! What a block of a snapshot says.
-ghost use Rattle.std.specs.Prelude.{◌≡◌, true, false, IsTrue, IfOk, OnOk, IsErrOf, Some, None};
+ghost use Rattle.std.specs.Prelude.{◌≡◌, ◌≤◌, true, false, length, IsTrue, IfOk, OnOk, IsErrOf, Some, None};
 ghost use Rattle.flowfile_record.specs.Reading.{whole};
 ghost use Rattle.flowfile_record.specs.Stored.{kept_of};
 ghost use Rattle.record_codec.specs.ActiveFile.{active_file_at};
@@ -10,11 +10,14 @@ ghost use Rattle.checkpoint_store.specs.SoFar.{IsSoFar, next_is};
 
 use crate::so_far::{SoFar, Unfit};
 use flowfile_record::Text;
-use record_codec::{SnapshotKind, read_active_file, read_head, read_snapshot_end, read_swap_batch};
+use record_codec::{
+    PAYLOAD_MAX, SnapshotKind, read_active_file, read_head, read_snapshot_end, read_swap_batch,
+};
 use std::alloc::Global;
 
 /// What the first block says, which is a Head.
 pub fn first_part(alloc: Global, kind: u8, payload: &[u8]) -> Result<SoFar, Unfit>
+    requires size { length payload.now ≤ PAYLOAD_MAX }
     ensures found { IfOk result (λ so_far. first_in kind payload.now ≡ Some (kept_of so_far.state)) }
     ensures so_far { IfOk result IsSoFar }
     ensures unfit { IsErrOf result Unfit.Form → first_in kind payload.now ≡ None }
@@ -29,6 +32,7 @@ pub fn first_part(alloc: Global, kind: u8, payload: &[u8]) -> Result<SoFar, Unfi
 }
 
 fn take_head(alloc: Global, payload: &[u8]) -> Result<SoFar, Unfit>
+    requires size { length payload.now ≤ PAYLOAD_MAX }
     ensures found { IfOk result (λ so_far. head_next (whole head_at payload.now) ≡ Some (kept_of so_far.state)) }
     ensures so_far { IfOk result IsSoFar }
     ensures unfit { IsErrOf result Unfit.Form → head_next (whole head_at payload.now) ≡ None }

@@ -1,5 +1,5 @@
 //! Reading a snapshot.
-ghost use Rattle.std.specs.Prelude.{◌≡◌, ℕ, suc, ◌<◌, ◌≤◌, List, ◌++◌, length, IsTrue, IfOk, OnOk, IsErrOf, Ok, Err, Some, MatchOption};
+ghost use Rattle.std.specs.Prelude.{◌≡◌, ℕ, suc, ◌<◌, ◌≤◌, List, [], ◌++◌, length, IsTrue, IfOk, OnOk, IsErrOf, Ok, Err, Some, MatchOption};
 ghost use Rattle.disk_trait.specs.Images.{Stays};
 ghost use Rattle.disk_trait.specs.Faults.{CountsFaults};
 ghost use Rattle.disk_trait.specs.declared.damage.Damage.{Damage as TheDamage};
@@ -32,6 +32,8 @@ struct Source {
 pub fn read<D: Disk>(alloc: Global, disk: &mut D, number: u64) -> Result<Stored, CheckError>
     ensures read { IfOk result (λ state. IsTrue D.tells
         → snapshot_in (D.held disk.old) (snapshot_file number) ≡ Ok (kept_of state)) }
+    // Whatever the disk tells, a state without batches agrees with itself.
+    ensures consistent { IfOk result (λ state. (kept_of state).batches ≡ [] → IsConsistent (kept_of state)) }
     // The first damage is told, where there is one.
     ensures damaged { (damage : TheDamage) → IsErrOf result (CheckError.Damaged damage) → IsTrue D.tells
         → snapshot_in (D.held disk.old) (snapshot_file number) ≡ Err damage }

@@ -5,6 +5,7 @@ ghost use Rattle.std.specs.BTreeSet.{contains, IsOrdered};
 ghost use Rattle.flowfile_record.specs.Stored.{kept_of};
 ghost use Rattle.record_codec.specs.ActiveFile.{IsActiveFile};
 ghost use Rattle.record_codec.specs.Snapshot.{IsBatch};
+ghost use Rattle.checkpoint_store.specs.Consistent.{IsConsistent};
 ghost use Rattle.checkpoint_store.specs.Reading.{has_place, may_join, may_follow, kept_by};
 ghost use Rattle.checkpoint_store.specs.Snapshot.{blocks_in};
 ghost use Rattle.checkpoint_store.specs.SoFar.{IsSoFar};
@@ -63,6 +64,7 @@ pub struct SoFar {
 impl SoFar {
     /// What a Head alone says.
     pub fn new(alloc: Global, head: Head) -> SoFar
+        requires consistent { IsConsistent (kept_by head) }
         ensures kept { kept_of result.state ≡ kept_by head }
         ensures so_far { IsSoFar result }
     {

@@ -1,8 +1,9 @@
 -- What the calls of a log ask, and what they leave.
-use Rattle.std.specs.Prelude.{◌≡◌, ◌⊎◌, ℕ, ◌+◌, true, false, List, length, Result, Err, OnErr, IsErrOf}
+use Rattle.std.specs.Prelude.{◌≡◌, ◌⊎◌, ℕ, ◌+◌, true, false, List, length, All, Result, Err, OnErr, IsErrOf}
 use Rattle.disk_trait.specs.Faults.{CountsFaults}
 use Rattle.disk_trait.specs.Files.{Files}
 use Rattle.disk_trait.specs.Images.{After, IsOnly}
+use Rattle.record_codec.specs.EntryEncoding.{IsEntry}
 use Rattle.record_codec.specs.declared.entry.LogEntry.{LogEntry}
 use Rattle.flowfile_wal.specs.Steps.{LogState, IsReadyIn, Keeps, Adds}
 use Rattle.flowfile_wal.specs.declared.error.LogError.{LogError}
@@ -11,6 +12,10 @@ use Rattle.flowfile_wal.specs.declared.error.LogError.TheVariants.{Disk}
 -- all files that a stop may leave are so
 abbrev pub InEach : (Files → Type 0) → (Files → Type 0) → Type 0
 InEach left P = (c : Files) → left c → P c
+
+-- each of these entries, which stand behind their gates' offsets, has an encoding
+abbrev pub HaveEncodings : List (ℕ × LogEntry) → Type 0
+HaveEncodings entries = All (λ e. IsEntry e.1) entries
 
 -- the end of the log in memory was mended, and no call met a failure of the disk
 pub record IsAtWork (state : LogState) : Type 0 where

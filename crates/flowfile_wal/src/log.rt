@@ -4,7 +4,7 @@ ghost use Rattle.disk_trait.specs.Images.{After, Since, IsOnly, Stays};
 ghost use Rattle.disk_trait.specs.Faults.{CountsFaults};
 ghost use Rattle.disk_trait.specs.declared.damage.Damage.{Damage as TheDamage};
 ghost use Rattle.record_codec.specs.declared.entry.LogEntry.{LogEntry as Entry};
-ghost use Rattle.flowfile_wal.specs.Calls.{InEach, IsAtWork, LeavesReady, WithOrWithout, with_frame, RefusesOnFault};
+ghost use Rattle.flowfile_wal.specs.Calls.{HaveEncodings, InEach, IsAtWork, LeavesReady, WithOrWithout, with_frame, RefusesOnFault};
 ghost use Rattle.flowfile_wal.specs.Current.{current_log};
 ghost use Rattle.flowfile_wal.specs.Steps.{IsFrame, Keeps, Adds, IsCurrentIn, IsReadyIn, IsBegunIn, log_with};
 
@@ -61,6 +61,8 @@ impl Log {
     pub fn load<D: Disk>(alloc: Global, disk: &mut D) -> Result<(Log, LogEntries), LogError>
         ensures loaded { IfOk result (λ loaded. IsTrue D.tells
             → current_log (D.held disk.old) ≡ Ok (log_with loaded.0 loaded.1.items)) }
+        // Whatever the disk tells.
+        ensures encoded { IfOk result (λ loaded. HaveEncodings loaded.1.items) }
         ensures unmended { IfOk result (λ loaded. (loaded.0.mended ≡ false) × (loaded.0.failed ≡ false)) }
         ensures empty { IfOk result (λ loaded. loaded.0.number ≡ None → loaded.1.items ≡ []) }
         ensures damaged { (damage : TheDamage) → IsErrOf result (LogError.Damaged damage) → IsTrue D.tells

@@ -1,12 +1,14 @@
 //! Reading a log, block by block.
-ghost use Rattle.std.specs.Prelude.{◌≡◌, ℕ, ◌+◌, ◌<◌, ◌≤◌, true, [], length, drop, slice_range, IsTrue, IfOk, IsErrOf, Ok, Err};
+ghost use Rattle.std.specs.Prelude.{◌≡◌, ℕ, ◌+◌, ◌<◌, ◌≤◌, true, [], length, drop, slice_range, IsTrue, IfOk, IfSome, IsErrOf, Ok, Err};
 ghost use Rattle.disk_trait.specs.Images.{Stays};
 ghost use Rattle.disk_trait.specs.Faults.{CountsFaults};
 ghost use Rattle.disk_trait.specs.declared.damage.Damage.{Damage as TheDamage};
 ghost use Rattle.flowfile_record.specs.Reading.{whole};
 ghost use Rattle.record_codec.specs.Block.{reading_of};
+ghost use Rattle.record_codec.specs.EntryEncoding.{IsEntry};
 ghost use Rattle.record_codec.specs.EntryReading.{entry_at, takes_memory};
 ghost use Rattle.record_codec.specs.LogEntries.{entry_in};
+ghost use Rattle.flowfile_wal.specs.Calls.{HaveEncodings};
 ghost use Rattle.flowfile_wal.specs.Current.{log_bytes, counts, is_begin, log_in};
 ghost use Rattle.flowfile_wal.specs.Reads.{named_at, IsDamagedAt, IsNextAt, IsNextWithin, IsReadTo};
 
@@ -31,6 +33,7 @@ fn read_entry_at<D: Disk>(
     requires size { IsTrue D.tells → size ≡ length (D.held disk.old file) }
     ensures entry { IfOk result (λ found. IsTrue D.tells
         → entry_in (reading_of (drop (at + 1) (D.held disk.old file))) ≡ Ok found) }
+    ensures encoded { IfOk result (λ found. IsEntry found.0) }
     ensures within { IfOk result (λ found. at + 1 + found.1 ≤ size) }
     ensures damaged { (damage : TheDamage) → IsErrOf result (LogError.Damaged damage) → IsTrue D.tells
         → named_at file at (entry_in (reading_of (drop (at + 1) (D.held disk.old file)))) ≡ Err damage }
@@ -59,6 +62,7 @@ fn entry_of(
     requires end { block.end ≤ length buffer.now }
     ensures entry { IfOk result (λ entry.
         whole (entry_at block.kind) (slice_range buffer.now block.start block.end) ≡ Ok entry) }
+    ensures encoded { IfOk result IsEntry }
     ensures damaged { (damage : TheDamage) → IsErrOf result (LogError.Damaged damage)
         → (damage ≡ TheDamage.Form address.file address.at)
         × ((left : ℕ) × (whole (entry_at block.kind) (slice_range buffer.now block.start block.end) ≡ Err left)) }
@@ -90,6 +94,7 @@ fn next_entry<D: Disk>(
     requires within { at ≤ size }
     requires size { IsTrue D.tells → size ≡ length (D.held disk.old file) }
     ensures next { IfOk result (λ next. IsTrue D.tells → IsNextAt at (D.held disk.old file) next) }
+    ensures encoded { IfOk result (λ next. IfSome next (λ found. IsEntry found.0)) }
     ensures within { IfOk result (λ next. IsNextWithin at size next) }
     ensures damaged { (damage : TheDamage) → IsErrOf result (LogError.Damaged damage) → IsTrue D.tells
         → IsDamagedAt file at (D.held disk.old file) damage }
@@ -159,6 +164,7 @@ pub fn read_log<D: Disk>(
     requires counted { IsTrue D.tells → counts (log_bytes (D.held disk.old) number) ≡ true }
     ensures read { IfOk result (λ read. IsTrue D.tells → log_in number (log_bytes (D.held disk.old) number)
         ≡ Ok (record { number = number; entries = read.0.items; end = read.1 })) }
+    ensures encoded { IfOk result (λ read. HaveEncodings read.0.items) }
     ensures damaged { (damage : TheDamage) → IsErrOf result (LogError.Damaged damage) → IsTrue D.tells
         → log_in number (log_bytes (D.held disk.old) number) ≡ Err damage }
     ensures stays { Stays D.held D.moment D.images disk.old disk.new }

@@ -47,10 +47,25 @@ abbrev pub one_file : State
 one_file = state_of ((a_file 1 1 ∷ []) ∷ [] ∷ []) 2 2 (0 ∷ 0 ∷ 0 ∷ [])
 
 abbrev pub ending : EndedSession
-ending = record { flow = duplicating; place = 1; processor = dup; state = one_file; taken = a_file 1 1 ∷ []; given = at_moment 2000 }
+ending = record {
+  flow = duplicating;
+  place = 1;
+  processor = dup;
+  state = one_file;
+  taken = a_file 1 1 ∷ [];
+  given = at_moment 2000;
+}
 
 abbrev pub clone : Worked
-clone = record { origin = origin.Cloned 0; attributes = received_attributes a_txt; body = Whole 0; end = To 0; written = false; penalised = false; routed = None }
+clone = record {
+  origin = origin.Cloned 0;
+  attributes = received_attributes a_txt;
+  body = Whole 0;
+  end = To 0;
+  written = false;
+  penalised = false;
+  routed = None;
+}
 
 abbrev pub with_four_clones : Outcome
 with_four_clones =
@@ -58,7 +73,8 @@ with_four_clones =
 
 abbrev pub five_files : State
 five_files =
-    record (state_of ([] ∷ (a_file 1 2 ∷ a_file 2 3 ∷ a_file 3 4 ∷ a_file 4 5 ∷ a_file 5 6 ∷ []) ∷ []) 6 7 (0 ∷ 0 ∷ 0 ∷ [])) {
+    record (state_of ([] ∷ (a_file 1 2 ∷ a_file 2 3 ∷ a_file 3 4 ∷ a_file 4 5 ∷ a_file 5 6 ∷ []) ∷ []) 6 7
+    (0 ∷ 0 ∷ 0 ∷ [])) {
       events =
           clone_of 1 2000 (codes "dup") 1 2 hi ∷ clone_of 2 2000 (codes "dup") 1 3 hi
           ∷ clone_of 3 2000 (codes "dup") 1 4 hi
@@ -73,7 +89,10 @@ FourClonesFollow = settle ending with_four_clones ≡ five_files
 
 abbrev pub doubling : Flow
 doubling =
-    record duplicating { connections = connection (codes "c1") 0 1 wide ∷ connection (codes "c2") 1 2 wide ∷ connection (codes "c3") 1 2 wide ∷ [] }
+    record duplicating {
+      connections = connection (codes "c1") 0 1 wide ∷ connection (codes "c2") 1 2 wide
+          ∷ connection (codes "c3") 1 2 wide ∷ [];
+    }
 
 abbrev pub penalising : EndedSession
 penalising = record ending { flow = doubling; state = state_of ((a_file 1 1 ∷ []) ∷ [] ∷ [] ∷ []) 2 2 (0 ∷ 0 ∷ 0 ∷ []) }
@@ -103,7 +122,8 @@ passed place = passed_on place (received_attributes a_txt) false 0
 abbrev pub TwoFanOut : Type 0
 TwoFanOut =
     settle ending_two (record { files = passed 0 ∷ passed 1 ∷ clone ∷ []; sent = None })
-    ≡ record (state_of ([] ∷ (a_file 1 3 ∷ a_file 2 4 ∷ a_file 3 5 ∷ []) ∷ (a_file 4 6 ∷ a_file 5 7 ∷ a_file 6 8 ∷ []) ∷ []) 7 9 (0 ∷ 0 ∷ 0 ∷ [])) {
+    ≡ record (state_of ([] ∷ (a_file 1 3 ∷ a_file 2 4 ∷ a_file 3 5 ∷ []) ∷ (a_file 4 6 ∷ a_file 5 7 ∷ a_file 6 8 ∷ [])
+    ∷ []) 7 9 (0 ∷ 0 ∷ 0 ∷ [])) {
       events =
           clone_of 1 2000 (codes "dup") 1 3 hi ∷ clone_of 2 2000 (codes "dup") 1 4 hi
           ∷ clone_of 3 2000 (codes "dup") 2 5 hi
@@ -114,7 +134,11 @@ TwoFanOut =
 -- a copy of the second before one of the first: each is told by its original's place
 abbrev pub CopiesGoByOriginals : Type 0
 CopiesGoByOriginals =
-    (settle (record ending_two { flow = duplicating }) (record { files = passed 0 ∷ passed 1 ∷ record clone { origin = origin.Cloned 1 } ∷ clone ∷ []; sent = None })).events
+    (settle (record ending_two { flow = duplicating })
+    (record {
+      files = passed 0 ∷ passed 1 ∷ record clone { origin = origin.Cloned 1 } ∷ clone ∷ [];
+      sent = None;
+    })).events
     ≡ clone_of 1 2000 (codes "dup") 1 4 hi ∷ clone_of 2 2000 (codes "dup") 2 3 hi ∷ []
 
 -- ---- beside a file that is dropped: its clone is told before the drop, wherever they stand
@@ -124,7 +148,10 @@ upd = processor (codes "upd") (UpdateAttribute []) (codes "failure" ∷ [])
 
 abbrev pub fanning : Flow
 fanning =
-    record doubling { processors = processor (codes "get") (GetFile None) [] ∷ upd ∷ processor (codes "put") (PutFile Replace) both ∷ [] }
+    record doubling {
+      processors = processor (codes "get") (GetFile None) [] ∷ upd
+          ∷ processor (codes "put") (PutFile Replace) both ∷ [];
+    }
 
 abbrev pub BesideADrop : Type 0
 BesideADrop =
@@ -173,7 +200,8 @@ named = insert (generated_attributes 1) (codes "filename") (uuid_text 0x12345678
 
 abbrev pub three_files : Expr → State
 three_files text =
-    record (state_of ((waiting 1 1 named (content text) ∷ []) ∷ (waiting 2 2 named (content text) ∷ []) ∷ (waiting 3 3 named (content text) ∷ []) ∷ []) 4 4 (1 ∷ 0 ∷ [])) {
+    record (state_of ((waiting 1 1 named (content text) ∷ []) ∷ (waiting 2 2 named (content text) ∷ [])
+    ∷ (waiting 3 3 named (content text) ∷ []) ∷ []) 4 4 (1 ∷ 0 ∷ [])) {
       events =
           told 1 1000 kind.Create (codes "gen") 1 [] (content text) ∷ clone_of 2 1000 (codes "gen") 1 2 (content text)
           ∷ clone_of 3 1000 (codes "gen") 1 3 (content text) ∷ [];
@@ -182,7 +210,8 @@ three_files text =
 
 abbrev pub EachConnectionGetsOne : Type 0
 EachConnectionGetsOne =
-    (text : Expr) → step (generating text) (machine (state_of ([] ∷ [] ∷ [] ∷ []) 1 1 (0 ∷ 0 ∷ [])) nothing) (session 0 [] 1000 (record (at_moment 1000) { index = 1 }))
+    (text : Expr) → step (generating text) (machine (state_of ([] ∷ [] ∷ [] ∷ []) 1 1 (0 ∷ 0 ∷ [])) nothing)
+    (session 0 [] 1000 (record (at_moment 1000) { index = 1 }))
     ≡ Some (machine (three_files text) nothing)
 
 -- a text that has no value makes a file without bytes

@@ -18,7 +18,8 @@ use Rattle.machine_examples.specs.Small.{hi, both, processor, connection, wide, 
 
 abbrev pub QuietIs : List QueuedFile → World → (moment : ℕ) → Bool → Type 0
 QuietIs files world moment answer =
-    quiet (get_to_put Replace (record wide { expiration = 500 })) (state_of (files ∷ []) 9 9 (0 ∷ 0 ∷ [])) world moment ≡ answer
+    quiet (get_to_put Replace (record wide { expiration = 500 }))
+    (state_of (files ∷ []) 9 9 (0 ∷ 0 ∷ [])) world moment ≡ answer
 
 abbrev pub left_a : World
 left_a = inbox_of a_txt hi
@@ -48,7 +49,10 @@ ring text = record {
 -- the ring whose generator's queue is full with one file too
 abbrev pub narrow_ring : Expr → Flow
 narrow_ring text =
-    record (ring text) { connections = connection (codes "in") 0 1 narrow ∷ connection (codes "ab") 1 2 narrow ∷ connection (codes "ba") 2 1 narrow ∷ [] }
+    record (ring text) {
+      connections = connection (codes "in") 0 1 narrow ∷ connection (codes "ab") 1 2 narrow
+          ∷ connection (codes "ba") 2 1 narrow ∷ [];
+    }
 
 -- the ring with these files, and so many made
 abbrev pub ringed : List QueuedFile → List QueuedFile → List QueuedFile → (made : ℕ) → State
@@ -81,7 +85,8 @@ nothing_queued = state_of ([] ∷ []) 1 1 (0 ∷ 0 ∷ [])
 abbrev pub FilteredIsLeft : Type 0
 FilteredIsLeft = (pattern : Pattern) → Finds pattern false →
     (quiet (filtering pattern) nothing_queued left_a 1000 ≡ true)
-    × (step (filtering pattern) (machine nothing_queued left_a) (session 0 [] 1000 (record (at_moment 1000) { file = Some a_txt })) ≡ None)
+    × (step (filtering pattern) (machine nothing_queued left_a)
+    (session 0 [] 1000 (record (at_moment 1000) { file = Some a_txt })) ≡ None)
 
 abbrev pub FoundIsWanted : Type 0
 FoundIsWanted = (pattern : Pattern) → Finds pattern true → quiet (filtering pattern) nothing_queued left_a 1000 ≡ false
@@ -92,7 +97,9 @@ FoundIsWanted = (pattern : Pattern) → Finds pattern true → quiet (filtering 
 abbrev pub binning : (swap : ℕ) → Flow
 binning swap = record (get_to_put Replace wide) {
   processors =
-      processor (codes "get") (GetFile None) [] ∷ processor (codes "merge") (MergeContent BinPacking 5 5) (codes "merged" ∷ codes "original" ∷ codes "failure" ∷ []) ∷ [];
+      processor (codes "get") (GetFile None) []
+      ∷ processor (codes "merge") (MergeContent BinPacking 5 5)
+      (codes "merged" ∷ codes "original" ∷ codes "failure" ∷ []) ∷ [];
   connections = connection (codes "c1") 0 1 (record wide { swap = swap }) ∷ [];
 }
 

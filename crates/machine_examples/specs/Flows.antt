@@ -63,7 +63,8 @@ tight = get_to_put Replace (record wide { swap = 1 })
 
 -- at least 3 and at most 2
 abbrev pub turned : Flow
-turned = through (processor (codes "merge") (MergeContent BinPacking 3 2) (codes "original" ∷ codes "failure" ∷ [])) (codes "merged")
+turned = through (processor (codes "merge") (MergeContent BinPacking 3 2) (codes "original" ∷ codes "failure" ∷ []))
+    (codes "merged")
 
 -- an id with a blank
 abbrev pub blank : Flow

@@ -37,7 +37,8 @@ part index = Some (record { identifier = codes "w"; index = index; count = 3 })
 
 abbrev pub saying : (index count : List ℕ) → AttributeMap
 saying index count =
-    insert (insert (insert empty (codes "fragment.identifier") (codes "w")) (codes "fragment.index") index) (codes "fragment.count") count
+    insert (insert (insert empty (codes "fragment.identifier") (codes "w")) (codes "fragment.index") index)
+    (codes "fragment.count") count
 
 abbrev pub FragmentIs : (index count : List ℕ) → Option Fragment → Type 0
 FragmentIs index count answer = fragment_of (saying index count) ≡ answer

@@ -28,7 +28,9 @@ failed attributes = alone (passed_on 0 attributes true 1)
 -- what a PutFile makes of a file, whatever its uuid and its bytes are
 abbrev pub PutGives : Conflict → (there : Bool) → AttributeMap → Outcome → Type 0
 PutGives conflict there attributes outcome =
-    (uuid bytes : List ℕ) → act (PutFile conflict) (record { attributes = attributes; uuid = uuid; bytes = bytes } ∷ []) (record (at_moment 1000) { there = there }) ≡ Some outcome
+    (uuid bytes : List ℕ) → act (PutFile conflict)
+    (record { attributes = attributes; uuid = uuid; bytes = bytes } ∷ [])
+    (record (at_moment 1000) { there = there }) ≡ Some outcome
 
 abbrev pub PutsNamed : Conflict → (there : Bool) → (AttributeMap → Outcome) → Type 0
 PutsNamed conflict there outcome =
@@ -57,12 +59,14 @@ emptied events = record (state_of ([] ∷ []) 2 2 (0 ∷ 0 ∷ [])) { events = e
 
 abbrev pub PutsOver : Conflict → List Event → World → Type 0
 PutsOver conflict events world =
-    step (get_to_put conflict wide) (machine (state_of ((a_file 1 1 ∷ []) ∷ []) 2 2 (0 ∷ 0 ∷ [])) with_a) (session 1 (1 ∷ []) 2000 (record (at_moment 2000) { there = true }))
+    step (get_to_put conflict wide) (machine (state_of ((a_file 1 1 ∷ []) ∷ []) 2 2 (0 ∷ 0 ∷ [])) with_a)
+    (session 1 (1 ∷ []) 2000 (record (at_moment 2000) { there = true }))
     ≡ Some (machine (emptied events) world)
 
 abbrev pub ReplacePutsOver : Type 0
 ReplacePutsOver =
-    PutsOver Replace (put_event 1 ∷ drop_event 2 (codes "success") ∷ []) (record with_a { outbox = with_file no_file a_txt hi })
+    PutsOver Replace (put_event 1 ∷ drop_event 2 (codes "success") ∷ [])
+    (record with_a { outbox = with_file no_file a_txt hi })
 
 abbrev pub IgnoreLeaves : Type 0
 IgnoreLeaves = PutsOver Ignore (drop_event 1 (codes "success") ∷ []) with_a

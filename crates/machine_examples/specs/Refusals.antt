@@ -22,7 +22,8 @@ limited = record { expiration = 500; objects = 0; bytes = 0; swap = 2 }
 
 abbrev pub RefusesAt : List QueuedFile → Step → Type 0
 RefusesAt files entry =
-    IsRefused (get_to_put Replace limited) (record (state_of (files ∷ []) 9 9 (0 ∷ 0 ∷ [])) { next_batch = 3 }) nothing entry
+    IsRefused (get_to_put Replace limited)
+    (record (state_of (files ∷ []) 9 9 (0 ∷ 0 ∷ [])) { next_batch = 3 }) nothing entry
 
 -- the PutFile's session over these files
 abbrev pub RefusesToPut : List QueuedFile → List ℕ → (moment : ℕ) → Type 0
@@ -129,12 +130,17 @@ SourceTakesNone =
 -- whether the outbox has the name is told wrongly
 abbrev pub RefusesAnswer : World → (there : Bool) → Type 0
 RefusesAnswer world there =
-    IsRefused (get_to_put Replace wide) (state_of ((a_file 1 1 ∷ []) ∷ []) 2 2 (0 ∷ 0 ∷ [])) world (session 1 (1 ∷ []) 1000 (record (at_moment 1000) { there = there }))
+    IsRefused (get_to_put Replace wide) (state_of ((a_file 1 1 ∷ []) ∷ []) 2 2 (0 ∷ 0 ∷ [])) world
+    (session 1 (1 ∷ []) 1000 (record (at_moment 1000) { there = there }))
 
 -- a generator of two files has made one
 abbrev pub RefusesIndex : (made index : ℕ) → Type 0
 RefusesIndex made index =
-    (text : Expr) → IsRefused (record { processors = processor (codes "gen") (GenerateFlowFile 2 text) success ∷ []; connections = []; digest = [] })
+    (text : Expr) → IsRefused (record {
+      processors = processor (codes "gen") (GenerateFlowFile 2 text) success ∷ [];
+      connections = [];
+      digest = [];
+    })
     (state_of [] 2 2 (made ∷ [])) nothing (session 0 [] 1000 (record (at_moment 1000) { index = index }))
 
 -- ---- what is taken, where it may be
@@ -147,5 +153,6 @@ TakesToPut files numbers moment taken =
 -- a bin of one to two files, of three that wait
 abbrev pub TakesToMerge : List ℕ → Option (List QueuedFile) → Type 0
 TakesToMerge numbers taken =
-    taken_files (through merge (codes "merged")) (state_of ((a_file 1 1 ∷ a_file 2 2 ∷ a_file 3 3 ∷ []) ∷ [] ∷ []) 4 4 (0 ∷ 0 ∷ 0 ∷ [])) 1 (Bin 1 2) numbers 1000
+    taken_files (through merge (codes "merged"))
+    (state_of ((a_file 1 1 ∷ a_file 2 2 ∷ a_file 3 3 ∷ []) ∷ [] ∷ []) 4 4 (0 ∷ 0 ∷ 0 ∷ [])) 1 (Bin 1 2) numbers 1000
     ≡ taken

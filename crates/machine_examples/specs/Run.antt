@@ -43,7 +43,8 @@ send_and_drop bytes =
 -- the file is queued, and no longer left in the inbox
 abbrev pub between : List ℕ → State
 between bytes =
-    record (state_of ((waiting 1 1 (received_attributes a_txt) bytes ∷ []) ∷ []) 2 2 (0 ∷ 0 ∷ [])) { events = receive bytes ∷ [] }
+    record (state_of ((waiting 1 1 (received_attributes a_txt) bytes ∷ []) ∷ []) 2 2
+    (0 ∷ 0 ∷ [])) { events = receive bytes ∷ [] }
 
 abbrev pub world_between : List ℕ → World
 world_between bytes = record (world_before bytes) { left = [] }

@@ -51,7 +51,15 @@ get_to_put conflict limits = record {
 -- an active file that entered at 1000
 abbrev pub waiting : (number arrival : ℕ) → AttributeMap → List ℕ → QueuedFile
 waiting number arrival attributes bytes =
-    record { number = number; attributes = attributes; bytes = bytes; entered = 1000; penalty_end = 0; arrival = arrival; batch = None }
+    record {
+      number = number;
+      attributes = attributes;
+      bytes = bytes;
+      entered = 1000;
+      penalty_end = 0;
+      arrival = arrival;
+      batch = None;
+    }
 
 abbrev pub a_txt : List ℕ
 a_txt = codes "a.txt"
@@ -70,7 +78,16 @@ kin_of pairs = union no_kin (from_list pairs)
 -- a state in which nothing has happened, with these queues and the numbers that come next
 abbrev pub state_of : List (List QueuedFile) → (next_number next_arrival : ℕ) → (counts : List ℕ) → State
 state_of queues next_number next_arrival counts =
-    record { store = 0x123456789abcde; queues = queues; events = []; kin = no_kin; next_number = next_number; next_arrival = next_arrival; next_batch = 1; counts = counts }
+    record {
+      store = 0x123456789abcde;
+      queues = queues;
+      events = [];
+      kin = no_kin;
+      next_number = next_number;
+      next_arrival = next_arrival;
+      next_batch = 1;
+      counts = counts;
+    }
 
 abbrev pub at_moment : ℕ → Given
 at_moment moment = record { moment = moment; index = 0; there = false; file = None; bytes = None }

@@ -40,7 +40,15 @@ split = processor (codes "split") (SplitText 1) (codes "original" ∷ codes "fai
 
 abbrev pub part : (offset : ℕ) → Worked
 part offset =
-    record { origin = origin.Part 0; attributes = attributes; body = body.Part 0 offset 1; end = To 1; written = false; penalised = false; routed = None }
+    record {
+      origin = origin.Part 0;
+      attributes = attributes;
+      body = body.Part 0 offset 1;
+      end = To 1;
+      written = false;
+      penalised = false;
+      routed = None;
+    }
 
 abbrev pub splitting : EndedSession
 splitting = record {
@@ -54,7 +62,8 @@ splitting = record {
 
 abbrev pub after_split : State
 after_split =
-    record (state_of ([] ∷ (waiting 2 2 attributes (104 ∷ []) ∷ waiting 3 3 attributes (105 ∷ []) ∷ []) ∷ []) 4 4 (0 ∷ 0 ∷ 0 ∷ [])) {
+    record (state_of ([] ∷ (waiting 2 2 attributes (104 ∷ []) ∷ waiting 3 3 attributes (105 ∷ []) ∷ []) ∷ []) 4 4
+    (0 ∷ 0 ∷ 0 ∷ [])) {
       events = record (told 1 2000 kind.Fork (codes "split") 1 [] hi) { parents = 1 ∷ []; children = 2 ∷ 3 ∷ [] }
           ∷ told 2 2000 kind.Drop (codes "split") 1 (codes "original") hi ∷ [];
       kin = kin_of ((2, 1) ∷ (3, 1) ∷ []);
@@ -85,8 +94,13 @@ joining = record {
 
 abbrev pub after_join : State
 after_join =
-    record (state_of ([] ∷ (record (waiting 6 3 attributes (hi ++ hi)) { entered = 900 } ∷ []) ∷ []) 7 4 (0 ∷ 0 ∷ 0 ∷ [])) {
-      events = record (told 1 2000 kind.Join (codes "merge") 6 [] (hi ++ hi)) { parents = 3 ∷ 5 ∷ []; children = 6 ∷ [] }
+    record (state_of ([] ∷ (record (waiting 6 3 attributes (hi ++ hi)) { entered = 900 } ∷ []) ∷ []) 7 4
+    (0 ∷ 0 ∷ 0 ∷ [])) {
+      events = record (told 1 2000 kind.Join (codes "merge") 6 [] (hi ++ hi)) {
+        parents = 3 ∷ 5 ∷ [];
+        children = 6
+            ∷ [];
+      }
           ∷ told 2 2000 kind.Drop (codes "merge") 5 (codes "original") hi
           ∷ told 3 2000 kind.Drop (codes "merge") 3 (codes "original") hi ∷ [];
       kin = kin_of ((6, 5) ∷ (6, 3) ∷ []);
@@ -94,7 +108,11 @@ after_join =
 
 abbrev pub JoinTells : Type 0
 JoinTells =
-    settle joining (record { files = passed_on 0 attributes false 1 ∷ passed_on 1 attributes false 1 ∷ made_file (origin.Joined (0 ∷ 1 ∷ [])) attributes (hi ++ hi) false 0 ∷ []; sent = None })
+    settle joining (record {
+      files = passed_on 0 attributes false 1 ∷ passed_on 1 attributes false 1
+          ∷ made_file (origin.Joined (0 ∷ 1 ∷ [])) attributes (hi ++ hi) false 0 ∷ [];
+      sent = None;
+    })
     ≡ after_join
 
 -- ---- a file that is changed, and leaves
@@ -111,7 +129,18 @@ changing = record {
 
 abbrev pub changed : (written : Bool) → AttributeMap → (bytes : List ℕ) → End → Outcome
 changed written attributes bytes end =
-    record { files = record { origin = origin.Taken 0; attributes = attributes; body = body.New bytes; end = end; written = written; penalised = false; routed = None } ∷ []; sent = None }
+    record {
+      files = record {
+        origin = origin.Taken 0;
+        attributes = attributes;
+        body = body.New bytes;
+        end = end;
+        written = written;
+        penalised = false;
+        routed = None;
+      } ∷ [];
+      sent = None;
+    }
 
 abbrev pub Tells : Outcome → List Event → Type 0
 Tells outcome events = (settle changing outcome).events ≡ events
@@ -124,16 +153,19 @@ drop_of number detail bytes = told number 2000 kind.Drop (codes "put") 1 detail 
 
 abbrev pub WritingTells : Type 0
 WritingTells =
-    Tells (changed true attributes [] (To 0)) (told 1 2000 kind.ContentModified (codes "put") 1 [] [] ∷ drop_of 2 (codes "success") [] ∷ [])
+    Tells (changed true attributes [] (To 0))
+    (told 1 2000 kind.ContentModified (codes "put") 1 [] [] ∷ drop_of 2 (codes "success") [] ∷ [])
 
 abbrev pub SettingTells : Type 0
 SettingTells =
-    Tells (changed false other hi (To 0)) (told 1 2000 kind.AttributesModified (codes "put") 1 [] hi ∷ drop_of 2 (codes "success") hi ∷ [])
+    Tells (changed false other hi (To 0))
+    (told 1 2000 kind.AttributesModified (codes "put") 1 [] hi ∷ drop_of 2 (codes "success") hi ∷ [])
 
 -- of both only the writing is told; of a removed file neither; of one that was not changed its end alone
 abbrev pub BothTellOne : Type 0
 BothTellOne =
-    Tells (changed true other [] (To 1)) (told 1 2000 kind.ContentModified (codes "put") 1 [] [] ∷ drop_of 2 (codes "failure") [] ∷ [])
+    Tells (changed true other [] (To 1))
+    (told 1 2000 kind.ContentModified (codes "put") 1 [] [] ∷ drop_of 2 (codes "failure") [] ∷ [])
 
 abbrev pub RemovedTellsNone : Type 0
 RemovedTellsNone = Tells (changed true other [] Removed) (drop_of 1 [] [] ∷ [])

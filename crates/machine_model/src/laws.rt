@@ -1,5 +1,30 @@
 //! What holds of the machine's definitions, each law as the contract of a function that does nothing.
+ghost use Rattle.std.specs.Prelude.{◌≡◌, ◌*◌, ◌^◌};
 ghost use Rattle.machine_model.specs.Laws.{ViewsCountAll, NoneGoesBeforeItself, GoingBeforeChains, ArrivalsTell, OrderKeepsFiles, OrderHolds, OrderIsOnly, BestIsBest, BestIsOnly, ReplayOfOneMore, ReplayOfJoined, ActsEndAllInTurn, ActsGiveOutcomes, SettlingKeepsNumbers, StepsKeepNumbers, ReplaysKeepNumbers, SettlingNumbersEvents, StepsNumberEvents, ReplaysNumberEvents, ReplaysAddEvents, SettlingTellsKin, StepsTellKin, ReplaysTellKin, NewStatesAreValid, StepsStayValid, ReplaysStayValid, StepsGoOn, ReplaysGoOn, StepsLoseNames, ReplaysLoseNames, OneConnectionHas, PicksMayBeTaken, DueExpiriesHaveSteps, DueSwapOutsHaveSteps, DueSwapInsHaveSteps, LineageIsOnly};
+
+use crate::{
+    CONNECTIONS_MAX, COPIES_MAX, FAN_OUT_MAX, GENERATED_MAX, ID_MAX, LINES_MAX, OWN_NAME_MAX,
+    OWN_PROPERTIES_MAX, PENALTY_MAX, PROCESSORS_MAX, QUEUE_LIMIT_MAX, SWAP_MAX, SWAP_MIN,
+    TASKS_MAX,
+};
+
+/// The limits of a flow as numbers.
+pub fn limits_of_a_flow()
+    ensures processors { PROCESSORS_MAX ≡ 256 }
+    ensures connections { CONNECTIONS_MAX ≡ 1024 }
+    ensures fan_out { FAN_OUT_MAX ≡ 8 }
+    ensures id { ID_MAX ≡ 64 }
+    ensures own { OWN_PROPERTIES_MAX ≡ 64 }
+    ensures own_name { OWN_NAME_MAX ≡ 255 }
+    ensures tasks { TASKS_MAX ≡ 16 }
+    ensures penalty { PENALTY_MAX ≡ 24 * 60 * 60 * 1000 }
+    ensures queue { QUEUE_LIMIT_MAX ≡ 2 ^ 53 }
+    ensures swap_least { SWAP_MIN ≡ 2 }
+    ensures swap_most { SWAP_MAX ≡ 40_000 }
+    ensures generated { GENERATED_MAX ≡ 10 ^ 6 }
+    ensures copies { COPIES_MAX ≡ 999 }
+    ensures lines { LINES_MAX ≡ 10 ^ 9 }
+{}
 
 /// The order of a queue is a total one of files whose arrivals differ.
 pub fn order_is_total()

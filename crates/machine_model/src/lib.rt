@@ -10,6 +10,7 @@ mod given;
 mod journal;
 mod kind;
 mod laws;
+mod limits;
 mod pattern;
 
 pub use filter::Filter;
@@ -21,9 +22,14 @@ pub use kind::{
     OwnPattern, OwnPatternList, Replacement, TakeRule,
 };
 pub use laws::{
-    acts_give_outcomes, best_is_first, counters_never_fall, due_has_a_step, lineage_is_only,
-    names_are_lost_by_taking, one_connection_has_files, order_is_total, order_sorts,
-    picks_may_be_taken, replay_goes_on, replays_keep_numbers, replays_number_events,
+    acts_give_outcomes, best_is_first, counters_never_fall, due_has_a_step, limits_of_a_flow,
+    lineage_is_only, names_are_lost_by_taking, one_connection_has_files, order_is_total,
+    order_sorts, picks_may_be_taken, replay_goes_on, replays_keep_numbers, replays_number_events,
     replays_tell_kin, settling_keeps_numbers, states_stay_valid, views_count_all,
+};
+pub use limits::{
+    CONNECTIONS_MAX, COPIES_MAX, FAN_OUT_MAX, GENERATED_MAX, ID_MAX, LINES_MAX, OWN_NAME_MAX,
+    OWN_PROPERTIES_MAX, PENALTY_MAX, PROCESSORS_MAX, QUEUE_LIMIT_MAX, SWAP_MAX, SWAP_MIN,
+    TASKS_MAX,
 };
 pub use pattern::Pattern;

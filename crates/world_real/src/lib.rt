@@ -19,8 +19,6 @@ mod standing;
 mod store;
 mod stream;
 mod sync;
-#[cfg(test)]
-mod tests;
 
 pub use clock::MachineClock;
 pub use folder::{Folder, make_folder};

@@ -15,6 +15,7 @@ returns-in-Ok-clause-block g c =
     let block = c.in-Ok.block in
     let bytes = c.as_slice.result.now in
     let within = c.in-Ok.ensures.within in
+    let start = found_start block (reading_of bytes) block.kind (slice_range bytes block.start block.end) c.in-Ok.ensures.read c.in-Ok.ensures.whole in
     record {
       read = λ told.
           let same = ap (λ (f : Files). take n (bytes_at f address)) c.in_ok-size.ensures.stays.files in
@@ -22,8 +23,9 @@ returns-in-Ok-clause-block g c =
           let read = subst (λ (l : List ℕ). reading_of l ≡ Whole block.kind (slice_range l block.start block.end)) c.as_slice.ensures.value c.in-Ok.ensures.whole in
           sym (same_reading n rest (c.in_ok-size.ensures.whole told)) ∙ ap reading_of (sym held) ∙ read;
       lies = record {
-        start = found_start block (reading_of bytes) block.kind (slice_range bytes block.start block.end) c.in-Ok.ensures.read c.in-Ok.ensures.whole;
+        start = start;
         payload = within.0;
+        longest = omega (arith, start, within.1, within.2, c.in_ok-read_bytes.ensures.len, ap length c.as_slice.ensures.value, c.in_ok-size.ensures.fits.2);
         digest = within.1;
         buffered = omega (arith, within.2, c.as_slice.ensures.len, c.in_ok-read_bytes.ensures.len, ap length c.as_slice.ensures.value);
         filed = omega (arith, within.2, c.in_ok-read_bytes.ensures.len, ap length c.as_slice.ensures.value, c.in_ok-size.ensures.fits.1);

@@ -1,9 +1,12 @@
 use Rattle.std.proofs.Common.{◌≡◌, ℕ, ◌+◌, List, [], ◌∷◌, ◌++◌, sym, ap, subst, arith, rules}
+use Rattle.std.proofs.lemmas.List.Elements.{All-push}
 use Rattle.std.proofs.lemmas.Result.{err_from_is_err_and}
 use Rattle.std.specs.Prelude.{Err, Option, None, Some}
 use Rattle.disk_trait.specs.Files.{Files, named}
 use Rattle.disk_trait.specs.declared.file_name.FileKind.TheVariants.{Log}
+use Rattle.record_codec.specs.EntryEncoding.{IsEntry}
 use Rattle.record_codec.specs.declared.entry.LogEntry.{LogEntry}
+use Rattle.flowfile_wal.specs.Calls.{HaveEncodings}
 use Rattle.flowfile_wal.specs.Reads.{IsNextAt, IsNextWithin, IsDamagedAt, IsReadTo}
 use Rattle.flowfile_wal.specs.declared.error.LogError.TheVariants.{Damaged}
 use Rattle.flowfile_wal.proofs.Reading.{read_next, read_done, read_damaged}
@@ -31,6 +34,10 @@ loop-entries-preserved g c =
           omega (arith, next);
       stays = search rules;
       faults = omega arith;
+      encoded =
+          let joins : IsEntry c.in-Some.entry = rw c.in-Some.is at c.in_ok-entry.ensures.encoded in
+          subst HaveEncodings (sym c.in_default-push.ensures.items)
+          (All-push (λ (e : ℕ × LogEntry). IsEntry e.1) c.loop-entries.entries.items (end, c.in-Some.entry) inv.encoded joins);
       size = inv.size;
       read = λ told.
           let next = subst (λ (f : Files). IsNextAt end (f (named Log number)) (Some (c.in-Some.entry, c.in-Some.block))) inv.stays.files

@@ -1,4 +1,4 @@
-use Rattle.std.proofs.Common.{◌≡◌, List, true, ap, ◌∙◌, arith, subst, sym}
+use Rattle.std.proofs.Common.{◌≡◌, List, [], ◌∷◌, length, true, ap, ◌∙◌, arith, subst, sym, length-append}
 use Rattle.std.specs.Prelude.{nat_lt}
 use Rattle.std.proofs.lemmas.Bool.Decides.{nat_tests}
 use Rattle.flowfile_record.specs.Stored.{kept_of}
@@ -33,4 +33,5 @@ returns-clause-so_far c =
       ordered = was.ordered;
       bytes = was.bytes;
       within = was.within;
+      consistent = λ none. absurd (omega (arith, ap length (sym items ∙ none), length-append c.args.self.now.state.batches.items (c.args.batch ∷ [])));
     }

@@ -1,15 +1,17 @@
-use Rattle.std.proofs.Common.{◌≡◌, ◌+◌, ◌==◌, ◌||◌, not, Bool, List, true, ap, ◌∙◌, arith, subst, sym, map}
+use Rattle.std.proofs.Common.{◌≡◌, ◌+◌, ◌==◌, ◌<◌, ◌≤◌, ◌||◌, not, Bool, List, true, ap, ◌∙◌, arith, subst, sym, map}
 use Rattle.std.specs.Prelude.{nat_le}
 use Rattle.std.specs.List.{sum, list_any}
 use Rattle.std.proofs.lemmas.Bool.Decides.{nat_tests}
+use Rattle.std.proofs.lemmas.List.Elements.{All-weaker}
 use Rattle.flowfile_record.specs.Stored.{kept_of}
 use Rattle.flowfile_record.specs.NumberedItems.{item_of, with_item}
 use Rattle.flowfile_record.specs.declared.stored.ActiveFile.{ActiveFile}
 use Rattle.record_codec.proofs.Sizes.{file_most}
-use Rattle.checkpoint_store.specs.Consistent.{record_size}
+use Rattle.checkpoint_store.specs.Consistent.{IsConsistent, record_size}
 use Rattle.checkpoint_store.specs.Reading.{has_place}
 use Rattle.checkpoint_store.specs.SoFar.{AreNumbered}
 use Rattle.flowfile_record.specs.declared.limits.TheConstants.{LIVE_BYTES_MAX}
+use Rattle.checkpoint_store.proofs.Consistency.{file_joins}
 use Rattle.checkpoint_store.proofs.Numbering.{none_there, joins_last, are_numbered, sum_more, any_more, place_above, all_three}
 use Rattle.checkpoint_store.proofs.so_far.SoFar.add_file.Goals as goal
 
@@ -58,4 +60,9 @@ returns-clause-so_far c =
       bytes = let total = sum_more record_size c.args.self.now.state.files.items c.args.active in
           omega (arith, was.bytes, c.file_size-size.ensures, total, ap (λ (l : List ActiveFile). sum (map record_size l)) items);
       within = omega (arith, c.if-self-size-gt-LIVE_BYTES_MAX.false);
+      consistent = λ none.
+          let grows = ap (λ (l : List ActiveFile). record (kept_of c.args.self.now.state) { files = l }) items in
+          let below = All-weaker (λ (b : ActiveFile). b.file.number ≤ c.args.self.now.last_file) (λ b. b.file.number < c.args.active.file.number)
+          (λ b le. omega (arith, le, above, was.files.last)) k.files was.files.below in
+          subst IsConsistent (sym grows) (file_joins k c.args.active (was.consistent none) none c.requires.file (returns-clause-joined c).0 below);
     }

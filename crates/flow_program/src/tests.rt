@@ -1,8 +1,8 @@
 //! The devices that no run of the program uses yet.
-use crate::{FileSource, MachineClock, OutputSink};
 use std::test::Fail;
 use std::{env, fs, process};
 use world_io::{Clock, Sink, Source};
+use world_real::{FileSource, MachineClock, OutputSink};
 
 #[test]
 fn a_source_a_sink_and_a_clock_do_as_the_machine_does(rt: HostRuntime) -> Result<(), Fail> {

@@ -1,0 +1,109 @@
+-- What crates above cite: what the changes of a queue's files do to what is known of each file.
+use Rattle.std.proofs.Common.{◌≡◌, ℕ, ◌==◌, Bool, true, false, cond, nat_lt, List, [], ◌∷◌, Option, Some, None, inl, inr, refl, sym, ap, ◌∙◌, arith}
+use Rattle.std.specs.Prelude.{All}
+use Rattle.std.specs.Option.{option_map}
+use Rattle.std.proofs.lemmas.Bool.{cases_lt, cases_eq, eqb-true, eq-eqb, ne_eqb, lt-ltb, le-ltb}
+use Rattle.std.proofs.lemmas.List.Elements.{All-nil, All-cons, All-head, All-tail}
+use Rattle.flowfile_record.specs.NumberedItems.{item_of, with_item, without_item}
+use Rattle.flowfile_record.specs.declared.flow_file.FlowFile.{FlowFile}
+use Rattle.flow_queue.specs.declared.held.Held.{Held}
+use Rattle.flow_queue.specs.Queue.{number_of, with_file, without_file, with_flight, flight_of}
+
+-- ---- of each file
+
+All-with_item : (P : Held → Type 0) (new : Held) (files : List Held) → P new → All P files → All P (with_item number_of new files)
+All-with_item P new [] here all = All-cons P new [] here (All-nil P)
+All-with_item P new (held ∷ files) here all =
+    elim (nat_lt (number_of held) (number_of new)) as (λ b. All P (cond b (held ∷ with_item number_of new files) (new ∷ held ∷ files))) [
+      | true ↦ All-cons P held (with_item number_of new files) (All-head P held files all) (All-with_item P new files here (All-tail P held files all))
+      | false ↦ All-cons P new (held ∷ files) here all
+    ]
+
+-- what holds of each file and of one that is put holds of each file then
+pub All-with_file : (P : Held → Type 0) (file : FlowFile) (files : List Held) → P (record { file = file; in_flight = false }) → All P files → All P (with_file file files)
+All-with_file P file files here all = All-with_item P (record { file = file; in_flight = false }) files here all
+
+-- ---- by its number
+
+swapped : {X : Type 0} (a b : Bool) (x y z : X) → (a ≡ true → b ≡ true → ⊥) → cond a x (cond b y z) ≡ cond b y (cond a x z)
+swapped true true x y z apart = absurd (apart refl refl)
+swapped true false x y z apart = refl
+swapped false b x y z apart = refl
+
+pub item_of-with : (n : ℕ) (new : Held) (files : List Held) → item_of number_of n (with_item number_of new files) ≡ cond (number_of new == n) (Some new) (item_of number_of n files)
+item_of-with n new [] = refl
+item_of-with n new (held ∷ files) =
+    elim (cases_lt (number_of held) (number_of new)) [
+      | inl lt ↦
+          let yes : nat_lt (number_of held) (number_of new) ≡ true = lt-ltb (number_of held) (number_of new) lt in
+          rw yes (ap (cond (number_of held == n) (Some held)) (item_of-with n new files)
+          ∙ swapped (number_of held == n) (number_of new == n) (Some held) (Some new) (item_of number_of n files)
+          (λ a b. let is = eqb-true (number_of held) n a in let also = eqb-true (number_of new) n b in omega arith))
+      | inr ge ↦ let no : nat_lt (number_of held) (number_of new) ≡ false = le-ltb (number_of held) (number_of new) ge in rw no refl
+    ]
+
+pub item_of-without : (n m : ℕ) (files : List Held) → item_of number_of n (without_item number_of m files) ≡ cond (m == n) None (item_of number_of n files)
+item_of-without n m [] = let none : Option Held = None in elim (m == n) as (λ b. none ≡ cond b none none) [ true ↦ refl | false ↦ refl ]
+item_of-without n m (held ∷ files) =
+    elim (cases_eq (number_of held) m) [
+      | inl is ↦
+          let yes : (number_of held == m) ≡ true = eq-eqb (number_of held) m is in
+          rw yes (item_of-without n m files ∙ elim (cases_eq m n) [
+            | inl same ↦ let one : (m == n) ≡ true = eq-eqb m n same in rw one refl
+            | inr differ ↦
+                let two : (m == n) ≡ false = ne_eqb m n differ in
+                let away : (number_of held == n) ≡ false = ne_eqb (number_of held) n (λ e. differ (sym is ∙ e)) in
+                rw (two, away) refl
+          ])
+      | inr ne ↦
+          let no : (number_of held == m) ≡ false = ne_eqb (number_of held) m ne in
+          rw no (ap (cond (number_of held == n) (Some held)) (item_of-without n m files)
+          ∙ swapped (number_of held == n) (m == n) (Some held) None (item_of number_of n files) (λ a b. ne (eqb-true (number_of held) n a ∙ sym (eqb-true m n b))))
+    ]
+
+-- whether a session works on a file, behind each change
+
+after : {X Y : Type 0} (f : X → Y) (b : Bool) (x : X) (o : Option X) → option_map f (cond b (Some x) o) ≡ cond b (Some (f x)) (option_map f o)
+after f true x o = refl
+after f false x o = refl
+
+after_none : {X Y : Type 0} (f : X → Y) (b : Bool) (o : Option X) → option_map f (cond b None o) ≡ cond b None (option_map f o)
+after_none f true o = refl
+after_none f false o = refl
+
+pub flight_of-with_file : (n : ℕ) (file : FlowFile) (files : List Held) → flight_of n (with_file file files) ≡ cond (file.number == n) (Some false) (flight_of n files)
+flight_of-with_file n file files =
+    let new : Held = record { file = file; in_flight = false } in
+    ap (option_map (λ (held : Held). held.in_flight)) (item_of-with n new files) ∙ after (λ (held : Held). held.in_flight) (file.number == n) new (item_of number_of n files)
+
+pub flight_of-without_file : (n m : ℕ) (files : List Held) → flight_of n (without_file m files) ≡ cond (m == n) None (flight_of n files)
+flight_of-without_file n m files =
+    ap (option_map (λ (held : Held). held.in_flight)) (item_of-without n m files) ∙ after_none (λ (held : Held). held.in_flight) (m == n) (item_of number_of n files)
+
+-- in the place of an answer, where there is one
+abbrev pub in_place : Bool → Option Bool → Option Bool
+in_place in_flight known = option_map (λ _. in_flight) known
+
+pub flight_of-with_flight : (n m : ℕ) (in_flight : Bool) (files : List Held) → flight_of n (with_flight m in_flight files) ≡ cond (m == n) (in_place in_flight (flight_of n files)) (flight_of n files)
+flight_of-with_flight n m in_flight [] = let none : Option Bool = None in elim (m == n) as (λ b. none ≡ cond b none none) [ true ↦ refl | false ↦ refl ]
+flight_of-with_flight n m in_flight (held ∷ files) =
+    elim (cases_eq (number_of held) n) [
+      | inl is ↦
+          let here : (number_of held == n) ≡ true = eq-eqb (number_of held) n is in
+          elim (cases_eq m n) [
+            | inl same ↦
+                let one : (m == n) ≡ true = eq-eqb m n same in
+                let marked : (number_of held == m) ≡ true = eq-eqb (number_of held) m (is ∙ sym same) in
+                rw (marked, here, one) refl
+            | inr differ ↦
+                let two : (m == n) ≡ false = ne_eqb m n differ in
+                let left : (number_of held == m) ≡ false = ne_eqb (number_of held) m (λ e. differ (sym e ∙ is)) in
+                rw (left, here, two) refl
+          ]
+      | inr ne ↦
+          let away : (number_of held == n) ≡ false = ne_eqb (number_of held) n ne in
+          elim (cases_eq (number_of held) m) [
+            | inl e ↦ let marked : (number_of held == m) ≡ true = eq-eqb (number_of held) m e in rw (marked, away) (flight_of-with_flight n m in_flight files)
+            | inr f ↦ let left : (number_of held == m) ≡ false = ne_eqb (number_of held) m f in rw (left, away) (flight_of-with_flight n m in_flight files)
+          ]
+    ]

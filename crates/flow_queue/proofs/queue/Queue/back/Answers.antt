@@ -1,0 +1,5 @@
+use Rattle.std.proofs.Common.{is_some, ap}
+use Rattle.flow_queue.proofs.queue.Queue.back.Goals as goal
+
+pub mark-requires : goal.mark-requires
+mark-requires c = ap is_some c.requires

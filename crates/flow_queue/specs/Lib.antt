@@ -1,0 +1,4 @@
+pub mod Choosing
+pub mod Inside
+pub mod Places
+pub mod Queue

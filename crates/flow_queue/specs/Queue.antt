@@ -1,0 +1,102 @@
+-- What a queue holds, and how it is seen.
+use Rattle.std.specs.Prelude.{◌≡◌, ◌≢◌, ℕ, ◌==◌, Bool, true, false, List, [], map, All, Option, Some, if◌then◌else◌}
+use Rattle.std.specs.Option.{option_map, option_map_or}
+use Rattle.flowfile_record.specs.NumberedItems.{item_of, with_item, without_item, AscendsByNumber}
+use Rattle.flowfile_record.specs.declared.flow_file.FlowFile.{FlowFile}
+use Rattle.prioritizer.specs.declared.prioritizer.Prioritizer.{Prioritizer}
+use Rattle.machine_model.specs.declared.flow.QueueLimits.{QueueLimits}
+use Rattle.machine_model.specs.declared.kind.TakeRule.{TakeRule}
+use Rattle.machine_model.specs.declared.kind.TakeRule.TheVariants.{Source, One, Bin, Defragment}
+use Rattle.machine_model.specs.Due.{numbers_of}
+use Rattle.machine_model.specs.Laws.{ArrivalsDiffer}
+use Rattle.machine_model.specs.Order.{eligible_files}
+use Rattle.machine_model.specs.Taking.{picks}
+use Rattle.machine_model.specs.View.{FileView, QueueView}
+use Rattle.flow_queue.specs.declared.held.Held.{Held}
+
+-- the order and the limits of its connection, its files in the order of their numbers, and for how many more there is
+-- room
+pub record QueueState : Type 0 where
+  pub order : List Prioritizer
+  pub limits : QueueLimits
+  pub files : List Held
+  pub spare : ℕ
+
+-- ---- how it is seen
+
+abbrev pub number_of : Held → ℕ
+number_of held = held.file.number
+
+-- how many bytes its content has
+abbrev pub size_of : Held → ℕ
+size_of held = held.file.content.size
+
+abbrev pub view_of : Held → FileView
+view_of held = record {
+  number = held.file.number;
+  attributes = held.file.attributes;
+  size = held.file.content.size;
+  entered = held.file.entered;
+  penalty_end = held.file.penalty_end;
+  arrival = held.file.arrival;
+  in_flight = held.in_flight;
+}
+
+abbrev pub views_of : List Held → List FileView
+views_of files = map view_of files
+
+-- no file of it is swapped out
+abbrev pub seen : QueueState → QueueView
+seen queue = record { active = views_of queue.files; batches = [] }
+
+-- what holds of the files of every queue: no two have one number or one arrival
+pub record AreApart (files : List Held) : Type 0 where
+  pub numbers : AscendsByNumber number_of files
+  pub arrivals : ArrivalsDiffer (views_of files)
+
+-- ---- how it changes
+
+-- the file has neither the number nor the arrival of any of these
+abbrev pub IsApart : FlowFile → List Held → Type 0
+IsApart file files = All (λ held. (held.file.number ≢ file.number) × (held.file.arrival ≢ file.arrival)) files
+
+-- these and one more, which no session works on
+abbrev pub with_file : FlowFile → List Held → List Held
+with_file file files = with_item number_of (record { file = file; in_flight = false }) files
+
+abbrev pub file_of : ℕ → List Held → Option FlowFile
+file_of number files = option_map (λ held. held.file) (item_of number_of number files)
+
+abbrev pub without_file : ℕ → List Held → List Held
+without_file number files = without_item number_of number files
+
+-- whether a session works on the file of a number, where there is such a file
+abbrev pub flight_of : ℕ → List Held → Option Bool
+flight_of number files = option_map (λ held. held.in_flight) (item_of number_of number files)
+
+-- a file of the queue that no session works on, and one that a session works on
+abbrev pub IsAtRest : QueueState → ℕ → Type 0
+IsAtRest queue number = flight_of number queue.files ≡ Some false
+
+abbrev pub IsInFlight : QueueState → ℕ → Type 0
+IsInFlight queue number = flight_of number queue.files ≡ Some true
+
+abbrev pub with_flight : ℕ → Bool → List Held → List Held
+with_flight number in_flight files =
+    map (λ held. if number_of held == number then record held { in_flight = in_flight } else held) files
+
+-- ---- what is taken of it
+
+-- the files that a session by a rule takes
+abbrev pub picked : TakeRule → ℕ → QueueState → Option (List FileView)
+picked rule moment queue = picks rule (eligible_files queue.order queue.limits moment (seen queue).active)
+
+abbrev pub picked_numbers : Option (List FileView) → List ℕ
+picked_numbers files = option_map_or numbers_of files []
+
+-- a rule by which a session takes no file, or one
+abbrev pub TakesAtMostOne : TakeRule → Type 0
+TakesAtMostOne Source = Unit {0}
+TakesAtMostOne One = Unit {0}
+TakesAtMostOne (Bin min max) = ⊥
+TakesAtMostOne Defragment = ⊥

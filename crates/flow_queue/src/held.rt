@@ -1,0 +1,60 @@
+//! A file of a queue.
+ghost use Rattle.std.specs.Prelude.{◌≡◌};
+ghost use Rattle.prioritizer.specs.Standing.{standing_of as standing};
+ghost use Rattle.machine_model.specs.Order.{standing_of, goes_before, is_eligible};
+ghost use Rattle.machine_model.specs.View.{is_penalised, is_expired};
+ghost use Rattle.flow_queue.specs.Queue.{view_of, size_of};
+
+use flowfile_record::FlowFile;
+use machine_model::QueueLimits;
+use prioritizer::{Order, Rank};
+
+/// A file of a queue, and whether a session works on it.
+#[derive(Debug, Drop)]
+pub(crate) struct Held {
+    pub(crate) file: FlowFile,
+    pub(crate) in_flight: bool,
+}
+
+impl Held {
+    // How many bytes its content has.
+    pub(crate) fn size(&self) -> u64
+        ensures { result ≡ size_of self.now }
+    {
+        self.file.content.size
+    }
+
+    fn rank(&self) -> Rank<'_>
+        ensures { standing result ≡ standing_of (view_of self.now) }
+    {
+        Rank {
+            priority: self.file.attributes.get("priority"),
+            entered: self.file.entered,
+            arrival: self.file.arrival,
+        }
+    }
+
+    pub(crate) fn goes_before(&self, other: &Held, order: &Order) -> bool
+        ensures { result ≡ goes_before order.now (view_of self.now) (view_of other.now) }
+    {
+        order.compare(&self.rank(), &other.rank()).is_lt()
+    }
+
+    fn is_penalised(&self, moment: u64) -> bool
+        ensures { result ≡ is_penalised moment (view_of self.now) }
+    {
+        moment < self.file.penalty_end
+    }
+
+    pub(crate) fn is_expired(&self, limits: &QueueLimits, moment: u64) -> bool
+        ensures { result ≡ is_expired limits.now.expiration moment (view_of self.now) }
+    {
+        limits.expiration > 0 && limits.expiration <= moment.saturating_sub(self.file.entered)
+    }
+
+    pub(crate) fn is_eligible(&self, limits: &QueueLimits, moment: u64) -> bool
+        ensures { result ≡ is_eligible limits.now moment (view_of self.now) }
+    {
+        !self.in_flight && !self.is_penalised(moment) && !self.is_expired(limits, moment)
+    }
+}

@@ -1,0 +1,126 @@
+//! A queue, and how it changes.
+ghost use Rattle.std.specs.Prelude.{◌≡◌, ◌+◌, ◌-◌, ◌<◌, ◌≤◌, [], Some, false, true, IsSome, OnOk, OnErr};
+ghost use Rattle.flow_queue.specs.Queue.{IsApart, AreApart, with_file, without_file, file_of, flight_of, with_flight, IsAtRest, IsInFlight};
+
+mod choosing;
+mod places;
+
+use self::places::place_of;
+use crate::held::Held;
+use flowfile_record::FlowFile;
+use machine_model::QueueLimits;
+use prioritizer::Order;
+use std::alloc::{AllocError, Global};
+use std::marker::Model;
+
+/// The files that wait at the end of a connection, those that a session works on too, and room for more.
+#[derive(Drop)]
+pub struct Queue {
+    order: Order,
+    limits: QueueLimits,
+    // Ascending by their numbers.
+    files: Vec<Held>,
+    // Those of their contents.
+    bytes: u128,
+}
+
+impl Model for Queue {
+    ghost use Rattle.std.specs.Coded.{codes};
+    ghost use Rattle.flowfile_record.specs.contracts.attributes.Attributes as attributes;
+    ghost use Rattle.flow_queue.specs.Queue.{QueueState};
+
+    ghost Value = { QueueState };
+
+    ghost coded = { Prim.hlevel (codes, attributes.the_row.coded) };
+
+    ghost use Rattle.flow_queue.specs.Inside.{state_in, IsSoundInside};
+
+    ghost view = { state_in };
+
+    ghost invariant = { IsSoundInside };
+}
+
+impl Queue {
+    /// A queue without files, and without room.
+    pub fn new(alloc: Global, order: Order, limits: QueueLimits) -> Queue
+        ensures { result ≡ record { order = order; limits = limits; files = []; spare = 0 } }
+    {
+        Queue {
+            order,
+            limits,
+            files: Vec::new(alloc),
+            bytes: 0,
+        }
+    }
+
+    /// Makes room for so many more files. It fails only where there was less.
+    pub fn reserve(&mut self, count: u32) -> Result<(), AllocError>
+        ensures same { self.new ≡ record self.old { spare = self.new.spare } }
+        ensures room { OnOk result (count ≤ self.new.spare) }
+        ensures none_lost { self.old.spare ≤ self.new.spare }
+        ensures fails { OnErr result (self.old.spare < count) }
+        ensures failed { OnErr result (self.new ≡ self.old) }
+    {
+        self.files.reserve(count as usize)
+    }
+
+    /// Puts a file that no session works on into the queue. There is room for it.
+    pub fn put(&mut self, file: FlowFile)
+        requires room { 0 < self.old.spare }
+        requires apart { IsApart file self.old.files }
+        ensures { self.new ≡ record self.old { files = with_file file self.old.files; spare = self.old.spare - 1 } }
+    {
+        let held = Held {
+            file,
+            in_flight: false,
+        };
+        let size = held.size();
+        let Err(place) = place_of(&self.files, held.file.number) else {
+            unreachable!()
+        };
+        let Ok(()) = self.files.insert(place, held) else {
+            unreachable!()
+        };
+        self.bytes += u128::from(size);
+    }
+
+    /// A session takes a file, which stays in the queue.
+    pub fn check_out(&mut self, number: u64)
+        requires { IsAtRest self.old number }
+        ensures { self.new ≡ record self.old { files = with_flight number true self.old.files } }
+    {
+        self.mark(number, true);
+    }
+
+    /// A session gives a file back.
+    pub fn back(&mut self, number: u64)
+        requires { IsInFlight self.old number }
+        ensures { self.new ≡ record self.old { files = with_flight number false self.old.files } }
+    {
+        self.mark(number, false);
+    }
+
+    fn mark(&mut self, number: u64, in_flight: bool)
+        requires { IsSome (flight_of number self.old.files) }
+        ensures { self.new ≡ record self.old { files = with_flight number in_flight self.old.files } }
+    {
+        let Ok(place) = place_of(&self.files, number) else {
+            unreachable!()
+        };
+        self.files[place].in_flight = in_flight;
+    }
+
+    /// Takes a file out of the queue.
+    pub fn leave(&mut self, number: u64) -> FlowFile
+        requires { IsSome (flight_of number self.old.files) }
+        ensures file { file_of number self.old.files ≡ Some result }
+        ensures left { self.new ≡ record self.old { files = without_file number self.old.files; spare = self.old.spare + 1 } }
+    {
+        let Ok(place) = place_of(&self.files, number) else {
+            unreachable!()
+        };
+        let held = self.files.remove(place);
+        self.bytes -= u128::from(held.size());
+        held.file
+    }
+}

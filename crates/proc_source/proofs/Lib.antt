@@ -1,0 +1,3 @@
+pub mod Generating
+pub mod Receiving
+pub mod Sending

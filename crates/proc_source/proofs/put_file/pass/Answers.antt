@@ -1,0 +1,14 @@
+use Rattle.std.proofs.Common.{false, sym, subst, arith}
+use Rattle.process_session.specs.Bench.{Bench, attributes_at}
+use Rattle.processor_api.proofs.Answered.{changed_so, never_refused}
+use Rattle.proc_source.specs.Putting.{EndsWith, passed_with}
+use Rattle.proc_source.proofs.Sending.{one-ended, one-transfer}
+use Rattle.proc_source.proofs.put_file.pass.Goals as goal
+
+pub unwrap-requires : goal.unwrap-requires
+unwrap-requires c = never_refused _ _ c.transfer.ensures.refusal (one-transfer c.args.session.now 0 (omega arith) c.requires)
+
+pub returns : goal.returns
+returns c =
+    let P : Bench → Type 0 = λ after. EndsWith after (passed_with c.args.session.now.sent (attributes_at c.args.session.now 0) false 0) in
+    subst P (sym (changed_so _ _ _ _ _ c.transfer.ensures.after c.unwrap.ensures)) (one-ended c.args.session.now 0 c.requires)

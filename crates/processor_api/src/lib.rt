@@ -1,0 +1,11 @@
+//! What a processor is: it takes files, and acts on them in a session.
+//!
+//! A processor sees a session and what it is given beside its files, and never a device, a claim or a queue.
+#![tactic(auto)]
+
+mod acts;
+mod calls;
+
+pub use acts::Acts;
+pub use calls::or_no_memory;
+pub use machine_model::{Given, TakeRule};
