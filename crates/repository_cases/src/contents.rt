@@ -1,7 +1,7 @@
 //! Cases of contents: where they are appended, and what is read.
 ghost use Rattle.std.specs.Prelude.{◌≡◌, ◌+◌, ◌<◌, ◌≤◌, length, IsTrue, OnOk};
 ghost use Rattle.content_repo.specs.Claims.{HasSizes};
-ghost use Rattle.content_repo.specs.Slots.{held_in};
+ghost use Rattle.content_repo.specs.Slots.{count_of, held_in};
 
 use crate::disks::{damage_in_words, failing_calls};
 use crate::json::{item, items, member, number, text};
@@ -52,8 +52,20 @@ fn kept_and_let_go<D: Disk>(
     let at = content.append(disk, bytes, Sha256::digest(bytes))?;
     appended_contents_are_held();
     let _bytes = content.read(alloc, disk, &at)?;
-    content.unhold(&at);
+    let_go(&mut content, disk, &at)
+}
+
+// Lets a content go, and empties its claim.
+fn let_go<D: Disk>(
+    content: &mut Content,
+    disk: &mut D,
+    at: &ContentRef,
+) -> Result<Reclaimed, ContentError>
+    requires held { 0 < count_of content.old at.now.slot }
+    requires sizes { IsTrue D.tells → HasSizes content.old (D.held disk.old) }
+{
     counts_leave_the_sizes();
+    content.unhold(at);
     content.reclaim(disk)
 }
 
