@@ -6,6 +6,7 @@ use Rattle.flowfile_record.specs.declared.content.ContentRef.{ContentRef}
 use Rattle.flowfile_record.specs.declared.TheConstants.{CONTENT_MAX}
 use Rattle.content_repo.specs.declared.content.TheConstants.{HELD_MAX}
 use Rattle.content_repo.specs.declared.slot.Slot.{Slot}
+use Rattle.content_repo.specs.declared.slot.TheConstants.{OPEN_SIZE}
 use Rattle.content_repo.specs.Claims.{claim, content_in, HasSizes}
 use Rattle.content_repo.specs.Slots.{size_of, held_in, end_of, next_slot, taken, HasRoom, IsNamed}
 
@@ -20,6 +21,7 @@ pub record MayAppend (slots : List Slot) (bytes digest : List ℕ) : Type 0 wher
 pub record IsAppended (bytes digest : List ℕ) (old new : List Slot) (at : ContentRef) : Type 0 where
   pub slot : next_slot old ≡ Some at.slot
   pub offset : at.offset ≡ size_of old at.slot
+  pub low : at.offset < OPEN_SIZE
   pub size : at.size ≡ length bytes
   pub hashed : at.digest ≡ digest
   pub named : IsNamed at

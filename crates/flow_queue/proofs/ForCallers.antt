@@ -1,11 +1,20 @@
 -- What crates above cite: what the changes of a queue's files do to what is known of each file.
-use Rattle.std.proofs.Common.{◌≡◌, ℕ, ◌==◌, Bool, true, false, cond, nat_lt, List, [], ◌∷◌, Option, Some, None, inl, inr, refl, sym, ap, ◌∙◌, arith}
-use Rattle.std.specs.Prelude.{All}
+use Rattle.std.proofs.Common.{◌≡◌, ℕ, ◌+◌, ◌==◌, Bool, true, false, cond, nat_lt, List, [], ◌∷◌, Option, Some, None, inl, inr, refl, sym, ap, ◌∙◌, arith}
+use Rattle.std.specs.Prelude.{All, MatchOption, sum_by}
+use Rattle.std.specs.List.Sorted.{IsPermutation}
 use Rattle.std.specs.Option.{option_map}
-use Rattle.std.proofs.lemmas.Bool.{cases_lt, cases_eq, eqb-true, eq-eqb, ne_eqb, lt-ltb, le-ltb}
-use Rattle.std.proofs.lemmas.List.Elements.{All-nil, All-cons, All-head, All-tail}
+use Rattle.std.proofs.lemmas.Bool.{true≢false, cases_lt, cases_eq, eqb-true, eq-eqb, ne_eqb, lt-ltb, le-ltb}
+use Rattle.std.proofs.lemmas.List.Elements.{All-nil, All-cons, All-head, All-tail, All-contains}
+use Rattle.std.proofs.lemmas.List.Sorted.{All-permutation, Contains-permutation, length_permutation, sum_by-IsPermutation}
 use Rattle.flowfile_record.specs.NumberedItems.{item_of, with_item, without_item}
 use Rattle.flowfile_record.specs.declared.flow_file.FlowFile.{FlowFile}
+use Rattle.prioritizer.specs.declared.prioritizer.Prioritizer.{Prioritizer}
+use Rattle.machine_model.specs.declared.flow.QueueLimits.{QueueLimits}
+use Rattle.machine_model.specs.View.{FileView, BatchView, file_count, byte_count}
+use Rattle.machine_model.specs.Laws.{ArrivalsDiffer, IsBest}
+use Rattle.machine_model.specs.Order.{goes_before, is_eligible, best}
+use Rattle.machine_model.proofs.Ordered.{best-first}
+use Rattle.machine_model.proofs.OnlyOrder.{best-only}
 use Rattle.flow_queue.specs.declared.held.Held.{Held}
 use Rattle.flow_queue.specs.Queue.{number_of, with_file, without_file, with_flight, flight_of}
 
@@ -107,3 +116,32 @@ flight_of-with_flight n m in_flight (held ∷ files) =
             | inr f ↦ let left : (number_of held == m) ≡ false = ne_eqb (number_of held) m f in rw (left, away) (flight_of-with_flight n m in_flight files)
           ]
     ]
+
+-- ---- the same files in another order, as the machine has them by arrival
+
+moved : (order : List Prioritizer) (limits : QueueLimits) (moment : ℕ) (files others : List FileView) (view : FileView) → IsPermutation files others → IsBest order limits moment files view → IsBest order limits moment others view
+moved order limits moment files others view same is = record {
+  stands_there = Contains-permutation files others view same is.stands_there;
+  eligible = is.eligible;
+  first = All-permutation (λ other. is_eligible limits moment other ≡ true → goes_before order other view ≡ false) files others same is.first;
+}
+
+none_is_best : (order : List Prioritizer) (limits : QueueLimits) (moment : ℕ) (files : List FileView) (found : Option FileView) → All (λ file. is_eligible limits moment file ≡ false) files
+    → MatchOption found (All (λ file. is_eligible limits moment file ≡ false) files) (IsBest order limits moment files) → found ≡ None
+none_is_best order limits moment files None none is = refl
+none_is_best order limits moment files (Some view) none is =
+    absurd (true≢false (sym is.eligible ∙ All-contains (λ file. is_eligible limits moment file ≡ false) files view none is.stands_there))
+
+pub best-permuted : (order : List Prioritizer) (limits : QueueLimits) (moment : ℕ) (files others : List FileView) → ArrivalsDiffer others → IsPermutation files others → best order limits moment others ≡ best order limits moment files
+best-permuted order limits moment files others differ same = by_found (best order limits moment files) (best-first order limits moment files)
+  where
+    by_found : (found : Option FileView) → MatchOption found (All (λ file. is_eligible limits moment file ≡ false) files) (IsBest order limits moment files) → best order limits moment others ≡ found
+    by_found None none =
+        none_is_best order limits moment others (best order limits moment others) (All-permutation (λ file. is_eligible limits moment file ≡ false) files others same none) (best-first order limits moment others)
+    by_found (Some view) is = best-only order limits moment others view differ (moved order limits moment files others view same is)
+
+pub file_count-permuted : (files others : List FileView) (batches : List BatchView) → IsPermutation files others → file_count (record { active = others; batches = batches }) ≡ file_count (record { active = files; batches = batches })
+file_count-permuted files others batches same = ap (λ n. n + sum_by (λ (batch : BatchView). batch.files) batches) (length_permutation files others same)
+
+pub byte_count-permuted : (files others : List FileView) (batches : List BatchView) → IsPermutation files others → byte_count (record { active = others; batches = batches }) ≡ byte_count (record { active = files; batches = batches })
+byte_count-permuted files others batches same = ap (λ n. n + sum_by (λ (batch : BatchView). batch.size) batches) (sum_by-IsPermutation (λ (file : FileView). file.size) files others same)

@@ -68,7 +68,8 @@ impl Queue {
     pub fn put(&mut self, file: FlowFile)
         requires room { 0 < self.old.spare }
         requires apart { IsApart file self.old.files }
-        ensures { self.new ≡ record self.old { files = with_file file self.old.files; spare = self.old.spare - 1 } }
+        ensures { self.new
+            ≡ record self.old { files = with_file file self.old.files; spare = self.old.spare - 1 } }
     {
         let held = Held {
             file,
@@ -114,7 +115,8 @@ impl Queue {
     pub fn leave(&mut self, number: u64) -> FlowFile
         requires { IsSome (flight_of number self.old.files) }
         ensures file { file_of number self.old.files ≡ Some result }
-        ensures left { self.new ≡ record self.old { files = without_file number self.old.files; spare = self.old.spare + 1 } }
+        ensures left { self.new
+            ≡ record self.old { files = without_file number self.old.files; spare = self.old.spare + 1 } }
     {
         let Ok(place) = place_of(&self.files, number) else {
             unreachable!()

@@ -20,8 +20,8 @@ use Rattle.process_session.specs.Changes.{made_file, with_created, with_end, wit
 use Rattle.process_session.specs.Finish.{outcome_of}
 use Rattle.process_session.specs.Refusals.{refusal_of_finish, refusal_of_put, refusal_of_transfer, refusal_of_write}
 use Rattle.process_session.specs.declared.file.File.{File}
-use Rattle.processor_api.specs.Acts.{Begins, EndsAs}
-use Rattle.processor_api.proofs.Began.{source-acts}
+use Rattle.processor_api.specs.Acts.{Begins, EndsAs, KeepsTaken}
+use Rattle.processor_api.proofs.Began.{source-acts, source-begins}
 use Rattle.processor_api.proofs.Alone.{alone, encoded_size-empty, encoded_size-insert_le, ended-alone, filename_to_come_le, finish-free, outcome-alone, put-alone, put-free, transfer-free, write-free, written-alone}
 
 -- the file that is made, with these attributes
@@ -87,6 +87,12 @@ ended-is attributes text = ended-alone 1 [] (written attributes text) None (0 + 
 pub ended-finished : (attributes : AttributeMap) (text : List ℕ) → refusal_of_finish (ended_bench attributes text) ≡ None
 ended-finished attributes text = ap refusal_of_finish (ended-is attributes text) ∙ finish-free 1 [] (ended attributes text) None (0 + length text) refl
 
+pub ended-keeps : (before after : Bench) (attributes : AttributeMap) (text : List ℕ) → before ≡ bench_of 1 [] → after ≡ ended_bench attributes text → KeepsTaken before after
+ended-keeps before after attributes text began is = record {
+  relationships = ap (λ (b : Bench). b.relationships) is ∙ sym (ap (λ (b : Bench). b.relationships) began);
+  sources = ap (λ (b : Bench). b.sources) is ∙ sym (ap (λ (b : Bench). b.sources) began);
+}
+
 pub ended-outcome : (attributes : AttributeMap) (text : List ℕ) → outcome_of (ended_bench attributes text) ≡ alone_outcome (made_worked Created attributes text true 0)
 ended-outcome attributes text = ap outcome_of (ended-is attributes text) ∙ outcome-alone 1 [] (ended attributes text) (0 + length text) refl (λ stand. refl)
 
@@ -106,4 +112,5 @@ generate-acts count custom_text before given after begins is =
     let attributes = generated_attributes given.index in
     let text = generated_text custom_text given.index in
     source-acts (GenerateFlowFile count custom_text) before given after refl begins (ap refusal_of_finish is ∙ ended-finished attributes text)
+    (ended-keeps before after attributes text (source-begins (GenerateFlowFile count custom_text) before given refl begins) is)
     (ap Some (sym (ap outcome_of is ∙ ended-outcome attributes text)))

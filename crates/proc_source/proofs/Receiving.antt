@@ -17,8 +17,8 @@ use Rattle.process_session.specs.Bench.{Bench, bench_of}
 use Rattle.process_session.specs.Changes.{made_file, with_end, with_put, with_received}
 use Rattle.process_session.specs.Finish.{outcome_of}
 use Rattle.process_session.specs.Refusals.{refusal_of_finish, refusal_of_put, refusal_of_transfer}
-use Rattle.processor_api.specs.Acts.{Begins, EndsAs}
-use Rattle.processor_api.proofs.Began.{source-acts}
+use Rattle.processor_api.specs.Acts.{Begins, EndsAs, KeepsTaken}
+use Rattle.processor_api.proofs.Began.{source-acts, source-begins}
 use Rattle.processor_api.proofs.Alone.{alone, encoded_size-empty, encoded_size-insert_le, ended-alone, filename_to_come_le, finish-free, outcome-alone, put-alone, put-free, transfer-free}
 
 -- the received file, with these attributes
@@ -64,6 +64,12 @@ pub ended-finished : (attributes : AttributeMap) (bytes : List ℕ) → refusal_
 ended-finished attributes bytes =
     ap refusal_of_finish (ended-is attributes bytes) ∙ finish-free 1 [] (record (made_file Received attributes (New bytes)) { «end» = Some (To 0) }) None (0 + length bytes) refl
 
+pub ended-keeps : (before after : Bench) (attributes : AttributeMap) (bytes : List ℕ) → before ≡ bench_of 1 [] → after ≡ ended_bench attributes bytes → KeepsTaken before after
+ended-keeps before after attributes bytes began is = record {
+  relationships = ap (λ (b : Bench). b.relationships) is ∙ sym (ap (λ (b : Bench). b.relationships) began);
+  sources = ap (λ (b : Bench). b.sources) is ∙ sym (ap (λ (b : Bench). b.sources) began);
+}
+
 pub ended-outcome : (attributes : AttributeMap) (bytes : List ℕ) → outcome_of (ended_bench attributes bytes) ≡ alone_outcome (made_worked Received attributes bytes false 0)
 ended-outcome attributes bytes =
     ap outcome_of (ended-is attributes bytes) ∙ outcome-alone 1 [] (record (made_file Received attributes (New bytes)) { «end» = Some (To 0) }) (0 + length bytes) refl (λ stand. refl)
@@ -82,4 +88,5 @@ get-file-acts filter before given after name bytes copy begins name-is bytes-is 
     let same : after ≡ ended_bench attributes bytes = is ∙ ap (ended_bench attributes) copy-is in
     let of_bytes : received given.file given.bytes ≡ received (Some name) (Some bytes) = ap (λ o. received o given.bytes) name-is ∙ ap (received (Some name)) bytes-is in
     let outcome : alone_outcome (made_worked Received attributes bytes false 0) ≡ outcome_of after = sym (ap outcome_of same ∙ ended-outcome attributes bytes) in
-    source-acts (GetFile filter) before given after refl begins (ap refusal_of_finish same ∙ ended-finished attributes bytes) (of_bytes ∙ ap Some outcome)
+    source-acts (GetFile filter) before given after refl begins (ap refusal_of_finish same ∙ ended-finished attributes bytes)
+    (ended-keeps before after attributes bytes (source-begins (GetFile filter) before given refl begins) same) (of_bytes ∙ ap Some outcome)

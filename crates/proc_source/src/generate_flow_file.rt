@@ -27,7 +27,8 @@ pub struct GenerateFlowFile<'k> {
 impl<'k> GenerateFlowFile<'k> {
     /// The processor of a kind, or `None` where the kind is another processor's.
     pub fn of(kind: &'k Kind) -> Option<GenerateFlowFile<'k>>
-        ensures of { IfSome result (λ processor. Kind.GenerateFlowFile processor.count processor.custom_text.now ≡ kind.now) }
+        ensures of { IfSome result (λ processor.
+            Kind.GenerateFlowFile processor.count processor.custom_text.now ≡ kind.now) }
         ensures other { is_some result ≡ is_generate_flow_file kind.now }
     {
         match kind {

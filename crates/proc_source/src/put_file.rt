@@ -41,7 +41,7 @@ impl PutFile {
         requires one { HasOneTaken session.old }
         requires unsent { session.old.sent ≡ None }
         ensures { (file : TakenFile) → file.attributes ≡ attributes_at session.old FILE
-            → EndsWith session.new (put_unless_there self.now.conflict there file name) }
+            → EndsWith session.old session.new (put_unless_there self.now.conflict there file name) }
     {
         match (there, self.conflict) {
             (true, Conflict::Fail) => fail(session),
@@ -96,7 +96,7 @@ fn outbox_name(alloc: Global, session: &Session) -> Result<Option<Name>, AllocEr
 fn send(session: &mut Session, name: Name)
     requires one { HasOneTaken session.old }
     requires unsent { session.old.sent ≡ None }
-    ensures { EndsWith session.new (passed_with (Some (record { place = FILE; name = name }))
+    ensures { EndsWith session.old session.new (passed_with (Some (record { place = FILE; name = name }))
         (attributes_at session.old FILE) false SUCCESS) }
 {
     session.send(FILE, name).unwrap();
@@ -105,7 +105,7 @@ fn send(session: &mut Session, name: Name)
 
 fn pass(session: &mut Session)
     requires { HasOneTaken session.old }
-    ensures { EndsWith session.new
+    ensures { EndsWith session.old session.new
         (passed_with session.old.sent (attributes_at session.old FILE) false SUCCESS) }
 {
     session.transfer(FILE, SUCCESS).unwrap();
@@ -113,7 +113,7 @@ fn pass(session: &mut Session)
 
 fn fail(session: &mut Session)
     requires { HasOneTaken session.old }
-    ensures { EndsWith session.new
+    ensures { EndsWith session.old session.new
         (passed_with session.old.sent (attributes_at session.old FILE) true FAILURE) }
 {
     session.penalize(FILE).unwrap();

@@ -1,6 +1,7 @@
 -- What a processor knows of the session that it is handed, by how many files its rule takes, and how it shows what it owes.
-use Rattle.std.proofs.Common.{◌≡◌, ℕ, List, [], ◌∷◌, length, Some, None, refl, sym, ◌∙◌, ap, subst, arith}
+use Rattle.std.proofs.Common.{◌≡◌, ℕ, List, [], ◌∷◌, length, map, Some, None, refl, sym, ◌∙◌, ap, subst, arith}
 use Rattle.std.proofs.lemmas.List.{length-map}
+use Rattle.flowfile_record.specs.declared.worked.Outcome.{Outcome}
 use Rattle.machine_model.specs.Acting.{TakenFile, act}
 use Rattle.machine_model.specs.Kinds.{take_rule_of, relationships_of}
 use Rattle.machine_model.specs.Laws.{MayTake}
@@ -12,7 +13,7 @@ use Rattle.process_session.specs.Bench.{Bench, bench_of, source_of}
 use Rattle.process_session.specs.Finish.{outcome_of}
 use Rattle.process_session.specs.Refusals.{refusal_of_finish}
 use Rattle.process_session.specs.declared.file.Taken.{Taken}
-use Rattle.processor_api.specs.Acts.{Begins, EndsAs, AreTakenAs, IsTakenAs}
+use Rattle.processor_api.specs.Acts.{Begins, EndsAs, KeepsTaken, MayBeHanded, AreTakenAs, IsOutcomeOf, IsTakenAs}
 
 -- ---- how many files it took
 
@@ -42,22 +43,23 @@ may_take_one rule count is may = subst (λ r. MayTake r count) is may
 
 pub source-begins : (kind : Kind) (bench : Bench) (given : Given) → take_rule_of kind ≡ MakesFiles → Begins kind bench given → bench ≡ bench_of (length (relationships_of kind)) []
 source-begins kind bench given rule begins =
-    begins.begun ∙ ap (bench_of (length (relationships_of kind))) (none_of begins.taken (may_take_none _ _ rule begins.count))
+    begins.begun ∙ ap (bench_of (length (relationships_of kind))) (none_of begins.taken (may_take_none _ _ rule begins.handed.count))
 
 no_files : (files : List TakenFile) (taken : List Taken) → taken ≡ [] → AreTakenAs files taken → files ≡ []
 no_files [] taken none alike = refl
 no_files (file ∷ files) taken none alike = absurd (subst (AreTakenAs (file ∷ files)) none alike)
 
-pub source-acts : (kind : Kind) (before : Bench) (given : Given) (after : Bench) → take_rule_of kind ≡ MakesFiles → Begins kind before given → refusal_of_finish after ≡ None → act kind [] given ≡ Some (outcome_of after)
+pub source-acts : (kind : Kind) (before : Bench) (given : Given) (after : Bench) → take_rule_of kind ≡ MakesFiles → Begins kind before given → refusal_of_finish after ≡ None → KeepsTaken before after → act kind [] given ≡ Some (outcome_of after)
     → EndsAs kind before given after
-source-acts kind before given after rule begins finished outcome = record {
+source-acts kind before given after rule begins finished kept outcome = record {
   finished = finished;
+  kept = kept;
   outcome = λ files began. begins_with files began.0 began.1 began.2;
 }
   where
     begins_with : (files : List TakenFile) (taken : List Taken) → before ≡ bench_of before.relationships taken → AreTakenAs files taken → act kind files given ≡ Some (outcome_of after)
     begins_with files taken is alike =
-        let none : length taken ≡ 0 = sym (taken_count _ taken before is) ∙ taken_count _ begins.taken before begins.begun ∙ may_take_none _ _ rule begins.count in
+        let none : length taken ≡ 0 = sym (taken_count _ taken before is) ∙ taken_count _ begins.taken before begins.begun ∙ may_take_none _ _ rule begins.handed.count in
         ap (λ (fs : List TakenFile). act kind fs given) (no_files files taken (none_of taken none) alike) ∙ outcome
 
 -- ---- one file
@@ -67,15 +69,16 @@ BeginsWithOne kind bench = (taken : Taken) × (bench ≡ bench_of (length (relat
 
 pub one-begins : (kind : Kind) (bench : Bench) (given : Given) → take_rule_of kind ≡ One → Begins kind bench given → BeginsWithOne kind bench
 one-begins kind bench given rule begins =
-    let one = one_of begins.taken (may_take_one _ _ rule begins.count) in
+    let one = one_of begins.taken (may_take_one _ _ rule begins.handed.count) in
     (one.0, begins.begun ∙ ap (bench_of (length (relationships_of kind))) one.1)
 
 -- What the machine gives of one file, whose attributes are those that the session took. More of it may be asked.
-pub one-acts : (kind : Kind) (before : Bench) (given : Given) (after : Bench) → take_rule_of kind ≡ One → Begins kind before given → refusal_of_finish after ≡ None
+pub one-acts : (kind : Kind) (before : Bench) (given : Given) (after : Bench) → take_rule_of kind ≡ One → Begins kind before given → refusal_of_finish after ≡ None → KeepsTaken before after
     → ((taken : Taken) (file : TakenFile) → before ≡ bench_of before.relationships (taken ∷ []) → IsTakenAs file taken → act kind (file ∷ []) given ≡ Some (outcome_of after))
     → EndsAs kind before given after
-one-acts kind before given after rule begins finished outcome = record {
+one-acts kind before given after rule begins finished kept outcome = record {
   finished = finished;
+  kept = kept;
   outcome = λ files began. begins_with files began.0 began.1 began.2;
 }
   where
@@ -86,6 +89,25 @@ one-acts kind before given after rule begins finished outcome = record {
 
     begins_with : (files : List TakenFile) (taken : List Taken) → before ≡ bench_of before.relationships taken → AreTakenAs files taken → act kind files given ≡ Some (outcome_of after)
     begins_with files taken is alike =
-        let count : length taken ≡ 1 = sym (taken_count _ taken before is) ∙ taken_count _ begins.taken before begins.begun ∙ may_take_one _ _ rule begins.count in
+        let count : length taken ≡ 1 = sym (taken_count _ taken before is) ∙ taken_count _ begins.taken before begins.begun ∙ may_take_one _ _ rule begins.handed.count in
         let one = one_of taken count in
         of_one files one.0 (is ∙ ap (bench_of before.relationships) one.1) (subst (AreTakenAs files) one.1 alike)
+
+-- ---- one session, from its beginning to its end
+
+pub work-begins : (kind : Kind) (relationships : ℕ) (taken : List Taken) (given : Given) (bench : Bench) → relationships ≡ length (relationships_of kind) → bench ≡ bench_of relationships taken → MayBeHanded kind taken given
+    → Begins kind bench given
+work-begins kind relationships taken given bench many is handed =
+    record { taken = taken; begun = is ∙ ap (λ n. bench_of n taken) many; handed = handed }
+
+pub work-outcome : (kind : Kind) (relationships : ℕ) (taken : List Taken) (given : Given) (before after : Bench) (outcome : Outcome) → before ≡ bench_of relationships taken → EndsAs kind before given after → outcome ≡ outcome_of after
+    → IsOutcomeOf kind taken given outcome
+work-outcome kind relationships taken given before after outcome is ends outcome-is files alike =
+    let n : relationships ≡ before.relationships = sym (ap (λ (b : Bench). b.relationships) is) in
+    ends.outcome files (taken, is ∙ ap (λ n. bench_of n taken) n, alike) ∙ ap Some (sym outcome-is)
+
+pub work-sources : (relationships : ℕ) (taken : List Taken) (before after : Bench) → before ≡ bench_of relationships taken → KeepsTaken before after → after.sources ≡ map source_of taken
+work-sources relationships taken before after is kept = kept.sources ∙ ap (λ (b : Bench). b.sources) is
+
+pub work-relationships : (relationships : ℕ) (taken : List Taken) (before after : Bench) → before ≡ bench_of relationships taken → KeepsTaken before after → after.relationships ≡ relationships
+work-relationships relationships taken before after is kept = kept.relationships ∙ ap (λ (b : Bench). b.relationships) is

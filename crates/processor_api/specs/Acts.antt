@@ -1,6 +1,7 @@
 -- What a processor is handed, and what it owes: the outcome that the machine gives.
 use Rattle.std.specs.Prelude.{◌≡◌, ◌≤◌, nat_le, Bool, List, [], ◌∷◌, length, sum_by, All, None, Some, is_some, IsSome, IsSomeAnd, IfSome}
 use Rattle.flowfile_record.specs.declared.TheConstants.{CONTENT_MAX}
+use Rattle.flowfile_record.specs.declared.worked.Outcome.{Outcome}
 use Rattle.machine_model.specs.Acting.{TakenFile, act}
 use Rattle.machine_model.specs.Kinds.{take_rule_of, relationships_of}
 use Rattle.machine_model.specs.Laws.{MayTake}
@@ -29,19 +30,23 @@ abbrev pub IsGivenTo : Kind → Given → Type 0
 IsGivenTo (GetFile filter) given = IsSome given.file × IsSomeAnd given.bytes (λ bytes. length bytes ≤ CONTENT_MAX)
 IsGivenTo _ given = Unit {0}
 
--- A session as it begins, for a processor of this kind: with as many relationships as it names, and as many files as
--- its rule takes.
-pub record Begins (kind : Kind) (bench : Bench) (given : Given) : Type 0 where
-  pub taken : List Taken
-  pub begun : bench ≡ bench_of (length (relationships_of kind)) taken
+-- What a processor of this kind may be handed: as many files as its rule takes, and what it is given.
+pub record MayBeHanded (kind : Kind) (taken : List Taken) (given : Given) : Type 0 where
+  pub sound : IsSoundKind kind
   pub count : MayTake (take_rule_of kind) (length taken)
   pub read : AreRead taken
   pub is_given : IsGivenTo kind given
-  pub sound : IsSoundKind kind
+
+-- A session as it begins, for a processor of this kind, with as many relationships as it names.
+pub record Begins (kind : Kind) (bench : Bench) (given : Given) : Type 0 where
+  pub taken : List Taken
+  pub begun : bench ≡ bench_of (length (relationships_of kind)) taken
+  pub handed : MayBeHanded kind taken given
 
 -- ---- what it owes
 
--- A file of the machine as a session took it. Its content is of that size; where the session was given bytes, it is these.
+-- A file of the machine as a session took it. Its content is of that size, and where the session was given bytes it is
+-- these.
 pub record IsTakenAs (file : TakenFile) (taken : Taken) : Type 0 where
   pub attributes : file.attributes ≡ taken.attributes
   pub uuid : file.uuid ≡ taken.uuid
@@ -57,7 +62,18 @@ AreTakenAs _ _ = ⊥
 abbrev pub BeganWith : Bench → List TakenFile → Type 0
 BeganWith bench files = (taken : List Taken) × (bench ≡ bench_of bench.relationships taken) × AreTakenAs files taken
 
--- The session can be finished, and its outcome is the one that the machine gives.
+-- The relationships and what stays of the taken files are as they were.
+pub record KeepsTaken (before after : Bench) : Type 0 where
+  pub relationships : after.relationships ≡ before.relationships
+  pub sources : after.sources ≡ before.sources
+
+-- The session can be finished with what it took, and its outcome is the one that the machine gives.
 pub record EndsAs (kind : Kind) (before : Bench) (given : Given) (after : Bench) : Type 0 where
   pub finished : refusal_of_finish after ≡ None
+  pub kept : KeepsTaken before after
   pub outcome : (files : List TakenFile) → BeganWith before files → act kind files given ≡ Some (outcome_of after)
+
+-- The outcome is the one that the machine gives of these files.
+abbrev pub IsOutcomeOf : Kind → List Taken → Given → Outcome → Type 0
+IsOutcomeOf kind taken given outcome =
+    (files : List TakenFile) → AreTakenAs files taken → act kind files given ≡ Some outcome

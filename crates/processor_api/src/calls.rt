@@ -1,5 +1,5 @@
 //! Answers of a session's calls, for processors.
-ghost use Rattle.std.specs.Prelude.{◌≡◌, IfErr, IfOk, Ok};
+ghost use Rattle.std.specs.Prelude.{◌≡◌, IfErr, IfOk, IsOk, Ok};
 
 use process_session::SessionError;
 use std::alloc::AllocError;
@@ -7,7 +7,8 @@ use std::alloc::AllocError;
 /// The answer of a session's call that want of memory alone refuses.
 pub fn or_no_memory<T: Drop>(answer: Result<T, SessionError>) -> Result<T, AllocError>
     requires { IfErr answer (λ error. error ≡ SessionError.Memory) }
-    ensures { IfOk result (λ value. answer ≡ Ok value) }
+    ensures value { IfOk result (λ value. answer ≡ Ok value) }
+    ensures ok { IsOk answer → IsOk result }
 {
     match answer {
         Ok(value) => Ok(value),

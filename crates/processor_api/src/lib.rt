@@ -5,7 +5,9 @@
 
 mod acts;
 mod calls;
+mod work;
 
 pub use acts::Acts;
 pub use calls::or_no_memory;
 pub use machine_model::{Given, TakeRule};
+pub use work::work_on;

@@ -9,10 +9,10 @@ use Rattle.disk_trait.proofs.Moments.{wider_at_each}
 use Rattle.flowfile_record.specs.NamedFile.{NamedFile, bytes_of}
 use Rattle.flowfile_record.specs.declared.TheConstants.{CONTENT_MAX}
 use Rattle.world_io.specs.Inbox.{IsAscending}
-use Rattle.store_core.specs.Opening.{SinceSync}
-use Rattle.store_core.specs.State.{stands_for}
-use Rattle.store_core.specs.declared.queued.Queued.{Queued}
-use Rattle.store_core.specs.declared.error.StoreError.{StoreError}
+use Rattle.first_store.specs.Opening.{SinceSync}
+use Rattle.first_store.specs.State.{stands_for}
+use Rattle.first_store.specs.declared.queued.Queued.{Queued}
+use Rattle.first_store.specs.declared.error.StoreError.{StoreError}
 use Rattle.run_top.specs.Machine.{Machine, got, names_got, IsQuiet}
 use Rattle.run_top.specs.Run.{HasRun, IsLeftDamaged, IsPrefix}
 use Rattle.run_top.specs.Running.{IsRunning, IsLeftBut}

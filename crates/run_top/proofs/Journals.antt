@@ -8,7 +8,7 @@ use Rattle.std.specs.List.{AllByRecursion}
 use Rattle.disk_trait.specs.Files.{Files}
 use Rattle.disk_trait.specs.Images.{Since}
 use Rattle.disk_trait.proofs.Moments.{one_part_after_another}
-use Rattle.store_core.specs.State.{stands_for}
+use Rattle.first_store.specs.State.{stands_for}
 use Rattle.run_top.specs.Machine.{Machine, Entry, Step, Get, step, replay, replay_from, acknowledged, is_acked_by, IsInOrder, IsAcknowledged, WasGot}
 use Rattle.run_top.specs.Run.{IsPrefix, Replays}
 

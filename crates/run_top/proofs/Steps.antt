@@ -9,10 +9,10 @@ use Rattle.disk_trait.specs.declared.damage.Damage.{Damage}
 use Rattle.flowfile_record.specs.NamedFile.{NamedFile, bytes_of, without, with_file}
 use Rattle.flowfile_record.specs.declared.TheConstants.{CONTENT_MAX}
 use Rattle.world_io.specs.Inbox.{IsAscending}
-use Rattle.store_core.specs.Entry.{queued}
-use Rattle.store_core.specs.State.{stands_for}
-use Rattle.store_core.specs.declared.queued.Queued.{Queued}
-use Rattle.store_core.specs.declared.error.StoreError.{StoreError}
+use Rattle.first_store.specs.Entry.{queued}
+use Rattle.first_store.specs.State.{stands_for}
+use Rattle.first_store.specs.declared.queued.Queued.{Queued}
+use Rattle.first_store.specs.declared.error.StoreError.{StoreError}
 use Rattle.run_top.specs.Machine.{Machine, Entry, Get, Put, got, put, step, names_got}
 use Rattle.run_top.specs.Run.{Replays, HasRun, IsGoneByEntry}
 use Rattle.run_top.specs.Running.{IsRunning}

@@ -5,8 +5,8 @@ use Rattle.std.specs.Prelude.{List, [], ◌∷◌, ◌++◌, length, Option, Non
 use Rattle.std.specs.List.{AllByRecursion}
 use Rattle.flowfile_record.specs.NamedFile.{NamedFile, bytes_of, without, with_file}
 use Rattle.flowfile_record.specs.declared.TheConstants.{CONTENT_MAX}
-use Rattle.store_core.specs.Entry.{queued}
-use Rattle.store_core.specs.declared.queued.Queued.{Queued}
+use Rattle.first_store.specs.Entry.{queued}
+use Rattle.first_store.specs.declared.queued.Queued.{Queued}
 
 -- the files that wait, those that are left in the inbox, and what stands under each name in the outbox
 pub record Machine : Type 0 where

@@ -7,9 +7,9 @@ use Rattle.disk_trait.specs.Faults.{CountsFaults}
 use Rattle.disk_trait.specs.declared.damage.Damage.{Damage}
 use Rattle.flowfile_record.specs.NamedFile.{NamedFile, bytes_of}
 use Rattle.world_io.specs.Inbox.{IsAscending}
-use Rattle.store_core.specs.declared.queued.Queued.{Queued}
-use Rattle.store_core.specs.Opening.{SinceSync}
-use Rattle.store_core.specs.State.{stands_for}
+use Rattle.first_store.specs.declared.queued.Queued.{Queued}
+use Rattle.first_store.specs.Opening.{SinceSync}
+use Rattle.first_store.specs.State.{stands_for}
 use Rattle.run_top.specs.Status.{status_of}
 use Rattle.run_top.specs.declared.status.RunError.{RunError}
 use Rattle.run_top.specs.declared.status.TheConstants.{DONE, DAMAGED, DISK_FAULT, INBOX_FAULT, OUTBOX_FAULT}

@@ -5,7 +5,7 @@ use Rattle.disk_trait.specs.Files.{Files}
 use Rattle.flowfile_record.specs.NamedFile.{NamedFile, bytes_of, without}
 use Rattle.flowfile_record.specs.declared.TheConstants.{CONTENT_MAX}
 use Rattle.world_io.specs.Inbox.{IsAscending}
-use Rattle.store_core.specs.declared.queued.Queued.{Queued}
+use Rattle.first_store.specs.declared.queued.Queued.{Queued}
 use Rattle.run_top.specs.Machine.{Machine, Entry, names_got, IsAcknowledged}
 use Rattle.run_top.specs.Run.{Replays, IsGoneByEntry}
 

@@ -1,6 +1,6 @@
 -- The statuses of a run's errors.
 use Rattle.std.specs.Prelude.{ℕ}
-use Rattle.store_core.specs.declared.error.StoreError.{StoreError}
+use Rattle.first_store.specs.declared.error.StoreError.{StoreError}
 use Rattle.world_io.specs.declared.error.WorldError.{WorldError}
 use Rattle.run_top.specs.declared.status.RunError.{RunError}
 use Rattle.run_top.specs.declared.status.RunError.TheVariants.{Damaged, Disk, Inbox, Outbox, Memory}

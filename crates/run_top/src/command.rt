@@ -3,17 +3,17 @@ ghost use Rattle.std.specs.Prelude.{◌≡◌, ◌⊎◌, ◌↔◌, true, false
 ghost use Rattle.disk_trait.specs.Images.{next_moment};
 ghost use Rattle.disk_trait.specs.Faults.{CountsFaults};
 ghost use Rattle.disk_trait.specs.declared.damage.Damage.{Damage as TheDamage};
-ghost use Rattle.store_core.specs.Others.{ChangesLogAlone};
-ghost use Rattle.store_core.specs.State.{stands_for};
-ghost use Rattle.store_core.specs.declared.queued.Queued.{Queued};
+ghost use Rattle.first_store.specs.Others.{ChangesLogAlone};
+ghost use Rattle.first_store.specs.State.{stands_for};
+ghost use Rattle.first_store.specs.declared.queued.Queued.{Queued};
 ghost use Rattle.run_top.specs.Run.{HasRun, IsNotOpened, IsLeftDamaged, IsToldDamaged, CountsEachFault, status_at};
 ghost use Rattle.run_top.specs.Words.{is_run};
 
 use crate::moving::move_all;
 use crate::{DAMAGED, DISK_FAULT, DONE, INBOX_FAULT, OUT_OF_MEMORY, OUTBOX_FAULT, RunError, USAGE};
 use disk_trait::Disk;
+use first_store::Store;
 use std::alloc::Global;
-use store_core::Store;
 use world_io::{Clock, Gate, Inbox, Outbox, Sink, Source};
 
 /// Runs the command that the words say, and answers its status.

@@ -6,8 +6,8 @@ ghost use Rattle.disk_trait.specs.Faults.{CountsFaults};
 ghost use Rattle.disk_trait.specs.declared.damage.Damage.{Damage as TheDamage};
 ghost use Rattle.flowfile_record.specs.NamedFile.{NamedFile, bytes_of};
 ghost use Rattle.world_io.specs.Inbox.{IsAscending};
-ghost use Rattle.store_core.specs.Kept.{IsKeptOn};
-ghost use Rattle.store_core.specs.Others.{ChangesLogAlone};
+ghost use Rattle.first_store.specs.Kept.{IsKeptOn};
+ghost use Rattle.first_store.specs.Others.{ChangesLogAlone};
 ghost use Rattle.run_top.specs.Machine.{Machine};
 ghost use Rattle.run_top.specs.Run.{HasRun};
 ghost use Rattle.run_top.specs.Running.{IsRunning, TakesOrLeaves, IsLeftBut};
@@ -16,8 +16,8 @@ ghost use Rattle.run_top.specs.declared.status.RunError.{RunError as TheError};
 
 use crate::RunError;
 use disk_trait::{Disk, Failed};
+use first_store::Store;
 use std::alloc::Global;
-use store_core::Store;
 use world_io::{CONTENT_MAX, Inbox, Name, Outbox};
 
 // Puts the first file that waits into the outbox, and then drops it.

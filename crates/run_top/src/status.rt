@@ -4,8 +4,8 @@ ghost use Rattle.run_top.specs.Status.{status_of, error_of, inbox_error_of};
 ghost use Rattle.run_top.specs.declared.status.RunError.TheVariants.{Memory};
 
 use disk_trait::Damage;
+use first_store::StoreError;
 use std::alloc::AllocError;
-use store_core::StoreError;
 use thiserror::Error;
 use world_io::WorldError;
 

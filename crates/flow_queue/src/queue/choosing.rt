@@ -25,7 +25,8 @@ impl Queue {
 
     /// The number of the file that goes first of those that may be taken at a moment.
     pub fn best(&self, moment: u64) -> Option<u64>
-        ensures best { result ≡ option_map (λ file. file.number) (best self.now.order self.now.limits moment (seen self.now).active) }
+        ensures best { result ≡ option_map (λ file. file.number)
+            (best self.now.order self.now.limits moment (seen self.now).active) }
         ensures at_rest { IfSome result (IsAtRest self.now) }
     {
         let held = best_of(&self.files, &self.order, &self.limits, moment)?;
@@ -56,7 +57,8 @@ impl Queue {
     /// The numbers of the files that expired by a moment and that no session works on, ascending.
     pub fn expired(&self, moment: u64, list: &mut Vec<u64>) -> Result<(), AllocError>
         requires { list.old.items ≡ [] }
-        ensures numbers { OnOk result (list.new.items ≡ expired_numbers self.now.limits moment (seen self.now).active) }
+        ensures numbers { OnOk result
+            (list.new.items ≡ expired_numbers self.now.limits moment (seen self.now).active) }
         ensures at_rest { All (IsAtRest self.now) list.new.items }
         ensures failed { OnErr result (list.new.items ≡ []) }
     {
@@ -88,7 +90,8 @@ fn best_of<'a>(
     moment: u64,
 ) -> Option<&'a Held>
     requires { ArrivalsDiffer (views_of files.now) }
-    ensures { option_map (λ held. view_of held.now) result ≡ best order.now limits.now moment (views_of files.now) }
+    ensures { option_map (λ held. view_of held.now) result
+        ≡ best order.now limits.now moment (views_of files.now) }
 {
     let mut best: Option<&'a Held> = None;
     for held in files {
@@ -101,7 +104,8 @@ fn best_of<'a>(
 
 // Whether a file goes before the first one so far, or there is none.
 fn goes_first(held: &Held, first: Option<&Held>, order: &Order) -> bool
-    ensures { result ≡ goes_first order.now (view_of held.now) (option_map (λ held. view_of held.now) first.entry) }
+    ensures { result
+        ≡ goes_first order.now (view_of held.now) (option_map (λ held. view_of held.now) first.entry) }
 {
     match first {
         Some(first) => held.goes_before(first, order),

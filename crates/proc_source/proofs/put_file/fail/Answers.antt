@@ -21,5 +21,5 @@ returns c =
     let penalised : c.penalize.new.self ≡ with_penalty c.args.session.now 0 = changed_so _ _ _ _ _ c.penalize.ensures.after c.unwrap.ensures in
     let after : c.transfer.new.self ≡ with_end (with_penalty c.args.session.now 0) 0 (To 1) =
     changed_so _ _ _ _ _ c.transfer.ensures.after c.unwrap-2.ensures ∙ ap (λ b. with_end b 0 (To 1)) penalised in
-    let P : Bench → Type 0 = λ after. EndsWith after (passed_with c.args.session.now.sent (attributes_at c.args.session.now 0) true 1) in
+    let P : Bench → Type 0 = λ after. EndsWith c.args.session.now after (passed_with c.args.session.now.sent (attributes_at c.args.session.now 0) true 1) in
     subst P (sym after) (penalised-ended c.args.session.now 1 c.requires)

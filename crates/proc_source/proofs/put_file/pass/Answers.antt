@@ -10,5 +10,5 @@ unwrap-requires c = never_refused _ _ c.transfer.ensures.refusal (one-transfer c
 
 pub returns : goal.returns
 returns c =
-    let P : Bench → Type 0 = λ after. EndsWith after (passed_with c.args.session.now.sent (attributes_at c.args.session.now 0) false 0) in
+    let P : Bench → Type 0 = λ after. EndsWith c.args.session.now after (passed_with c.args.session.now.sent (attributes_at c.args.session.now 0) false 0) in
     subst P (sym (changed_so _ _ _ _ _ c.transfer.ensures.after c.unwrap.ensures)) (one-ended c.args.session.now 0 c.requires)

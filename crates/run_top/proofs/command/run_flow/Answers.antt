@@ -3,14 +3,14 @@ use Rattle.std.proofs.lemmas.Result.{err_from_is_err_and}
 use Rattle.std.specs.Prelude.{Ok, Err, Result}
 use Rattle.flowfile_record.specs.NamedFile.{NamedFile}
 use Rattle.world_io.specs.Inbox.{IsAscending}
-use Rattle.store_core.specs.Opening.{SinceSync}
-use Rattle.store_core.specs.State.{stands_for}
-use Rattle.store_core.specs.declared.queued.Queued.{Queued}
-use Rattle.store_core.specs.declared.error.StoreError.TheVariants as StoreError
+use Rattle.first_store.specs.Opening.{SinceSync}
+use Rattle.first_store.specs.State.{stands_for}
+use Rattle.first_store.specs.declared.queued.Queued.{Queued}
+use Rattle.first_store.specs.declared.error.StoreError.TheVariants as StoreError
 use Rattle.run_top.specs.Status.{status_of, error_of}
 use Rattle.run_top.specs.Run.{HasRun, status_at}
 use Rattle.run_top.specs.Running.{IsRunning}
-use Rattle.store_core.proofs.Others.{alone_then}
+use Rattle.first_store.proofs.Others.{alone_then}
 use Rattle.run_top.proofs.Steps.{stops_between}
 use Rattle.run_top.proofs.Ends.{begins, ends, leaves_damage}
 use Rattle.run_top.proofs.command.run_flow.Goals as goal

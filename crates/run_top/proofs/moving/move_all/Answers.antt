@@ -3,7 +3,7 @@ use Rattle.std.proofs.lemmas.Result.{err_from_is_err_and}
 use Rattle.std.specs.Prelude.{Err}
 use Rattle.std.proofs.lemmas.List.{drop_more}
 use Rattle.world_io.specs.Inbox.{IsAscending}
-use Rattle.store_core.proofs.Others.{alone_then}
+use Rattle.first_store.proofs.Others.{alone_then}
 use Rattle.run_top.specs.Status.{status_of}
 use Rattle.run_top.specs.Run.{HasRun}
 use Rattle.run_top.specs.declared.status.RunError.{RunError}

@@ -1,6 +1,6 @@
 use Rattle.std.proofs.Common.{◌≡◌, ◌≤◌, false, [], drop, IsTrue}
-use Rattle.store_core.specs.Kept.{IsKeptOn}
-use Rattle.store_core.specs.Others.{ChangesLogAlone}
+use Rattle.first_store.specs.Kept.{IsKeptOn}
+use Rattle.first_store.specs.Others.{ChangesLogAlone}
 use Rattle.run_top.specs.Machine.{Machine}
 use Rattle.run_top.specs.Running.{IsRunning, IsLeftBut}
 use Rattle.run_top.proofs.moving.move_all.Given as goal

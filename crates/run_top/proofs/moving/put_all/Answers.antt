@@ -4,7 +4,7 @@ use Rattle.std.specs.Prelude.{Err}
 use Rattle.run_top.specs.Status.{status_of}
 use Rattle.run_top.specs.Run.{HasRun}
 use Rattle.run_top.specs.declared.status.RunError.{RunError}
-use Rattle.store_core.proofs.Others.{alone_then}
+use Rattle.first_store.proofs.Others.{alone_then}
 use Rattle.run_top.proofs.moving.put_all.Goals as goal
 
 pub loop-store-preserved : goal.loop-store-preserved

@@ -1,7 +1,7 @@
 use Rattle.std.proofs.Common.{◌≡◌, ◌≤◌, false, ℕ, List, length, IsTrue}
 use Rattle.flowfile_record.specs.NamedFile.{NamedFile}
-use Rattle.store_core.specs.Kept.{IsKeptOn}
-use Rattle.store_core.specs.Others.{ChangesLogAlone}
+use Rattle.first_store.specs.Kept.{IsKeptOn}
+use Rattle.first_store.specs.Others.{ChangesLogAlone}
 use Rattle.run_top.specs.Machine.{Machine}
 use Rattle.run_top.specs.Running.{IsRunning}
 use Rattle.run_top.proofs.moving.put_all.Given as goal

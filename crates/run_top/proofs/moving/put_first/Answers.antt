@@ -1,7 +1,7 @@
 use Rattle.std.proofs.Common.{◌≡◌, ⊎_elim, true, List, drop, get_or, sym, ◌∙◌, ap, subst}
 use Rattle.std.specs.Prelude.{Ok}
 use Rattle.flowfile_record.specs.NamedFile.{with_file}
-use Rattle.store_core.specs.declared.queued.Queued.{Queued}
+use Rattle.first_store.specs.declared.queued.Queued.{Queued}
 use Rattle.run_top.specs.Status.{status_of}
 use Rattle.run_top.specs.Run.{HasRun}
 use Rattle.run_top.specs.Running.{IsRunning}

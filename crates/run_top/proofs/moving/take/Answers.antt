@@ -3,9 +3,9 @@ use Rattle.std.specs.Prelude.{Ok, Err, Some}
 use Rattle.disk_trait.specs.Files.{Files}
 use Rattle.flowfile_record.specs.NamedFile.{NamedFile, bytes_of, without}
 use Rattle.flowfile_record.specs.declared.TheConstants.{CONTENT_MAX}
-use Rattle.store_core.specs.Entry.{queued}
-use Rattle.store_core.specs.State.{stands_for}
-use Rattle.store_core.specs.declared.queued.Queued.{Queued}
+use Rattle.first_store.specs.Entry.{queued}
+use Rattle.first_store.specs.State.{stands_for}
+use Rattle.first_store.specs.declared.queued.Queued.{Queued}
 use Rattle.run_top.specs.Status.{status_of}
 use Rattle.run_top.specs.Run.{HasRun}
 use Rattle.run_top.specs.Running.{IsRunning}

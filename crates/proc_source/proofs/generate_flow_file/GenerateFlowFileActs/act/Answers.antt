@@ -21,17 +21,17 @@ or_no_memory-requires c =
 pub or_no_memory-requires-2 : goal.or_no_memory-requires-2
 or_no_memory-requires-2 c =
     let begun : c.args.session.now ≡ bench_of 1 [] = source-begins (GenerateFlowFile c.args.self.now.count c.args.self.now.custom_text.now) _ c.args.given.now refl c.requires in
-    let first : c.in_ok-file.file ≡ 0 = answer_of (λ place. place ≡ length c.args.session.now.files) _ _ c.create.ensures.place c.in_ok-file.ensures ∙ ap (λ (b : Bench). length b.files) begun in
-    let created : c.create.new.self ≡ created_bench empty = changed_so _ _ _ _ _ c.create.ensures.after c.in_ok-file.ensures ∙ ap with_created begun in
+    let first : c.in_ok-file.file ≡ 0 = answer_of (λ place. place ≡ length c.args.session.now.files) _ _ c.create.ensures.place c.in_ok-file.ensures.value ∙ ap (λ (b : Bench). length b.files) begun in
+    let created : c.create.new.self ≡ created_bench empty = changed_so _ _ _ _ _ c.create.ensures.after c.in_ok-file.ensures.value ∙ ap with_created begun in
     only_memory _ _ c.put_attribute.ensures.refusal (put_refusal-at _ _ _ (codes "path") _ _ created first refl ∙ path-free)
 
 pub or_no_memory-requires-3 : goal.or_no_memory-requires-3
 or_no_memory-requires-3 c =
     let begun : c.args.session.now ≡ bench_of 1 [] = source-begins (GenerateFlowFile c.args.self.now.count c.args.self.now.custom_text.now) _ c.args.given.now refl c.requires in
-    let first : c.in_ok-file.file ≡ 0 = answer_of (λ place. place ≡ length c.args.session.now.files) _ _ c.create.ensures.place c.in_ok-file.ensures ∙ ap (λ (b : Bench). length b.files) begun in
-    let created : c.create.new.self ≡ created_bench empty = changed_so _ _ _ _ _ c.create.ensures.after c.in_ok-file.ensures ∙ ap with_created begun in
+    let first : c.in_ok-file.file ≡ 0 = answer_of (λ place. place ≡ length c.args.session.now.files) _ _ c.create.ensures.place c.in_ok-file.ensures.value ∙ ap (λ (b : Bench). length b.files) begun in
+    let created : c.create.new.self ≡ created_bench empty = changed_so _ _ _ _ _ c.create.ensures.after c.in_ok-file.ensures.value ∙ ap with_created begun in
     let placed : c.put_attribute.new.self ≡ created_bench at_path =
-    changed_so _ _ _ _ _ c.put_attribute.ensures.after c.in_ok-or_no_memory.ensures ∙ put-at _ _ _ (codes "path") _ _ created first refl ∙ created-put empty (codes "path") (codes "./") refl in
+    changed_so _ _ _ _ _ c.put_attribute.ensures.after c.in_ok-or_no_memory.ensures.value ∙ put-at _ _ _ (codes "path") _ _ created first refl ∙ created-put empty (codes "path") (codes "./") refl in
     let index : c.as_str.result.now ≡ decimal c.args.given.now.index = c.as_str.ensures.value ∙ c.in_ok-index.ensures.ok in
     let below : c.args.given.now.index < 2 ^ 64 = omega arith in
     only_memory _ _ c.put_attribute-2.ensures.refusal (put_refusal-at _ _ _ (codes "generate.index") _ _ placed first index ∙ index-free c.args.given.now.index below)
@@ -39,44 +39,44 @@ or_no_memory-requires-3 c =
 pub text_over-requires : goal.text_over-requires
 text_over-requires c =
     let begun : c.args.session.now ≡ bench_of 1 [] = source-begins (GenerateFlowFile c.args.self.now.count c.args.self.now.custom_text.now) _ c.args.given.now refl c.requires in
-    let first : c.in_ok-file.file ≡ 0 = answer_of (λ place. place ≡ length c.args.session.now.files) _ _ c.create.ensures.place c.in_ok-file.ensures ∙ ap (λ (b : Bench). length b.files) begun in
-    let created : c.create.new.self ≡ created_bench empty = changed_so _ _ _ _ _ c.create.ensures.after c.in_ok-file.ensures ∙ ap with_created begun in
+    let first : c.in_ok-file.file ≡ 0 = answer_of (λ place. place ≡ length c.args.session.now.files) _ _ c.create.ensures.place c.in_ok-file.ensures.value ∙ ap (λ (b : Bench). length b.files) begun in
+    let created : c.create.new.self ≡ created_bench empty = changed_so _ _ _ _ _ c.create.ensures.after c.in_ok-file.ensures.value ∙ ap with_created begun in
     let placed : c.put_attribute.new.self ≡ created_bench at_path =
-    changed_so _ _ _ _ _ c.put_attribute.ensures.after c.in_ok-or_no_memory.ensures ∙ put-at _ _ _ (codes "path") _ _ created first refl ∙ created-put empty (codes "path") (codes "./") refl in
+    changed_so _ _ _ _ _ c.put_attribute.ensures.after c.in_ok-or_no_memory.ensures.value ∙ put-at _ _ _ (codes "path") _ _ created first refl ∙ created-put empty (codes "path") (codes "./") refl in
     let index : c.as_str.result.now ≡ decimal c.args.given.now.index = c.as_str.ensures.value ∙ c.in_ok-index.ensures.ok in
     let numbered : c.put_attribute-2.new.self ≡ created_bench (generated_attributes c.args.given.now.index) =
-    changed_so _ _ _ _ _ c.put_attribute-2.ensures.after c.in_ok-or_no_memory-2.ensures
+    changed_so _ _ _ _ _ c.put_attribute-2.ensures.after c.in_ok-or_no_memory-2.ensures.value
     ∙ put-at _ _ _ (codes "generate.index") _ _ placed first index ∙ created-put at_path (codes "generate.index") (decimal c.args.given.now.index) refl in
     omega (arith, ap (λ (b : Bench). length b.files) numbered)
 
 pub unwrap-requires : goal.unwrap-requires
 unwrap-requires c =
     let begun : c.args.session.now ≡ bench_of 1 [] = source-begins (GenerateFlowFile c.args.self.now.count c.args.self.now.custom_text.now) _ c.args.given.now refl c.requires in
-    let first : c.in_ok-file.file ≡ 0 = answer_of (λ place. place ≡ length c.args.session.now.files) _ _ c.create.ensures.place c.in_ok-file.ensures ∙ ap (λ (b : Bench). length b.files) begun in
-    let created : c.create.new.self ≡ created_bench empty = changed_so _ _ _ _ _ c.create.ensures.after c.in_ok-file.ensures ∙ ap with_created begun in
+    let first : c.in_ok-file.file ≡ 0 = answer_of (λ place. place ≡ length c.args.session.now.files) _ _ c.create.ensures.place c.in_ok-file.ensures.value ∙ ap (λ (b : Bench). length b.files) begun in
+    let created : c.create.new.self ≡ created_bench empty = changed_so _ _ _ _ _ c.create.ensures.after c.in_ok-file.ensures.value ∙ ap with_created begun in
     let placed : c.put_attribute.new.self ≡ created_bench at_path =
-    changed_so _ _ _ _ _ c.put_attribute.ensures.after c.in_ok-or_no_memory.ensures ∙ put-at _ _ _ (codes "path") _ _ created first refl ∙ created-put empty (codes "path") (codes "./") refl in
+    changed_so _ _ _ _ _ c.put_attribute.ensures.after c.in_ok-or_no_memory.ensures.value ∙ put-at _ _ _ (codes "path") _ _ created first refl ∙ created-put empty (codes "path") (codes "./") refl in
     let index : c.as_str.result.now ≡ decimal c.args.given.now.index = c.as_str.ensures.value ∙ c.in_ok-index.ensures.ok in
     let below : c.args.given.now.index < 2 ^ 64 = omega arith in
     let numbered : c.put_attribute-2.new.self ≡ created_bench (generated_attributes c.args.given.now.index) =
-    changed_so _ _ _ _ _ c.put_attribute-2.ensures.after c.in_ok-or_no_memory-2.ensures
+    changed_so _ _ _ _ _ c.put_attribute-2.ensures.after c.in_ok-or_no_memory-2.ensures.value
     ∙ put-at _ _ _ (codes "generate.index") _ _ placed first index ∙ created-put at_path (codes "generate.index") (decimal c.args.given.now.index) refl in
     let text : c.in_ok-text.text.items ≡ generated_text c.args.self.now.custom_text.now c.args.given.now.index =
     text-is c.args.self.now.custom_text.now c.args.given.now.index c.in_ok-file.file _ c.in_ok-text.text.items numbered first c.in_ok-text.ensures in
-    let short = text_le c.args.self.now.count c.args.self.now.custom_text.now c.args.given.now.index c.requires.sound in
+    let short = text_le c.args.self.now.count c.args.self.now.custom_text.now c.args.given.now.index c.requires.handed.sound in
     never_refused _ _ c.write.ensures.refusal
     (write_refusal-at _ _ _ _ _ numbered first text ∙ text-free c.args.given.now.index (generated_text c.args.self.now.custom_text.now c.args.given.now.index) below short)
 
 pub unwrap-requires-2 : goal.unwrap-requires-2
 unwrap-requires-2 c =
     let begun : c.args.session.now ≡ bench_of 1 [] = source-begins (GenerateFlowFile c.args.self.now.count c.args.self.now.custom_text.now) _ c.args.given.now refl c.requires in
-    let first : c.in_ok-file.file ≡ 0 = answer_of (λ place. place ≡ length c.args.session.now.files) _ _ c.create.ensures.place c.in_ok-file.ensures ∙ ap (λ (b : Bench). length b.files) begun in
-    let created : c.create.new.self ≡ created_bench empty = changed_so _ _ _ _ _ c.create.ensures.after c.in_ok-file.ensures ∙ ap with_created begun in
+    let first : c.in_ok-file.file ≡ 0 = answer_of (λ place. place ≡ length c.args.session.now.files) _ _ c.create.ensures.place c.in_ok-file.ensures.value ∙ ap (λ (b : Bench). length b.files) begun in
+    let created : c.create.new.self ≡ created_bench empty = changed_so _ _ _ _ _ c.create.ensures.after c.in_ok-file.ensures.value ∙ ap with_created begun in
     let placed : c.put_attribute.new.self ≡ created_bench at_path =
-    changed_so _ _ _ _ _ c.put_attribute.ensures.after c.in_ok-or_no_memory.ensures ∙ put-at _ _ _ (codes "path") _ _ created first refl ∙ created-put empty (codes "path") (codes "./") refl in
+    changed_so _ _ _ _ _ c.put_attribute.ensures.after c.in_ok-or_no_memory.ensures.value ∙ put-at _ _ _ (codes "path") _ _ created first refl ∙ created-put empty (codes "path") (codes "./") refl in
     let index : c.as_str.result.now ≡ decimal c.args.given.now.index = c.as_str.ensures.value ∙ c.in_ok-index.ensures.ok in
     let numbered : c.put_attribute-2.new.self ≡ created_bench (generated_attributes c.args.given.now.index) =
-    changed_so _ _ _ _ _ c.put_attribute-2.ensures.after c.in_ok-or_no_memory-2.ensures
+    changed_so _ _ _ _ _ c.put_attribute-2.ensures.after c.in_ok-or_no_memory-2.ensures.value
     ∙ put-at _ _ _ (codes "generate.index") _ _ placed first index ∙ created-put at_path (codes "generate.index") (decimal c.args.given.now.index) refl in
     let text : c.in_ok-text.text.items ≡ generated_text c.args.self.now.custom_text.now c.args.given.now.index =
     text-is c.args.self.now.custom_text.now c.args.given.now.index c.in_ok-file.file _ c.in_ok-text.text.items numbered first c.in_ok-text.ensures in
@@ -89,13 +89,13 @@ unwrap-requires-2 c =
 pub returns : goal.returns
 returns c =
     let begun : c.args.session.now ≡ bench_of 1 [] = source-begins (GenerateFlowFile c.args.self.now.count c.args.self.now.custom_text.now) _ c.args.given.now refl c.requires in
-    let first : c.in_ok-file.file ≡ 0 = answer_of (λ place. place ≡ length c.args.session.now.files) _ _ c.create.ensures.place c.in_ok-file.ensures ∙ ap (λ (b : Bench). length b.files) begun in
-    let created : c.create.new.self ≡ created_bench empty = changed_so _ _ _ _ _ c.create.ensures.after c.in_ok-file.ensures ∙ ap with_created begun in
+    let first : c.in_ok-file.file ≡ 0 = answer_of (λ place. place ≡ length c.args.session.now.files) _ _ c.create.ensures.place c.in_ok-file.ensures.value ∙ ap (λ (b : Bench). length b.files) begun in
+    let created : c.create.new.self ≡ created_bench empty = changed_so _ _ _ _ _ c.create.ensures.after c.in_ok-file.ensures.value ∙ ap with_created begun in
     let placed : c.put_attribute.new.self ≡ created_bench at_path =
-    changed_so _ _ _ _ _ c.put_attribute.ensures.after c.in_ok-or_no_memory.ensures ∙ put-at _ _ _ (codes "path") _ _ created first refl ∙ created-put empty (codes "path") (codes "./") refl in
+    changed_so _ _ _ _ _ c.put_attribute.ensures.after c.in_ok-or_no_memory.ensures.value ∙ put-at _ _ _ (codes "path") _ _ created first refl ∙ created-put empty (codes "path") (codes "./") refl in
     let index : c.as_str.result.now ≡ decimal c.args.given.now.index = c.as_str.ensures.value ∙ c.in_ok-index.ensures.ok in
     let numbered : c.put_attribute-2.new.self ≡ created_bench (generated_attributes c.args.given.now.index) =
-    changed_so _ _ _ _ _ c.put_attribute-2.ensures.after c.in_ok-or_no_memory-2.ensures
+    changed_so _ _ _ _ _ c.put_attribute-2.ensures.after c.in_ok-or_no_memory-2.ensures.value
     ∙ put-at _ _ _ (codes "generate.index") _ _ placed first index ∙ created-put at_path (codes "generate.index") (decimal c.args.given.now.index) refl in
     let text : c.in_ok-text.text.items ≡ generated_text c.args.self.now.custom_text.now c.args.given.now.index =
     text-is c.args.self.now.custom_text.now c.args.given.now.index c.in_ok-file.file _ c.in_ok-text.text.items numbered first c.in_ok-text.ensures in

@@ -1,0 +1,28 @@
+use Rattle.disk_trait.proofs.Moments.{wider, nothing}
+use Rattle.first_store.proofs.Mending.{gate_gives, held_gives}
+use Rattle.first_store.proofs.open.close_gate.Goals as goal
+
+pub returns-in_err-write_synced-clause-images : goal.returns-in_err-write_synced-clause-images
+returns-in_err-write_synced-clause-images g c queue is =
+    let laws = g.met.D.Disk g.world.𝓛 g.world.𝓜 g.world.𝓡 ((λ s x. x), (λ x. x), (λ x. x), λ x. x) in
+    let old = c.args.disk.now in
+    wider g.D.Disk.moment g.D.Disk.images old c.write_synced.new.disk _ _ c.write_synced.ensures.images
+    (λ c' after.
+    let told = laws.left_is_told old (g.D.Disk.moment old) after.0 after.1 in
+    gate_gives c.args.end queue c.args.closed (g.D.Disk.held old) after.0 c' (is told) (c.requires.short told) (c.requires.synced after.0 after.1) after.2.here)
+
+pub returns-in_ok-write_synced-clause-images : goal.returns-in_ok-write_synced-clause-images
+returns-in_ok-write_synced-clause-images g c queue is =
+    let laws = g.met.D.Disk g.world.𝓛 g.world.𝓜 g.world.𝓡 ((λ s x. x), (λ x. x), (λ x. x), λ x. x) in
+    let old = c.args.disk.now in
+    wider g.D.Disk.moment g.D.Disk.images old c.write_synced.new.disk _ _ c.write_synced.ensures.images
+    (λ c' after.
+    let told = laws.left_is_told old (g.D.Disk.moment old) after.0 after.1 in
+    gate_gives c.args.end queue c.args.closed (g.D.Disk.held old) after.0 c' (is told) (c.requires.short told) (c.requires.synced after.0 after.1) after.2.here)
+
+pub returns-else-not-closed-clause-images : goal.returns-else-not-closed-clause-images
+returns-else-not-closed-clause-images g c queue is =
+    let laws = g.met.D.Disk g.world.𝓛 g.world.𝓜 g.world.𝓡 ((λ s x. x), (λ x. x), (λ x. x), λ x. x) in
+    let old = c.args.disk.now in
+    wider g.D.Disk.moment g.D.Disk.images old old _ _ (nothing g.D.Disk.moment g.D.Disk.images old)
+    (λ c' left. held_gives c.args.end queue c.args.closed (g.D.Disk.held old) c' (is (laws.left_is_told old (g.D.Disk.moment old) c' left)) (c.requires.synced c' left))

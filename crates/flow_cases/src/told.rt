@@ -1,0 +1,88 @@
+//! What an accepted flow is told as.
+use anyhow::Result;
+use flowfile_record::Text;
+use machine_model::{Conflict, Connection, Flow, Kind, Processor};
+use std::alloc::Global;
+
+/// The processors and the connections of a flow, one after the other.
+pub fn told(alloc: Global, flow: &Flow) -> Result<String> {
+    let mut text = String::new(alloc);
+    for processor in flow.processors.as_slice() {
+        push(&mut text, processor_told(alloc, processor)?.as_str())?;
+    }
+    for connection in flow.connections.as_slice() {
+        push(&mut text, connection_told(alloc, connection)?.as_str())?;
+    }
+    if text.is_empty() {
+        text.push_str("an empty flow")?;
+    }
+    Ok(text)
+}
+
+fn push(text: &mut String, part: &str) -> Result<()> {
+    if !text.is_empty() {
+        text.push_str("; ")?;
+    }
+    text.push_str(part)?;
+    Ok(())
+}
+
+fn processor_told(alloc: Global, processor: &Processor) -> Result<String> {
+    let id = processor.id.as_str();
+    let kind = kind_told(alloc, &processor.kind)?;
+    let tasks = processor.tasks;
+    let penalty = processor.penalty;
+    let terminated = names_told(alloc, processor.terminated.as_slice())?;
+    Ok(format!(in alloc; "{id} {kind} tasks {tasks} penalty {penalty}{terminated}")?)
+}
+
+fn kind_told(alloc: Global, kind: &Kind) -> Result<String> {
+    match kind {
+        Kind::GetFile { filter } => match filter {
+            Some(pattern) => {
+                let pattern = pattern.text.as_str();
+                Ok(format!(in alloc; "GetFile {pattern}")?)
+            }
+            None => Ok(String::from_str(alloc, "GetFile")?),
+        },
+        Kind::GenerateFlowFile { count, .. } => Ok(format!(in alloc; "GenerateFlowFile {count}")?),
+        Kind::PutFile { conflict } => {
+            let conflict = conflict_told(*conflict);
+            Ok(format!(in alloc; "PutFile {conflict}")?)
+        }
+        _ => Ok(String::from_str(alloc, "another type")?),
+    }
+}
+
+fn conflict_told(conflict: Conflict) -> &'static str {
+    match conflict {
+        Conflict::Replace => "replace",
+        Conflict::Ignore => "ignore",
+        Conflict::Fail => "fail",
+    }
+}
+
+/// Each name behind a space.
+fn names_told(alloc: Global, names: &[Text]) -> Result<String> {
+    let mut text = String::new(alloc);
+    for name in names {
+        text.push(' ')?;
+        text.push_str(name.as_str())?;
+    }
+    Ok(text)
+}
+
+fn connection_told(alloc: Global, connection: &Connection) -> Result<String> {
+    let id = connection.id.as_str();
+    let source = connection.source;
+    let target = connection.target;
+    let relationships = names_told(alloc, connection.relationships.as_slice())?;
+    let limits = connection.limits;
+    let expiration = limits.expiration;
+    let objects = limits.objects;
+    let bytes = limits.bytes;
+    let swap = limits.swap;
+    Ok(format!(in alloc;
+        "{id} {source} to {target}{relationships}, {expiration} {objects} {bytes} {swap}"
+    )?)
+}

@@ -1,0 +1,5 @@
+pub mod Answered
+pub mod Digits
+pub mod Lists
+pub mod Verdicts
+pub mod Walks

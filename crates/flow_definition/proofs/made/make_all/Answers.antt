@@ -1,0 +1,31 @@
+use Rattle.std.proofs.Common.{[], ◌∷◌, ◌++◌, map, take, sym, subst, arith}
+use Rattle.serde_json.specs.View.{view}
+use Rattle.flow_definition.specs.Made.{AreMade}
+use Rattle.flow_definition.specs.Patterns.{HasRisen}
+use Rattle.flow_definition.proofs.Verdicts.{made_push, made_later, one_later, risen_before, risen_after}
+use Rattle.flow_definition.proofs.Walks.{front_at}
+use Rattle.flow_definition.proofs.made.make_all.Goals as goal
+
+pub returns-in_err-make-clause-count : goal.returns-in_err-make-clause-count
+returns-in_err-make-clause-count g c = omega (arith, c.items.invariant.count, c.make.ensures.count)
+
+pub items-preserved : goal.items-preserved
+items-preserved g c =
+    let first = g.P.Patterns.faults c.args.patterns.now in
+    let middle = g.P.Patterns.faults c.items.patterns in
+    let last = g.P.Patterns.faults c.make.new.patterns in
+    let items = c.args.items.now in
+    let front = map view (take c.items.item-index items) in
+    let item = c.item-item.result in
+    let made = c.in_ok-make.field-0 in
+    let before = made_later (HasRisen first middle) (HasRisen first last) front c.items.list.items
+    (risen_before first middle last c.make.ensures.count) c.items.invariant.made in
+    let one = one_later (HasRisen middle last) (HasRisen first last) (view item) made
+    (risen_after first middle last c.items.invariant.count) c.in_ok-make.ensures.made in
+    let more = made_push (HasRisen first last) front c.items.list.items (view item) made before one in
+    record {
+      made = subst (λ ds. AreMade (HasRisen first last) ds c.push.new.self.items)
+          (sym (front_at view items c.items.item-index item c.items-test.true c.item-item.is))
+          (subst (λ ms. AreMade (HasRisen first last) (front ++ view item ∷ []) ms) (sym c.in_ok-push.ensures.items) more);
+      count = omega (arith, c.items.invariant.count, c.make.ensures.count);
+    }

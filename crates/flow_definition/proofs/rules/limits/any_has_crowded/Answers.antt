@@ -1,0 +1,13 @@
+use Rattle.std.proofs.Common.{sym, ◌∙◌, rules, tests}
+use Rattle.std.proofs.lemmas.Iterator.{YieldsList-from_slice}
+use Rattle.std.proofs.lemmas.Iterator.Search.{any_from_yields_List}
+use Rattle.serde_json.specs.View.{view}
+use Rattle.flow_definition.proofs.Lists.{list_any-map}
+use Rattle.flow_definition.specs.Rules.{has_crowded}
+use Rattle.flow_definition.proofs.rules.limits.any_has_crowded.Goals as goal
+
+pub returns : goal.returns
+returns c =
+    any_from_yields_List (λ x. has_crowded (view c.args.top.now) (view x)) _ _ _ c.any.ensures.ran
+    (YieldsList-from_slice c.args.processors.now (cc)) (λ x b q k. search (rules, tests))
+    ∙ sym (list_any-map (has_crowded (view c.args.top.now)) (λ x. view x) c.args.processors.now)

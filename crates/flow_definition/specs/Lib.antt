@@ -1,0 +1,13 @@
+pub mod Fields
+pub mod Looks
+pub mod Made
+pub mod Numbers
+pub mod Patterns
+pub mod Places
+pub mod Pointers
+pub mod Reading
+pub mod Rules
+pub mod Shapes
+pub mod Types
+pub mod Verdict
+pub mod Walk

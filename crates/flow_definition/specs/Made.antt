@@ -1,0 +1,92 @@
+-- What becomes of a processor of the text: it is made, or why it isn't, and where.
+use Rattle.std.specs.Prelude.{◌≡◌, ℕ, suc, ◌==◌, List, [], ◌∷◌, Bool, true, false, Option, Some, None, option_map, Contains, if◌then◌else◌}
+use Rattle.std.specs.Option.{option_or}
+use Rattle.expr_lang.specs.Grammar.{IsText}
+use Rattle.expr_lang.specs.Tree.{Tree}
+use Rattle.serde_json.specs.Data.{Data}
+use Rattle.machine_model.specs.Sound.{to_match_whole}
+use Rattle.machine_model.specs.declared.flow.Processor.{Processor}
+use Rattle.flow_definition.specs.declared.field.Field.TheVariants.{TypeName, Processors}
+use Rattle.flow_definition.specs.declared.made.Made.{Made}
+use Rattle.flow_definition.specs.declared.made.Made.TheVariants as made
+use Rattle.flow_definition.specs.declared.made.MadeKind.{MadeKind}
+use Rattle.flow_definition.specs.declared.made.MadeKind.TheVariants as kind
+use Rattle.flow_definition.specs.declared.made.Refusal.{Refusal}
+use Rattle.flow_definition.specs.declared.made.Refusal.TheVariants.{NoType, Unread, TooBig, NoExpression}
+use Rattle.flow_definition.specs.declared.processor_type.Form.TheVariants.{WholePattern, Expression}
+use Rattle.flow_definition.specs.declared.processor_type.Property.{Property}
+use Rattle.flow_definition.specs.declared.rule.Rule.{Rule}
+use Rattle.flow_definition.specs.declared.rule.Rule.TheVariants.{UnknownType, BadPattern, BadExpression, PatternTooBig}
+use Rattle.flow_definition.specs.Looks.{type_of, properties_in, property_text}
+use Rattle.flow_definition.specs.Numbers.{number_of}
+use Rattle.flow_definition.specs.Patterns.{IsUnread}
+use Rattle.flow_definition.specs.Reading.{IsKindOf, IsProcessorOf}
+use Rattle.flow_definition.specs.Rules.{Path, in_field, in_property}
+use Rattle.flow_definition.specs.Types.{form_of, property_name}
+use Rattle.flow_definition.specs.Walk.{in_list_item}
+
+-- the text isn't in the grammar of expressions
+abbrev pub IsNoExpression : List ℕ → Type 0
+IsNoExpression text = (tree : Tree) → IsText text tree → ⊥
+
+abbrev pub IsPattern : Data → Property → Type 0
+IsPattern d property = Contains (properties_in d) property × (form_of property ≡ WholePattern)
+
+abbrev pub IsExpression : Data → Property → Type 0
+IsExpression d property = Contains (properties_in d) property × (form_of property ≡ Expression)
+
+-- the cause of a refusal. The builder may call any pattern too big where its count of such refusals rose
+abbrev pub IsRefusal : (Risen : Type 0) → Data → Refusal → Type 0
+IsRefusal Risen d NoType = type_of d ≡ None
+IsRefusal Risen d (Unread property) = IsPattern d property × IsUnread (to_match_whole (property_text property d))
+IsRefusal Risen d (TooBig property) = IsPattern d property × Risen
+IsRefusal Risen d (NoExpression property) = IsExpression d property × IsNoExpression (property_text property d)
+
+abbrev pub IsMade : (Risen : Type 0) → Data → Made → Type 0
+IsMade Risen d (made.Processor processor) = IsProcessorOf d processor
+IsMade Risen d (made.Refused refusal) = IsRefusal Risen d refusal
+
+abbrev pub IsMadeKind : (Risen : Type 0) → Data → MadeKind → Type 0
+IsMadeKind Risen d (kind.Kind kind) = IsKindOf d kind
+IsMadeKind Risen d (kind.Refused refusal) = IsRefusal Risen d refusal
+
+abbrev pub AreMade : (Risen : Type 0) → List Data → List Made → Type 0
+AreMade Risen [] [] = Unit {0}
+AreMade Risen (d ∷ ds) (made ∷ more) = IsMade Risen d made × AreMade Risen ds more
+AreMade Risen [] (made ∷ more) = ⊥
+AreMade Risen (d ∷ ds) [] = ⊥
+
+abbrev pub rule_of : Refusal → Rule
+rule_of NoType = UnknownType
+rule_of (Unread property) = BadPattern
+rule_of (TooBig property) = PatternTooBig
+rule_of (NoExpression property) = BadExpression
+
+abbrev pub part_of : Refusal → Path
+part_of NoType = in_field TypeName
+part_of (Unread property) = in_property (property_name property)
+part_of (TooBig property) = in_property (property_name property)
+part_of (NoExpression property) = in_property (property_name property)
+
+-- where in the processor a refusal by this rule is
+abbrev pub refused_by : Rule → Made → Option Path
+refused_by rule (made.Processor processor) = None
+refused_by rule (made.Refused refusal) =
+    if number_of (rule_of refusal) == number_of rule then Some (part_of refusal) else None
+
+-- the first of the made processors, from this place on, that was refused by a rule
+abbrev pub first_refused : Rule → ℕ → List Made → Option Path
+first_refused rule place [] = None
+first_refused rule place (made ∷ more) = option_or (option_map (in_list_item Processors place) (refused_by rule made)) (first_refused rule (suc place) more)
+
+abbrev pub IsProcessorMade : Made → Type 0
+IsProcessorMade (made.Processor processor) = Unit {0}
+IsProcessorMade (made.Refused refusal) = ⊥
+
+abbrev pub AreAllMade : List Made → Type 0
+AreAllMade [] = Unit {0}
+AreAllMade (made ∷ more) = IsProcessorMade made × AreAllMade more
+
+abbrev pub processor_in : Made → Option Processor
+processor_in (made.Processor processor) = Some processor
+processor_in (made.Refused refusal) = None

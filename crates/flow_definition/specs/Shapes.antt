@@ -1,0 +1,86 @@
+-- Which values a field and a property may have: of which kind, and within which range.
+use Rattle.std.specs.Prelude.{ℕ, ◌&&◌, Bool, true, false, not, List, [], ◌∷◌, length, nat_le, Option, Some, None, option_and_then, is_some, bytes_eq, find, codes, if◌then◌else◌}
+use Rattle.std.specs.Char.{is_ascii_digit}
+use Rattle.std.specs.Option.{option_map_or}
+use Rattle.std.specs.List.{list_all}
+use Rattle.std.specs.Str.Parse.{digits_value}
+use Rattle.serde_json.specs.Data.{Data}
+use Rattle.serde_json.specs.Find.{as_str, as_array, as_object, as_number, as_u64}
+use Rattle.machine_model.specs.Sound.{is_id, within, are_distinct_texts}
+use Rattle.machine_model.specs.declared.kind.Conflict.{Conflict}
+use Rattle.machine_model.specs.declared.kind.Conflict.TheVariants.{Replace, Ignore, Fail}
+use Rattle.prioritizer.specs.Order.{name_of}
+use Rattle.prioritizer.specs.declared.prioritizer.Prioritizer.{Prioritizer}
+use Rattle.prioritizer.specs.declared.prioritizer.Prioritizer.TheVariants.{FirstInFirstOut, NewestFlowFileFirst, OldestFlowFileFirst, PriorityAttribute}
+use Rattle.flow_definition.specs.declared.field.Shape.{Shape}
+use Rattle.flow_definition.specs.declared.field.Shape.TheVariants as shape
+use Rattle.flow_definition.specs.declared.processor_type.Form.{Form}
+use Rattle.flow_definition.specs.declared.processor_type.Form.TheVariants as form
+use Rattle.flow_definition.specs.Looks.{is_text, is_object, items_of, names_in}
+
+abbrev pub is_list : Data → Bool
+is_list d = is_some (as_array d)
+
+abbrev pub is_list_of_texts : Data → Bool
+is_list_of_texts d = is_list d && list_all is_text (items_of d)
+
+abbrev pub prioritizer_named : List ℕ → Option Prioritizer
+prioritizer_named name =
+    find (λ p. bytes_eq (name_of p) name)
+    (FirstInFirstOut ∷ NewestFlowFileFirst ∷ OldestFlowFileFirst ∷ PriorityAttribute ∷ [])
+
+abbrev pub is_prioritizer : List ℕ → Bool
+is_prioritizer name = is_some (prioritizer_named name)
+
+-- the texts of a list are names of prioritizers, each once
+abbrev pub are_prioritizers : List Data → Bool
+are_prioritizers items = list_all is_prioritizer (names_in items) && are_distinct_texts (names_in items)
+
+-- the value is of the kind that the field has
+abbrev pub has_shape : Shape → Data → Bool
+has_shape shape.Objects d = is_list d && list_all is_object (items_of d)
+has_shape shape.Id d = option_map_or is_id (as_str d) false
+has_shape shape.Text d = is_text d
+has_shape (shape.Number least most default) d = is_some (as_number d)
+has_shape shape.Properties d = is_object d
+has_shape shape.Names d = is_list_of_texts d
+has_shape shape.SomeNames d = is_list_of_texts d && nat_le 1 (length (items_of d))
+has_shape shape.Prioritizers d = is_list_of_texts d && are_prioritizers (items_of d)
+
+-- a number in the text is a whole one, without sign, point and exponent, and within the field's range
+abbrev pub is_in_range : Shape → Data → Bool
+is_in_range (shape.Number least most default) d =
+    option_map_or (λ n. within least n most) (option_and_then as_u64 (as_number d)) false
+is_in_range shape.Objects d = true
+is_in_range shape.Id d = true
+is_in_range shape.Text d = true
+is_in_range shape.Properties d = true
+is_in_range shape.Names d = true
+is_in_range shape.SomeNames d = true
+is_in_range shape.Prioritizers d = true
+
+abbrev pub conflict_name : Conflict → List ℕ
+conflict_name Replace = codes "replace"
+conflict_name Ignore = codes "ignore"
+conflict_name Fail = codes "fail"
+
+abbrev pub conflict_named : List ℕ → Option Conflict
+conflict_named name = find (λ c. bytes_eq (conflict_name c) name) (Replace ∷ Ignore ∷ Fail ∷ [])
+
+-- the text is of the set that the property has
+abbrev pub is_of_set : Form → List ℕ → Bool
+is_of_set form.Conflict text = is_some (conflict_named text)
+is_of_set form.WholePattern text = true
+is_of_set (form.Number least most) text = true
+is_of_set form.Expression text = true
+
+-- the number that 1 to 10 digits write
+abbrev pub number_in : List ℕ → Option ℕ
+number_in text = if within 1 (length text) 10 && list_all is_ascii_digit text then Some (digits_value 10 text) else None
+
+-- 1 to 10 digits, and a number within the property's range
+abbrev pub is_number_text : Form → List ℕ → Bool
+is_number_text (form.Number least most) text = option_map_or (λ n. within least n most) (number_in text) false
+is_number_text form.WholePattern text = true
+is_number_text form.Expression text = true
+is_number_text form.Conflict text = true

@@ -1,0 +1,77 @@
+-- The types of processors, a row for each: its name, whether it makes files and takes none, its properties, ascending by
+-- the bytes of their names, and its relationships in their order. Of a property: its name, what it may hold, and what a
+-- missing one stands for; a property without a default is required.
+use Rattle.std.specs.Prelude.{ℕ, Bool, true, false, List, [], ◌∷◌, Option, Some, None, codes, find, bytes_eq}
+use Rattle.machine_model.specs.declared.limits.TheConstants.{GENERATED_MAX}
+use Rattle.flow_definition.specs.declared.processor_type.ProcessorType.{ProcessorType}
+use Rattle.flow_definition.specs.declared.processor_type.ProcessorType.TheVariants.{GetFile, GenerateFlowFile, PutFile}
+use Rattle.flow_definition.specs.declared.processor_type.Property.{Property}
+use Rattle.flow_definition.specs.declared.processor_type.Property.TheVariants.{FileFilter, Count, CustomText, ConflictResolution}
+use Rattle.flow_definition.specs.declared.processor_type.Form.{Form}
+use Rattle.flow_definition.specs.declared.processor_type.Form.TheVariants as form
+
+pub record TypeRow : Type 0 where
+  pub name : List ℕ
+  pub source : Bool
+  pub properties : List Property
+  pub relationships : List (List ℕ)
+
+abbrev pub row_of : ProcessorType → TypeRow
+row_of GetFile = record {
+  name = codes "GetFile";
+  source = true;
+  properties = FileFilter ∷ [];
+  relationships = codes "success" ∷ [];
+}
+row_of GenerateFlowFile = record {
+  name = codes "GenerateFlowFile";
+  source = true;
+  properties = Count ∷ CustomText ∷ [];
+  relationships = codes "success" ∷ [];
+}
+row_of PutFile = record {
+  name = codes "PutFile";
+  source = false;
+  properties = ConflictResolution ∷ [];
+  relationships = codes "success" ∷ codes "failure" ∷ [];
+}
+
+pub record PropertyRow : Type 0 where
+  pub name : List ℕ
+  pub form : Form
+  pub default : Option (List ℕ)
+
+abbrev pub property_row : Property → PropertyRow
+property_row FileFilter = record { name = codes "File Filter"; form = form.WholePattern; default = Some (codes "[^.].*") }
+property_row Count = record { name = codes "Count"; form = form.Number 0 GENERATED_MAX; default = None }
+property_row CustomText = record { name = codes "Custom Text"; form = form.Expression; default = Some [] }
+property_row ConflictResolution = record {
+  name = codes "Conflict Resolution Strategy";
+  form = form.Conflict;
+  default = Some (codes "fail");
+}
+
+abbrev pub is_source : ProcessorType → Bool
+is_source type = (row_of type).source
+
+abbrev pub properties_of : ProcessorType → List Property
+properties_of type = (row_of type).properties
+
+abbrev pub relationships_of : ProcessorType → List (List ℕ)
+relationships_of type = (row_of type).relationships
+
+abbrev pub type_name : ProcessorType → List ℕ
+type_name type = (row_of type).name
+
+-- the type of a name
+abbrev pub type_named : List ℕ → Option ProcessorType
+type_named name = find (λ type. bytes_eq (type_name type) name) (GetFile ∷ GenerateFlowFile ∷ PutFile ∷ [])
+
+abbrev pub property_name : Property → List ℕ
+property_name property = (property_row property).name
+
+abbrev pub form_of : Property → Form
+form_of property = (property_row property).form
+
+abbrev pub default_of : Property → Option (List ℕ)
+default_of property = (property_row property).default

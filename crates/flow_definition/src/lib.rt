@@ -1,0 +1,26 @@
+//! The text of a flow: its rules, and the flow that it stands for.
+#![tactic(auto)]
+
+mod error;
+mod field;
+mod limits;
+mod look;
+mod made;
+mod patterns;
+mod place;
+mod pointer;
+mod processor_type;
+mod reading;
+mod rule;
+mod rules;
+mod shape;
+mod text;
+mod walk;
+
+pub use error::FlowError;
+pub use field::{Field, Level, Shape};
+pub use limits::TEXT_MAX;
+pub use patterns::{Builder, PatternError, Patterns};
+pub use processor_type::{Form, ProcessorType, Property};
+pub use rule::Rule;
+pub use text::read_flow;

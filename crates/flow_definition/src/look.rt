@@ -1,0 +1,155 @@
+//! Looking into the objects of a flow's text.
+ghost use Rattle.std.specs.Prelude.{◌≡◌, map};
+ghost use Rattle.machine_model.specs.Kinds.{is_among};
+ghost use Rattle.std.specs.List.{list_all};
+ghost use Rattle.std.specs.Option.{option_map};
+ghost use Rattle.serde_json.specs.View.{view};
+ghost use Rattle.flow_definition.specs.Looks.{value_at, is_text, text_of, text_at, has_text, items_of, items_at, names_in, names_at, type_of, properties_in, relationships_in, processor_named, given_at, given_text};
+
+use crate::field::Field;
+use crate::processor_type::{ProcessorType, Property};
+use serde_json::Value;
+
+/// What stands in a field.
+pub(crate) fn value_at(object: &Value, field: Field) -> Option<&Value>
+    ensures { option_map (λ value. view value.now) result ≡ value_at field (view object.now) }
+{
+    object.get(field.name())
+}
+
+/// The text in a field, where one stands there.
+pub(crate) fn text_at(object: &Value, field: Field) -> Option<&str>
+    ensures { option_map (λ text. text.now) result ≡ text_at field (view object.now) }
+{
+    match value_at(object, field) {
+        Some(value) => value.as_str(),
+        None => None,
+    }
+}
+
+/// The items of a list, and none where it is no list.
+#[tactic(auto, using(crate::proofs::Lists::list_of_view))]
+pub(crate) fn items_of(value: &Value) -> &[Value]
+    ensures { map view result.now ≡ items_of (view value.now) }
+{
+    match value.as_array() {
+        Some(list) => list.as_slice(),
+        None => &[],
+    }
+}
+
+/// The items of the list in a field, where one stands there.
+pub(crate) fn items_at(object: &Value, field: Field) -> &[Value]
+    ensures { map view result.now ≡ items_at field (view object.now) }
+{
+    match value_at(object, field) {
+        Some(value) => items_of(value),
+        None => &[],
+    }
+}
+
+/// Whether an object has this text in this field.
+pub(crate) fn has_text(field: Field, text: &str, object: &Value) -> bool
+    ensures { result ≡ has_text field text.now (view object.now) }
+{
+    match text_at(object, field) {
+        Some(other) => text == other,
+        None => false,
+    }
+}
+
+/// A text, and nothing where it is none.
+pub(crate) fn text_of(value: &Value) -> &str
+    ensures { result.now ≡ text_of (view value.now) }
+{
+    match value.as_str() {
+        Some(text) => text,
+        None => "",
+    }
+}
+
+/// The items of a list of texts, and none where it has something else.
+pub(crate) fn names_in(items: &[Value]) -> &[Value]
+    ensures { map text_of (map view result.now) ≡ names_in (map view items.now) }
+{
+    if are_texts(items) { items } else { &[] }
+}
+
+/// Whether all items of a list are texts.
+pub(crate) fn are_texts(items: &[Value]) -> bool
+    ensures { result ≡ list_all is_text (map view items.now) }
+{
+    items.iter().all(|item| item.is_string())
+}
+
+/// The texts of the list in a field, where a list of texts stands there.
+pub(crate) fn names_at(object: &Value, field: Field) -> &[Value]
+    ensures { map text_of (map view result.now) ≡ names_at field (view object.now) }
+{
+    names_in(items_at(object, field))
+}
+
+/// Whether a name is among the texts of a list.
+pub(crate) fn is_among(name: &str, names: &[Value]) -> bool
+    ensures { result ≡ is_among name.now (map text_of (map view names.now)) }
+{
+    names.iter().any(|other| name == text_of(other))
+}
+
+/// The first processor with this id.
+pub(crate) fn processor_named<'a>(top: &'a Value, id: &str) -> Option<&'a Value>
+    ensures { option_map (λ processor. view processor.now) result ≡ processor_named (view top.now) id.now }
+{
+    items_at(top, Field::Processors)
+        .iter()
+        .find(|processor| has_text(Field::Id, id, processor))
+}
+
+/// The value that a processor gives a property of this name.
+pub(crate) fn given_at<'a>(name: &str, processor: &'a Value) -> Option<&'a Value>
+    ensures { option_map (λ value. view value.now) result ≡ given_at name.now (view processor.now) }
+{
+    match value_at(processor, Field::Properties) {
+        Some(properties) => properties.get(name),
+        None => None,
+    }
+}
+
+/// The text that a processor gives a property.
+pub(crate) fn given_text(property: Property, processor: &Value) -> Option<&str>
+    ensures { option_map (λ text. text.now) result ≡ given_text property (view processor.now) }
+{
+    match given_at(property.name(), processor) {
+        Some(value) => value.as_str(),
+        None => None,
+    }
+}
+
+/// The properties of a processor's type, and none where it has no type.
+pub(crate) fn properties_in(processor: &Value) -> &'static [Property]
+    ensures { result.now ≡ properties_in (view processor.now) }
+{
+    match type_of(processor) {
+        Some(kind) => kind.properties(),
+        None => &[],
+    }
+}
+
+/// The names of the relationships of a processor's type, and none where it has no type.
+pub(crate) fn relationships_in(processor: &Value) -> &'static [&'static str]
+    ensures { map (λ name. name.now) result.now ≡ relationships_in (view processor.now) }
+{
+    match type_of(processor) {
+        Some(kind) => kind.relationships(),
+        None => &[],
+    }
+}
+
+pub(crate) fn type_of(processor: &Value) -> Option<ProcessorType>
+    ensures { result ≡ type_of (view processor.now) }
+{
+    match text_at(processor, Field::TypeName) {
+        Some(name) => ProcessorType::named(name),
+        None => None,
+    }
+}

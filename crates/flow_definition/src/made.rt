@@ -1,0 +1,230 @@
+//! Making the processors of a text: building their patterns and reading their expressions.
+ghost use Rattle.std.specs.Prelude.{◌≡◌, ◌==◌, ◌≤◌, map, option_map, Some, IfOk};
+ghost use Rattle.machine_model.specs.Sound.{to_match_whole};
+ghost use Rattle.serde_json.specs.View.{view};
+ghost use Rattle.flow_definition.specs.Looks.{type_of};
+ghost use Rattle.flow_definition.specs.Made.{IsMade, AreMade, IsMadeKind, rule_of, part_of, refused_by, first_refused, processor_in};
+ghost use Rattle.std.specs.List.{filter_map};
+ghost use Rattle.flow_definition.specs.Reading.{IsKindOf, IsProcessorOf};
+ghost use Rattle.flow_definition.specs.Patterns.{HasRisen, IsUnread};
+ghost use Rattle.flow_definition.specs.Places.{part_path, place_path};
+
+use crate::field::Field;
+use crate::look::type_of;
+use crate::patterns::{PatternError, Patterns};
+use crate::place::{Part, Place};
+use crate::processor_type::{ProcessorType, Property};
+use crate::reading::{conflict_in, count_in, id_at, penalty_at, property_text, tasks_at, texts_at};
+use crate::rule::Rule;
+use expr_lang::{ExprError, parse};
+use flowfile_record::Text;
+use machine_model::{Kind, Pattern, Processor};
+use serde_json::Value;
+use std::alloc::{AllocError, Global};
+
+/// What becomes of a processor of the text.
+#[derive(Drop)]
+pub enum Made {
+    Processor(Processor),
+    Refused(Refusal),
+}
+
+/// Why a processor isn't made, and at which property.
+#[derive(Clone, Copy, Debug, PartialEq, Eq)]
+pub enum Refusal {
+    /// Its type isn't known.
+    NoType,
+    /// A pattern can't be read, or nests too deep.
+    Unread(Property),
+    /// The builder refuses a pattern as too large.
+    TooBig(Property),
+    /// A text is no expression.
+    NoExpression(Property),
+}
+
+impl Refusal {
+    fn rule(self) -> Rule
+        ensures { result ≡ rule_of self }
+    {
+        match self {
+            Refusal::NoType => Rule::UnknownType,
+            Refusal::Unread(_) => Rule::BadPattern,
+            Refusal::TooBig(_) => Rule::PatternTooBig,
+            Refusal::NoExpression(_) => Rule::BadExpression,
+        }
+    }
+
+    fn part(self) -> Part<'static>
+        ensures { part_path result ≡ part_of self }
+    {
+        match self {
+            Refusal::NoType => Part::Field(Field::TypeName),
+            Refusal::Unread(property) => Part::Property(property.name()),
+            Refusal::TooBig(property) => Part::Property(property.name()),
+            Refusal::NoExpression(property) => Part::Property(property.name()),
+        }
+    }
+}
+
+/// A kind with its properties read, or why there is none.
+#[derive(Drop)]
+pub(crate) enum MadeKind {
+    Kind(Kind),
+    Refused(Refusal),
+}
+
+/// The processors of a text, made one after the other.
+pub(crate) fn make_all<P: Patterns>(
+    alloc: Global,
+    items: &[Value],
+    patterns: &mut P,
+) -> Result<Vec<Made>, AllocError>
+    ensures made { IfOk result (λ list.
+        AreMade (HasRisen (P.faults patterns.old) (P.faults patterns.new)) (map view items.now) list.items) }
+    ensures count { P.faults patterns.old ≤ P.faults patterns.new }
+{
+    let mut list = Vec::new(alloc);
+    'items: for item in items {
+        list.push(make(alloc, item, patterns)?)?;
+    }
+    Ok(list)
+}
+
+fn make<P: Patterns>(alloc: Global, processor: &Value, patterns: &mut P) -> Result<Made, AllocError>
+    ensures made { IfOk result
+        (IsMade (HasRisen (P.faults patterns.old) (P.faults patterns.new)) (view processor.now)) }
+    ensures count { P.faults patterns.old ≤ P.faults patterns.new }
+{
+    match make_kind(alloc, processor, patterns)? {
+        MadeKind::Kind(kind) => Ok(Made::Processor(with_kind(alloc, processor, kind)?)),
+        MadeKind::Refused(refusal) => Ok(Made::Refused(refusal)),
+    }
+}
+
+fn with_kind(alloc: Global, processor: &Value, kind: Kind) -> Result<Processor, AllocError>
+    requires { IsKindOf (view processor.now) kind }
+    ensures { IfOk result (IsProcessorOf (view processor.now)) }
+{
+    let id = id_at(alloc, processor, Field::Id)?;
+    let terminated = texts_at(alloc, processor, Field::Terminated)?;
+    Ok(Processor {
+        id,
+        kind,
+        tasks: tasks_at(processor),
+        penalty: penalty_at(processor),
+        terminated,
+    })
+}
+
+fn make_kind<P: Patterns>(
+    alloc: Global,
+    processor: &Value,
+    patterns: &mut P,
+) -> Result<MadeKind, AllocError>
+    ensures made { IfOk result
+        (IsMadeKind (HasRisen (P.faults patterns.old) (P.faults patterns.new)) (view processor.now)) }
+    ensures count { P.faults patterns.old ≤ P.faults patterns.new }
+{
+    match type_of(processor) {
+        Some(ProcessorType::GetFile) => make_get_file(alloc, processor, patterns),
+        Some(ProcessorType::GenerateFlowFile) => make_generator(alloc, processor),
+        Some(ProcessorType::PutFile) => Ok(MadeKind::Kind(Kind::PutFile {
+            conflict: conflict_in(processor),
+        })),
+        None => Ok(MadeKind::Refused(Refusal::NoType)),
+    }
+}
+
+fn make_generator(alloc: Global, processor: &Value) -> Result<MadeKind, AllocError>
+    requires { type_of (view processor.now) ≡ Some ProcessorType.GenerateFlowFile }
+    ensures { IfOk result (IsMadeKind ⊥ (view processor.now)) }
+{
+    match parse(alloc, property_text(Property::CustomText, processor)) {
+        Ok(custom_text) => Ok(MadeKind::Kind(Kind::GenerateFlowFile {
+            count: count_in(processor),
+            custom_text,
+        })),
+        Err(ExprError::Bad { .. }) => {
+            Ok(MadeKind::Refused(Refusal::NoExpression(Property::CustomText)))
+        }
+        Err(ExprError::Memory) => Err(AllocError),
+    }
+}
+
+fn make_get_file<P: Patterns>(
+    alloc: Global,
+    processor: &Value,
+    patterns: &mut P,
+) -> Result<MadeKind, AllocError>
+    requires { type_of (view processor.now) ≡ Some ProcessorType.GetFile }
+    ensures made { IfOk result
+        (IsMadeKind (HasRisen (P.faults patterns.old) (P.faults patterns.new)) (view processor.now)) }
+    ensures count { P.faults patterns.old ≤ P.faults patterns.new }
+{
+    let text = whole(alloc, property_text(Property::FileFilter, processor))?;
+    match patterns.build(alloc, text.as_str()) {
+        Ok(regex) => {
+            let filter = Pattern::from_regex(alloc, text, regex)?;
+            Ok(MadeKind::Kind(Kind::GetFile {
+                filter: Some(filter),
+            }))
+        }
+        Err(PatternError::Syntax) => Ok(MadeKind::Refused(Refusal::Unread(Property::FileFilter))),
+        Err(PatternError::TooBig) => Ok(MadeKind::Refused(Refusal::TooBig(Property::FileFilter))),
+        Err(PatternError::Memory) => Err(AllocError),
+    }
+}
+
+/// The pattern that matches a whole text where this one does.
+fn whole(alloc: Global, pattern: &str) -> Result<Text, AllocError>
+    ensures { IfOk result (λ text. text ≡ to_match_whole pattern.now) }
+{
+    let text = format!(in alloc; "\\A(?:{pattern})\\z")?;
+    Ok(Text::from(text))
+}
+
+/// The first processor that was refused by a rule, and where.
+pub(crate) fn first_refused(rule: Rule, list: &[Made]) -> Option<Place<'static>>
+    ensures { option_map place_path result ≡ first_refused rule 0 list.now }
+{
+    'made: for (place, made) in list.iter().enumerate() {
+        if let Some(part) = refused_by(rule, made) {
+            return Some(Place {
+                item: Some((Field::Processors, place)),
+                part,
+            });
+        }
+    }
+    None
+}
+
+fn refused_by(rule: Rule, made: &Made) -> Option<Part<'static>>
+    ensures { option_map part_path result ≡ refused_by rule made.now }
+{
+    match made {
+        Made::Processor(_) => None,
+        Made::Refused(refusal) => {
+            if refusal.rule().number() == rule.number() {
+                Some(refusal.part())
+            } else {
+                None
+            }
+        }
+    }
+}
+
+/// The processors that were made.
+pub(crate) fn processors_of(alloc: Global, list: Vec<Made>) -> Result<Vec<Processor>, AllocError>
+    ensures { IfOk result (λ processors. processors.items ≡ filter_map processor_in list.items) }
+{
+    list.into_iter().filter_map(processor_in).collect(alloc)
+}
+
+fn processor_in(made: Made) -> Option<Processor>
+    ensures { result ≡ processor_in made }
+{
+    match made {
+        Made::Processor(processor) => Some(processor),
+        Made::Refused(_) => None,
+    }
+}

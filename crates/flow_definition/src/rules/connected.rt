@@ -1,0 +1,139 @@
+//! Relationships that lead nowhere or twice, and names of relationships that there aren't.
+ghost use Rattle.std.specs.Prelude.{◌≡◌, [], map};
+ghost use Rattle.std.specs.List.{list_any};
+ghost use Rattle.std.specs.Option.{option_map};
+ghost use Rattle.machine_model.specs.Kinds.{is_among};
+ghost use Rattle.serde_json.specs.View.{view};
+ghost use Rattle.flow_definition.specs.Looks.{text_of};
+ghost use Rattle.flow_definition.specs.Places.{part_path};
+ghost use Rattle.flow_definition.specs.Rules.{leaves, carries, is_connected, is_loose, in_item, is_wrong, wrong_name, wrong_item, unconnected, not_of_source};
+
+use crate::field::Field;
+use crate::look::{
+    has_text, is_among, items_at, names_at, processor_named, relationships_in, text_at, text_of,
+    type_of,
+};
+use crate::place::Part;
+use serde_json::Value;
+
+/// A processor with a relationship that leads nowhere or is terminated and leads somewhere, or the place of a name
+/// in its list of terminated relationships that is wrong.
+pub(crate) fn unconnected(top: &Value, processor: &Value) -> Option<Part<'static>>
+    ensures { option_map part_path result ≡ unconnected (view top.now) (view processor.now) }
+{
+    if any_loose(top, processor, relationships_in(processor)) {
+        Some(Part::Whole)
+    } else {
+        wrong_item(Field::Terminated, Some(processor), processor)
+    }
+}
+
+/// The place of a name in a connection's list of relationships that is wrong.
+pub(crate) fn not_of_source(top: &Value, connection: &Value) -> Option<Part<'static>>
+    ensures { option_map part_path result ≡ not_of_source (view top.now) (view connection.now) }
+{
+    match text_at(connection, Field::From) {
+        Some(id) => wrong_item(Field::Relationships, processor_named(top, id), connection),
+        None => None,
+    }
+}
+
+fn any_loose(top: &Value, processor: &Value, names: &[&'static str]) -> bool
+    ensures { result ≡ list_any (is_loose (view top.now) (view processor.now)) (map (λ name. name.now) names.now) }
+{
+    names.iter().any(|name| is_loose(top, processor, name))
+}
+
+fn is_loose(top: &Value, processor: &Value, name: &str) -> bool
+    ensures { result ≡ is_loose (view top.now) (view processor.now) name.now }
+{
+    if is_among(name, names_at(processor, Field::Terminated)) {
+        is_connected(top, processor, name)
+    } else {
+        !is_connected(top, processor, name)
+    }
+}
+
+fn is_connected(top: &Value, processor: &Value, name: &str) -> bool
+    ensures { result ≡ is_connected (view top.now) (view processor.now) name.now }
+{
+    any_carries(processor, name, items_at(top, Field::Connections))
+}
+
+fn any_carries(processor: &Value, name: &str, connections: &[Value]) -> bool
+    ensures { result ≡ list_any (carries (view processor.now) name.now) (map view connections.now) }
+{
+    connections
+        .iter()
+        .any(|connection| carries(processor, name, connection))
+}
+
+/// Whether a connection leads from a processor, and this relationship with it.
+pub(crate) fn carries(processor: &Value, name: &str, connection: &Value) -> bool
+    ensures { result ≡ carries (view processor.now) name.now (view connection.now) }
+{
+    leaves(processor, connection) && is_among(name, names_at(connection, Field::Relationships))
+}
+
+fn leaves(processor: &Value, connection: &Value) -> bool
+    ensures { result ≡ leaves (view processor.now) (view connection.now) }
+{
+    match text_at(processor, Field::Id) {
+        Some(id) => has_text(Field::From, id, connection),
+        None => false,
+    }
+}
+
+/// The place of the first name in a field that is no relationship of a processor, or that stands earlier there.
+fn wrong_item(field: Field, processor: Option<&Value>, object: &Value) -> Option<Part<'static>>
+    ensures { option_map part_path result
+        ≡ wrong_item field (option_map (λ processor. view processor.now) processor.entry) (view object.now) }
+{
+    match processor {
+        Some(processor) => match type_of(processor) {
+            Some(kind) => in_item(
+                field,
+                wrong_name(kind.relationships(), names_at(object, field)),
+            ),
+            None => None,
+        },
+        None => None,
+    }
+}
+
+fn in_item(field: Field, place: Option<usize>) -> Option<Part<'static>>
+    ensures { option_map part_path result ≡ option_map (in_item field) place }
+{
+    match place {
+        Some(place) => Some(Part::Item(field, place)),
+        None => None,
+    }
+}
+
+fn wrong_name(relationships: &[&'static str], names: &[Value]) -> Option<usize>
+    ensures { result
+        ≡ wrong_name (map (λ name. name.now) relationships.now) [] (map text_of (map view names.now)) }
+{
+    'names: for (place, name) in names.iter().enumerate() {
+        if is_wrong(relationships, &names[..place], text_of(name)) {
+            return Some(place);
+        }
+    }
+    None
+}
+
+/// Whether a name is no relationship, or stands earlier.
+fn is_wrong(relationships: &[&'static str], earlier: &[Value], name: &str) -> bool
+    ensures { result ≡ is_wrong
+        (map (λ name. name.now) relationships.now) (map text_of (map view earlier.now)) name.now }
+{
+    !is_relationship(name, relationships) || is_among(name, earlier)
+}
+
+fn is_relationship(name: &str, relationships: &[&'static str]) -> bool
+    ensures { result ≡ is_among name.now (map (λ name. name.now) relationships.now) }
+{
+    relationships
+        .iter()
+        .any(|relationship| name == *relationship)
+}

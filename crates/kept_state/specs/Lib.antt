@@ -1,0 +1,9 @@
+pub mod Applied
+pub mod Arrivals
+pub mod Changes
+pub mod Fits
+pub mod Limits
+pub mod Memory
+pub mod Moves
+pub mod New
+pub mod Prepared

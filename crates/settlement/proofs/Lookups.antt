@@ -1,0 +1,81 @@
+-- What a look-up finds, and what is told where it finds nothing.
+use Rattle.std.proofs.Common.{◌≡◌, ℕ, zero, suc, ◌+◌, ◌<◌, ◌≤◌, Bool, true, false, cond, List, [], ◌∷◌, ◌++◌, map, length, get_or, drop, refl, sym, ap, subst, ◌∙◌, arith, append_assoc, append-nil}
+use Rattle.std.specs.Prelude.{nat_lt, Some, None, OnOk, Result, filter, slice_get}
+use Rattle.std.specs.Option.{option_map_or}
+use Rattle.std.proofs.lemmas.Bool.{ltb-true, ltb-false}
+use Rattle.std.proofs.lemmas.List.{drop_all}
+use Rattle.flowfile_record.specs.Outcome.{same_attributes}
+use Rattle.flowfile_record.specs.declared.event.Event.{Event}
+use Rattle.flowfile_record.specs.declared.event.EventKind.TheVariants as kind
+use Rattle.flowfile_record.specs.declared.flow_file.FlowFile.{FlowFile}
+use Rattle.flowfile_record.specs.declared.worked.Sent.{Sent}
+use Rattle.machine_model.specs.Events.{Draft}
+use Rattle.settlement.specs.Telling.{Adds, Told, alone, children_of, if_other, is_child, sent}
+use Rattle.settlement.specs.declared.file.EndedFile.{EndedFile}
+use Rattle.settlement.specs.declared.offspring.Kinship.{Kinship}
+use Rattle.settlement.proofs.AddedEvents.{adds-none}
+use Rattle.settlement.proofs.Steps.{left}
+
+past : {X : Type 0} (xs : List X) (i : ℕ) → length xs ≤ i → slice_get xs i ≡ None
+past [] i h = refl
+past (x ∷ xs) zero h = absurd (omega arith)
+past (x ∷ xs) (suc i) h = past xs i (omega arith)
+
+within : {X : Type 0} (xs : List X) (i : ℕ) (d : X) → i < length xs → slice_get xs i ≡ Some (get_or xs i d)
+within [] i d h = absurd (omega arith)
+within (x ∷ xs) zero d h = refl
+within (x ∷ xs) (suc i) d h = within xs i d (omega arith)
+
+pub none_at : {X : Type 0} (xs : List X) (i : ℕ) → false ≡ nat_lt i (length xs) → slice_get xs i ≡ None
+none_at xs i h = past xs i (ltb-false i (length xs) (sym h))
+
+pub some_at : {X : Type 0} (xs : List X) (i : ℕ) (x : X) → true ≡ nat_lt i (length xs) → x ≡ get_or xs i x → slice_get xs i ≡ Some x
+some_at xs i x h is = within xs i x (ltb-true i (length xs) (sym h)) ∙ ap (λ y. Some y) (sym is)
+
+-- ---- nothing is told
+
+pub adds_nothing : (first : ℕ) (events : List Event) (drafts : List Draft) → drafts ≡ [] → Adds first events drafts events
+adds_nothing first events drafts none = rw none (adds-none first events)
+
+pub sent_nowhere : (told : Told) (put : Sent) → slice_get told.files put.place ≡ None → sent told (Some put) ≡ []
+sent_nowhere told put none = ap (λ found. option_map_or (λ file. alone told kind.Send file put.name ∷ []) found []) none
+
+pub same_is_silent : (told : Told) (file : EndedFile) (taken : FlowFile) → same_attributes taken.attributes file.worked.attributes ≡ true → if_other told file (Some taken) ≡ []
+same_is_silent told file taken same = ap (λ b. cond b [] (alone told kind.AttributesModified file [] ∷ [])) same
+
+-- ---- children
+
+child_first : (kinship : Kinship) (place : ℕ) (file : EndedFile) (files : List EndedFile) (b : Bool)
+    → map (λ (file : EndedFile). file.number) (cond b (file ∷ []) []) ++ children_of kinship files place
+    ≡ map (λ (file : EndedFile). file.number) (cond b (file ∷ filter (λ (file : EndedFile). is_child kinship place file.worked.origin) files) (filter (λ (file : EndedFile). is_child kinship place file.worked.origin) files))
+child_first kinship place file files true = refl
+child_first kinship place file files false = refl
+
+pub child_more : (kinship : Kinship) (place : ℕ) (files : List EndedFile) (i : ℕ) (file : EndedFile) (old new whole : List ℕ) → i < length files → file ≡ get_or files i file
+    → new ≡ old ++ children_of kinship (file ∷ []) place → old ++ children_of kinship (drop i files) place ≡ whole → new ++ children_of kinship (drop (i + 1) files) place ≡ whole
+child_more kinship place files i file old new whole h is added before =
+    let rest = drop (i + 1) files in
+    ap (λ xs. xs ++ children_of kinship rest place) added
+    ∙ append_assoc old (children_of kinship (file ∷ []) place) (children_of kinship rest place)
+    ∙ ap (λ xs. old ++ xs) (child_first kinship place file rest (is_child kinship place file.worked.origin))
+    ∙ ap (λ xs. old ++ children_of kinship xs place) (sym (left files i file h is))
+    ∙ before
+
+pub child_all : (kinship : Kinship) (place : ℕ) (files : List EndedFile) (i : ℕ) (old whole : List ℕ) → length files ≤ i → old ++ children_of kinship (drop i files) place ≡ whole → old ≡ whole
+child_all kinship place files i old whole h is = sym (append-nil old) ∙ ap (λ rest. old ++ children_of kinship rest place) (sym (drop_all i files h)) ∙ is
+
+pub a_child : (kinship : Kinship) (place : ℕ) (file : EndedFile) (old new : List ℕ) → is_child kinship place file.worked.origin ≡ true → new ≡ old ++ file.number ∷ [] → new ≡ old ++ children_of kinship (file ∷ []) place
+a_child kinship place file old new h is = rw h is
+
+pub no_child : (kinship : Kinship) (place : ℕ) (file : EndedFile) (old : List ℕ) → is_child kinship place file.worked.origin ≡ false → old ≡ old ++ children_of kinship (file ∷ []) place
+no_child kinship place file old h = rw h (sym (append-nil old))
+
+-- other drafts that are the same
+pub on_ok_told : {E : Type 0} (result : Result (Unit {0}) E) (first : ℕ) (old new : List Event) (drafts others : List Draft) → drafts ≡ others → OnOk result (Adds first old drafts new) → OnOk result (Adds first old others new)
+on_ok_told result first old new drafts others same told = subst (λ ds. OnOk result (Adds first old ds new)) same told
+
+pub got_is : {X : Type 0} (xs : List X) (i : ℕ) (x other : X) → i < length xs → x ≡ get_or xs i x → slice_get xs i ≡ Some other → other ≡ x
+got_is xs i x other h is found =
+    let same : Some other ≡ Some (get_or xs i x) = sym found ∙ within xs i x h in
+    let equal : other ≡ get_or xs i x = cc in
+    equal ∙ sym is

@@ -1,0 +1,37 @@
+-- The contents of the files of a session, as the calls inside see them.
+use Rattle.std.specs.Prelude.{ℕ, ◌+◌, ◌≤◌, List, [], length, Option, Some, None, unwrap_or, slice_get, slice_range}
+use Rattle.std.specs.Option.{option_map_or}
+use Rattle.sha2.specs.Sha256.{sha256}
+use Rattle.flowfile_record.specs.declared.content.ContentRef.{ContentRef}
+use Rattle.flowfile_record.specs.declared.flow_file.FlowFile.{FlowFile}
+use Rattle.flowfile_record.specs.declared.worked.Body.{Body}
+use Rattle.flowfile_record.specs.declared.worked.Body.TheVariants.{Whole, Part, New}
+use Rattle.process_session.specs.declared.file.Source.{Source}
+
+-- a reference to a content that isn't in the store yet
+abbrev pub fresh_ref : List ℕ → ContentRef
+fresh_ref bytes = record { slot = 0; offset = 0; size = length bytes; digest = sha256 bytes }
+
+-- the content of the taken file of a place
+abbrev pub kept_content : List FlowFile → ℕ → ContentRef
+kept_content taken place = option_map_or (λ file. file.content) (slice_get taken place) (fresh_ref [])
+
+-- the bytes of the taken file of a place, as far as they were read
+abbrev pub source_bytes : List Source → ℕ → List ℕ
+source_bytes sources place = option_map_or (λ source. unwrap_or source.bytes []) (slice_get sources place) []
+
+abbrev pub content_in : List FlowFile → List Source → Body → ContentRef
+content_in taken sources (Whole of) = kept_content taken of
+content_in taken sources (Part of offset size) = fresh_ref (slice_range (source_bytes sources of) offset (offset + size))
+content_in taken sources (New bytes) = fresh_ref bytes
+
+-- the bytes of a content that isn't in the store yet
+abbrev pub fresh_in : List Source → Body → Option (List ℕ)
+fresh_in sources (Whole of) = None
+fresh_in sources (Part of offset size) = Some (slice_range (source_bytes sources of) offset (offset + size))
+fresh_in sources (New bytes) = Some bytes
+
+-- a part is one of bytes that were read
+abbrev pub IsBodyWithin : List Source → Body → Type 0
+IsBodyWithin sources (Part of offset size) = offset + size ≤ length (source_bytes sources of)
+IsBodyWithin sources _ = Unit {0}

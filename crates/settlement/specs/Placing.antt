@@ -1,0 +1,103 @@
+-- What goes into queues, as the calls inside make it: the machine's newcomers, over references in place of bytes.
+use Rattle.std.specs.Prelude.{ℕ, ◌+◌, Bool, true, false, Option, Some, None, List, [], ◌∷◌, ◌++◌, length, map, slice_index}
+use Rattle.std.specs.List.{flat_map}
+use Rattle.flowfile_record.specs.declared.flow_file.FlowFile.{FlowFile}
+use Rattle.flowfile_record.specs.declared.stored.Placed.{Placed}
+use Rattle.flowfile_record.specs.declared.worked.Origin.{Origin}
+use Rattle.flowfile_record.specs.declared.worked.Origin.TheVariants.{Taken}
+use Rattle.process_session.specs.declared.file.Source.{Source}
+use Rattle.settlement.specs.Contents.{fresh_in}
+use Rattle.settlement.specs.declared.file.EndedFile.{EndedFile}
+use Rattle.settlement.specs.declared.file.Goes.{Goes}
+use Rattle.settlement.specs.declared.file.Goes.TheVariants.{Queues, Returns}
+use Rattle.settlement.specs.declared.placing.Placer.{Placer}
+
+-- ---- newcomers, each with its connection and its number
+
+abbrev pub Newcomer : Type 0
+Newcomer = ℕ × ℕ × EndedFile
+
+abbrev pub first_of : EndedFile → Goes → List Newcomer
+first_of file (Queues first others) = (first, file.number, file) ∷ []
+first_of file _ = []
+
+-- the first connection, where there is one
+abbrev pub first_in : Goes → Option ℕ
+first_in (Queues first others) = Some first
+first_in _ = None
+
+abbrev pub is_returning : Goes → Bool
+is_returning Returns = true
+is_returning _ = false
+
+abbrev pub firsts : List EndedFile → List Newcomer
+firsts files = flat_map (λ file. first_of file file.goes) files
+
+abbrev pub further : Goes → List ℕ
+further (Queues first others) = others
+further _ = []
+
+-- the clones that files get, by place, then by connection
+abbrev pub wanted : List EndedFile → List (EndedFile × ℕ)
+wanted files = flat_map (λ file. map (λ connection. (file, connection)) (further file.goes)) files
+
+abbrev pub clones_from : (number : ℕ) → List (EndedFile × ℕ) → List Newcomer
+clones_from number [] = []
+clones_from number (clone ∷ clones) = (clone.1, number, clone.0) ∷ clones_from (number + 1) clones
+
+-- ---- what is placed
+
+-- where files come from, and the next arrival
+pub record PlacingFrom : Type 0 where
+  pub connection : ℕ
+  pub taken : List FlowFile
+  pub sources : List Source
+  pub next_arrival : ℕ
+
+abbrev pub placing_of : Placer → PlacingFrom
+placing_of placer = record {
+  connection = placer.connection;
+  taken = placer.taken.now;
+  sources = placer.sources.now;
+  next_arrival = placer.next_arrival;
+}
+
+abbrev pub placed_at : List Source → (arrival : ℕ) → Newcomer → Placed
+placed_at sources arrival (connection, number, file) = record {
+  connection = connection;
+  file = record {
+    number = number;
+    attributes = file.worked.attributes;
+    content = file.content;
+    entered = file.entered;
+    penalty_end = file.penalty_end;
+    arrival = arrival;
+  };
+  fresh = fresh_in sources file.worked.body;
+}
+
+-- arrivals are given in turn
+abbrev pub placed_from : List Source → (arrival : ℕ) → List Newcomer → List Placed
+placed_from sources arrival [] = []
+placed_from sources arrival (newcomer ∷ rest) =
+    placed_at sources arrival newcomer ∷ placed_from sources (arrival + 1) rest
+
+-- a taken file keeps its arrival
+abbrev pub arrival_of : List FlowFile → Origin → ℕ
+arrival_of taken (Taken place) = slice_index (map (λ file. file.arrival) taken) place
+arrival_of taken _ = 0
+
+abbrev pub returning : PlacingFrom → EndedFile → Goes → List Placed
+returning placing file Returns =
+    placed_at placing.sources (arrival_of placing.taken file.worked.origin) (placing.connection, file.number, file) ∷ []
+returning placing file _ = []
+
+abbrev pub returned : PlacingFrom → List EndedFile → List Placed
+returned placing files = flat_map (λ file. returning placing file file.goes) files
+
+-- the files that go on, then the clones
+abbrev pub arrived : PlacingFrom → (first_clone : ℕ) → List EndedFile → List Placed
+arrived placing first_clone files =
+    placed_from placing.sources placing.next_arrival (firsts files)
+    ++ placed_from placing.sources (placing.next_arrival + length (firsts files))
+    (clones_from first_clone (wanted files))

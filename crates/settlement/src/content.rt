@@ -1,0 +1,103 @@
+//! The contents of a session's files.
+ghost use Rattle.std.specs.Prelude.{◌≡◌, ◌+◌, ◌≤◌, length, slice_range, unwrap_or, IfOk, Some, []};
+ghost use Rattle.settlement.specs.Contents.{content_in, fresh_in, fresh_ref, kept_content, source_bytes, IsBodyWithin};
+
+use flowfile_record::{Body, Bytes, ContentRef, FlowFile};
+use process_session::Source;
+use sha2::{Digest, Sha256};
+use std::alloc::{AllocError, Global};
+
+/// A reference to the content of a body: that of the taken file whose whole content it is, and else a new one.
+pub fn content_in(taken: &[FlowFile], sources: &[Source], body: &Body) -> ContentRef
+    requires { IsBodyWithin sources.now body.now }
+    ensures { result ≡ content_in taken.now sources.now body.now }
+{
+    match body {
+        Body::Whole { of } => kept_content(taken, *of),
+        Body::Part { of, offset, size } => fresh_ref(part_of(sources, *of, *offset, *size)),
+        Body::New(bytes) => fresh_ref(bytes.as_slice()),
+    }
+}
+
+fn kept_content(taken: &[FlowFile], place: u32) -> ContentRef
+    ensures { result ≡ kept_content taken.now place }
+{
+    match taken.get(place as usize) {
+        Some(file) => file.content,
+        None => fresh_ref(&[]),
+    }
+}
+
+/// A reference to a content that isn't in the store yet.
+fn fresh_ref(bytes: &[u8]) -> ContentRef
+    ensures { result ≡ fresh_ref bytes.now }
+{
+    ContentRef {
+        slot: 0,
+        offset: 0,
+        size: bytes.len() as u64,
+        digest: Sha256::digest(bytes),
+    }
+}
+
+/// The bytes of a content that isn't in the store yet. What the session wrote is moved, a part is copied.
+pub fn fresh_of(alloc: Global, sources: &[Source], body: Body) -> Result<Option<Bytes>, AllocError>
+    requires { IsBodyWithin sources.now body }
+    ensures { IfOk result (λ fresh. fresh ≡ fresh_in sources.now body) }
+{
+    match body {
+        Body::New(bytes) => Ok(Some(bytes)),
+        Body::Whole { of: _ } => Ok(None),
+        Body::Part { of, offset, size } => copy_of(alloc, part_of(sources, of, offset, size)),
+    }
+}
+
+/// A copy of the bytes of a content that isn't in the store yet.
+pub fn fresh_copy(
+    alloc: Global,
+    sources: &[Source],
+    body: &Body,
+) -> Result<Option<Bytes>, AllocError>
+    requires { IsBodyWithin sources.now body.now }
+    ensures { IfOk result (λ fresh. fresh ≡ fresh_in sources.now body.now) }
+{
+    match body {
+        Body::New(bytes) => copy_of(alloc, bytes.as_slice()),
+        Body::Whole { .. } => Ok(None),
+        Body::Part { of, offset, size } => copy_of(alloc, part_of(sources, *of, *offset, *size)),
+    }
+}
+
+fn copy_of(alloc: Global, bytes: &[u8]) -> Result<Option<Bytes>, AllocError>
+    ensures { IfOk result (λ copy. copy ≡ Some bytes.now) }
+{
+    let copy = Bytes::from_slice(alloc, bytes)?;
+    Ok(Some(copy))
+}
+
+/// A part of the content of the taken file of a place.
+fn part_of(sources: &[Source], place: u32, offset: u64, size: u64) -> &[u8]
+    requires { offset + size ≤ length (source_bytes sources.now place) }
+    ensures { result.now ≡ slice_range (source_bytes sources.now place) offset (offset + size) }
+{
+    let bytes = source_bytes(sources, place);
+    &bytes[offset as usize..(offset + size) as usize]
+}
+
+fn source_bytes(sources: &[Source], place: u32) -> &[u8]
+    ensures { result.now ≡ source_bytes sources.now place }
+{
+    match sources.get(place as usize) {
+        Some(source) => bytes_of(source),
+        None => &[],
+    }
+}
+
+fn bytes_of(source: &Source) -> &[u8]
+    ensures { result.now ≡ unwrap_or source.now.bytes [] }
+{
+    match &source.bytes {
+        Some(bytes) => bytes.as_slice(),
+        None => &[],
+    }
+}

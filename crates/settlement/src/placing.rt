@@ -1,0 +1,258 @@
+//! What a session puts into queues.
+ghost use Rattle.std.specs.Prelude.{◌≡◌, ◌+◌, ◌*◌, ◌<◌, ◌≤◌, ◌^◌, ◌∷◌, ◌++◌, [], ℕ, length, map, slice_index, vec_len, All, IfOk, OnOk};
+ghost use Rattle.settlement.specs.Contents.{IsBodyWithin};
+ghost use Rattle.settlement.specs.Placing.{arrival_of, arrived, clones_from, first_of, firsts, first_in, further, is_returning, placed_at, placed_from, placing_of, returned, returning, wanted};
+
+use crate::content::{fresh_copy, fresh_of};
+use crate::file::{EndedFile, Goes};
+use flowfile_record::{FlowFile, Origin, Placed, Worked};
+use process_session::Source;
+use std::alloc::{AllocError, Global};
+
+/// Who places files: from which connection they were taken, how they were, and the next arrival.
+#[derive(Clone, Copy)]
+pub struct Placer<'s> {
+    pub alloc: Global,
+    pub connection: u16,
+    pub taken: &'s [FlowFile],
+    pub sources: &'s [Source],
+    pub next_arrival: u64,
+}
+
+impl Placer<'_> {
+    /// The files that return, those that go on, and the clones, with numbers from this one on.
+    pub fn place_all(
+        &self,
+        first_clone: u64,
+        files: Vec<EndedFile>,
+    ) -> Result<Vec<Placed>, AllocError>
+        requires within { All (λ file. IsBodyWithin self.now.sources.now file.worked.body) files.items }
+        requires numbers { first_clone + length (wanted files.items) < 2 ^ 64 }
+        requires arrivals { self.now.next_arrival + length files.items + length (wanted files.items) < 2 ^ 64 }
+        ensures { IfOk result (λ placed. placed.items ≡ returned (placing_of self.now) files.items
+            ++ arrived (placing_of self.now) first_clone files.items) }
+    {
+        let arrival = self.next_arrival + count_firsts(&files);
+        let mut clones = self.clones_of_all(first_clone, arrival, &files)?;
+        let mut placed = self.place_each(files)?;
+        placed.append(&mut clones)?;
+        Ok(placed)
+    }
+
+    /// The files that return, then those that go on.
+    fn place_each(&self, files: Vec<EndedFile>) -> Result<Vec<Placed>, AllocError>
+        requires within { All (λ file. IsBodyWithin self.now.sources.now file.worked.body) files.items }
+        requires arrivals { self.now.next_arrival + length files.items < 2 ^ 64 }
+        ensures { IfOk result (λ placed. placed.items ≡ returned (placing_of self.now) files.items
+            ++ placed_from self.now.sources.now self.now.next_arrival (firsts files.items)) }
+    {
+        let mut returned = Vec::new(self.alloc);
+        let mut arrived = Vec::new(self.alloc);
+        for file in files {
+            self.place_one(&mut returned, &mut arrived, file)?;
+        }
+        returned.append(&mut arrived)?;
+        Ok(returned)
+    }
+
+    fn place_one(
+        &self,
+        returned: &mut Vec<Placed>,
+        arrived: &mut Vec<Placed>,
+        file: EndedFile,
+    ) -> Result<(), AllocError>
+        requires within { IsBodyWithin self.now.sources.now file.worked.body }
+        requires arrivals { self.now.next_arrival + vec_len arrived.old < 2 ^ 64 }
+        ensures returned { OnOk result (returned.new.items
+            ≡ returned.old.items ++ returning (placing_of self.now) file file.goes) }
+        ensures arrived { OnOk result (arrived.new.items ≡ arrived.old.items
+            ++ placed_from self.now.sources.now (self.now.next_arrival + vec_len arrived.old) (first_of file file.goes)) }
+    {
+        if is_returning(&file.goes) {
+            let arrival = self.arrival_of(&file.worked.origin);
+            let back = self.place(self.connection, arrival, file)?;
+            returned.push(back)?;
+        } else if let Some(first) = first_in(&file.goes) {
+            let arrival = self.next_arrival + arrived.len() as u64;
+            let newcomer = self.place(first, arrival, file)?;
+            arrived.push(newcomer)?;
+        }
+        Ok(())
+    }
+
+    /// The arrival of a taken file.
+    fn arrival_of(&self, origin: &Origin) -> u64
+        ensures { result ≡ arrival_of self.now.taken.now origin.now }
+    {
+        match origin {
+            Origin::Taken(of) => arrival_at(self.taken, *of),
+            _ => 0,
+        }
+    }
+
+    /// A file in the queue of a connection, with an arrival.
+    fn place(&self, connection: u16, arrival: u64, file: EndedFile) -> Result<Placed, AllocError>
+        requires { IsBodyWithin self.now.sources.now file.worked.body }
+        ensures { IfOk result (λ placed. placed
+            ≡ placed_at self.now.sources.now arrival (connection, file.number, file)) }
+    {
+        let EndedFile {
+            number,
+            worked,
+            content,
+            entered,
+            penalty_end,
+            goes: _,
+        } = file;
+        let Worked {
+            attributes,
+            body,
+            origin: _,
+            end: _,
+            written: _,
+            penalised: _,
+            routed: _,
+        } = worked;
+        let fresh = fresh_of(self.alloc, self.sources, body)?;
+        Ok(Placed {
+            connection,
+            file: FlowFile {
+                number,
+                attributes,
+                content,
+                entered,
+                penalty_end,
+                arrival,
+            },
+            fresh,
+        })
+    }
+
+    /// The clones of all files, with numbers and arrivals from these on.
+    fn clones_of_all(
+        &self,
+        number: u64,
+        arrival: u64,
+        files: &[EndedFile],
+    ) -> Result<Vec<Placed>, AllocError>
+        requires within { All (λ file. IsBodyWithin self.now.sources.now file.worked.body) files.now }
+        requires numbers { number + length (wanted files.now) < 2 ^ 64 }
+        requires arrivals { arrival + length (wanted files.now) < 2 ^ 64 }
+        ensures { IfOk result (λ clones. clones.items
+            ≡ placed_from self.now.sources.now arrival (clones_from number (wanted files.now))) }
+    {
+        let mut clones = Vec::new(self.alloc);
+        for file in files {
+            self.add_clones(&mut clones, number, arrival, file)?;
+        }
+        Ok(clones)
+    }
+
+    /// The clones of a file, behind those of the files before it, of which the first has this number and this arrival.
+    fn add_clones(
+        &self,
+        clones: &mut Vec<Placed>,
+        number: u64,
+        arrival: u64,
+        file: &EndedFile,
+    ) -> Result<(), AllocError>
+        requires within { IsBodyWithin self.now.sources.now file.now.worked.body }
+        requires numbers { number + vec_len clones.old + length (further file.now.goes) < 2 ^ 64 }
+        requires arrivals { arrival + vec_len clones.old + length (further file.now.goes) < 2 ^ 64 }
+        ensures { OnOk result (clones.new.items ≡ clones.old.items
+            ++ placed_from self.now.sources.now (arrival + vec_len clones.old)
+            (clones_from (number + vec_len clones.old) (wanted (file.now ∷ [])))) }
+    {
+        for connection in file.goes.further() {
+            let next = clones.len() as u64;
+            let clone = self.clone_of(*connection, number + next, arrival + next, file)?;
+            clones.push(clone)?;
+        }
+        Ok(())
+    }
+
+    fn clone_of(
+        &self,
+        connection: u16,
+        number: u64,
+        arrival: u64,
+        file: &EndedFile,
+    ) -> Result<Placed, AllocError>
+        requires { IsBodyWithin self.now.sources.now file.now.worked.body }
+        ensures { IfOk result (λ placed. placed
+            ≡ placed_at self.now.sources.now arrival (connection, number, file.now)) }
+    {
+        let fresh = fresh_copy(self.alloc, self.sources, &file.worked.body)?;
+        let attributes = file.worked.attributes.copy()?;
+        Ok(Placed {
+            connection,
+            file: FlowFile {
+                number,
+                attributes,
+                content: file.content,
+                entered: file.entered,
+                penalty_end: file.penalty_end,
+                arrival,
+            },
+            fresh,
+        })
+    }
+}
+
+/// How many files go on into a queue.
+pub fn count_firsts(files: &[EndedFile]) -> u64
+    ensures count { result ≡ length (firsts files.now) }
+    ensures bound { result ≤ length files.now }
+{
+    let mut count = 0;
+    for file in files {
+        count += count_first(file);
+    }
+    count
+}
+
+fn count_first(file: &EndedFile) -> u64
+    ensures count { result ≡ length (first_of file.now file.now.goes) }
+    ensures bound { result ≤ 1 }
+{
+    match file.goes {
+        Goes::Queues { .. } => 1,
+        _ => 0,
+    }
+}
+
+/// How many clones files get.
+pub fn count_clones(files: &[EndedFile]) -> u64
+    requires { length (wanted files.now) < 2 ^ 64 }
+    ensures { result ≡ length (wanted files.now) }
+{
+    let mut count = 0;
+    for file in files {
+        count += file.goes.further().len() as u64;
+    }
+    count
+}
+
+fn is_returning(goes: &Goes) -> bool
+    ensures { result ≡ is_returning goes.now }
+{
+    matches!(goes, Goes::Returns)
+}
+
+fn first_in(goes: &Goes) -> Option<u16>
+    ensures { result ≡ first_in goes.now }
+{
+    match goes {
+        Goes::Queues { first, .. } => Some(*first),
+        _ => None,
+    }
+}
+
+fn arrival_at(taken: &[FlowFile], place: u32) -> u64
+    ensures { result ≡ slice_index (map (λ file. file.arrival) taken.now) place }
+{
+    match taken.get(place as usize) {
+        Some(file) => file.arrival,
+        None => 0,
+    }
+}
