@@ -71,23 +71,37 @@ fn let_go<D: Disk>(
 
 /// Where contents stand that are appended to an empty repository, one after the other.
 pub fn appends(alloc: Global, value: &Value) -> Result<String> {
-    let mut disk = MemoryDisk::new(Vec::new(alloc));
-    let mut told = String::new(alloc);
     let texts = items(value)?;
     if texts.len() > 100 {
         bail!("more contents than a case has");
     }
-    let mut content = Content::load(alloc, &mut disk, &[])?;
+    append_each(
+        alloc,
+        &mut MemoryDisk::new(Vec::new(alloc)),
+        texts.as_slice(),
+    )
+}
+
+fn append_each<D: Disk>(alloc: Global, disk: &mut D, texts: &[Value]) -> Result<String>
+    requires { length texts.now ≤ 100 }
+{
+    let mut told = String::new(alloc);
+    let mut content = Content::load(alloc, disk, &[])?;
     for value in texts {
         let text = text(alloc, value)?;
         if text.len() as u64 > CONTENT_MAX {
             bail!("a content longer than any");
         }
-        let at = appended(&mut content, &mut disk, text.as_bytes())?;
-        let (slot, offset, size) = (at.slot, at.offset, at.size);
-        told.push_str(format!(in alloc; "slot {slot}, offset {offset}, size {size}; ")?.as_str())?;
+        let at = appended(&mut content, disk, text.as_bytes())?;
+        let place = place_in_words(alloc, &at)?;
+        told.push_str(place.as_str())?;
     }
     Ok(told)
+}
+
+fn place_in_words(alloc: Global, at: &ContentRef) -> Result<String> {
+    let (slot, offset, size) = (at.slot, at.offset, at.size);
+    Ok(format!(in alloc; "slot {slot}, offset {offset}, size {size}; ")?)
 }
 
 fn appended<D: Disk>(
