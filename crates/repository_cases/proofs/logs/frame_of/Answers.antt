@@ -8,16 +8,16 @@ use Rattle.repository_cases.proofs.logs.frame_of.Goals as goal
 
 pub append_block-requires : goal.append_block-requires
 append_block-requires c =
-    let payload : c.as_slice.result.now ≡ encoding (SwapIn 0 c.args.batch) = c.as_slice.ensures.value ∙ c.in_ok-write_entry.ensures.ok in
+    let payload : c.as_slice.result.now ≡ encoding (SwapIn 0 c.args.batch) = c.as_slice.ensures.value ∙ c.in_ok-write_entry.ensures.ok ∙ ap (λ (l : List ℕ). l ++ encoding (SwapIn 0 c.args.batch)) c.new-payload.ensures.items in
     omega (arith, ap length payload, swap_in_length 0 c.args.batch)
 
 pub returns : goal.returns
 returns c =
     let entry = SwapIn 0 c.args.batch in
-    let payload : c.as_slice.result.now ≡ encoding entry = c.as_slice.ensures.value ∙ c.in_ok-write_entry.ensures.ok in
+    let payload : c.as_slice.result.now ≡ encoding entry = c.as_slice.ensures.value ∙ c.in_ok-write_entry.ensures.ok ∙ ap (λ (l : List ℕ). l ++ encoding entry) c.new-payload.ensures.items in
     let kind : c.kind.result ≡ 5 = c.kind.ensures in
     let framed : c.append_block.new.out.items ≡ block 5 (encoding entry) =
-    c.in_ok-append_block.ensures.ok ∙ ap (λ (k : ℕ). block k c.as_slice.result.now) kind ∙ ap (block 5) payload in
+    c.in_ok-append_block.ensures.ok ∙ ap (λ (l : List ℕ). l ++ block c.kind.result c.as_slice.result.now) c.new-frame.ensures.items ∙ ap (λ (k : ℕ). block k c.as_slice.result.now) kind ∙ ap (block 5) payload in
     record {
       encodes = (omega arith, c.requires);
       small = omega (arith, swap_in_length 0 c.args.batch);
