@@ -66,7 +66,8 @@ def main():
         for word, text, once, more, wanted in PARTS:
             one, one_peak = least(program, folder, word, once, given.times)
             two, two_peak = least(program, folder, word, more, given.times)
-            print(f"{text}: {once:,} {one:.4f} s, {one_peak / 1e6:.1f} MB; {more:,} {two:.4f} s, {two_peak / 1e6:.1f} MB; "
+            print(f"{text}: {once:,} {one * 1e6:.0f} microseconds, {one_peak / 1e6:.1f} MB; "
+                  f"{more:,} {two * 1e6:.0f} microseconds, {two_peak / 1e6:.1f} MB; "
                   f"ratio {two / one:.2f}, about {wanted} is wanted", flush=True)
 
 
