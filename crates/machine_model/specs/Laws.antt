@@ -1,5 +1,5 @@
 -- What holds of the machine: of the order of queues, of outcomes, of numbers, of events and of replays.
-use Rattle.std.specs.Prelude.{map, ◌≡◌, ◌≢◌, ◌⊎◌, ℕ, ◌^◌, ◌<◌, ◌≤◌, true, false, List, [], ◌∷◌, ◌++◌, All, Contains, MatchOption, IfSome, IsSome, not, filter, option_and_then, slice_get, slice_index, length, Option, Some}
+use Rattle.std.specs.Prelude.{map, ◌≡◌, ◌≢◌, ◌⊎◌, ℕ, ◌^◌, ◌<◌, ◌≤◌, true, false, List, [], ◌∷◌, ◌++◌, All, Contains, MatchOption, IfSome, IsSome, not, filter, option_and_then, option_map, slice_get, slice_index, length, Option, Some}
 use Rattle.std.specs.List.{AllPairs, enumerate_from, flat_map}
 use Rattle.std.specs.Option.{option_map_or}
 use Rattle.std.specs.List.Sorted.{IsPermutation}
@@ -26,6 +26,7 @@ use Rattle.machine_model.specs.declared.kind.TakeRule.{TakeRule}
 use Rattle.machine_model.specs.declared.kind.TakeRule.TheVariants.{Source, One, Bin, Defragment}
 use Rattle.machine_model.specs.State.{QueuedFile, State, World, Machine}
 use Rattle.machine_model.specs.Acting.{TakenFile, act}
+use Rattle.machine_model.specs.Changing.{without_events, without_past}
 use Rattle.machine_model.specs.Kinds.{take_rule_of, relationships_of, is_among}
 use Rattle.machine_model.specs.Lineage.{Lineage, IsLineage}
 use Rattle.machine_model.specs.Order.{goes_before, in_order, is_eligible, eligible_files, best}
@@ -104,6 +105,23 @@ ReplayOfOneMore = (flow : Flow) (machine : Machine) (steps : List Step) (last : 
 abbrev pub ReplayOfJoined : Type 0
 ReplayOfJoined = (flow : Flow) (machine : Machine) (front back : List Step) →
     replay flow machine (front ++ back) ≡ option_and_then (λ after. replay flow after back) (replay flow machine front)
+
+-- ---- the past
+
+-- what a session changes doesn't go by what has happened, nor does what a step changes
+abbrev pub SettlesWithoutPast : Type 0
+SettlesWithoutPast = (session : EndedSession) (outcome : Outcome) →
+    without_events (settle (record session { state = without_events session.state }) outcome)
+    ≡ without_events (settle session outcome)
+
+abbrev pub StepsWithoutPast : Type 0
+StepsWithoutPast = (flow : Flow) (machine : Machine) (one : Step) →
+    option_map without_past (step flow (without_past machine) one) ≡ option_map without_past (step flow machine one)
+
+abbrev pub ReplaysWithoutPast : Type 0
+ReplaysWithoutPast = (flow : Flow) (machine : Machine) (steps : List Step) →
+    option_map without_past (replay flow (without_past machine) steps)
+    ≡ option_map without_past (replay flow machine steps)
 
 -- ---- outcomes
 

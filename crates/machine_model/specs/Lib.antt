@@ -1,5 +1,6 @@
 pub mod Acknowledged
 pub mod Acting
+pub mod Changing
 pub mod Due
 pub mod Events
 pub mod Files

@@ -1,6 +1,6 @@
 //! What holds of the machine's definitions, each law as the contract of a function that does nothing.
 ghost use Rattle.std.specs.Prelude.{◌≡◌, ◌*◌, ◌^◌};
-ghost use Rattle.machine_model.specs.Laws.{ViewsCountAll, NoneGoesBeforeItself, GoingBeforeChains, ArrivalsTell, OrderKeepsFiles, OrderHolds, OrderIsOnly, BestIsBest, BestIsOnly, ReplayOfOneMore, ReplayOfJoined, ActsEndAllInTurn, ActsGiveOutcomes, SettlingKeepsNumbers, StepsKeepNumbers, ReplaysKeepNumbers, SettlingNumbersEvents, StepsNumberEvents, ReplaysNumberEvents, ReplaysAddEvents, SettlingTellsKin, StepsTellKin, ReplaysTellKin, NewStatesAreValid, StepsStayValid, ReplaysStayValid, StepsGoOn, ReplaysGoOn, StepsLoseNames, ReplaysLoseNames, OneConnectionHas, PicksMayBeTaken, DueExpiriesHaveSteps, DueSwapOutsHaveSteps, DueSwapInsHaveSteps, LineageIsOnly};
+ghost use Rattle.machine_model.specs.Laws.{ViewsCountAll, NoneGoesBeforeItself, GoingBeforeChains, ArrivalsTell, OrderKeepsFiles, OrderHolds, OrderIsOnly, BestIsBest, BestIsOnly, ReplayOfOneMore, ReplayOfJoined, ActsEndAllInTurn, ActsGiveOutcomes, SettlingKeepsNumbers, StepsKeepNumbers, ReplaysKeepNumbers, SettlingNumbersEvents, StepsNumberEvents, ReplaysNumberEvents, ReplaysAddEvents, SettlesWithoutPast, StepsWithoutPast, ReplaysWithoutPast, SettlingTellsKin, StepsTellKin, ReplaysTellKin, NewStatesAreValid, StepsStayValid, ReplaysStayValid, StepsGoOn, ReplaysGoOn, StepsLoseNames, ReplaysLoseNames, OneConnectionHas, PicksMayBeTaken, DueExpiriesHaveSteps, DueSwapOutsHaveSteps, DueSwapInsHaveSteps, LineageIsOnly};
 
 use crate::{
     CONNECTIONS_MAX, COPIES_MAX, FAN_OUT_MAX, GENERATED_MAX, ID_MAX, LINES_MAX, OWN_NAME_MAX,
@@ -57,6 +57,14 @@ pub fn views_count_all()
 pub fn replay_goes_on()
     ensures one_more { ReplayOfOneMore }
     ensures joined { ReplayOfJoined }
+{}
+
+/// Neither a session nor a step nor a replay goes by what has happened before: but for events and kin, it gives the same
+/// of a state without them.
+pub fn the_past_is_not_asked()
+    ensures session { SettlesWithoutPast }
+    ensures step { StepsWithoutPast }
+    ensures replay { ReplaysWithoutPast }
 {}
 
 /// A processor ends all files that it took, each once and in turn, and then files whose parents stand before them. A

@@ -2,6 +2,7 @@ pub mod Contents
 pub mod Ending
 pub mod Handed
 pub mod Placing
+pub mod Recording
 pub mod StateAfter
 pub mod Telling
 pub mod TellsOf

@@ -4,6 +4,7 @@ ghost use Rattle.machine_model.specs.Placing.{count_made};
 ghost use Rattle.settlement.specs.Ending.{place_of};
 ghost use Rattle.settlement.specs.Handed.{MaySettle};
 ghost use Rattle.settlement.specs.Placing.{wanted};
+ghost use Rattle.settlement.specs.Recording.{RecordsAll};
 ghost use Rattle.settlement.specs.StateAfter.{Settles};
 ghost use Rattle.settlement.specs.TellsOf.{TellsOf};
 ghost use Rattle.settlement.specs.Telling.{all_drafts, numbered_wrapping};
@@ -33,6 +34,7 @@ pub fn settle(
     requires { MaySettle flow.now counters ended }
     ensures settles { IfOk result (Settles flow.now given.now counters ended) }
     ensures tells { IfOk result (TellsOf given.now ended) }
+    ensures records { IfOk result (RecordsAll flow.now given.now counters ended) }
 {
     let processor = &flow.processors.as_slice()[usize::from(ended.processor)];
     settle_at(alloc, flow, processor, given, counters, ended)

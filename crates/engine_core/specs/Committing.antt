@@ -1,0 +1,71 @@
+-- What a session asks of a store that it becomes part of, and what it makes of the store's state.
+use Rattle.std.specs.Prelude.{◌≡◌, ◌≢◌, ◌⊎◌, ℕ, ◌<◌, Bool, IsTrue, List, length, map, All, Contains, Some, Ok, slice_get}
+use Rattle.std.specs.List.{AllPairs}
+use Rattle.disk_trait.specs.Files.{Files}
+use Rattle.flowfile_record.specs.Outcome.{IsOutcome}
+use Rattle.flowfile_record.specs.Stored.{Kept}
+use Rattle.flowfile_record.specs.declared.change.Settled.{Settled}
+use Rattle.flowfile_record.specs.declared.content.ContentRef.{ContentRef}
+use Rattle.flowfile_record.specs.declared.limits.TheConstants.{NUMBER_LIMIT}
+use Rattle.record_codec.specs.ActiveFile.{active}
+use Rattle.content_repo.specs.Claims.{content_in}
+use Rattle.kept_state.specs.declared.limit.Limit.{Limit}
+use Rattle.machine_model.specs.declared.flow.Flow.{Flow}
+use Rattle.machine_model.specs.declared.flow.Processor.{Processor}
+use Rattle.machine_model.specs.declared.given.Given.{Given}
+use Rattle.machine_model.specs.Changing.{state_after, without_events}
+use Rattle.machine_model.specs.Settling.{settle}
+use Rattle.machine_model.specs.State.{State}
+use Rattle.settlement.specs.Contents.{IsBodyWithin}
+use Rattle.settlement.specs.Handed.{session_of, sizes_of}
+use Rattle.settlement.specs.declared.handed.Ended.{Ended}
+use Rattle.store_core.specs.Change.{IsLimitOf}
+use Rattle.store_core.specs.Flow as store
+use Rattle.store_core.specs.Flow.{flow_in}
+use Rattle.store_core.specs.State.{stands_for}
+use Rattle.store_core.specs.Store.{StoreState, kept_by}
+use Rattle.store_core.specs.declared.error.StoreError.{StoreError}
+use Rattle.store_core.specs.declared.error.StoreError.TheVariants as error
+
+-- what a store keeps of a flow
+abbrev pub identity_of : Flow → store.Flow
+identity_of flow = record {
+  digest = flow.digest;
+  connections = map (λ connection. connection.id) flow.connections;
+  processors = length flow.processors;
+}
+
+-- The session took files of one connection that are kept, each another one, and its outcome is one over these files, whose
+-- parts are of contents that were read.
+pub record MayCommit (flow : Flow) (given : Given) (k : Kept) (ended : Ended) : Type 0 where
+  pub processor : ended.processor < length flow.processors
+  pub index : given.index < NUMBER_LIMIT
+  pub there : All (λ file. Contains k.files (active ended.connection file)) ended.taken
+  pub differ : AllPairs (λ one other. one.number ≢ other.number) ended.taken
+  pub relationships : ℕ
+  pub outcome : IsOutcome relationships (sizes_of ended.taken) ended.outcome
+  pub parts : All (λ file. IsBodyWithin ended.sources file.body) ended.outcome.files
+
+-- the state behind a session, which keeps no event
+abbrev pub session_state : Flow → Given → Ended → Processor → (ContentRef → List ℕ) → State → State
+session_state flow given ended processor contents state =
+    without_events (settle (session_of flow given ended processor contents state) ended.outcome)
+
+-- The session would pass this limit, and none before it: this is what it settles to.
+pub record IsAtLimit (tells : Bool) (files : Files) (flow : Flow) (given : Given) (ended : Ended) (s : StoreState) (limit : Limit)
+    : Type 0 where
+  pub settled : Settled
+  pub passes : IsLimitOf s settled limit
+  pub is : IsTrue tells → (processor : Processor) → slice_get flow.processors ended.processor ≡ Some processor
+      → (state : State) → stands_for (flow_in (kept_by s)) s.lot files ≡ Ok state
+      → state_after (content_in files) state settled
+      ≡ session_state flow given ended processor (content_in files) state
+
+-- the store is of the same flow and the same lot
+pub record KeepsFlow (old new : StoreState) : Type 0 where
+  pub flow : flow_in (kept_by new) ≡ flow_in (kept_by old)
+  pub lot : new.lot ≡ old.lot
+
+-- a session is refused for a fault of the disk, for a limit or for want of memory
+abbrev pub IsRefusal : StoreError → Type 0
+IsRefusal error = (error ≡ error.Disk) ⊎ (error ≡ error.Memory) ⊎ ((limit : Limit) × (error ≡ error.Limit limit))

@@ -1,0 +1,70 @@
+-- What a settled session makes of a state, where references stand for these bytes; and a state without what it tells of the
+-- past.
+use Rattle.std.specs.Prelude.{ℕ, ◌==◌, List, [], ◌++◌, map, filter, fold, unwrap_or, slice_set, Option, None, Some}
+use Rattle.std.specs.FinSet.{empty, union, from_list}
+use Rattle.std.specs.List.{enumerate_from}
+use Rattle.flowfile_record.specs.Kin.{kin_of_all}
+use Rattle.flowfile_record.specs.NumberedItems.{with_item}
+use Rattle.flowfile_record.specs.declared.change.Settled.{Settled}
+use Rattle.flowfile_record.specs.declared.content.ContentRef.{ContentRef}
+use Rattle.flowfile_record.specs.declared.flow_file.FlowFile.{FlowFile}
+use Rattle.flowfile_record.specs.declared.stored.Counted.{Counted}
+use Rattle.flowfile_record.specs.declared.stored.Placed.{Placed}
+use Rattle.machine_model.specs.State.{QueuedFile, State, Machine}
+use Rattle.machine_model.specs.Stepping.{without_files}
+
+-- ---- a settled session
+
+-- a flow file as one of a queue, with the bytes that its reference stands for
+abbrev pub queued_file : (contents : ContentRef → List ℕ) → FlowFile → QueuedFile
+queued_file contents file = record {
+  number = file.number;
+  attributes = file.attributes;
+  bytes = contents file.content;
+  entered = file.entered;
+  penalty_end = file.penalty_end;
+  arrival = file.arrival;
+  batch = None;
+}
+
+-- a placed file, with its bytes: those of a new content, or those that its reference stands for
+abbrev pub placed_file : (contents : ContentRef → List ℕ) → Placed → QueuedFile
+placed_file contents p = record (queued_file contents p.file) { bytes = unwrap_or p.fresh (contents p.file.content) }
+
+-- what is placed into the queue of a connection
+abbrev pub placed_into : (contents : ContentRef → List ℕ) → (connection : ℕ) → List Placed → List QueuedFile
+placed_into contents connection placed = map (placed_file contents) (filter (λ p. p.connection == connection) placed)
+
+-- one file more in a queue, by its arrival
+abbrev pub with_arrival : List QueuedFile → QueuedFile → List QueuedFile
+with_arrival queue file = with_item (λ f. f.arrival) file queue
+
+-- a queue without what is gone, and with what is placed into it, by arrival
+abbrev pub queue_after : (contents : ContentRef → List ℕ) → Settled → ℕ × List QueuedFile → List QueuedFile
+queue_after contents s (connection, queue) =
+    fold with_arrival (without_files queue s.gone) (placed_into contents connection s.placed)
+
+-- the counts, that of a generator being set
+abbrev pub with_count : Option Counted → List ℕ → List ℕ
+with_count None counts = counts
+with_count (Some g) counts = slice_set counts g.processor g.count
+
+-- The state behind a settled session. The kin is what the events tell of.
+abbrev pub state_after : (contents : ContentRef → List ℕ) → State → Settled → State
+state_after contents state s = record state {
+  queues = map (queue_after contents s) (enumerate_from 0 state.queues);
+  events = state.events ++ s.events;
+  kin = union state.kin (from_list (kin_of_all s.events));
+  next_number = s.next_number;
+  next_arrival = s.next_arrival;
+  counts = with_count s.count state.counts;
+}
+
+-- ---- without the past
+
+-- the state as one in which nothing has happened yet
+abbrev pub without_events : State → State
+without_events state = record state { events = []; kin = empty }
+
+abbrev pub without_past : Machine → Machine
+without_past machine = record { state = without_events machine.state; world = machine.world }
