@@ -8,8 +8,8 @@ use Rattle.disk_trait.specs.Files.{Files}
 use Rattle.flowfile_record.specs.declared.content.ContentRef.{ContentRef}
 use Rattle.content_repo.specs.declared.slot.Slot.{Slot}
 use Rattle.content_repo.specs.Append.{IsAppended}
-use Rattle.content_repo.specs.Claims.{claim, HasSizes}
-use Rattle.content_repo.specs.Slots.{unused, count_of, size_of, slot_at, is_live, is_open, is_free, end_of, or_else, next_slot, taken, with_count}
+use Rattle.content_repo.specs.Claims.{HasSizes}
+use Rattle.content_repo.specs.Slots.{unused, count_of, size_of, slot_at, is_live, is_open, is_free, end_of, or_else, next_slot, with_count}
 
 either : (a b : Option ℕ) (k bound : ℕ) → or_else a b ≡ Some k → ((j : ℕ) → a ≡ Some j → j < bound) → ((j : ℕ) → b ≡ Some j → j < bound) → k < bound
 either None b k bound is first second = second k is

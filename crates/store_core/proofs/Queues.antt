@@ -1,9 +1,9 @@
 -- The queues of what is kept after a session are those of the machine's state after it.
-use Rattle.std.proofs.Common.{◌≡◌, ◌≢◌, ℕ, ◌+◌, ◌<◌, ◌≤◌, ◌==◌, eqb, not, Bool, true, false, cond, List, [], ◌∷◌, ◌++◌, length, map, refl, sym, ap, subst, ◌∙◌, inl, inr, arith}
+use Rattle.std.proofs.Common.{◌≡◌, ◌≢◌, ℕ, ◌==◌, not, Bool, true, false, cond, List, [], ◌∷◌, map, refl, sym, ap, ◌∙◌, inl, inr}
 use Rattle.std.specs.List.{AllZip}
-use Rattle.std.specs.Prelude.{All, filter, fold, find, Option, None, Some, is_some, unwrap_or, nat_lt, ◌||◌}
-use Rattle.std.specs.List.{list_any, enumerate_from}
-use Rattle.std.proofs.lemmas.Bool.{cases_Bool, or_parts, eqb-true, eq-eqb, false≢true}
+use Rattle.std.specs.Prelude.{All, filter, fold, find, Some, is_some, nat_lt, ◌||◌}
+use Rattle.std.specs.List.{list_any}
+use Rattle.std.proofs.lemmas.Bool.{cases_Bool, or_parts, eq-eqb, false≢true}
 use Rattle.std.proofs.lemmas.List.Elements.{All-nil, All-cons}
 use Rattle.flowfile_record.specs.NumberedItems.{with_item}
 use Rattle.flowfile_record.specs.declared.content.ContentRef.{ContentRef}

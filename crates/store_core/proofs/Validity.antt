@@ -1,7 +1,7 @@
 -- What is kept is a valid state of the machine: its queues have the live files, each once, by arrival.
 use Rattle.std.proofs.Common.{◌≡◌, ◌≢◌, ◌⊎◌, inl, inr, ℕ, zero, suc, ◌+◌, ◌<◌, ◌≤◌, Bool, true, false, cond, List, [], ◌∷◌, length, map, refl, sym, ap, subst, ◌∙◌, arith, get_or}
 use Rattle.std.specs.Prelude.{◌==◌, All, Contains, IfSome, Option, None, Some, Ok, filter, fold, is_some, nat_lt, slice_get, unwrap_or}
-use Rattle.std.specs.List.{AllPairs, enumerate_from, flat_map}
+use Rattle.std.specs.List.{AllPairs, enumerate_from}
 use Rattle.std.proofs.lemmas.Bool.{cases_lt, eqb-true, eq-eqb}
 use Rattle.std.proofs.lemmas.List.Elements.{All-nil, All-cons, All-map, All-weaker, All-contains}
 use Rattle.std.proofs.lemmas.List.{length-map}
@@ -19,8 +19,8 @@ use Rattle.machine_model.specs.Changing.{with_arrival}
 use Rattle.machine_model.specs.Files.{queue_at}
 use Rattle.machine_model.specs.State.{QueuedFile}
 use Rattle.machine_model.specs.Valid.{AreByArrival, AreNumbered, HasBatch, HasBatchBelow, IsValid, files_of_all}
-use Rattle.machine_model.proofs.Among.{Among, IsMade, among_contained, contains_among, is_made, keeps, kept_by as passed_by, makes}
-use Rattle.machine_model.proofs.Keyed.{Counted, counted, differ_from_once, numbered}
+use Rattle.machine_model.proofs.Among.{Among, among_contained, contains_among, is_made, keeps, kept_by as passed_by, makes}
+use Rattle.machine_model.proofs.Keyed.{counted, differ_from_once, numbered}
 use Rattle.machine_model.proofs.Ordered.{pairs_nil}
 use Rattle.machine_model.proofs.Tally.{at_most, at_place, bit, many, tally, tally-flat_map, tally-le, tally-map, tally-none, tally-plus, tally-same}
 use Rattle.store_core.specs.Flow.{flow_in}

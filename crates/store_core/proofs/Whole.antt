@@ -1,12 +1,11 @@
 -- A commit as a whole: what a stop within it leaves.
-use Rattle.std.proofs.Common.{◌≡◌, ◌≢◌, ℕ, ◌+◌, ◌-◌, ◌^◌, ◌<◌, ◌≤◌, Bool, true, false, List, [], ◌∷◌, ◌++◌, length, map, get_or, refl, sym, ap, subst, ◌∙◌, inl, inr, arith, length-append, IsTrue}
-use Rattle.std.specs.Prelude.{Option, None, Some, Result, Ok, Err, All, ◌⊎◌, min}
-use Rattle.disk_trait.specs.Files.{Files, At, named}
+use Rattle.std.proofs.Common.{◌≡◌, ℕ, ◌+◌, ◌-◌, ◌^◌, Bool, true, List, [], ◌∷◌, length, map, sym, ap, subst, ◌∙◌, inl, inr, arith, length-append, IsTrue}
+use Rattle.std.specs.Prelude.{Option, Some, Result, Ok, All, ◌⊎◌, min}
+use Rattle.disk_trait.specs.Files.{Files, named}
 use Rattle.disk_trait.specs.Images.{After, Since}
 use Rattle.disk_trait.specs.declared.file_name.FileKind.TheVariants.{Log, Claim}
 use Rattle.disk_trait.specs.declared.file_name.FileName.{FileName}
 use Rattle.disk_trait.proofs.Moments.{wider, wider_where_left, at_the_end, one_after_another}
-use Rattle.flowfile_record.specs.Stored.{Kept}
 use Rattle.record_codec.specs.declared.entry.LogEntry.{LogEntry}
 use Rattle.record_codec.specs.declared.entry.LogEntry.TheVariants.{Session}
 use Rattle.record_codec.specs.declared.entry.SessionEntry.{SessionEntry}
@@ -14,14 +13,14 @@ use Rattle.content_repo.specs.Claims.{claim}
 use Rattle.content_repo.specs.declared.slot.Slot.{Slot}
 use Rattle.flowfile_wal.specs.Calls.{InEach, WithOrWithout}
 use Rattle.flowfile_wal.specs.Current.{CurrentLog, current_log}
-use Rattle.flowfile_wal.specs.Steps.{Keeps, Adds, LogState, IsReadyIn, IsClosedIn, with_entry}
+use Rattle.flowfile_wal.specs.Steps.{Adds, IsReadyIn, with_entry}
 use Rattle.flowfile_wal.proofs.Files.{with_one_more}
 use Rattle.kept_state.specs.Applied.{applied}
 use Rattle.kept_state.specs.Changes.{no_files}
 use Rattle.kept_state.specs.Fits.{fits}
 use Rattle.store_core.specs.Committed.{HoldsEither, MayTouch, TouchesOnly}
 use Rattle.store_core.specs.Placing.{GrowsBehind}
-use Rattle.store_core.specs.Store.{StoreState, IsWorking, IsKeptOn, kept_by, live_in, Holds, HasLog}
+use Rattle.store_core.specs.Store.{StoreState, IsWorking, IsKeptOn, kept_by, Holds, HasLog}
 use Rattle.disk_trait.specs.declared.damage.Damage.{Damage}
 use Rattle.content_repo.specs.Slots.{size_of}
 use Rattle.store_core.proofs.ClaimsAlone.{has_log_still}

@@ -1,11 +1,10 @@
 -- What a settled session asks of a store.
-use Rattle.std.specs.Prelude.{◌≡◌, ◌≢◌, ◌⊎◌, ℕ, ◌+◌, ◌==◌, ◌≤◌, List, [], ◌∷◌, ◌++◌, length, map, filter, fold, slice_set, All, Contains, Option, None, Some, unwrap_or}
+use Rattle.std.specs.Prelude.{◌≡◌, ◌⊎◌, ℕ, ◌+◌, ◌≤◌, List, [], length, map, All, Contains, None, Some}
 use Rattle.std.specs.List.{filter_map}
 use Rattle.sha2.specs.Sha256.{sha256}
 use Rattle.flowfile_record.specs.Stored.{Kept}
 use Rattle.flowfile_record.specs.declared.TheConstants.{CONTENT_MAX}
 use Rattle.flowfile_record.specs.declared.change.Settled.{Settled}
-use Rattle.flowfile_record.specs.declared.content.ContentRef.{ContentRef}
 use Rattle.flowfile_record.specs.declared.stored.Placed.{Placed}
 use Rattle.content_repo.specs.Slots.{HasRoom}
 use Rattle.content_repo.specs.declared.slot_set.TheConstants.{SLOTS}

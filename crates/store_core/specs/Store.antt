@@ -1,5 +1,5 @@
 -- What a store has in memory, and how it is tied to its disk.
-use Rattle.std.specs.Prelude.{◌≡◌, ◌≢◌, ℕ, ◌+◌, ◌-◌, ◌^◌, ◌<◌, ◌≤◌, min, Bool, true, false, IsTrue, is_some, List, [], length, All, Contains, None, Some, Ok}
+use Rattle.std.specs.Prelude.{◌≡◌, ◌≢◌, ℕ, ◌+◌, ◌-◌, ◌^◌, ◌≤◌, min, Bool, true, false, IsTrue, is_some, List, [], length, All, Contains, None, Some, Ok}
 use Rattle.disk_trait.specs.Files.{Files}
 use Rattle.flowfile_record.specs.Stored.{Kept}
 use Rattle.flowfile_record.specs.declared.content.ContentRef.{ContentRef}
@@ -16,9 +16,9 @@ use Rattle.store_core.specs.Flow.{Flow, flow_in}
 use Rattle.store_core.specs.Kept.{kept_in}
 use Rattle.store_core.specs.State.{contents_damage, live_contents, stands_for}
 
--- What is kept, with room for more files; the current log, and how many entries it has, counted up to 2^64 - 1; the slots
--- of the contents; those that were live when the store was opened; the lot that a new store was to be made of; whether a
--- call met a failure of the disk.
+-- What is kept, with room for more files; the current log, and how many entries it has, counted up to 2^64 - 1; the
+-- slots of the contents; those that were live when the store was opened; the lot that a new store was to be made of;
+-- whether a call met a failure of the disk.
 pub record StoreState : Type 0 where
   pub memory : InMemory
   pub log : LogState
@@ -75,8 +75,8 @@ pub record HasLog (s : StoreState) (files : Files) : Type 0 where
   pub entries : (log : CurrentLog) → current_log files ≡ Ok (Some log)
       → s.entries ≡ min (length log.entries) (2 ^ 64 - 1)
 
--- Unless a call met a failure of the disk: whatever a stop leaves now is what the store has in memory, and the claims are
--- as long as it knows.
+-- Unless a call met a failure of the disk: whatever a stop leaves now is what the store has in memory, and the claims
+-- are as long as it knows.
 pub record IsKeptOn {D : Type 0} (tells : Bool) (held : D → Files) (moment : D → ℕ) (images : D → ℕ → Files → Type 0)
     (s : StoreState) (disk : D) : Type 0 where
   pub holds : s.failed ≡ false → InEach (images disk (moment disk)) (Holds s)

@@ -34,7 +34,8 @@ impl Store {
         ensures acknowledged { IfOk result (λ moment. moment ≡ D.moment disk.new) }
         ensures kept { IsKeptOn D.tells D.held D.moment D.images self.new disk.new }
         // Within the call whatever a stop leaves has all of the change or nothing of it.
-        ensures images { self.old.failed ≡ false → Since D.moment D.images disk.old disk.new (HoldsEither self.old self.new) }
+        ensures images { self.old.failed ≡ false
+            → Since D.moment D.images disk.old disk.new (HoldsEither self.old self.new) }
         ensures states { self.old.failed ≡ false → (state : State)
             → EachStandsFor (flow_in (kept_by self.old)) self.old.lot state (D.images disk.old (D.moment disk.old))
             → Since D.moment D.images disk.old disk.new (λ c.
@@ -44,7 +45,8 @@ impl Store {
         ensures acknowledged_state { OnOk result ((state : State)
             → EachStandsFor (flow_in (kept_by self.old)) self.old.lot state (D.images disk.old (D.moment disk.old))
             → EachStandsFor (flow_in (kept_by self.old)) self.old.lot
-            (state_after (content_in (D.held disk.old)) state prepared.entry.settled) (D.images disk.new (D.moment disk.new))) }
+            (state_after (content_in (D.held disk.old)) state prepared.entry.settled)
+            (D.images disk.new (D.moment disk.new))) }
         ensures alone { Since D.moment D.images disk.old disk.new
             (After (TouchesOnly (MayTouch self.old.log.number)) (D.images disk.old (D.moment disk.old))) }
         ensures refusal { RefusesOnFault result self.old self.new (D.faults disk.old) (D.faults disk.new) }

@@ -1,4 +1,4 @@
-use Rattle.std.proofs.Common.{◌≡◌, ℕ, ◌+◌, [], List, length, ap, sym, subst, ◌∙◌}
+use Rattle.std.proofs.Common.{◌≡◌, ◌+◌, List, length, sym, subst}
 use Rattle.disk_trait.specs.Images.{Since}
 use Rattle.disk_trait.proofs.Moments.{and_syncs}
 use Rattle.flowfile_record.specs.declared.content.ContentRef.{ContentRef}
