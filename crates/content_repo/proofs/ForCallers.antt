@@ -8,8 +8,8 @@ use Rattle.disk_trait.specs.Files.{Files}
 use Rattle.flowfile_record.specs.declared.content.ContentRef.{ContentRef}
 use Rattle.content_repo.specs.declared.slot.Slot.{Slot}
 use Rattle.content_repo.specs.Append.{IsAppended}
-use Rattle.content_repo.specs.Claims.{claim, HasSizes}
-use Rattle.content_repo.specs.Slots.{unused, count_of, size_of, slot_at, is_live, is_open, is_free, end_of, or_else, next_slot, taken, with_count}
+use Rattle.content_repo.specs.Claims.{HasSizes}
+use Rattle.content_repo.specs.Slots.{unused, count_of, size_of, slot_at, is_live, is_open, is_free, end_of, or_else, next_slot, with_count}
 
 either : (a b : Option ℕ) (k bound : ℕ) → or_else a b ≡ Some k → ((j : ℕ) → a ≡ Some j → j < bound) → ((j : ℕ) → b ≡ Some j → j < bound) → k < bound
 either None b k bound is first second = second k is
@@ -43,7 +43,7 @@ held_within slots k held =
     ]
 
 pub sizes_stay : (slots : List Slot) (k count : ℕ) (files : Files) → 0 < count_of slots k → HasSizes slots files → HasSizes (with_count slots k count) files
-sizes_stay slots k count files held sizes j below =
+sizes_stay slots k count files held sizes j =
     let slot : Slot = record { live = is_live slots k; count = count; size = size_of slots k } in
     let stays : size_of (with_count slots k count) j ≡ size_of slots j =
     elim (cases_eq j k) [
@@ -52,4 +52,4 @@ sizes_stay slots k count files held sizes j below =
           ∙ ap (size_of slots) (sym same)
       | inr differs ↦ ap (λ (s : Slot). s.size) (get_or-set_other slots k j slot unused differs)
     ] in
-    sizes j below ∙ sym stays
+    sizes j ∙ sym stays

@@ -1,16 +1,13 @@
 -- What files stand for rests on what a state needs of them alone.
-use Rattle.std.proofs.Common.{◌≡◌, ℕ, ◌+◌, ◌<◌, ◌≤◌, ◌==◌, cond, ltb, Bool, true, false, List, [], ◌∷◌, length, map, refl, sym, ap, ◌∙◌, subst, arith}
-use Rattle.std.specs.Prelude.{All, Option, None, Some, Result, Ok, Err, filter, fold, bytes_eq, nat_lt}
+use Rattle.std.proofs.Common.{◌≡◌, ℕ, ◌≤◌, ◌==◌, cond, ltb, Bool, true, false, List, [], ◌∷◌, length, map, refl, sym, ap, ◌∙◌, subst, arith}
+use Rattle.std.specs.Prelude.{All, Option, None, Some, Result, Ok, Err, filter, fold, nat_lt}
 use Rattle.std.specs.List.{enumerate_from}
-use Rattle.std.proofs.lemmas.Bool.{cases_Bool, ltb-true, le-leb}
-use Rattle.std.proofs.lemmas.List.Elements.{All-nil, All-head, All-tail, All-weaker}
-use Rattle.sha2.specs.Sha256.{sha256}
-use Rattle.disk_trait.specs.Files.{Files, named}
+use Rattle.std.proofs.lemmas.List.Elements.{All-head, All-tail}
+use Rattle.disk_trait.specs.Files.{Files}
 use Rattle.disk_trait.specs.declared.damage.Damage.{Damage}
 use Rattle.flowfile_record.specs.Stored.{Kept}
 use Rattle.flowfile_record.specs.declared.content.ContentRef.{ContentRef}
 use Rattle.flowfile_record.specs.declared.event.Event.{Event}
-use Rattle.flowfile_record.specs.declared.flow_file.FlowFile.{FlowFile}
 use Rattle.flowfile_record.specs.declared.stored.ActiveFile.{ActiveFile}
 use Rattle.checkpoint_store.specs.Snapshot.{snapshot_file}
 use Rattle.content_repo.specs.Claims.{claim, content_in, IsCovered}
@@ -19,7 +16,8 @@ use Rattle.flowfile_wal.specs.Current.{CurrentLog, current_log}
 use Rattle.machine_model.specs.State.{QueuedFile, State}
 use Rattle.store_core.specs.Flow.{Flow}
 use Rattle.store_core.specs.Kept.{snapshot_for, batches_in, behind_log, behind_snapshot, with_entries, kept_in}
-use Rattle.store_core.specs.State.{digest_damage, content_damage, first_damage, contents_damage, live_contents, events_in, queued, with_arrival, queue_of, state_with, state_by, state_of, behind_kept, stands_for}
+use Rattle.machine_model.specs.Changing.{with_arrival}
+use Rattle.store_core.specs.State.{digest_damage, content_damage, first_damage, contents_damage, live_contents, events_in, queued, queue_of, state_with, state_by, state_of, behind_kept, stands_for}
 use Rattle.store_core.specs.Agreement.{Needs, Agrees, SameContent, IsNeeded}
 use Rattle.kept_state.specs.Applied.{batches_that_matter}
 

@@ -1,22 +1,15 @@
 -- A step on the files of claims alone leaves the log and what is kept.
-use Rattle.std.proofs.Common.{◌≡◌, ◌≢◌, ℕ, ◌+◌, ◌<◌, ◌≤◌, Bool, true, false, List, length, take, drop, refl, sym, ap, subst, ◌∙◌, arith}
-use Rattle.std.specs.Prelude.{Option, None, Some, Result, Ok, Err, All, MatchBool}
-use Rattle.disk_trait.specs.Files.{Files, Shortened, named}
-use Rattle.disk_trait.specs.declared.damage.Damage.{Damage}
+use Rattle.std.proofs.Common.{◌≡◌, ◌≢◌, ℕ, List, refl, sym, ap, subst, ◌∙◌}
+use Rattle.std.specs.Prelude.{Option, None, Some, All}
+use Rattle.disk_trait.specs.Files.{Files, named}
 use Rattle.disk_trait.specs.declared.file_name.FileKind.TheVariants.{Log, Snapshot, Claim}
 use Rattle.disk_trait.specs.declared.file_name.FileName.{FileName}
-use Rattle.flowfile_record.specs.declared.content.ContentRef.{ContentRef}
 use Rattle.checkpoint_store.specs.Snapshot.{snapshot_file}
-use Rattle.content_repo.specs.Claims.{claim, content_in, IsCovered, IdleShortened}
-use Rattle.content_repo.specs.Slots.{count_of, slot_at, is_idle, end_of}
-use Rattle.content_repo.specs.declared.slot.Slot.{Slot}
-use Rattle.flowfile_wal.specs.Current.{CurrentLog, current_log, log_bytes, log_in, log_of_number, of_some, counts, current_number}
-use Rattle.flowfile_wal.specs.Steps.{LogState, IsReadyIn, IsClosedIn, EndsClosed}
+use Rattle.flowfile_wal.specs.Current.{current_log, log_in, log_of_number, of_some, counts, current_number}
+use Rattle.flowfile_wal.specs.Steps.{EndsClosed}
 use Rattle.flowfile_wal.proofs.Files.{same_number}
 use Rattle.store_core.specs.Agreement.{SameContent}
-use Rattle.store_core.specs.Flow.{Flow, flow_in}
-use Rattle.store_core.specs.Kept.{kept_in}
-use Rattle.store_core.specs.State.{contents_damage}
+use Rattle.store_core.specs.Flow.{flow_in}
 use Rattle.store_core.specs.Store.{StoreState, kept_by, live_in, Holds, HasLog}
 use Rattle.store_core.proofs.Agreeing.{kept_alike, contents_sound}
 

@@ -1,13 +1,11 @@
 -- A store lets go of the contents of its opening.
-use Rattle.std.proofs.Common.{◌≡◌, ℕ, ◌+◌, ◌≤◌, List, [], length, get_or, refl, sym, ap, subst, ◌∙◌, arith}
-use Rattle.flowfile_record.specs.declared.content.ContentRef.{ContentRef}
+use Rattle.std.proofs.Common.{◌≡◌, ℕ, ◌+◌, ◌≤◌, List, [], length, get_or, sym, subst, ◌∙◌, arith}
 use Rattle.content_repo.specs.Slots.{count_of, size_of, held_in, references_to}
 use Rattle.content_repo.specs.declared.slot.Slot.{Slot}
 use Rattle.disk_trait.specs.Files.{Files}
-use Rattle.flowfile_wal.specs.Calls.{InEach}
-use Rattle.std.specs.Prelude.{Bool, true, false, IsTrue}
+use Rattle.std.specs.Prelude.{Bool, false, IsTrue}
 use Rattle.content_repo.specs.Claims.{HasSizes}
-use Rattle.store_core.specs.Store.{StoreState, IsWorking, IsSound, IsKeptOn, Holds, HasLog, kept_by, live_in}
+use Rattle.store_core.specs.Store.{StoreState, IsWorking, IsSound, IsKeptOn, Holds, live_in}
 use Rattle.disk_trait.specs.Images.{After, Since}
 use Rattle.disk_trait.proofs.Moments.{wider, at_the_end}
 use Rattle.content_repo.specs.Claims.{IdleShortened}
@@ -37,7 +35,7 @@ pub kept_let_go : {D : Type 0} (tells : Bool) (held : D → Files) (moment : D �
 kept_let_go tells held moment images s slots disk sizes kept = record {
   holds = λ f c left. let h = kept.holds f c left in record { kept = h.kept; contents = h.contents };
   log = λ f c left. let h = kept.log f c left in record { ready = h.ready; entries = h.entries };
-  sizes = λ f told k lt. kept.sizes f told k lt ∙ sym (sizes k);
+  sizes = λ f told k. kept.sizes f told k ∙ sym (sizes k);
 }
 
 -- ---- the claims are emptied, and the disk is synced

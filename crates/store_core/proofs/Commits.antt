@@ -1,17 +1,15 @@
 -- A session's entry, what a store knows once it is applied, and which files hold it.
-use Rattle.std.proofs.Common.{◌≡◌, ◌≢◌, ℕ, ◌+◌, ◌<◌, ◌≤◌, Bool, true, false, List, [], ◌∷◌, ◌++◌, length, map, take, drop, get_or, refl, sym, ap, subst, ◌∙◌, inl, inr, arith, IsTrue, length-set}
+use Rattle.std.proofs.Common.{◌≡◌, ℕ, ◌+◌, ◌≤◌, Bool, true, false, List, [], ◌∷◌, length, map, take, drop, get_or, refl, sym, ap, subst, ◌∙◌, arith, length-set}
 use Rattle.std.specs.List.{AllZip}
-use Rattle.std.specs.Prelude.{Option, None, Some, is_none, Result, Ok, Err, All, Contains}
+use Rattle.std.specs.Prelude.{Option, None, Some, is_none, Ok, All, Contains}
 use Rattle.std.proofs.lemmas.Bool.{and_from}
 use Rattle.std.proofs.lemmas.List.{length-map}
 use Rattle.std.proofs.lemmas.List.Elements.{All-nil, All-cons, All-head, All-tail}
 use Rattle.sha2.specs.Sha256.{sha256}
-use Rattle.disk_trait.specs.Files.{Files, At, named}
-use Rattle.disk_trait.specs.declared.damage.Damage.{Damage}
-use Rattle.disk_trait.specs.declared.file_name.FileKind.TheVariants.{Log, Snapshot, Claim}
+use Rattle.disk_trait.specs.Files.{Files, named}
+use Rattle.disk_trait.specs.declared.file_name.FileKind.TheVariants.{Log, Claim}
 use Rattle.disk_trait.specs.declared.file_name.FileName.{FileName}
 use Rattle.flowfile_record.specs.Stored.{Kept}
-use Rattle.flowfile_record.specs.declared.change.Change.TheVariants as change
 use Rattle.flowfile_record.specs.declared.change.Settled.{Settled}
 use Rattle.flowfile_record.specs.declared.content.ContentRef.{ContentRef}
 use Rattle.flowfile_record.specs.declared.limits.TheConstants.{LIVE_FILES_MAX}
@@ -23,23 +21,20 @@ use Rattle.record_codec.specs.declared.entry.LogEntry.{LogEntry}
 use Rattle.record_codec.specs.declared.entry.LogEntry.TheVariants.{Begin, Session, Expire, SwapOut, SwapIn}
 use Rattle.record_codec.specs.declared.entry.SessionEntry.{SessionEntry}
 use Rattle.checkpoint_store.specs.Consistent.{IsConsistent}
-use Rattle.content_repo.specs.Claims.{claim, content_in, HasSizes}
+use Rattle.content_repo.specs.Claims.{claim, HasSizes}
 use Rattle.content_repo.specs.Slots.{count_of, size_of, held_in, references_to, end_of, IsNamed}
-use Rattle.content_repo.specs.declared.content.TheConstants.{HELD_MAX}
 use Rattle.content_repo.specs.declared.slot.Slot.{Slot}
-use Rattle.content_repo.specs.declared.slot_set.TheConstants.{SLOTS}
-use Rattle.flowfile_wal.specs.Steps.{Adds, LogState, IsFrame, frame}
+use Rattle.flowfile_wal.specs.Steps.{Adds, IsFrame, frame}
 use Rattle.record_codec.specs.EntryEncoding.{entry as encoding, kind_of, IsEntry}
 use Rattle.record_codec.proofs.Sizes.{placeless_entry_size}
-use Rattle.kept_state.specs.Applied.{number_of, left_after, session_applied, applied, swapped_out, with_count}
-use Rattle.kept_state.specs.Changes.{entry_of, session_of, record_of, no_files, placed_in, MaySettle}
+use Rattle.kept_state.specs.Applied.{left_after, session_applied, applied, swapped_out, with_count}
+use Rattle.kept_state.specs.Changes.{session_of, record_of, no_files, placed_in, MaySettle}
 use Rattle.kept_state.specs.Fits.{fits, session_suits}
 use Rattle.kept_state.specs.Limits.{live_limit}
-use Rattle.kept_state.specs.Memory.{InMemory}
 use Rattle.kept_state.proofs.Going.{active_from_one}
 use Rattle.kept_state.proofs.Keeping.{within_limits, session_parts, distinct_of_suits, active_of_suits, length-with_files}
 use Rattle.kept_state.proofs.Placing.{placeless_fits}
-use Rattle.store_core.specs.Change.{IsFresh, IsOldLive, HasLiveContents, MayChange, IsWithinLimits}
+use Rattle.store_core.specs.Change.{IsFresh, IsOldLive, HasLiveContents}
 use Rattle.store_core.specs.Committed.{PreparedChange, IsPrepared}
 use Rattle.store_core.specs.Flow.{Flow, flow_in}
 use Rattle.store_core.specs.Kept.{kept_in}
@@ -48,7 +43,7 @@ use Rattle.store_core.specs.State.{contents_damage, live_contents}
 use Rattle.store_core.specs.Store.{StoreState, IsWorking, kept_by, live_in, Holds, HasLog}
 use Rattle.store_core.proofs.Committing.{kept_with_entry}
 use Rattle.store_core.proofs.Counting.{references_left, references_applied, length_applied}
-use Rattle.store_core.proofs.Reclaiming.{referred_at, counted}
+use Rattle.store_core.proofs.Reclaiming.{counted}
 use Rattle.store_core.proofs.Sound.{IsSoundIn, content_of, each_sound, all_sound, one_sound, all_applied}
 
 -- ---- the entry
@@ -199,7 +194,7 @@ sound_with files slots s p a sizes live fresh old is = by p.fresh refl
         let at = content_of a in
         let f = fresh bytes some in
         record {
-          covered = omega (arith, is.within, sizes at.slot is.named.0);
+          covered = omega (arith, is.within, sizes at.slot);
           digest = ap sha256 (is.stands refl bytes some) ∙ sym f.2 ∙ sym is.digest;
         }
 

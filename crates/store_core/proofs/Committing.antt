@@ -1,20 +1,19 @@
 -- Files whose log got one session's entry more keep what is kept after it.
-use Rattle.std.proofs.Common.{◌≡◌, ◌≢◌, ℕ, ◌+◌, ◌<◌, ◌≤◌, Bool, true, false, cond, List, [], ◌∷◌, ◌++◌, length, refl, sym, ap, subst, ◌∙◌, arith, inl, inr}
-use Rattle.std.specs.Prelude.{Option, None, Some, Result, Ok, Err, All, map}
+use Rattle.std.proofs.Common.{◌≡◌, ℕ, Bool, true, false, cond, List, [], ◌∷◌, ◌++◌, sym, ap, ◌∙◌, inl, inr}
+use Rattle.std.specs.Prelude.{Option, None, Some, Result, Ok, Err, map}
 use Rattle.std.specs.List.{flat_map}
-use Rattle.std.proofs.lemmas.Bool.{cases_Bool, false≢true}
+use Rattle.std.proofs.lemmas.Bool.{cases_Bool}
 use Rattle.std.proofs.lemmas.Grind.{flat_map-append}
 use Rattle.std.proofs.lemmas.List.{append-nil}
-use Rattle.disk_trait.specs.Files.{Files, At, named}
+use Rattle.disk_trait.specs.Files.{Files, named}
 use Rattle.disk_trait.specs.declared.damage.Damage.{Damage}
 use Rattle.disk_trait.specs.declared.file_name.FileKind.TheVariants.{Log, Snapshot}
 use Rattle.disk_trait.specs.declared.file_name.FileName.{FileName}
 use Rattle.flowfile_record.specs.Stored.{Kept}
-use Rattle.flowfile_record.specs.declared.flow_file.FlowFile.{FlowFile}
 use Rattle.record_codec.specs.declared.entry.LogEntry.{LogEntry}
 use Rattle.checkpoint_store.specs.Snapshot.{snapshot_file}
-use Rattle.flowfile_wal.specs.Current.{CurrentLog, current_log}
-use Rattle.flowfile_wal.specs.Steps.{Adds, OneMore, IsClosedIn, with_entry}
+use Rattle.flowfile_wal.specs.Current.{CurrentLog}
+use Rattle.flowfile_wal.specs.Steps.{Adds, IsClosedIn, with_entry}
 use Rattle.flowfile_wal.proofs.Files.{with_one_more}
 use Rattle.kept_state.specs.Applied.{applied, swapped_out, batches_that_matter}
 use Rattle.kept_state.specs.Changes.{no_files}

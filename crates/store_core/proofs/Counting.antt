@@ -1,10 +1,10 @@
 -- How many references to a slot there are, once a session is applied.
-use Rattle.std.proofs.Common.{◌≡◌, ◌≢◌, ℕ, ◌+◌, ◌≤◌, ◌==◌, eqb, ◌&&◌, not, Bool, true, false, cond, List, [], ◌∷◌, length, map, Option, None, Some, is_some, refl, sym, ap, ◌∙◌, inl, inr, arith}
+use Rattle.std.proofs.Common.{◌≡◌, ◌≢◌, ℕ, ◌+◌, ◌==◌, eqb, ◌&&◌, not, true, false, cond, List, [], ◌∷◌, length, map, Option, None, Some, is_some, refl, sym, ap, ◌∙◌, arith}
 use Rattle.std.specs.Prelude.{option_map}
-use Rattle.std.specs.List.{sum, list_any, filter_map, cons_option}
+use Rattle.std.specs.List.{sum, list_any, cons_option}
 use Rattle.std.proofs.lemmas.Bool.{and_parts, or_parts, not-true, eq-eqb, false≢true}
 use Rattle.std.proofs.lemmas.List.Sums.{sum_by-cons}
-use Rattle.flowfile_record.specs.NumberedItems.{item_of, with_item, without_item, AscendsByNumber}
+use Rattle.flowfile_record.specs.NumberedItems.{with_item, without_item, AscendsByNumber}
 use Rattle.flowfile_record.specs.Stored.{Kept}
 use Rattle.flowfile_record.specs.declared.content.ContentRef.{ContentRef}
 use Rattle.flowfile_record.specs.declared.stored.ActiveFile.{ActiveFile}

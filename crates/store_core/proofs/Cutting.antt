@@ -1,13 +1,13 @@
 -- Files of a kind that are cut, one after another.
-use Rattle.std.proofs.Common.{◌≡◌, ◌≢◌, ⊎_elim, ℕ, ◌≤◌, Bool, true, false, List, length, take, refl, sym, ap, subst, ◌∙◌, arith}
+use Rattle.std.proofs.Common.{◌≡◌, ◌≢◌, ⊎_elim, ℕ, Bool, true, false, List, refl, sym, ap, subst, ◌∙◌, arith}
 use Rattle.std.proofs.lemmas.Bool.{cases_Bool, false≢true}
 use Rattle.disk_trait.specs.Files.{Files, At, Shortened, named}
-use Rattle.disk_trait.specs.Images.{After, Since, Stays}
+use Rattle.disk_trait.specs.Images.{After, Since}
 use Rattle.disk_trait.specs.Memory.{same_name}
 use Rattle.disk_trait.specs.declared.file_name.FileKind.{FileKind}
 use Rattle.disk_trait.specs.declared.file_name.FileName.{FileName}
 use Rattle.disk_trait.proofs.FileNames.{same_name_is, same_name_itself}
-use Rattle.disk_trait.proofs.Moments.{wider, nothing, only_read, step_after_step, one_after_another}
+use Rattle.disk_trait.proofs.Moments.{wider, step_after_step}
 use Rattle.store_core.specs.Discard.{CutsKind}
 
 pub shortened_same : (n : ℕ) (bytes : List ℕ) → Shortened n bytes bytes

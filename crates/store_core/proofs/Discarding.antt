@@ -1,19 +1,16 @@
 -- Files that don't matter go: what stays of a log that is passed over, of the current log, and of a store that isn't made.
-use Rattle.std.proofs.Common.{◌≡◌, ◌≢◌, ⊎_elim, ℕ, ◌+◌, ◌^◌, ◌<◌, ◌≤◌, ◌==◌, Bool, true, false, List, [], ◌∷◌, length, take, get_or, refl, sym, ap, subst, ◌∙◌, eq-eqb, arith}
-use Rattle.std.specs.Prelude.{Option, Some, None, nat_lt, nat_le, ◌&&◌, All}
-use Rattle.std.proofs.lemmas.Bool.{cases_Bool, cases_lt, false≢true, le-leb, lt-ltb, ltb-true, leb-true, eqb-true, false_from_ne_true}
-use Rattle.std.proofs.lemmas.List.{nil_from_length}
-use Rattle.disk_trait.specs.Files.{Files, At, Shortened, named}
-use Rattle.disk_trait.specs.Images.{After, Since, IsOnly}
+use Rattle.std.proofs.Common.{◌≡◌, ◌≢◌, ℕ, ◌≤◌, ◌==◌, Bool, true, false, List, [], ◌∷◌, length, take, get_or, refl, sym, ap, subst, ◌∙◌, eq-eqb, arith}
+use Rattle.std.specs.Prelude.{Option, Some, None, nat_lt, nat_le, ◌&&◌}
+use Rattle.std.proofs.lemmas.Bool.{false≢true, le-leb, lt-ltb, ltb-true, leb-true, eqb-true, false_from_ne_true}
+use Rattle.disk_trait.specs.Files.{Files, Shortened, named}
+use Rattle.disk_trait.specs.Images.{After, Since}
 use Rattle.disk_trait.specs.declared.file_name.FileKind.{FileKind}
 use Rattle.disk_trait.specs.declared.file_name.FileKind.TheVariants.{Log, Snapshot, Swap, Claim, Events}
-use Rattle.disk_trait.specs.declared.file_name.FileName.{FileName}
-use Rattle.disk_trait.proofs.Moments.{wider, step_after_step, and_syncs}
+use Rattle.disk_trait.proofs.Moments.{wider, step_after_step}
 use Rattle.record_codec.specs.declared.log.TheConstants.{OPEN_GATE}
 use Rattle.flowfile_wal.specs.Current.{counts}
-use Rattle.store_core.specs.declared.discard.Spared.{Spared}
 use Rattle.store_core.specs.declared.discard.Spared.TheVariants.{UpTo, Only}
-use Rattle.store_core.specs.Discard.{spares, CutsKind, HasCut, IsAbove, Discards}
+use Rattle.store_core.specs.Discard.{spares, CutsKind, IsAbove, Discards}
 
 -- ---- logs that are passed over
 

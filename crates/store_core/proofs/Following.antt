@@ -1,27 +1,21 @@
 -- Files that follow others: what is kept, the log and the live contents are the same.
-use Rattle.std.proofs.Common.{◌≡◌, ◌≢◌, ℕ, ◌+◌, ◌<◌, ◌≤◌, Bool, true, false, List, [], ◌∷◌, length, take, drop, get_or, refl, sym, ap, subst, ◌∙◌, inl, inr, arith}
-use Rattle.std.specs.Prelude.{Option, None, Some, Result, Ok, Err, All}
-use Rattle.disk_trait.specs.Files.{Files, At, named}
-use Rattle.disk_trait.specs.declared.damage.Damage.{Damage}
+use Rattle.std.proofs.Common.{◌≡◌, ℕ, get_or, refl, sym, ap, ◌∙◌}
+use Rattle.std.specs.Prelude.{All}
+use Rattle.disk_trait.specs.Files.{Files, named}
 use Rattle.disk_trait.specs.declared.file_name.FileKind.TheVariants.{Log, Snapshot, Claim}
 use Rattle.disk_trait.specs.declared.file_name.FileName.{FileName}
-use Rattle.flowfile_record.specs.Stored.{Kept}
-use Rattle.flowfile_record.specs.declared.content.ContentRef.{ContentRef}
 use Rattle.checkpoint_store.specs.Snapshot.{snapshot_file}
 use Rattle.content_repo.specs.Claims.{claim, content_in}
-use Rattle.content_repo.specs.Slots.{size_of, end_of}
-use Rattle.content_repo.specs.declared.slot.Slot.{Slot}
-use Rattle.flowfile_wal.specs.Current.{CurrentLog, current_log}
-use Rattle.flowfile_wal.specs.Steps.{Keeps, SameLog}
+use Rattle.flowfile_wal.specs.Current.{current_log}
+use Rattle.flowfile_wal.specs.Steps.{Keeps}
 use Rattle.flowfile_wal.proofs.Files.{alike}
 use Rattle.machine_model.specs.State.{State}
 use Rattle.store_core.specs.Agreement.{SameContent}
 use Rattle.store_core.specs.Flow.{flow_in}
-use Rattle.store_core.specs.Kept.{kept_in}
 use Rattle.store_core.specs.Placing.{GrowsBehind}
-use Rattle.store_core.specs.State.{stands_for, contents_damage, live_contents, events_in, state_of, state_with}
+use Rattle.store_core.specs.State.{stands_for}
 use Rattle.store_core.specs.Store.{StoreState, IsWorking, kept_by, live_in, Holds, HasLog}
-use Rattle.store_core.proofs.Agreeing.{sound, kept_alike, contents_sound, keeps_of, sound_of, state_of_sound, stands_by_kept, same_state, of_state}
+use Rattle.store_core.proofs.Agreeing.{kept_alike, contents_sound, sound_of, state_of_sound, stands_by_kept, same_state, of_state}
 use Rattle.store_core.proofs.ClaimsAlone.{current_stays, snapshot_stays}
 use Rattle.store_core.proofs.Growing.{same_grown}
 use Rattle.store_core.proofs.Reclaiming.{same_claim}

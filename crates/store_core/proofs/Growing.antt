@@ -1,16 +1,16 @@
 -- Claims that only grow: what stood in them stands there.
-use Rattle.std.proofs.Common.{◌≡◌, ◌≢◌, ℕ, ◌+◌, ◌<◌, ◌≤◌, Bool, true, false, List, [], ◌∷◌, ◌++◌, length, take, drop, get_or, refl, sym, ap, subst, ◌∙◌, inl, inr, arith}
-use Rattle.std.specs.Prelude.{Option, None, Some, All}
+use Rattle.std.proofs.Common.{◌≡◌, ℕ, ◌+◌, ◌≤◌, List, length, take, drop, refl, sym, ap, ◌∙◌, arith}
+use Rattle.std.specs.Prelude.{Some}
 use Rattle.std.proofs.lemmas.List.{take-take, drop-take}
-use Rattle.disk_trait.specs.Files.{Files, At, Torn, named}
+use Rattle.disk_trait.specs.Files.{Files}
 use Rattle.disk_trait.specs.Images.{After, Since}
 use Rattle.disk_trait.proofs.Moments.{wider, step_after_step}
 use Rattle.flowfile_record.specs.declared.content.ContentRef.{ContentRef}
 use Rattle.content_repo.specs.Append.{TornAtEnd}
-use Rattle.content_repo.specs.Claims.{claim, content_in, IsCovered, OnClaims}
+use Rattle.content_repo.specs.Claims.{claim}
 use Rattle.content_repo.specs.Slots.{size_of, end_of, next_slot}
 use Rattle.content_repo.specs.declared.slot.Slot.{Slot}
-use Rattle.content_repo.proofs.ClaimFiles.{OnClaims-refl, OnClaims-one, OnClaims-trans}
+use Rattle.content_repo.proofs.ClaimFiles.{OnClaims-refl, OnClaims-one}
 use Rattle.store_core.specs.Agreement.{SameContent}
 use Rattle.store_core.specs.Placing.{GrowsBehind}
 

@@ -13,7 +13,6 @@ use Rattle.disk_trait.specs.declared.damage.Damage.TheVariants.{Form}
 use Rattle.disk_trait.specs.declared.file_name.FileName.{FileName}
 use Rattle.flowfile_record.specs.Stored.{Kept}
 use Rattle.flowfile_record.specs.declared.stored.SwapBatch.{SwapBatch}
-use Rattle.record_codec.specs.declared.entry.LogEntry.{LogEntry}
 use Rattle.checkpoint_store.specs.Reading.{snapshot_of}
 use Rattle.flowfile_wal.specs.Current.{CurrentLog, current_log}
 use Rattle.flowfile_wal.specs.Steps.{LogState, numbered, log_with}

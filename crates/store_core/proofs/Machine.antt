@@ -1,6 +1,6 @@
 -- The machine's state that files stand for behind a session.
-use Rattle.std.proofs.Common.{◌≡◌, ◌≢◌, ℕ, ◌+◌, ◌<◌, ◌≤◌, ◌==◌, Bool, true, false, cond, List, [], ◌∷◌, ◌++◌, length, map, refl, sym, ap, subst, ◌∙◌, inl, inr, arith}
-use Rattle.std.specs.Prelude.{All, filter, fold, Option, None, Some, slice_set}
+use Rattle.std.proofs.Common.{◌≡◌, ℕ, ◌+◌, Bool, true, false, List, [], ◌∷◌, map, refl, sym, ap, ◌∙◌}
+use Rattle.std.specs.Prelude.{fold, Option, None, Some}
 use Rattle.std.specs.List.{AllZip, enumerate_from}
 use Rattle.std.specs.FinSet.{union, from_list, contains, same_set, contains-union, contains-from_list}
 use Rattle.std.specs.Prelude.{◌||◌}
@@ -11,16 +11,14 @@ use Rattle.flowfile_record.specs.Stored.{Kept}
 use Rattle.flowfile_record.specs.declared.change.Settled.{Settled}
 use Rattle.flowfile_record.specs.declared.content.ContentRef.{ContentRef}
 use Rattle.flowfile_record.specs.declared.event.Event.{Event}
-use Rattle.flowfile_record.specs.declared.stored.ActiveFile.{ActiveFile}
 use Rattle.flowfile_record.specs.declared.stored.Counted.{Counted}
-use Rattle.flowfile_record.specs.declared.stored.Placed.{Placed}
 use Rattle.record_codec.specs.declared.entry.SessionEntry.{SessionEntry}
-use Rattle.kept_state.specs.Applied.{left_after, with_files, session_applied, with_count}
+use Rattle.kept_state.specs.Applied.{left_after, session_applied, with_count}
 use Rattle.kept_state.proofs.Apart.{AreApart}
 use Rattle.machine_model.specs.State.{QueuedFile, State}
 use Rattle.machine_model.specs.Stepping.{without_files}
-use Rattle.store_core.specs.Change.{placed_file, placed_into, queue_after, counts_after, state_after}
-use Rattle.store_core.specs.State.{queued, with_arrival, queue_of, state_with}
+use Rattle.machine_model.specs.Changing.{placed_into, with_arrival, queue_after, with_count as counts_after, state_after}
+use Rattle.store_core.specs.State.{queue_of, state_with}
 use Rattle.store_core.proofs.Queues.{IsQueuedAs, queue_behind, line, arrival_of}
 
 -- the session that is recorded is the settled one, each placed file queued as it was handed in

@@ -1,6 +1,6 @@
 -- A store that was just made stands for what its files stood for before.
-use Rattle.std.proofs.Common.{◌≡◌, ℕ, ◌+◌, ◌^◌, ◌<◌, cond, Bool, true, List, [], ◌++◌, map, refl, sym, ap, ◌∙◌, arith}
-use Rattle.std.specs.Prelude.{Option, Some, None, Result, Ok, Err, All}
+use Rattle.std.proofs.Common.{◌≡◌, ℕ, cond, Bool, true, List, [], ◌++◌, map, refl, sym, ap, ◌∙◌, arith}
+use Rattle.std.specs.Prelude.{None, Result, Ok, Err}
 use Rattle.std.proofs.lemmas.List.Elements.{All-nil}
 use Rattle.disk_trait.specs.Files.{Files, At}
 use Rattle.disk_trait.specs.Images.{After, Since}
@@ -12,10 +12,10 @@ use Rattle.flowfile_record.specs.declared.stored.SwapBatch.{SwapBatch}
 use Rattle.flowfile_record.specs.declared.content.ContentRef.{ContentRef}
 use Rattle.checkpoint_store.specs.Consistent.{IsConsistent}
 use Rattle.checkpoint_store.specs.Reading.{snapshot_of}
-use Rattle.checkpoint_store.specs.Snapshot.{snapshot, snapshot_file}
+use Rattle.checkpoint_store.specs.Snapshot.{snapshot_file}
 use Rattle.checkpoint_store.proofs.ReadBack.{read_back}
 use Rattle.content_repo.specs.Claims.{content_in}
-use Rattle.flowfile_wal.specs.Current.{CurrentLog, current_log}
+use Rattle.flowfile_wal.specs.Current.{CurrentLog}
 use Rattle.flowfile_wal.specs.Steps.{IsClosedIn}
 use Rattle.flowfile_wal.proofs.Beginnings.{begun_in}
 use Rattle.flowfile_wal.proofs.States.{begun_ready}
@@ -24,7 +24,6 @@ use Rattle.store_core.specs.Flow.{Flow, agrees_with}
 use Rattle.store_core.specs.Kept.{kept_in, snapshot_for, of_flow, least_of, unless_swapped, with_entries, behind_snapshot}
 use Rattle.store_core.specs.New.{kept_anew}
 use Rattle.store_core.specs.Opened.{IsMade, SameMeaning}
-use Rattle.store_core.specs.State.{state_with, stands_for}
 use Rattle.store_core.proofs.Agreeing.{kept_by_log, same_state}
 use Rattle.store_core.specs.Discard.{Discards}
 use Rattle.store_core.proofs.Making.{kept_unmade}

@@ -1,21 +1,18 @@
 -- While a store is being made, its files stand for a new one.
-use Rattle.std.proofs.Common.{◌≡◌, ℕ, ◌+◌, ◌^◌, ◌<◌, ◌≤◌, Bool, true, false, List, [], ◌∷◌, length, refl, sym, ap, ◌∙◌, arith}
-use Rattle.std.specs.Prelude.{Option, None, Some, Result, Ok, Err, option_map, nat_le, nat_lt, ◌&&◌}
+use Rattle.std.proofs.Common.{◌≡◌, ℕ, ◌^◌, ◌<◌, ◌≤◌, Bool, true, false, List, [], length, refl, ap, ◌∙◌, arith}
+use Rattle.std.specs.Prelude.{Option, None, Ok, option_map, nat_le, nat_lt, ◌&&◌}
 use Rattle.std.proofs.lemmas.Bool.{leb-true}
 use Rattle.disk_trait.specs.Files.{Files, named}
-use Rattle.disk_trait.specs.Search.{least_below}
-use Rattle.disk_trait.specs.declared.damage.Damage.{Damage}
 use Rattle.disk_trait.specs.declared.file_name.FileKind.{FileKind}
 use Rattle.disk_trait.specs.declared.file_name.FileKind.TheVariants.{Log, Snapshot, Swap, Claim, Events}
 use Rattle.disk_trait.specs.declared.file_name.FileName.{FileName}
 use Rattle.disk_trait.proofs.Search.{least_none}
-use Rattle.flowfile_record.specs.Stored.{Kept}
-use Rattle.flowfile_wal.specs.Current.{CurrentLog, current_log, current_number, log_of_number}
+use Rattle.flowfile_wal.specs.Current.{current_log, current_number, log_of_number}
 use Rattle.machine_model.specs.State.{State}
 use Rattle.store_core.specs.Flow.{Flow}
 use Rattle.store_core.specs.Kept.{kept_in, behind_log}
 use Rattle.store_core.specs.New.{holds_from, first_from, or_else, first_stray, kept_anew, unless_stray}
-use Rattle.store_core.specs.State.{stands_for, state_of, state_with}
+use Rattle.store_core.specs.State.{stands_for}
 use Rattle.store_core.specs.Agreement.{IsUnmade}
 use Rattle.store_core.proofs.Agreeing.{stands_by_kept, state_of_sound}
 

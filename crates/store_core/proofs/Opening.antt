@@ -1,23 +1,20 @@
 -- What a store's files stand for, by what was read of them, and what stays of it while they are made whole again.
-use Rattle.std.proofs.Common.{◌≡◌, ◌≢◌, ◌⊎◌, ⊎_elim, inl, inr, ℕ, ◌+◌, ◌<◌, ◌≤◌, ◌==◌, min, max, cond, eqb, Bool, true, false, List, [], ◌∷◌, ◌++◌, length, map, take, drop, get_or, refl, sym, ap, subst, ◌∙◌, eq-eqb, arith}
+use Rattle.std.proofs.Common.{◌≡◌, ◌≢◌, ℕ, ◌+◌, ◌≤◌, ◌==◌, min, max, cond, Bool, true, false, List, [], ◌∷◌, length, take, drop, get_or, refl, sym, ap, subst, ◌∙◌, eq-eqb, arith}
 use Rattle.std.specs.Prelude.{Option, Some, None, Result, Ok, Err, All, fold, bytes_eq, not, ◌&&◌, ◌||◌}
 use Rattle.std.proofs.lemmas.Bool.{and_parts, eqb-true}
 use Rattle.std.proofs.lemmas.List.{take-take, drop-take}
-use Rattle.std.proofs.lemmas.List.Elements.{All-nil, All-cons, All-head, All-tail, All-weaker}
+use Rattle.std.proofs.lemmas.List.Elements.{All-nil, All-cons, All-weaker}
 use Rattle.std.specs.Cmp.Lexicographic.{pointwise, nat_list_eq_equiv}
-use Rattle.disk_trait.specs.Files.{Files, At, Shortened, named}
-use Rattle.disk_trait.specs.Images.{After, Since, Stays, IsOnly}
+use Rattle.disk_trait.specs.Files.{Files, Shortened, named}
+use Rattle.disk_trait.specs.Images.{Since, Stays, IsOnly}
 use Rattle.disk_trait.specs.declared.damage.Damage.{Damage}
-use Rattle.disk_trait.specs.declared.file_name.FileKind.TheVariants.{Log, Snapshot, Claim, Swap, Events}
+use Rattle.disk_trait.specs.declared.file_name.FileKind.TheVariants.{Log, Snapshot, Claim}
 use Rattle.disk_trait.specs.declared.file_name.FileName.{FileName}
 use Rattle.disk_trait.proofs.Moments.{wider, only_read}
 use Rattle.flowfile_record.specs.Stored.{Kept}
 use Rattle.flowfile_record.specs.declared.content.ContentRef.{ContentRef}
-use Rattle.flowfile_record.specs.declared.event.Event.{Event}
-use Rattle.flowfile_record.specs.declared.flow_file.FlowFile.{FlowFile}
-use Rattle.record_codec.specs.declared.entry.LogEntry.{LogEntry}
 use Rattle.checkpoint_store.specs.Snapshot.{snapshot_file}
-use Rattle.content_repo.specs.Claims.{claim, content_in, IsCovered, OnClaims, ShortenedTo}
+use Rattle.content_repo.specs.Claims.{claim, content_in, OnClaims, ShortenedTo}
 use Rattle.content_repo.specs.Slots.{end_of, covered}
 use Rattle.flowfile_wal.specs.Current.{CurrentLog, counts, log_in, of_some, log_of_number, current_log, current_number}
 use Rattle.flowfile_wal.specs.Steps.{LogState, IsReadyIn, EndsClosed}
@@ -26,7 +23,7 @@ use Rattle.kept_state.specs.Applied.{batches_that_matter}
 use Rattle.machine_model.specs.State.{State}
 use Rattle.store_core.specs.Agreement.{Needs, IsPlain, Agrees, SameContent, IsNeeded}
 use Rattle.store_core.specs.Flow.{Flow, flow_in, agrees_with}
-use Rattle.store_core.specs.Kept.{kept_in, snapshot_for, with_least, least_of, unless_swapped, batches_in, with_entries, behind_snapshot, fitted}
+use Rattle.store_core.specs.Kept.{kept_in, with_least, least_of, unless_swapped, with_entries, behind_snapshot}
 use Rattle.store_core.specs.Opened.{SameMeaning}
 use Rattle.store_core.specs.State.{contents_damage, live_contents, events_in, state_by, state_of, state_with, behind_kept, stands_for}
 use Rattle.store_core.proofs.Agreeing.{stands_by_kept, state_of_sound, agreeing_kept, agreeing_state, kept_by_log}

@@ -1,13 +1,12 @@
 -- What each exit of a commit leaves: of the contents that were placed, and of the entry that was logged behind them.
-use Rattle.std.proofs.Common.{◌≡◌, ℕ, ◌+◌, ◌-◌, ◌^◌, ◌<◌, ◌≤◌, Bool, true, false, List, [], ◌∷◌, length, refl, sym, ap, subst, ◌∙◌, inl, inr, arith, IsTrue}
-use Rattle.std.specs.Prelude.{Option, None, Some, is_some, Result, Ok, ◌⊎◌, min}
+use Rattle.std.proofs.Common.{◌≡◌, ℕ, ◌+◌, ◌-◌, ◌^◌, ◌≤◌, Bool, true, false, List, [], length, refl, sym, ap, subst, ◌∙◌, inl, inr, IsTrue}
+use Rattle.std.specs.Prelude.{Option, None, Some, is_some, ◌⊎◌, min}
 use Rattle.disk_trait.specs.Files.{Files}
 use Rattle.disk_trait.specs.Images.{After, Since}
 use Rattle.disk_trait.proofs.Moments.{wider, wider_where_left}
-use Rattle.flowfile_record.specs.Stored.{Kept}
 use Rattle.record_codec.specs.Placeless.{placeless_entry}
 use Rattle.record_codec.specs.declared.entry.LogEntry.{LogEntry}
-use Rattle.record_codec.specs.declared.entry.LogEntry.TheVariants.{Begin, Session, Expire, SwapOut, SwapIn}
+use Rattle.record_codec.specs.declared.entry.LogEntry.TheVariants.{Session}
 use Rattle.record_codec.specs.declared.entry.SessionEntry.{SessionEntry}
 use Rattle.checkpoint_store.specs.Consistent.{IsConsistent}
 use Rattle.content_repo.specs.Claims.{content_in, HasSizes}
@@ -18,7 +17,8 @@ use Rattle.flowfile_wal.specs.Steps.{Adds, IsReadyIn}
 use Rattle.kept_state.specs.Applied.{applied, session_applied}
 use Rattle.kept_state.specs.Changes.{no_files, placed_in, session_of}
 use Rattle.machine_model.specs.State.{State}
-use Rattle.store_core.specs.Change.{HasLiveContents, state_after}
+use Rattle.machine_model.specs.Changing.{state_after}
+use Rattle.store_core.specs.Change.{HasLiveContents}
 use Rattle.store_core.specs.Committed.{PreparedChange, IsPrepared, HasChange, HoldsEither, MayTouch, TouchesOnly}
 use Rattle.store_core.specs.Flow.{flow_in}
 use Rattle.store_core.specs.Placing.{contents_of, GrowsBehind, ArePlaced, PlacesAll}

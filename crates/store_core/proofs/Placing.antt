@@ -1,19 +1,16 @@
 -- Placed files, one after another.
-use Rattle.std.proofs.Common.{◌≡◌, ◌≢◌, ℕ, ◌+◌, ◌-◌, ◌<◌, ◌≤◌, eqb, Bool, true, false, cond, List, [], ◌∷◌, ◌++◌, length, map, take, drop, get_or, refl, sym, ap, subst, ◌∙◌, inl, inr, arith, add-one, append_assoc, length-append, drop-cons, length-drop, suc, IsTrue}
+use Rattle.std.proofs.Common.{◌≡◌, ℕ, ◌+◌, ◌<◌, ◌≤◌, eqb, Bool, cond, List, [], ◌∷◌, ◌++◌, length, map, take, drop, get_or, refl, sym, ap, subst, ◌∙◌, arith, add-one, append_assoc, length-append, drop-cons, length-drop, suc, IsTrue}
 use Rattle.std.specs.List.{AllZip}
-use Rattle.std.specs.Prelude.{Option, None, Some, All}
+use Rattle.std.specs.Prelude.{Option, None, Some}
 use Rattle.std.specs.List.{filter_map, cons_option}
 use Rattle.std.proofs.lemmas.List.Sums.{sum_by-append}
 use Rattle.std.proofs.lemmas.List.{take_more, take_all, append-nil, map-append, nil_from_length}
-use Rattle.std.proofs.lemmas.List.Elements.{All-nil, All-cons}
-use Rattle.sha2.specs.Sha256.{sha256}
 use Rattle.disk_trait.specs.Files.{Files}
 use Rattle.flowfile_record.specs.declared.content.ContentRef.{ContentRef}
 use Rattle.flowfile_record.specs.declared.stored.ActiveFile.{ActiveFile}
 use Rattle.flowfile_record.specs.declared.stored.Placed.{Placed}
 use Rattle.record_codec.specs.declared.entry.LogEntry.{LogEntry}
-use Rattle.content_repo.specs.Claims.{content_in}
-use Rattle.content_repo.specs.Slots.{count_of, size_of, held_in, references_to, end_of, taken, HasRoom}
+use Rattle.content_repo.specs.Slots.{size_of, references_to, taken, HasRoom}
 use Rattle.content_repo.specs.declared.slot.Slot.{Slot}
 use Rattle.kept_state.specs.Changes.{placed_in, record_of}
 use Rattle.store_core.specs.Change.{IsFresh, fresh_sizes_of}

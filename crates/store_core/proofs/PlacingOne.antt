@@ -1,12 +1,10 @@
 -- One placed file: its content is held once more, or written.
-use Rattle.std.proofs.Common.{◌≡◌, ◌≢◌, ℕ, zero, suc, ◌+◌, ◌-◌, ◌<◌, ◌≤◌, Bool, true, false, cond, List, [], ◌∷◌, ◌++◌, length, map, take, drop, get_or, refl, sym, ap, subst, ◌∙◌, inl, inr, arith, IsTrue}
-use Rattle.std.specs.Prelude.{Option, None, Some, All}
-use Rattle.std.specs.List.{filter_map, cons_option}
-use Rattle.sha2.specs.Sha256.{sha256}
+use Rattle.std.proofs.Common.{◌≡◌, ℕ, ◌+◌, Bool, List, [], ◌∷◌, ◌++◌, length, map, refl, sym, ap, subst, ◌∙◌, arith, IsTrue}
+use Rattle.std.specs.Prelude.{Option, None, Some}
+use Rattle.std.specs.List.{cons_option}
 use Rattle.sha2.proofs.Facts256.{length-sha256}
 use Rattle.disk_trait.specs.Files.{Files}
 use Rattle.flowfile_record.specs.declared.content.ContentRef.{ContentRef}
-use Rattle.flowfile_record.specs.declared.flow_file.FlowFile.{FlowFile}
 use Rattle.flowfile_record.specs.declared.stored.ActiveFile.{ActiveFile}
 use Rattle.flowfile_record.specs.declared.stored.Placed.{Placed}
 use Rattle.record_codec.specs.ActiveFile.{active}
@@ -14,14 +12,14 @@ use Rattle.record_codec.specs.FileEncoding.{IsContentRef}
 use Rattle.record_codec.specs.Placeless.{placeless}
 use Rattle.record_codec.specs.declared.entry.LogEntry.{LogEntry}
 use Rattle.record_codec.specs.declared.entry.LogEntry.TheVariants.{Begin, Session, Expire, SwapOut, SwapIn}
-use Rattle.content_repo.specs.Append.{IsAppended, IsWritten, MayAppend}
+use Rattle.content_repo.specs.Append.{IsAppended, MayAppend}
 use Rattle.content_repo.specs.Claims.{content_in}
-use Rattle.content_repo.specs.Slots.{count_of, size_of, held_in, references_to, end_of, with_count, taken, next_slot, HasRoom}
+use Rattle.content_repo.specs.Slots.{count_of, size_of, held_in, end_of, with_count, taken, next_slot, HasRoom}
 use Rattle.content_repo.specs.declared.slot.Slot.{Slot}
-use Rattle.kept_state.specs.Changes.{placed_in, recorded, record_of, at_content, with_content, with_content_at, HasContentLike}
+use Rattle.kept_state.specs.Changes.{placed_in, recorded, at_content, with_content, with_content_at, HasContentLike}
 use Rattle.store_core.specs.Change.{IsFresh, fresh_sizes_of}
-use Rattle.store_core.specs.Placing.{IsHeldIn, IsPlacedAs, HoldsMore, MayPlaceOne, IsRecordedAt, PlacesOne}
-use Rattle.store_core.proofs.Referring.{Appends, appended, held_more, refers_once, one_of}
+use Rattle.store_core.specs.Placing.{IsHeldIn, MayPlaceOne, IsRecordedAt, PlacesOne}
+use Rattle.store_core.proofs.Referring.{appended, held_more, refers_once, one_of}
 use Rattle.store_core.proofs.Rooms.{counted_alike, room_alike, shape}
 
 -- ---- an old content

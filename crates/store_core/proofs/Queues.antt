@@ -1,9 +1,9 @@
 -- The queues of what is kept after a session are those of the machine's state after it.
-use Rattle.std.proofs.Common.{◌≡◌, ◌≢◌, ℕ, ◌+◌, ◌<◌, ◌≤◌, ◌==◌, eqb, not, Bool, true, false, cond, List, [], ◌∷◌, ◌++◌, length, map, refl, sym, ap, subst, ◌∙◌, inl, inr, arith}
+use Rattle.std.proofs.Common.{◌≡◌, ◌≢◌, ℕ, ◌==◌, not, Bool, true, false, cond, List, [], ◌∷◌, map, refl, sym, ap, ◌∙◌, inl, inr}
 use Rattle.std.specs.List.{AllZip}
-use Rattle.std.specs.Prelude.{All, filter, fold, find, Option, None, Some, is_some, unwrap_or, nat_lt, ◌||◌}
-use Rattle.std.specs.List.{list_any, enumerate_from}
-use Rattle.std.proofs.lemmas.Bool.{cases_Bool, or_parts, eqb-true, eq-eqb, false≢true}
+use Rattle.std.specs.Prelude.{All, filter, fold, find, Some, is_some, nat_lt, ◌||◌}
+use Rattle.std.specs.List.{list_any}
+use Rattle.std.proofs.lemmas.Bool.{cases_Bool, or_parts, eq-eqb, false≢true}
 use Rattle.std.proofs.lemmas.List.Elements.{All-nil, All-cons}
 use Rattle.flowfile_record.specs.NumberedItems.{with_item}
 use Rattle.flowfile_record.specs.declared.content.ContentRef.{ContentRef}
@@ -14,8 +14,8 @@ use Rattle.kept_state.proofs.Apart.{AreApart}
 use Rattle.machine_model.specs.Files.{is_number_among}
 use Rattle.machine_model.specs.State.{QueuedFile}
 use Rattle.machine_model.specs.Stepping.{without_files}
-use Rattle.store_core.specs.Change.{placed_file, placed_into}
-use Rattle.store_core.specs.State.{queued, with_arrival, queue_of}
+use Rattle.machine_model.specs.Changing.{placed_file, placed_into, with_arrival}
+use Rattle.store_core.specs.State.{queued, queue_of}
 use Rattle.store_core.proofs.ByKey.{put_later, filter_fold}
 
 abbrev pub arrival_of : ActiveFile → ℕ

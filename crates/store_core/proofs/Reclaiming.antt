@@ -1,20 +1,18 @@
 -- Claims that nothing refers to are emptied: what is kept stays, and so does what is known of the live ones.
-use Rattle.std.proofs.Common.{◌≡◌, ◌≢◌, ℕ, zero, suc, ◌+◌, ◌<◌, ◌≤◌, ◌==◌, eqb, Bool, true, false, cond, List, [], ◌∷◌, length, take, drop, refl, sym, ap, subst, ◌∙◌, arith, get_or, inl, inr, eq-eqb, IsTrue}
-use Rattle.std.specs.Prelude.{Option, None, Some, All, MatchBool, map, count_by, ◌&&◌}
-use Rattle.std.proofs.lemmas.Bool.{cases_Bool, cases_eq, ne_eqb, eqb-true, false≢true}
-use Rattle.std.proofs.lemmas.List.Elements.{All-nil, All-cons, All-head, All-tail}
+use Rattle.std.proofs.Common.{◌≡◌, ℕ, zero, suc, ◌+◌, ◌<◌, ◌≤◌, ◌==◌, eqb, Bool, true, false, cond, List, [], ◌∷◌, length, take, drop, refl, sym, ap, subst, ◌∙◌, arith, get_or, eq-eqb, IsTrue}
+use Rattle.std.specs.Prelude.{All, MatchBool, map, ◌&&◌}
+use Rattle.std.proofs.lemmas.Bool.{ne_eqb, eqb-true, false≢true}
 use Rattle.std.proofs.lemmas.List.Sums.{sum_by-cons}
 use Rattle.std.proofs.Math.ListN.{get_or-map}
-use Rattle.disk_trait.specs.Files.{Files, Shortened, named}
-use Rattle.disk_trait.specs.declared.file_name.FileName.{FileName}
+use Rattle.disk_trait.specs.Files.{Files}
 use Rattle.flowfile_record.specs.declared.content.ContentRef.{ContentRef}
-use Rattle.content_repo.specs.Claims.{claim, content_in, IsCovered, IdleShortened}
+use Rattle.content_repo.specs.Claims.{claim, IdleShortened}
 use Rattle.content_repo.specs.Slots.{count_of, size_of, slot_at, is_idle, end_of, references_to, reclaimed, unused, held_in}
 use Rattle.content_repo.specs.declared.slot.Slot.{Slot}
 use Rattle.store_core.specs.Agreement.{SameContent}
 use Rattle.disk_trait.specs.Images.{After, Since}
 use Rattle.disk_trait.proofs.Moments.{wider, at_the_end}
-use Rattle.content_repo.specs.Claims.{HasSizes, AreEmptied}
+use Rattle.content_repo.specs.Claims.{HasSizes}
 use Rattle.content_repo.specs.Slots.{IsReclaimed}
 use Rattle.content_repo.specs.declared.reclaim.Reclaimed.{Reclaimed}
 use Rattle.flowfile_wal.specs.Calls.{InEach}

@@ -1,12 +1,11 @@
 -- What is known of slots where one reference more or less is held.
-use Rattle.std.proofs.Common.{◌≡◌, ◌≢◌, ℕ, ◌+◌, ◌-◌, ◌<◌, ◌≤◌, eqb, Bool, true, false, cond, List, [], ◌∷◌, ◌++◌, length, map, set, get_or, take, drop, refl, sym, ap, subst, ◌∙◌, inl, inr, arith, eq-eqb, get_or-set_same, get_or-set_other}
-use Rattle.std.specs.Prelude.{Option, None, Some, All}
+use Rattle.std.proofs.Common.{◌≡◌, ◌≢◌, ℕ, ◌+◌, ◌-◌, ◌<◌, ◌≤◌, eqb, Bool, true, cond, List, [], ◌∷◌, ◌++◌, length, set, get_or, take, drop, refl, sym, ap, ◌∙◌, inl, inr, arith, eq-eqb, get_or-set_same, get_or-set_other}
 use Rattle.std.proofs.lemmas.Bool.{cases_lt, cases_eq, ne_eqb}
 use Rattle.std.proofs.lemmas.List.{get_or_past, set_past, take-append-drop}
 use Rattle.std.proofs.lemmas.List.Sums.{sum_by_more, sum_by-append}
 use Rattle.flowfile_record.specs.declared.content.ContentRef.{ContentRef}
 use Rattle.content_repo.specs.Append.{IsAppended}
-use Rattle.content_repo.specs.Slots.{count_of, size_of, held_in, references_to, end_of, taken, with_count, slot_at, unused, next_slot, is_live}
+use Rattle.content_repo.specs.Slots.{count_of, size_of, held_in, references_to, end_of, with_count, unused, is_live}
 use Rattle.content_repo.specs.declared.slot.Slot.{Slot}
 use Rattle.store_core.proofs.Reclaiming.{references-cons}
 

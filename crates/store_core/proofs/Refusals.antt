@@ -1,5 +1,5 @@
 -- What the errors of the repositories tell, once they are the store's.
-use Rattle.std.proofs.Common.{◌≡◌, ◌⊎◌, inl, inr, refl, sym, ◌∙◌, ap}
+use Rattle.std.proofs.Common.{◌≡◌, inl, inr, refl}
 use Rattle.disk_trait.specs.declared.damage.Damage.{Damage}
 use Rattle.disk_trait.specs.declared.file_name.DiskError.{DiskError}
 use Rattle.checkpoint_store.specs.declared.error.CheckError.{CheckError}

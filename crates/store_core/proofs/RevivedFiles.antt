@@ -1,5 +1,5 @@
 -- What files keep once their log is mended or made, and once their claims are cut.
-use Rattle.std.proofs.Common.{◌≡◌, ◌≢◌, ◌⊎◌, ⊎_elim, inl, inr, ℕ, ◌+◌, ◌-◌, ◌^◌, ◌<◌, ◌≤◌, min, ltb, Bool, true, false, IsTrue, List, [], length, get_or, refl, sym, ap, subst, ◌∙◌, arith}
+use Rattle.std.proofs.Common.{◌≡◌, ◌⊎◌, ⊎_elim, inl, inr, ℕ, ◌+◌, ◌-◌, ◌^◌, ◌<◌, ◌≤◌, min, ltb, Bool, true, false, IsTrue, List, [], length, get_or, refl, sym, ap, subst, ◌∙◌, arith}
 use Rattle.std.specs.Prelude.{Option, Some, None, Result, Ok, Err, All, option_map, nat_le, nat_lt, ◌&&◌}
 use Rattle.std.proofs.lemmas.Bool.{le-leb}
 use Rattle.std.proofs.lemmas.List.{nil_from_length, length-map}
@@ -22,7 +22,7 @@ use Rattle.content_repo.specs.Claims.{content_in, IsCovered, ShortenedTo}
 use Rattle.content_repo.specs.Slots.{covered, count_of, size_of, held_in, end_of, references_to, IsNamed}
 use Rattle.flowfile_wal.specs.Calls.{InEach}
 use Rattle.flowfile_wal.specs.Current.{CurrentLog, current_log, current_number, log_of_number, of_some}
-use Rattle.flowfile_wal.specs.Steps.{LogState, IsReadyIn, numbered}
+use Rattle.flowfile_wal.specs.Steps.{IsReadyIn, numbered}
 use Rattle.machine_model.specs.State.{State}
 use Rattle.store_core.specs.Agreement.{Needs, IsPlain, Agrees, SameContent, IsUnmade}
 use Rattle.store_core.specs.Flow.{Flow, flow_in, agrees_with}
@@ -30,7 +30,7 @@ use Rattle.store_core.specs.Found.{IsFoundIn}
 use Rattle.store_core.specs.Kept.{kept_in}
 use Rattle.store_core.specs.New.{holds_from, first_from, or_else, first_stray, kept_anew, unless_stray}
 use Rattle.store_core.specs.Opened.{IsReadWhole, IsMade, SameMeaning}
-use Rattle.store_core.specs.State.{stands_for, contents_damage, live_contents}
+use Rattle.store_core.specs.State.{contents_damage, live_contents}
 use Rattle.store_core.specs.Store.{StoreState, kept_by, live_in, Holds, HasLog, IsWorking}
 use Rattle.store_core.specs.declared.reading.Found.{Found}
 use Rattle.store_core.proofs.Agreeing.{kept_alike, contents_sound, same_state, agreeing_kept}

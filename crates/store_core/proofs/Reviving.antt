@@ -1,12 +1,11 @@
 -- What stays of a store whose log is mended while other files go, and of one that is being made.
-use Rattle.std.proofs.Common.{◌≡◌, ◌≢◌, ◌⊎◌, ⊎_elim, inl, inr, ℕ, ◌+◌, ◌-◌, ◌*◌, ◌^◌, ◌<◌, ◌≤◌, ◌==◌, min, Bool, true, false, List, [], ◌++◌, length, take, drop, get_or, refl, sym, ap, subst, ◌∙◌, arith}
-use Rattle.std.specs.Prelude.{Option, Some, None, Ok, All, nat_lt, ◌&&◌}
-use Rattle.std.proofs.lemmas.Bool.{cases_eq, eqb-true, false_from_ne_true, ltb-true}
+use Rattle.std.proofs.Common.{◌≡◌, ◌≢◌, ⊎_elim, inl, inr, ℕ, ◌-◌, ◌*◌, ◌^◌, ◌<◌, ◌≤◌, ◌==◌, min, Bool, true, false, List, [], ◌++◌, length, take, drop, get_or, refl, sym, ap, subst, ◌∙◌, arith}
+use Rattle.std.specs.Prelude.{Some, None, All, nat_lt, ◌&&◌}
+use Rattle.std.proofs.lemmas.Bool.{cases_eq, eqb-true}
 use Rattle.std.proofs.lemmas.List.{nil_from_length}
 use Rattle.std.proofs.lemmas.List.Elements.{All-nil}
-use Rattle.disk_trait.specs.Files.{Files, At, Overwritten, named}
+use Rattle.disk_trait.specs.Files.{Files, At, named}
 use Rattle.disk_trait.specs.Images.{After, Since}
-use Rattle.disk_trait.specs.declared.file_name.FileKind.{FileKind}
 use Rattle.disk_trait.specs.declared.file_name.FileKind.TheVariants.{Log, Snapshot, Swap, Claim, Events}
 use Rattle.disk_trait.specs.declared.file_name.FileName.{FileName}
 use Rattle.disk_trait.proofs.Moments.{wider, step_after_step}
@@ -14,15 +13,15 @@ use Rattle.disk_trait.proofs.Search.{greatest_found, greatest_is, greatest_none}
 use Rattle.flowfile_record.specs.Stored.{Kept}
 use Rattle.flowfile_record.specs.declared.content.ContentRef.{ContentRef}
 use Rattle.record_codec.specs.declared.log.TheConstants.{OPEN_GATE}
-use Rattle.checkpoint_store.specs.Begun.{IsPassedOver, IsBegun, IsBegunOrNot, begun_log, log_file}
+use Rattle.checkpoint_store.specs.Begun.{IsPassedOver, begun_log, log_file}
 use Rattle.checkpoint_store.specs.Snapshot.{snapshot, snapshot_file}
 use Rattle.content_repo.specs.Claims.{claim}
 use Rattle.content_repo.specs.Slots.{end_of}
-use Rattle.flowfile_wal.specs.Current.{CurrentLog, counts, current_number, current_log, log_in, of_some, log_of_number}
-use Rattle.flowfile_wal.specs.Steps.{LogState, SameLog, IsReadyIn, IsClosedIn, EndsClosed}
+use Rattle.flowfile_wal.specs.Current.{counts, current_number, current_log, log_in, of_some, log_of_number}
+use Rattle.flowfile_wal.specs.Steps.{LogState, SameLog, IsReadyIn, EndsClosed}
 use Rattle.flowfile_wal.proofs.Files.{alike, current_is}
 use Rattle.store_core.specs.Agreement.{Needs, IsPlain, Agrees, SameContent, events_front, blocks_size, events_per_file, IsUnmade}
-use Rattle.store_core.specs.Discard.{IsAbove, Discards}
+use Rattle.store_core.specs.Discard.{Discards}
 use Rattle.store_core.specs.Opened.{IsMade}
 use Rattle.store_core.proofs.Agreeing.{agrees_in_turn}
 use Rattle.store_core.proofs.Discarding.{passed_short}

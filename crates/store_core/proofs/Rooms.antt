@@ -1,11 +1,11 @@
 -- Room for contents doesn't look at how often a slot is referred to.
-use Rattle.std.proofs.Common.{◌≡◌, ℕ, ◌+◌, Bool, true, cond, not, List, [], ◌∷◌, length, map, set, get_or, refl, sym, ap, ◌∙◌}
+use Rattle.std.proofs.Common.{◌≡◌, ℕ, ◌+◌, Bool, true, cond, not, List, [], ◌∷◌, length, map, set, refl, sym, ap, ◌∙◌}
 use Rattle.std.specs.Prelude.{Option, None, Some, nat_lt}
 use Rattle.std.specs.List.{prefix_len, position}
 use Rattle.std.proofs.lemmas.List.{length-map, map-set}
 use Rattle.std.proofs.Math.ListN.{get_or-map}
 use Rattle.std.proofs.Math.Seq.{map-set_same}
-use Rattle.content_repo.specs.Slots.{HasRoom, next_slot, or_else, is_open, is_free, taken, with_count, size_of, slot_at, unused}
+use Rattle.content_repo.specs.Slots.{HasRoom, next_slot, or_else, is_open, is_free, taken, with_count, size_of, unused}
 use Rattle.content_repo.specs.declared.slot.Slot.{Slot}
 
 -- a slot, but for how often it is referred to

@@ -1,10 +1,9 @@
 -- The machine's state that files stand for once a session's entry was added.
-use Rattle.std.proofs.Common.{◌≡◌, ◌≢◌, ℕ, ◌+◌, ◌<◌, ◌≤◌, ◌==◌, Bool, true, false, cond, not, List, [], ◌∷◌, ◌++◌, length, map, take, drop, get_or, refl, sym, ap, subst, ◌∙◌, inl, inr, arith, IsTrue}
-use Rattle.std.specs.Prelude.{Option, None, Some, Result, Ok, Err, All, Contains, filter, unwrap_or}
+use Rattle.std.proofs.Common.{◌≡◌, ℕ, ◌==◌, Bool, true, false, cond, not, List, [], ◌∷◌, map, take, drop, get_or, refl, sym, ap, subst, ◌∙◌}
+use Rattle.std.specs.Prelude.{Option, None, Some, Ok, All, Contains, filter, unwrap_or}
 use Rattle.std.specs.List.{AllZip}
-use Rattle.std.proofs.lemmas.List.Elements.{All-nil, All-cons, All-head, All-tail, All-filter}
-use Rattle.disk_trait.specs.Files.{Files, At, named}
-use Rattle.disk_trait.specs.declared.damage.Damage.{Damage}
+use Rattle.std.proofs.lemmas.List.Elements.{All-head, All-tail, All-filter}
+use Rattle.disk_trait.specs.Files.{Files, named}
 use Rattle.disk_trait.specs.declared.file_name.FileKind.TheVariants.{Log, Claim}
 use Rattle.disk_trait.specs.declared.file_name.FileName.{FileName}
 use Rattle.flowfile_record.specs.Stored.{Kept}
@@ -12,26 +11,23 @@ use Rattle.flowfile_record.specs.declared.change.Settled.{Settled}
 use Rattle.flowfile_record.specs.declared.content.ContentRef.{ContentRef}
 use Rattle.flowfile_record.specs.declared.event.Event.{Event}
 use Rattle.flowfile_record.specs.declared.stored.ActiveFile.{ActiveFile}
-use Rattle.flowfile_record.specs.declared.stored.Counted.{Counted}
 use Rattle.flowfile_record.specs.declared.stored.Placed.{Placed}
-use Rattle.record_codec.specs.ActiveFile.{active}
-use Rattle.record_codec.specs.Placeless.{placeless_entry}
 use Rattle.record_codec.specs.declared.entry.LogEntry.{LogEntry}
 use Rattle.record_codec.specs.declared.entry.SessionEntry.{SessionEntry}
 use Rattle.content_repo.specs.Claims.{claim, content_in}
-use Rattle.content_repo.specs.Slots.{size_of, end_of}
 use Rattle.content_repo.specs.declared.slot.Slot.{Slot}
 use Rattle.flowfile_wal.specs.Steps.{Adds}
 use Rattle.kept_state.specs.Applied.{left_after, session_applied, is_among}
-use Rattle.kept_state.specs.Changes.{at_content, no_files}
+use Rattle.kept_state.specs.Changes.{no_files}
 use Rattle.kept_state.specs.Fits.{session_suits}
 use Rattle.kept_state.proofs.Keeping.{suits_from}
-use Rattle.machine_model.specs.State.{State, QueuedFile}
-use Rattle.store_core.specs.Change.{IsOldLive, placed_file, state_after}
+use Rattle.machine_model.specs.State.{State}
+use Rattle.machine_model.specs.Changing.{state_after}
+use Rattle.store_core.specs.Change.{IsOldLive}
 use Rattle.store_core.specs.Flow.{Flow, flow_in}
 use Rattle.store_core.specs.Kept.{kept_in}
 use Rattle.store_core.specs.Placing.{GrowsBehind, IsPlacedAs, ArePlaced}
-use Rattle.store_core.specs.State.{stands_for, state_of, state_with, contents_damage, events_in, live_contents, queued}
+use Rattle.store_core.specs.State.{stands_for, state_with, contents_damage, events_in, live_contents, queued}
 use Rattle.store_core.specs.Store.{StoreState, IsWorking, kept_by, live_in, Holds}
 use Rattle.store_core.proofs.Agreeing.{of_state, sound_of, stands_by_kept, state_of_sound}
 use Rattle.store_core.proofs.Commits.{same_flow}

@@ -1,12 +1,11 @@
 -- A commit as a whole: what a stop within it leaves.
-use Rattle.std.proofs.Common.{◌≡◌, ◌≢◌, ℕ, ◌+◌, ◌-◌, ◌^◌, ◌<◌, ◌≤◌, Bool, true, false, List, [], ◌∷◌, ◌++◌, length, map, get_or, refl, sym, ap, subst, ◌∙◌, inl, inr, arith, length-append, IsTrue}
-use Rattle.std.specs.Prelude.{Option, None, Some, Result, Ok, Err, All, ◌⊎◌, min}
-use Rattle.disk_trait.specs.Files.{Files, At, named}
+use Rattle.std.proofs.Common.{◌≡◌, ℕ, ◌+◌, ◌-◌, ◌^◌, Bool, true, List, [], ◌∷◌, length, map, sym, ap, subst, ◌∙◌, inl, inr, arith, length-append, IsTrue}
+use Rattle.std.specs.Prelude.{Option, Some, Result, Ok, All, ◌⊎◌, min}
+use Rattle.disk_trait.specs.Files.{Files, named}
 use Rattle.disk_trait.specs.Images.{After, Since}
 use Rattle.disk_trait.specs.declared.file_name.FileKind.TheVariants.{Log, Claim}
 use Rattle.disk_trait.specs.declared.file_name.FileName.{FileName}
 use Rattle.disk_trait.proofs.Moments.{wider, wider_where_left, at_the_end, one_after_another}
-use Rattle.flowfile_record.specs.Stored.{Kept}
 use Rattle.record_codec.specs.declared.entry.LogEntry.{LogEntry}
 use Rattle.record_codec.specs.declared.entry.LogEntry.TheVariants.{Session}
 use Rattle.record_codec.specs.declared.entry.SessionEntry.{SessionEntry}
@@ -14,14 +13,14 @@ use Rattle.content_repo.specs.Claims.{claim}
 use Rattle.content_repo.specs.declared.slot.Slot.{Slot}
 use Rattle.flowfile_wal.specs.Calls.{InEach, WithOrWithout}
 use Rattle.flowfile_wal.specs.Current.{CurrentLog, current_log}
-use Rattle.flowfile_wal.specs.Steps.{Keeps, Adds, LogState, IsReadyIn, IsClosedIn, with_entry}
+use Rattle.flowfile_wal.specs.Steps.{Adds, IsReadyIn, with_entry}
 use Rattle.flowfile_wal.proofs.Files.{with_one_more}
 use Rattle.kept_state.specs.Applied.{applied}
 use Rattle.kept_state.specs.Changes.{no_files}
 use Rattle.kept_state.specs.Fits.{fits}
 use Rattle.store_core.specs.Committed.{HoldsEither, MayTouch, TouchesOnly}
 use Rattle.store_core.specs.Placing.{GrowsBehind}
-use Rattle.store_core.specs.Store.{StoreState, IsWorking, IsKeptOn, kept_by, live_in, Holds, HasLog}
+use Rattle.store_core.specs.Store.{StoreState, IsWorking, IsKeptOn, kept_by, Holds, HasLog}
 use Rattle.disk_trait.specs.declared.damage.Damage.{Damage}
 use Rattle.content_repo.specs.Slots.{size_of}
 use Rattle.store_core.proofs.ClaimsAlone.{has_log_still}
@@ -184,8 +183,8 @@ entries_more s new e old files number has numbered added more l is =
     omega (arith, more, long, before)
 
 claims_added : (number : ℕ) (e : LogEntry) (slots more : List Slot) (old new : Files) → Adds number e old new → HasSizes slots old → ((k : ℕ) → size_of more k ≡ size_of slots k) → HasSizes more new
-claims_added number e slots more old new added sizes same k lt =
-    ap length (added.others (claim k) (λ (x : claim k ≡ named Log number). let kinds : Claim ≡ Log = ap (λ (f : FileName). f.kind) x in absurd cc)) ∙ sizes k lt ∙ sym (same k)
+claims_added number e slots more old new added sizes same k =
+    ap length (added.others (claim k) (λ (x : claim k ≡ named Log number). let kinds : Claim ≡ Log = ap (λ (f : FileName). f.kind) x in absurd cc)) ∙ sizes k ∙ sym (same k)
 
 module _ {D : Type 0} (tells : Bool) (moment : D → ℕ) (images : D → ℕ → Files → Type 0) (held : D → Files) (s new : StoreState) (number : ℕ) (e : LogEntry) (old mid end : D) (slots : List Slot) where
   pub kept_added : (works : IsWorking s) → InEach (images old (moment old)) (HasLog s) → InEach (images old (moment old)) (Holds s)

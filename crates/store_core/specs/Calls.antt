@@ -1,5 +1,5 @@
 -- What the calls of a store leave, and why they refuse.
-use Rattle.std.specs.Prelude.{◌≡◌, ◌≢◌, ◌⊎◌, ◌↔◌, ℕ, ◌+◌, Bool, true, false, List, IsTrue, Result, Err, IsErrOf}
+use Rattle.std.specs.Prelude.{◌≡◌, ◌⊎◌, ◌↔◌, ℕ, ◌+◌, true, Result, IsErrOf}
 use Rattle.disk_trait.specs.Faults.{CountsFaults}
 use Rattle.disk_trait.specs.Files.{Files}
 use Rattle.disk_trait.specs.Images.{SinceMoment, Since, next_moment}
@@ -8,9 +8,10 @@ use Rattle.store_core.specs.Store.{StoreState}
 use Rattle.store_core.specs.declared.error.StoreError.{StoreError}
 use Rattle.store_core.specs.declared.error.StoreError.TheVariants.{Disk, Memory, MustReopen, Damaged}
 
--- MustReopen comes exactly where an earlier call of this store answered Disk, and this one is then shown. Disk comes only
--- where the disk's fault count rose.
-pub record RefusesOnFault {A : Type 0} (result : Result A StoreError) (old new : StoreState) (before now : ℕ) : Type 0 where
+-- MustReopen comes exactly where an earlier call of this store answered Disk, and this one is then shown. Disk comes
+-- only where the disk's fault count rose.
+pub record RefusesOnFault {A : Type 0} (result : Result A StoreError) (old new : StoreState) (before now : ℕ)
+    : Type 0 where
   pub reopen : IsErrOf result MustReopen ↔ (old.failed ≡ true)
   pub failed : (new.failed ≡ true) ↔ ((old.failed ≡ true) ⊎ IsErrOf result Disk)
   pub cause : CountsFaults before now (IsErrOf result Disk)

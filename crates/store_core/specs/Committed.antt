@@ -1,6 +1,6 @@
 -- A change that is on its way into the store, and what its commit leaves.
-use Rattle.std.specs.Prelude.{◌≡◌, ◌⊎◌, ℕ, ◌≤◌, true, List, length, All, Some, None, Option}
-use Rattle.disk_trait.specs.Files.{Files, At, named}
+use Rattle.std.specs.Prelude.{◌≡◌, ◌⊎◌, ℕ, ◌≤◌, length, Some, Option}
+use Rattle.disk_trait.specs.Files.{Files, named}
 use Rattle.disk_trait.specs.declared.file_name.FileKind.TheVariants.{Claim, Log}
 use Rattle.disk_trait.specs.declared.file_name.FileName.{FileName}
 use Rattle.flowfile_record.specs.declared.change.Change.TheVariants as change
@@ -24,7 +24,8 @@ pub record IsPrepared (store : StoreState) (p : PreparedChange) : Type 0 where
   pub entry : p.entry ≡ entry_of (kept_by store) (change.Session p.settled)
   pub room : length p.settled.placed ≤ store.memory.room
 
--- What is kept has the change, its new contents standing somewhere. The store's lot and the contents of its opening stay.
+-- What is kept has the change, its new contents standing somewhere. The store's lot and the contents of its opening
+-- stay.
 pub record HasChange (p : PreparedChange) (old new : StoreState) : Type 0 where
   pub entry : LogEntry
   pub same : placeless_entry entry ≡ placeless_entry p.entry

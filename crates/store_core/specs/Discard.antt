@@ -1,5 +1,5 @@
 -- Files that don't matter are cut to nothing.
-use Rattle.std.specs.Prelude.{◌≡◌, ◌≢◌, ℕ, ◌<◌, ◌≤◌, ◌==◌, nat_le, Bool, true, false, List, [], length, Option, None, Some}
+use Rattle.std.specs.Prelude.{◌≡◌, ◌≢◌, ℕ, ◌<◌, ◌≤◌, ◌==◌, nat_le, Bool, true, false, length, Option, None, Some}
 use Rattle.disk_trait.specs.Files.{Files, Shortened, named}
 use Rattle.disk_trait.specs.declared.file_name.FileKind.{FileKind}
 use Rattle.disk_trait.specs.declared.file_name.FileKind.TheVariants.{Log, Snapshot, Claim}

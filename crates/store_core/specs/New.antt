@@ -1,5 +1,5 @@
 -- Files of which no log is current: a store that isn't made yet, or that lost its log.
-use Rattle.std.specs.Prelude.{ℕ, ◌%◌, ◌^◌, ◌&&◌, nat_lt, nat_le, Bool, List, length, Option, None, Some, option_map, Result, Ok, Err}
+use Rattle.std.specs.Prelude.{ℕ, ◌%◌, ◌^◌, ◌&&◌, nat_lt, nat_le, Bool, length, Option, None, Some, option_map, Result, Ok, Err}
 use Rattle.disk_trait.specs.Files.{Files, named}
 use Rattle.disk_trait.specs.Search.{least_below}
 use Rattle.disk_trait.specs.declared.damage.Damage.{Damage}

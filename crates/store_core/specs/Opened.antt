@@ -1,5 +1,5 @@
 -- What opening a store finds and leaves.
-use Rattle.std.specs.Prelude.{◌≡◌, ◌≢◌, ◌⊎◌, ℕ, ◌^◌, ◌<◌, Bool, false, IsTrue, List, [], ◌++◌, length, Result, Ok, Err, None}
+use Rattle.std.specs.Prelude.{◌≡◌, ◌≢◌, ◌⊎◌, ℕ, ◌^◌, ◌<◌, Bool, false, IsTrue, List, [], ◌++◌, Ok, Err, None}
 use Rattle.disk_trait.specs.declared.file_name.FileKind.TheVariants.{Claim}
 use Rattle.checkpoint_store.specs.Begun.{IsBegun}
 use Rattle.checkpoint_store.specs.Consistent.{IsConsistent}
@@ -41,7 +41,8 @@ pub record IsOfOther (flow : Flow) (lot : ℕ) (digest : List ℕ) (files : File
 -- these files may not be opened for this flow: they stand for no state, or for one of another flow
 abbrev pub IsShut : Flow → (lot : ℕ) → Files → Type 0
 IsShut flow lot files =
-    ((damage : Damage) × (stands_for flow lot files ≡ Err damage)) ⊎ ((digest : List ℕ) × IsOfOther flow lot digest files)
+    ((damage : Damage) × (stands_for flow lot files ≡ Err damage))
+    ⊎ ((digest : List ℕ) × IsOfOther flow lot digest files)
 
 -- these files keep and stand for what those do
 pub record SameMeaning (flow : Flow) (lot : ℕ) (old new : Files) : Type 0 where

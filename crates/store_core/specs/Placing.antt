@@ -1,5 +1,5 @@
 -- The contents of a change, as they are placed and given up.
-use Rattle.std.specs.Prelude.{◌≡◌, ℕ, ◌+◌, ◌<◌, ◌≤◌, IsTrue, Bool, List, [], ◌∷◌, ◌++◌, length, take, map, All, Option, None, Some, option_map}
+use Rattle.std.specs.Prelude.{◌≡◌, ℕ, ◌+◌, ◌<◌, ◌≤◌, IsTrue, Bool, List, [], ◌∷◌, ◌++◌, length, take, map, All, None, Some, option_map}
 use Rattle.std.specs.List.{filter_map}
 use Rattle.std.specs.List.{AllZip}
 use Rattle.disk_trait.specs.Files.{Files}
@@ -28,7 +28,8 @@ pub record IsHeldIn (slots : List Slot) (at : ContentRef) : Type 0 where
 
 -- in claims of these sizes nothing changes but behind their ends
 abbrev pub GrowsBehind : List Slot → Files → Files → Type 0
-GrowsBehind slots = OnClaims (λ k old new. (take (size_of slots k) new ≡ take (size_of slots k) old) × (length old ≤ length new))
+GrowsBehind slots =
+    OnClaims (λ k old new. (take (size_of slots k) new ≡ take (size_of slots k) old) × (length old ≤ length new))
 
 -- The placed file as it is recorded: a new content stands in its claim, an old one where it stood.
 pub record IsPlacedAs (tells : Bool) (slots : List Slot) (files : Files) (p : Placed) (a : ActiveFile) : Type 0 where
@@ -66,10 +67,12 @@ pub record MayPlace (slots : List Slot) (placed : List Placed) : Type 0 where
 
 -- the file stands at this place, without its new content
 abbrev pub IsRecordedAt : ℕ → Placed → List ActiveFile → Type 0
-IsRecordedAt place p files = (front : List ActiveFile) × (back : List ActiveFile) × (length front ≡ place) × (files ≡ front ++ record_of p ∷ back)
+IsRecordedAt place p files =
+    (front : List ActiveFile) × (back : List ActiveFile) × (length front ≡ place) × (files ≡ front ++ record_of p ∷ back)
 
 -- The file at this place is recorded in the entry, and each other file as before.
-pub record PlacesOne (tells : Bool) (files : Files) (place : ℕ) (p : Placed) (old new : List Slot) (before after : LogEntry) : Type 0 where
+pub record PlacesOne (tells : Bool) (files : Files) (place : ℕ) (p : Placed) (old new : List Slot)
+    (before after : LogEntry) : Type 0 where
   pub recorded : ActiveFile
   pub placed : IsPlacedAs tells new files p recorded
   pub holds : HoldsMore (recorded ∷ []) old new
@@ -78,6 +81,7 @@ pub record PlacesOne (tells : Bool) (files : Files) (place : ℕ) (p : Placed) (
       → placed_in after ≡ front ++ recorded ∷ back
 
 -- All are recorded.
-pub record PlacesAll (tells : Bool) (files : Files) (all : List Placed) (old new : List Slot) (after : LogEntry) : Type 0 where
+pub record PlacesAll (tells : Bool) (files : Files) (all : List Placed) (old new : List Slot) (after : LogEntry)
+    : Type 0 where
   pub placed : ArePlaced tells new files all (placed_in after)
   pub holds : HoldsMore (placed_in after) old new

@@ -1,10 +1,11 @@
 //! A change becomes part of the store: its contents first, then the log.
 ghost use Rattle.std.specs.Prelude.{◌≡◌, ℕ, ◌⊎◌, true, false, Ok, IfOk, OnOk, IfErr, IsErrOf, IsTrue};
 ghost use Rattle.disk_trait.specs.Images.{After, Since};
+ghost use Rattle.machine_model.specs.Changing.{state_after};
 ghost use Rattle.machine_model.specs.State.{State};
 ghost use Rattle.content_repo.specs.Claims.{content_in};
 ghost use Rattle.store_core.specs.Calls.{RefusesOnFault, IsDiskOrReopen};
-ghost use Rattle.store_core.specs.Change.{HasLiveContents, state_after};
+ghost use Rattle.store_core.specs.Change.{HasLiveContents};
 ghost use Rattle.store_core.specs.Committed.{IsPrepared, HasChange, HoldsEither, MayTouch, TouchesOnly};
 ghost use Rattle.store_core.specs.Flow.{flow_in};
 ghost use Rattle.store_core.specs.State.{stands_for};
@@ -33,7 +34,8 @@ impl Store {
         ensures acknowledged { IfOk result (λ moment. moment ≡ D.moment disk.new) }
         ensures kept { IsKeptOn D.tells D.held D.moment D.images self.new disk.new }
         // Within the call whatever a stop leaves has all of the change or nothing of it.
-        ensures images { self.old.failed ≡ false → Since D.moment D.images disk.old disk.new (HoldsEither self.old self.new) }
+        ensures images { self.old.failed ≡ false
+            → Since D.moment D.images disk.old disk.new (HoldsEither self.old self.new) }
         ensures states { self.old.failed ≡ false → (state : State)
             → EachStandsFor (flow_in (kept_by self.old)) self.old.lot state (D.images disk.old (D.moment disk.old))
             → Since D.moment D.images disk.old disk.new (λ c.
@@ -43,7 +45,8 @@ impl Store {
         ensures acknowledged_state { OnOk result ((state : State)
             → EachStandsFor (flow_in (kept_by self.old)) self.old.lot state (D.images disk.old (D.moment disk.old))
             → EachStandsFor (flow_in (kept_by self.old)) self.old.lot
-            (state_after (content_in (D.held disk.old)) state prepared.entry.settled) (D.images disk.new (D.moment disk.new))) }
+            (state_after (content_in (D.held disk.old)) state prepared.entry.settled)
+            (D.images disk.new (D.moment disk.new))) }
         ensures alone { Since D.moment D.images disk.old disk.new
             (After (TouchesOnly (MayTouch self.old.log.number)) (D.images disk.old (D.moment disk.old))) }
         ensures refusal { RefusesOnFault result self.old self.new (D.faults disk.old) (D.faults disk.new) }

@@ -63,7 +63,8 @@ fn place_content<D: Disk>(
     requires recorded { IsRecordedAt place one.now (placed_in entry.old) }
     requires may { MayPlaceOne contents.old one.now }
     requires sizes { IsTrue D.tells → HasSizes contents.old (D.held disk.old) }
-    ensures placed { OnOk result (PlacesOne D.tells (D.held disk.new) place one.now contents.old contents.new entry.old entry.new) }
+    ensures placed { OnOk result
+        (PlacesOne D.tells (D.held disk.new) place one.now contents.old contents.new entry.old entry.new) }
     ensures same { placeless_entry entry.new ≡ placeless_entry entry.old }
     ensures sizes { OnOk result (IsTrue D.tells → HasSizes contents.new (D.held disk.new)) }
     ensures held { IsTrue D.tells → GrowsBehind contents.old (D.held disk.old) (D.held disk.new) }

@@ -1,6 +1,7 @@
 //! Files that don't matter are cut to nothing.
 //!
-//! A log that is passed over is first cut to one byte: within a cut to nothing its first byte might become an open gate.
+//! A log that is passed over is first cut to one byte: within a cut to nothing its first byte might become an open
+//! gate.
 ghost use Rattle.std.specs.Prelude.{◌≡◌, ◌≢◌, ◌⊎◌, ℕ, ◌≤◌, ◌<◌, [], length, true, Some, IsTrue, OnOk, IfErr, IsErr, IsErrOf};
 ghost use Rattle.disk_trait.specs.Files.{At, Shortened, named};
 ghost use Rattle.disk_trait.specs.Images.{After, Since, IsOnly};
@@ -36,7 +37,8 @@ impl Spared {
 pub fn discard<D: Disk>(alloc: Global, disk: &mut D, current: Option<u64>) -> Result<(), StoreError>
     ensures images { Since D.moment D.images disk.old disk.new
         (After (Discards current) (D.images disk.old (D.moment disk.old))) }
-    ensures logs { OnOk result (IsTrue D.tells → (n : ℕ) → (current ≡ Some n → ⊥) → D.held disk.new (named LogKind n) ≡ []) }
+    ensures logs { OnOk result (IsTrue D.tells
+        → (n : ℕ) → (current ≡ Some n → ⊥) → D.held disk.new (named LogKind n) ≡ []) }
     ensures held { OnOk result (IsTrue D.tells → Discards current (D.held disk.old) (D.held disk.new)) }
     ensures refusal { IfErr result IsDiskOrMemory }
     ensures cause { CountsFaults (D.faults disk.old) (D.faults disk.new) (IsErrOf result StoreError.Disk) }
@@ -55,7 +57,8 @@ fn shorten_logs<D: Disk>(
         (After (Discards current) (D.images disk.old (D.moment disk.old))) }
     ensures held { OnOk result (IsTrue D.tells → Discards current (D.held disk.old) (D.held disk.new)) }
     ensures synced { OnOk result (IsOnly (D.held disk.new) (D.images disk.new (D.moment disk.new))) }
-    ensures short { OnOk result (IsTrue D.tells → (n : ℕ) → IsAbove current n → length (D.held disk.new (named LogKind n)) ≤ 1) }
+    ensures short { OnOk result (IsTrue D.tells
+        → (n : ℕ) → IsAbove current n → length (D.held disk.new (named LogKind n)) ≤ 1) }
     ensures refusal { IfErr result IsDiskOrMemory }
     ensures cause { CountsFaults (D.faults disk.old) (D.faults disk.new) (IsErrOf result StoreError.Disk) }
 {
@@ -71,7 +74,8 @@ fn empty_files<D: Disk>(alloc: Global, disk: &mut D, current: Option<u64>) -> Re
     ensures images { Since D.moment D.images disk.old disk.new
         (After (Discards current) (D.images disk.old (D.moment disk.old))) }
     ensures held { OnOk result (IsTrue D.tells → Discards current (D.held disk.old) (D.held disk.new)) }
-    ensures logs { OnOk result (IsTrue D.tells → (n : ℕ) → (current ≡ Some n → ⊥) → D.held disk.new (named LogKind n) ≡ []) }
+    ensures logs { OnOk result (IsTrue D.tells
+        → (n : ℕ) → (current ≡ Some n → ⊥) → D.held disk.new (named LogKind n) ≡ []) }
     ensures refusal { IfErr result IsDiskOrMemory }
     ensures cause { CountsFaults (D.faults disk.old) (D.faults disk.new) (IsErrOf result StoreError.Disk) }
 {
@@ -111,8 +115,10 @@ fn cut_unless_spared<D: Disk>(
     spared: Spared,
     size: u64,
 ) -> Result<(), Failed>
-    ensures cut { OnOk result (IsTrue D.tells → CutsKind kind (spares spared) size (D.held disk.old) (D.held disk.new)) }
-    ensures short { OnOk result (IsTrue D.tells → (spares spared number ≡ true) ⊎ (length (D.held disk.new (named kind number)) ≤ size)) }
+    ensures cut { OnOk result (IsTrue D.tells
+        → CutsKind kind (spares spared) size (D.held disk.old) (D.held disk.new)) }
+    ensures short { OnOk result (IsTrue D.tells
+        → (spares spared number ≡ true) ⊎ (length (D.held disk.new (named kind number)) ≤ size)) }
     ensures images { Since D.moment D.images disk.old disk.new
         (After (CutsKind kind (spares spared) size) (D.images disk.old (D.moment disk.old))) }
     ensures cause { CountsFaults (D.faults disk.old) (D.faults disk.new) (IsErr result) }

@@ -23,8 +23,8 @@ use record_codec::HEADER_SIZE;
 use std::alloc::Global;
 
 impl Store {
-    /// Opens the store that stands on a disk, or makes one where there is none. The id of a new one is the low 60 bits of
-    /// the lot.
+    /// Opens the store that stands on a disk, or makes one where there is none. The id of a new one is the low 60 bits
+    /// of the lot.
     ///
     /// It begins with a sync, reads all that the files stand for, block by block and content by content, and then mends
     /// the log, cuts what doesn't matter, or makes the store. After any error open again.

@@ -3,8 +3,8 @@ use flowfile_record::Settled;
 use kept_state::PreparedEntry;
 use std::marker::Model;
 
-/// A settled session with the entry that it makes, and all memory that its commit takes. Its new contents stay where they
-/// were handed in.
+/// A settled session with the entry that it makes, and all memory that its commit takes. Its new contents stay where
+/// they were handed in.
 #[derive(Drop)]
 pub struct Prepared<'a> {
     pub(crate) entry: PreparedEntry,

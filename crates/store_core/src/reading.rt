@@ -1,4 +1,5 @@
-//! What the files of a store keep is read: the log, the snapshot of its number, and the live contents. Nothing is written.
+//! What the files of a store keep is read: the log, the snapshot of its number, and the live contents. Nothing is
+//! written.
 ghost use Rattle.std.specs.Prelude.{◌≡◌, ◌<◌, ◌^◌, ℕ, [], ◌∷◌, ◌++◌, Some, None, true, false, Ok, Err, IsTrue, IfOk, OnOk, IfErr, IsErrOf, All, map, fold};
 ghost use Rattle.std.specs.List.{flat_map};
 ghost use Rattle.disk_trait.specs.Files.{named};
@@ -39,8 +40,8 @@ pub struct Found {
     pub state: KeptState,
 }
 
-/// Reads what is kept: the log, the snapshot of its number, and the entries on it. Where no log is current, a store isn't
-/// made yet.
+/// Reads what is kept: the log, the snapshot of its number, and the entries on it. Where no log is current, a store
+/// isn't made yet.
 pub fn read_kept<D: Disk>(
     alloc: Global,
     disk: &mut D,

@@ -43,7 +43,8 @@ pub fn revive<D: Disk>(
     requires named { All IsNamed opened.items }
     ensures revived { IfOk result (IsRevived lot found) }
     ensures kept { IfOk result (λ store. IsKeptOn D.tells D.held D.moment D.images store disk.new) }
-    ensures images { Since D.moment D.images disk.old disk.new (SameMeaning (flow_in found.state.kept) lot (D.held disk.old)) }
+    ensures images { Since D.moment D.images disk.old disk.new
+        (SameMeaning (flow_in found.state.kept) lot (D.held disk.old)) }
     ensures refusal { IfErr result IsDiskOrMemory }
     ensures cause { CountsFaults (D.faults disk.old) (D.faults disk.new) (IsErrOf result StoreError.Disk) }
 {
@@ -75,7 +76,8 @@ fn make_whole<D: Disk>(
 ) -> Result<(), StoreError>
     requires synced { IsOnly (D.held disk.old) (D.images disk.old (D.moment disk.old)) }
     requires works { log.old.failed ≡ false }
-    requires current { (number : ℕ) → log.old.number ≡ Some number → IsTrue D.tells → IsCurrentIn log.old (D.held disk.old) }
+    requires current { (number : ℕ) → log.old.number ≡ Some number → IsTrue D.tells
+        → IsCurrentIn log.old (D.held disk.old) }
     requires unmade { log.old.number ≡ None → IsTrue D.tells → IsUnmade (D.held disk.old) }
     requires consistent { IsConsistent (kept_of stored.now) }
     ensures log { OnOk result (IsTrue (is_some log.new.number) × (log.new.mended ≡ true) × (log.new.failed ≡ false)) }
@@ -148,7 +150,8 @@ fn hold_opened<D: Disk>(
     requires few { length opened.now ≤ LIVE_FILES_MAX }
     requires named { All IsNamed opened.now }
     requires within { IsTrue D.tells → All (IsCovered (D.held disk.old)) opened.now }
-    ensures counts { IfOk result (λ contents. (k : ℕ) → count_of contents k ≡ references_to k opened.now + references_to k opened.now) }
+    ensures counts { IfOk result (λ contents. (k : ℕ)
+        → count_of contents k ≡ references_to k opened.now + references_to k opened.now) }
     ensures held { IfOk result (λ contents. held_in contents ≡ length opened.now + length opened.now) }
     ensures sizes { IfOk result (λ contents. (k : ℕ) → size_of contents k ≡ covered k opened.now) }
     ensures files { IfOk result (λ contents. IsTrue D.tells → HasSizes contents (D.held disk.new)) }

@@ -4,13 +4,14 @@ ghost use Rattle.disk_trait.specs.Images.{Since, Stays, IsOnly, After};
 ghost use Rattle.disk_trait.specs.declared.damage.Damage.{Damage as TheDamage};
 ghost use Rattle.flowfile_record.specs.Stored.{kept_of};
 ghost use Rattle.flowfile_record.specs.declared.change.Change.TheVariants as change;
+ghost use Rattle.checkpoint_store.specs.Consistent.{IsConsistent};
 ghost use Rattle.content_repo.specs.Claims.{IsRead, IdleShortened, claim};
 ghost use Rattle.content_repo.specs.Slots.{references_to};
 ghost use Rattle.kept_state.specs.declared.limit.Limit.{Limit as TheLimit};
 ghost use Rattle.store_core.specs.Calls.{RefusesOnFault, IsDiskOrReopen};
 ghost use Rattle.store_core.specs.Change.{MayChange, IsWithinLimits, IsLimitOf};
 ghost use Rattle.store_core.specs.Committed.{IsPrepared};
-ghost use Rattle.store_core.specs.Store.{kept_by, live_in, Holds, IsKeptOn};
+ghost use Rattle.store_core.specs.Store.{kept_by, live_in, Holds, IsKeptOn, IsTidy};
 
 use crate::contents::{fresh_sizes, let_go};
 use crate::{Prepared, StoreError};
@@ -57,7 +58,10 @@ impl Model for Store {
 impl Store {
     /// What is kept.
     pub fn state(&self) -> &Stored
-        ensures { kept_of result.now ≡ kept_by self.now }
+        ensures kept { kept_of result.now ≡ kept_by self.now }
+        ensures consistent { IsConsistent (kept_by self.now) }
+        ensures no_batches { (kept_by self.now).batches ≡ [] }
+        ensures no_events { self.now.failed ≡ false → (kept_by self.now).last_event ≡ 0 }
     {
         self.state.stored()
     }
@@ -93,10 +97,13 @@ impl Store {
         ensures prepared { IfOk result (λ prepared. (prepared.settled ≡ settled.now) × IsPrepared self.new prepared) }
         // Limit comes exactly where a limit would be passed, and it is the first.
         ensures within { OnOk result (IsWithinLimits self.old settled.now) }
-        ensures limit { (limit : TheLimit) → IsErrOf result (StoreError.Limit limit) → IsLimitOf self.old settled.now limit }
-        ensures others { IfErr result (λ error. (error ≡ StoreError.Memory) ⊎ ((limit : TheLimit) × (error ≡ StoreError.Limit limit))) }
+        ensures limit { (limit : TheLimit) → IsErrOf result (StoreError.Limit limit)
+            → IsLimitOf self.old settled.now limit }
+        ensures others { IfErr result (λ error. (error ≡ StoreError.Memory)
+            ⊎ ((limit : TheLimit) × (error ≡ StoreError.Limit limit))) }
         // But for the room for more files, nothing changes.
-        ensures same { self.new ≡ record self.old { memory = record { kept = kept_by self.old; room = self.new.memory.room } } }
+        ensures same { self.new
+            ≡ record self.old { memory = record { kept = kept_by self.old; room = self.new.memory.room } } }
     {
         if let Some(limit) = self.state.live_limit(settled) {
             return Err(StoreError::Limit(limit));
@@ -116,7 +123,8 @@ impl Store {
         requires live { Contains (live_in self.old) at.now }
         ensures read { IfOk result (λ bytes. IsRead D.tells (D.held disk.old) at.now bytes.items) }
         // A disk that tells holds each live content.
-        ensures undamaged { (damage : TheDamage) → IsErrOf result (StoreError.Damaged damage) → IsTrue D.tells → self.old.failed ≡ true }
+        ensures undamaged { (damage : TheDamage) → IsErrOf result (StoreError.Damaged damage) → IsTrue D.tells
+            → self.old.failed ≡ true }
         ensures same { (self.new ≡ self.old) ⊎ (self.new ≡ record self.old { failed = true }) }
         ensures stays { Stays D.held D.moment D.images disk.old disk.new }
         ensures refusal { RefusesOnFault result self.old self.new (D.faults disk.old) (D.faults disk.new) }
@@ -144,7 +152,8 @@ impl Store {
         ensures alone { Since D.moment D.images disk.old disk.new
             (After (IdleShortened self.old.slots) (D.images disk.old (D.moment disk.old))) }
         ensures kept { IsKeptOn D.tells D.held D.moment D.images self.new disk.new }
-        ensures state { (kept_by self.new ≡ kept_by self.old) × (self.new.opened ≡ self.old.opened) × (self.new.lot ≡ self.old.lot) }
+        ensures state { (kept_by self.new ≡ kept_by self.old) × (self.new.opened ≡ self.old.opened)
+            × (self.new.lot ≡ self.old.lot) }
         ensures refusal { RefusesOnFault result self.old self.new (D.faults disk.old) (D.faults disk.new) }
         ensures kinds { IfErr result IsDiskOrReopen }
     {
@@ -158,13 +167,15 @@ impl Store {
         Ok(reclaimed)
     }
 
-    /// Lets go of the contents of the opening, empties the claims that no live content stands in, and syncs the disk. It
-    /// takes no memory.
+    /// Lets go of the contents of the opening, empties the claims that no live content stands in, and syncs the disk.
+    /// It takes no memory.
     pub fn close<D: Disk>(&mut self, disk: &mut D) -> Result<(), StoreError>
         requires { IsKeptOn D.tells D.held D.moment D.images self.old disk.old }
         ensures images { self.old.failed ≡ false → Since D.moment D.images disk.old disk.new (Holds self.old) }
         // One image alone is left.
         ensures synced { OnOk result (IsOnly (D.held disk.new) (D.images disk.new (D.moment disk.new))) }
+        // What stands in the claims is needed.
+        ensures tidy { OnOk result (IsTrue D.tells → IsTidy (kept_by self.new) (D.held disk.new)) }
         ensures kept { IsKeptOn D.tells D.held D.moment D.images self.new disk.new }
         ensures state { (kept_by self.new ≡ kept_by self.old) × (self.new.lot ≡ self.old.lot) }
         ensures refusal { RefusesOnFault result self.old self.new (D.faults disk.old) (D.faults disk.new) }

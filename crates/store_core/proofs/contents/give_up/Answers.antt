@@ -1,6 +1,5 @@
-use Rattle.std.proofs.Common.{◌≡◌, ℕ, ◌+◌, ◌<◌, ◌≤◌, List, [], ◌∷◌, ◌++◌, length, take, get_or, ap, sym, ◌∙◌, arith, length-append}
-use Rattle.std.specs.Prelude.{Option, Some, None, option_copied}
-use Rattle.flowfile_record.specs.declared.content.ContentRef.{ContentRef}
+use Rattle.std.proofs.Common.{◌≡◌, ℕ, ◌+◌, ◌<◌, ◌≤◌, List, [], ◌∷◌, length, take, get_or, ap, sym, ◌∙◌, arith, length-append}
+use Rattle.std.specs.Prelude.{Some, option_copied}
 use Rattle.flowfile_record.specs.declared.stored.ActiveFile.{ActiveFile}
 use Rattle.content_repo.specs.Slots.{count_of, size_of, held_in, references_to}
 use Rattle.content_repo.specs.declared.slot.Slot.{Slot}

@@ -1,6 +1,6 @@
-use Rattle.std.proofs.Common.{◌≡◌, ℕ, ◌+◌, List, [], length, take, get_or, ap, sym, ◌∙◌, arith}
+use Rattle.std.proofs.Common.{[], get_or, ◌∙◌, arith}
 use Rattle.flowfile_record.specs.declared.content.ContentRef.{ContentRef}
-use Rattle.content_repo.specs.Slots.{count_of, size_of, references_to}
+use Rattle.content_repo.specs.Slots.{count_of}
 use Rattle.store_core.proofs.Referring.{next_held, take_next, unheld}
 use Rattle.store_core.proofs.contents.let_go.Goals as goal
 

@@ -1,4 +1,4 @@
-use Rattle.std.proofs.Common.{◌≡◌, ℕ, ◌+◌, length, take}
+use Rattle.std.proofs.Common.{◌≡◌, ℕ, ◌+◌, take}
 use Rattle.content_repo.specs.Slots.{count_of, size_of, held_in, references_to}
 use Rattle.store_core.proofs.contents.let_go.Given as goal
 

@@ -1,5 +1,5 @@
-use Rattle.std.proofs.Common.{◌≡◌, true, ap, sym, subst, ◌∙◌, List, ℕ, length}
-use Rattle.std.specs.Prelude.{Some, Option}
+use Rattle.std.proofs.Common.{ap, sym, ◌∙◌, length}
+use Rattle.std.specs.Prelude.{Some}
 use Rattle.store_core.proofs.Growing.{since_torn, grows_torn}
 use Rattle.store_core.proofs.PlacingOne.{old_placed, new_placed, new_encoded, like_recorded, next_of}
 use Rattle.store_core.proofs.contents.place_content.Goals as goal

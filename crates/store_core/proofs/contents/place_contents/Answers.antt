@@ -1,7 +1,4 @@
-use Rattle.std.proofs.Common.{◌≡◌, ℕ, ◌+◌, ◌<◌, ◌≤◌, List, length, take, get_or, refl, ap, sym, subst, ◌∙◌, arith}
-use Rattle.std.specs.Prelude.{All, None}
-use Rattle.std.proofs.lemmas.List.{take_all}
-use Rattle.std.proofs.lemmas.List.Elements.{All-get_or}
+use Rattle.std.proofs.Common.{refl, ◌∙◌, arith}
 use Rattle.store_core.proofs.Growing.{since_nothing_grows, since_grown, grows_nothing, grows_in_turn}
 use Rattle.disk_trait.proofs.Moments.{nothing}
 use Rattle.store_core.proofs.Placing.{placed_none, placed_next, placed_all, may_next, recorded_next}

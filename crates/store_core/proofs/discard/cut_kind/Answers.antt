@@ -1,9 +1,9 @@
-use Rattle.std.proofs.Common.{◌≡◌, ◌⊎◌, ⊎_elim, ℕ, ◌^◌, ◌<◌, ◌≤◌, length, true, false, List, slice_index, subst, sym, ap, ◌∙◌, inl, inr, refl, arith}
+use Rattle.std.proofs.Common.{◌≡◌, ◌⊎◌, ⊎_elim, ℕ, ◌^◌, ◌<◌, ◌≤◌, length, true, List, slice_index, subst, sym, ap, ◌∙◌, inl, inr, arith}
 use Rattle.std.proofs.lemmas.Bool.{cases_lt, false≢true}
 use Rattle.std.proofs.lemmas.List.{get_or_default}
 use Rattle.disk_trait.specs.Files.{Files, named}
 use Rattle.store_core.specs.Discard.{spares, CutsKind}
-use Rattle.disk_trait.proofs.Moments.{only_read, wider}
+use Rattle.disk_trait.proofs.Moments.{only_read}
 use Rattle.store_core.proofs.Cutting.{cuts_nothing, cuts_in_turn, since_cut, since_nothing_cut}
 use Rattle.store_core.proofs.discard.cut_kind.Goals as goal
 

@@ -1,6 +1,6 @@
 use Rattle.std.proofs.Common.{◌≡◌, false, sym, ◌∙◌}
 use Rattle.store_core.specs.Discard.{spares}
-use Rattle.store_core.proofs.Cutting.{cuts_one, since_one_cut}
+use Rattle.store_core.proofs.Cutting.{since_one_cut}
 use Rattle.store_core.proofs.discard.cut_unless_spared.Goals as goal
 
 pub returns-clause-images : goal.returns-clause-images

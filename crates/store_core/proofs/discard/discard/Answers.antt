@@ -1,5 +1,4 @@
-use Rattle.disk_trait.specs.Files.{Files}
-use Rattle.store_core.proofs.Discarding.{discards_in_turn, since_discarded}
+use Rattle.store_core.proofs.Discarding.{since_discarded}
 use Rattle.store_core.proofs.discard.discard.Goals as goal
 
 pub returns-clause-images : goal.returns-clause-images

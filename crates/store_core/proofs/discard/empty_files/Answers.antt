@@ -1,11 +1,11 @@
-use Rattle.std.proofs.Common.{◌≡◌, ℕ, ◌≤◌, false, [], length, subst, sym, ap, arith, refl}
-use Rattle.std.specs.Prelude.{Option, None}
+use Rattle.std.proofs.Common.{◌≡◌, ℕ, ◌≤◌, length, subst, sym}
+use Rattle.std.specs.Prelude.{Option}
 use Rattle.disk_trait.specs.Files.{Files, named}
 use Rattle.disk_trait.specs.Images.{After, Since}
-use Rattle.disk_trait.specs.declared.file_name.FileKind.TheVariants.{Log, Snapshot, Swap, Claim, Events}
-use Rattle.store_core.specs.declared.discard.Spared.TheVariants.{UpTo, Only}
+use Rattle.disk_trait.specs.declared.file_name.FileKind.TheVariants.{Log, Swap, Events}
+use Rattle.store_core.specs.declared.discard.Spared.TheVariants.{Only}
 use Rattle.store_core.specs.Discard.{spares, CutsKind, IsAbove, Discards}
-use Rattle.store_core.proofs.Discarding.{discards_in_turn, empties_logs, empties_snapshots, empties_others, since_step, unspared_other, after_snapshots, after_others, swap_apart, events_apart}
+use Rattle.store_core.proofs.Discarding.{empties_logs, since_step, after_snapshots, after_others, swap_apart, events_apart}
 use Rattle.store_core.proofs.discard.empty_files.Goals as goal
 
 -- the names of the steps

@@ -1,10 +1,9 @@
-use Rattle.std.proofs.Common.{◌≡◌, ℕ, ◌≤◌, false, length, subst, sym, arith}
-use Rattle.std.specs.Prelude.{Option}
+use Rattle.std.proofs.Common.{◌≤◌, length, subst, sym}
 use Rattle.disk_trait.specs.Files.{Files, named}
 use Rattle.disk_trait.specs.Images.{After}
 use Rattle.disk_trait.specs.declared.file_name.FileKind.TheVariants.{Log}
-use Rattle.store_core.specs.declared.discard.Spared.TheVariants.{UpTo, Only}
-use Rattle.store_core.specs.Discard.{spares, CutsKind, IsAbove, Discards}
+use Rattle.store_core.specs.declared.discard.Spared.TheVariants.{UpTo}
+use Rattle.store_core.specs.Discard.{spares, CutsKind, Discards}
 use Rattle.disk_trait.proofs.Moments.{and_syncs}
 use Rattle.store_core.proofs.Discarding.{shortens, since_step, unspared_above}
 use Rattle.store_core.proofs.discard.shorten_logs.Goals as goal

@@ -1,7 +1,6 @@
-use Rattle.std.proofs.Common.{◌≡◌, ℕ, List, refl, sym, ap, ◌∙◌, arith}
-use Rattle.std.specs.Prelude.{Option, None, Some, Ok, Err}
+use Rattle.std.proofs.Common.{◌≡◌, sym, ap, ◌∙◌}
+use Rattle.std.specs.Prelude.{None, Some, Err}
 use Rattle.std.proofs.lemmas.Result.{err_from_is_err_and}
-use Rattle.disk_trait.specs.declared.damage.Damage.{Damage as TheDamage}
 use Rattle.flowfile_record.specs.Stored.{Kept, kept_of}
 use Rattle.store_core.specs.Flow.{flow_in}
 use Rattle.store_core.specs.declared.error.StoreError.TheVariants.{Damaged, OtherFlow}

@@ -1,9 +1,8 @@
 use Rattle.std.proofs.Common.{◌≡◌, ℕ, ap, ◌∙◌}
-use Rattle.std.specs.Prelude.{Ok, Err, Result}
+use Rattle.std.specs.Prelude.{Ok, Err}
 use Rattle.disk_trait.specs.Files.{named}
-use Rattle.disk_trait.specs.declared.damage.Damage.{Damage}
 use Rattle.disk_trait.specs.declared.file_name.FileKind.TheVariants.{Swap}
-use Rattle.flowfile_record.specs.Stored.{Kept, kept_of}
+use Rattle.flowfile_record.specs.Stored.{kept_of}
 use Rattle.kept_state.specs.Applied.{batches_that_matter}
 use Rattle.kept_state.specs.Changes.{no_files}
 use Rattle.kept_state.specs.Fits.{replayed}

@@ -1,9 +1,8 @@
-use Rattle.std.proofs.Common.{◌≡◌, ℕ, ◌<◌, ◌≤◌, ◌^◌, List, length, slice_index, sym, ap, subst, ◌∙◌, arith}
+use Rattle.std.proofs.Common.{◌≡◌, ℕ, ◌<◌, ◌≤◌, List, length, slice_index, sym, ap, subst, arith}
 use Rattle.std.proofs.lemmas.List.Kept.{AllPairs-from_increasing}
 use Rattle.store_core.proofs.Finding.{first_is, none_is}
-use Rattle.std.specs.Prelude.{Option, Some}
+use Rattle.std.specs.Prelude.{Some}
 use Rattle.disk_trait.specs.Files.{named}
-use Rattle.disk_trait.specs.declared.file_name.FileName.{FileName}
 use Rattle.store_core.specs.New.{first_from}
 use Rattle.store_core.proofs.reading.find_from.Goals as goal
 

@@ -1,4 +1,4 @@
-use Rattle.std.proofs.Common.{◌≡◌, ℕ, ◌<◌, slice_index}
+use Rattle.std.proofs.Common.{ℕ, ◌<◌, slice_index}
 use Rattle.store_core.proofs.reading.find_from.Given as goal
 
 abbrev pub invariant-loop-number : goal.invariant-loop-number

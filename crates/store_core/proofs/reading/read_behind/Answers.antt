@@ -1,7 +1,6 @@
-use Rattle.std.proofs.Common.{◌≡◌, ℕ, true, IsTrue, sym, ap, subst, ◌∙◌}
-use Rattle.std.specs.Prelude.{Option, Some, None, Ok, Err}
+use Rattle.std.proofs.Common.{◌≡◌, ℕ, true, IsTrue, sym, ap, ◌∙◌}
+use Rattle.std.specs.Prelude.{Option, None, Ok, Err}
 use Rattle.flowfile_wal.specs.Steps.{numbered}
-use Rattle.flowfile_record.specs.Stored.{Kept}
 use Rattle.checkpoint_store.specs.Snapshot.{snapshot_file}
 use Rattle.store_core.specs.Flow.{agrees_with}
 use Rattle.store_core.specs.Kept.{snapshot_for, behind_snapshot, behind_log}

@@ -1,4 +1,4 @@
-use Rattle.std.proofs.Common.{◌≡◌, ℕ, ◌≤◌, ◌++◌, map}
+use Rattle.std.proofs.Common.{◌≡◌, ◌≤◌, ◌++◌, map}
 use Rattle.std.specs.Prelude.{All, None, IsTrue}
 use Rattle.disk_trait.specs.Images.{Stays}
 use Rattle.flowfile_record.specs.Stored.{kept_of}

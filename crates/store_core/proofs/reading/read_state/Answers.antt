@@ -1,5 +1,5 @@
 use Rattle.std.proofs.Common.{◌≡◌, ℕ, true, IsTrue, sym, ap, ◌∙◌}
-use Rattle.std.specs.Prelude.{Ok, Err, IfOk}
+use Rattle.std.specs.Prelude.{Ok, Err}
 use Rattle.std.proofs.lemmas.Result.{err_from_is_err_and}
 use Rattle.disk_trait.specs.declared.damage.Damage.TheVariants.{Form}
 use Rattle.flowfile_record.specs.Stored.{kept_of}

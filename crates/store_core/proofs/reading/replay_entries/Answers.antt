@@ -1,9 +1,7 @@
-use Rattle.std.proofs.Common.{◌≡◌, ℕ, ◌<◌, true, List, [], ◌∷◌, ◌++◌, suc, length, map, take, drop, get_or, sym, ap, subst, ◌∙◌}
-use Rattle.std.specs.Prelude.{Result, Ok, Err}
-use Rattle.std.proofs.lemmas.Iterator.{YieldsList}
+use Rattle.std.proofs.Common.{◌≡◌, true, [], ◌∷◌, ◌++◌, suc, length, drop, sym, ap, subst, ◌∙◌}
+use Rattle.std.specs.Prelude.{Err}
 use Rattle.std.proofs.lemmas.Iterator.Adapters.{YieldsList-from_vec}
 use Rattle.std.proofs.lemmas.Iterator.Consumers.{YieldsList-so_far, YieldsList-turn}
-use Rattle.disk_trait.specs.declared.damage.Damage.{Damage}
 use Rattle.disk_trait.specs.declared.damage.Damage.TheVariants.{Form}
 use Rattle.disk_trait.specs.Files.{named}
 use Rattle.disk_trait.specs.declared.file_name.FileKind.TheVariants.{Log}
@@ -11,7 +9,7 @@ use Rattle.flowfile_record.specs.Stored.{Kept, kept_of}
 use Rattle.record_codec.specs.EntryEncoding.{IsEntry}
 use Rattle.kept_state.specs.Applied.{applied, swapped_out}
 use Rattle.kept_state.specs.Changes.{no_files}
-use Rattle.kept_state.specs.Fits.{fits, replayed}
+use Rattle.kept_state.specs.Fits.{fits}
 use Rattle.store_core.specs.Flow.{flow_in}
 use Rattle.store_core.specs.Kept.{fitted}
 use Rattle.store_core.proofs.Replaying.{Logged, in_turn, misfits, fitting, still_plain, same_flow}

@@ -1,8 +1,6 @@
-use Rattle.std.proofs.Common.{◌≡◌, ℕ, length}
+use Rattle.std.proofs.Common.{length}
 use Rattle.flowfile_record.specs.Stored.{kept_of}
-use Rattle.flowfile_wal.specs.Calls.{InEach}
-use Rattle.record_codec.specs.declared.log.TheConstants.{OPEN_GATE}
-use Rattle.checkpoint_store.specs.Snapshot.{snapshot, snapshot_file}
+use Rattle.checkpoint_store.specs.Snapshot.{snapshot}
 use Rattle.disk_trait.specs.Files.{Torn}
 use Rattle.store_core.proofs.Made.{since_discards, since_snapshot}
 use Rattle.store_core.proofs.MadeSteps.{begun_files, since_unmade, since_begin, made_at_the_end, each_staged, unmade_images}

@@ -1,10 +1,8 @@
-use Rattle.std.proofs.Common.{◌≡◌, ℕ, sym, ap, ◌∙◌, subst, refl}
-use Rattle.std.specs.Prelude.{Option, Some, Result, Ok, Err, OnOk}
-use Rattle.disk_trait.specs.Files.{Files}
-use Rattle.disk_trait.specs.Images.{After, Since}
+use Rattle.std.proofs.Common.{◌≡◌, ap, ◌∙◌}
+use Rattle.std.specs.Prelude.{Some, Result, Ok, Err, OnOk}
+use Rattle.disk_trait.specs.Images.{After}
 use Rattle.disk_trait.proofs.Moments.{at_the_end}
 use Rattle.flowfile_wal.specs.Steps.{LogState, Keeps}
-use Rattle.store_core.specs.Agreement.{Needs, IsPlain, Agrees}
 use Rattle.store_core.specs.Discard.{Discards}
 use Rattle.store_core.proofs.Reviving.{mended_agrees, discarded_agrees, ready_number, discarded_ready, since_agrees, since_agreeing}
 use Rattle.store_core.proofs.revival.mend.Goals as goal

@@ -1,15 +1,13 @@
-use Rattle.std.proofs.Common.{◌≡◌, ◌⊎◌, ℕ, ◌<◌, ◌≤◌, IsTrue, List, [], length, get_or, refl, sym, ap, subst, ◌∙◌, arith}
-use Rattle.std.specs.Prelude.{Option, None, Some, Ok, Err, All, false, true}
-use Rattle.disk_trait.specs.Files.{Files}
+use Rattle.std.proofs.Common.{◌≡◌, ◌⊎◌, List, [], refl, sym, subst, ◌∙◌, arith}
+use Rattle.std.specs.Prelude.{None, All, false}
 use Rattle.disk_trait.specs.Images.{Since}
-use Rattle.disk_trait.proofs.Moments.{at_the_end}
-use Rattle.flowfile_record.specs.Stored.{Kept, kept_of}
+use Rattle.flowfile_record.specs.Stored.{Kept}
 use Rattle.flowfile_record.specs.declared.content.ContentRef.{ContentRef}
 use Rattle.content_repo.specs.Claims.{IsCovered}
 use Rattle.flowfile_wal.specs.Calls.{InEach}
 use Rattle.store_core.specs.Agreement.{IsUnmade}
 use Rattle.store_core.specs.Opened.{IsMade}
-use Rattle.store_core.specs.Store.{StoreState, state_in}
+use Rattle.store_core.specs.Store.{state_in}
 use Rattle.store_core.proofs.RevivedFiles.{unmade_found, means_mid, means_new, new_holds, new_log, since_still, still_covered, working, few_live}
 use Rattle.store_core.proofs.revival.revive.Goals as goal
 

@@ -1,6 +1,5 @@
-use Rattle.std.proofs.Common.{◌≡◌, ℕ, ◌+◌, ◌-◌, ◌^◌, ◌≤◌, true, false, List, length, map, refl, ap, sym, subst, ◌∙◌, arith, IsTrue}
+use Rattle.std.proofs.Common.{◌≡◌, ℕ, ◌+◌, ◌-◌, ◌^◌, ◌≤◌, true, List, length, map, refl, ap, sym, subst, ◌∙◌, arith, IsTrue}
 use Rattle.std.specs.Prelude.{is_some, min}
-use Rattle.disk_trait.specs.Files.{Files}
 use Rattle.flowfile_record.specs.Stored.{Kept}
 use Rattle.flowfile_record.specs.declared.content.ContentRef.{ContentRef}
 use Rattle.flowfile_record.specs.declared.limits.TheConstants.{LIVE_FILES_MAX}
@@ -13,7 +12,7 @@ use Rattle.content_repo.specs.Slots.{count_of, held_in, references_to}
 use Rattle.flowfile_wal.specs.Steps.{LogState, IsFrame, IsReadyIn}
 use Rattle.kept_state.specs.Changes.{no_files, placed_in, record_of}
 use Rattle.kept_state.specs.Fits.{fits}
-use Rattle.store_core.specs.Change.{state_after}
+use Rattle.machine_model.specs.Changing.{state_after}
 use Rattle.store_core.specs.Committed.{PreparedChange}
 use Rattle.store_core.specs.Flow.{flow_in}
 use Rattle.store_core.specs.Placing.{contents_of, MayPlace, PlacesAll}

@@ -1,5 +1,4 @@
 use Rattle.std.proofs.Common.{◌≡◌, false, ap, sym, ◌∙◌}
-use Rattle.content_repo.specs.Claims.{claim}
 use Rattle.store_core.specs.Store.{StoreState, live_in}
 use Rattle.store_core.proofs.Sound.{one_sound, damage_not}
 use Rattle.store_core.proofs.store.Store.read.Goals as goal

@@ -1,7 +1,6 @@
-use Rattle.std.proofs.Common.{◌≡◌, false, ap, sym, subst, ◌∙◌}
-use Rattle.disk_trait.specs.Files.{Files}
+use Rattle.std.proofs.Common.{sym, subst}
 use Rattle.disk_trait.specs.Images.{Since}
-use Rattle.store_core.specs.Store.{StoreState, state_in, IsKeptOn, Holds, IsWorking}
+use Rattle.store_core.specs.Store.{StoreState, state_in, IsKeptOn, Holds}
 use Rattle.store_core.proofs.Reclaiming.{since_reclaimed, kept_reclaimed, sound_reclaimed}
 use Rattle.store_core.proofs.store.Store.reclaim.Goals as goal
 
