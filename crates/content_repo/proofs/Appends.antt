@@ -10,7 +10,6 @@ use Rattle.flowfile_record.specs.declared.content.ContentRef.{ContentRef}
 use Rattle.content_repo.specs.declared.slot.Slot.{Slot}
 use Rattle.content_repo.specs.Append.{IsWritten, KeepsContents}
 use Rattle.content_repo.specs.Claims.{claim, content_in, HasSizes}
-use Rattle.content_repo.specs.declared.slot_set.TheConstants.{SLOTS}
 use Rattle.content_repo.specs.Slots.{unused, count_of, size_of, end_of, next_slot, taken}
 
 -- what is read of bytes with the same front
@@ -32,7 +31,7 @@ torn_kept k z n old new at step within =
 
 appended_sizes : (slots : List Slot) (k : ℕ) (bytes : List ℕ) (old new : Files) → k < length slots → HasSizes slots old
     → At (claim k) (λ a b. b ≡ a ++ bytes) old new → HasSizes (taken slots k (size_of slots k + length bytes)) new
-appended_sizes slots k bytes old new within sizes step j below =
+appended_sizes slots k bytes old new within sizes step j =
     let size = size_of slots k + length bytes in
     let slot : Slot = record { live = true; count = count_of slots k + 1; size = size } in
     elim (cases_eq j k) [
@@ -40,10 +39,10 @@ appended_sizes slots k bytes old new within sizes step j below =
           let here : size_of (taken slots k size) j ≡ size = ap (size_of (taken slots k size)) same ∙ ap (λ (s : Slot). s.size) (get_or-set_same slots k slot unused within) in
           let long : length (new (claim j)) ≡ length (old (claim j)) + length bytes =
           subst (λ (i : ℕ). length (new (claim i)) ≡ length (old (claim i)) + length bytes) (sym same) (ap length step.here ∙ length-append (old (claim k)) bytes) in
-          let known : length (old (claim j)) ≡ size_of slots k = sizes j below ∙ ap (size_of slots) same in
+          let known : length (old (claim j)) ≡ size_of slots k = sizes j ∙ ap (size_of slots) same in
           omega (arith, here, long, known)
       | inr differs ↦
-          ap length (step.others (claim j) (λ e. differs (ap (λ (f : FileName). f.number) e))) ∙ sizes j below
+          ap length (step.others (claim j) (λ e. differs (ap (λ (f : FileName). f.number) e))) ∙ sizes j
           ∙ sym (ap (λ (s : Slot). s.size) (get_or-set_other slots k j slot unused differs))
     ]
 
@@ -71,12 +70,12 @@ keeps_contents slots k size old new next torn = record {
 }
 
 -- what a write at the end of a slot's claim leaves
-pub is_written : (slots : List Slot) (k : ℕ) (bytes digest : List ℕ) (old new : Files) → k < SLOTS → k < length slots → HasSizes slots old
+pub is_written : (slots : List Slot) (k : ℕ) (bytes digest : List ℕ) (old new : Files) → k < length slots → HasSizes slots old
     → At (claim k) (Overwritten (size_of slots k) bytes) old new
     → IsWritten bytes (record { slot = k; offset = size_of slots k; size = length bytes; digest = digest }) (taken slots k (size_of slots k + length bytes)) old new
-is_written slots k bytes digest old new below within sizes written =
+is_written slots k bytes digest old new within sizes written =
     let before = old (claim k) in
-    let long : size_of slots k ≡ length before = sym (sizes k below) in
+    let long : size_of slots k ≡ length before = sym (sizes k) in
     let step = written_at_end k (size_of slots k) bytes old new long written in
     let behind : drop (size_of slots k) (new (claim k)) ≡ bytes =
     ap (drop (size_of slots k)) step.here ∙ ap (λ (n : ℕ). drop n (before ++ bytes)) long ∙ drop-append_seam before bytes in

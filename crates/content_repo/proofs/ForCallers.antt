@@ -43,7 +43,7 @@ held_within slots k held =
     ]
 
 pub sizes_stay : (slots : List Slot) (k count : ℕ) (files : Files) → 0 < count_of slots k → HasSizes slots files → HasSizes (with_count slots k count) files
-sizes_stay slots k count files held sizes j below =
+sizes_stay slots k count files held sizes j =
     let slot : Slot = record { live = is_live slots k; count = count; size = size_of slots k } in
     let stays : size_of (with_count slots k count) j ≡ size_of slots j =
     elim (cases_eq j k) [
@@ -52,4 +52,4 @@ sizes_stay slots k count files held sizes j below =
           ∙ ap (size_of slots) (sym same)
       | inr differs ↦ ap (λ (s : Slot). s.size) (get_or-set_other slots k j slot unused differs)
     ] in
-    sizes j below ∙ sym stays
+    sizes j ∙ sym stays

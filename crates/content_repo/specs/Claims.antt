@@ -10,7 +10,6 @@ use Rattle.flowfile_record.specs.declared.content.ContentRef.{ContentRef}
 use Rattle.content_repo.specs.declared.error.ContentError.{ContentError}
 use Rattle.content_repo.specs.declared.error.ContentError.TheVariants.{Memory, SlotsFull, Damaged}
 use Rattle.content_repo.specs.declared.slot.Slot.{Slot}
-use Rattle.content_repo.specs.declared.slot_set.TheConstants.{SLOTS}
 use Rattle.content_repo.specs.Slots.{size_of, end_of, covered, is_idle, slot_at}
 
 -- the file of a slot
@@ -25,9 +24,9 @@ content_in files at = take at.size (drop at.offset (files (claim at.slot)))
 abbrev pub IsCovered : Files → ContentRef → Type 0
 IsCovered files at = end_of at ≤ length (files (claim at.slot))
 
--- each file is as long as is known
+-- each file is as long as is known; one past the slots is empty
 abbrev pub HasSizes : List Slot → Files → Type 0
-HasSizes slots files = (k : ℕ) → k < SLOTS → length (files (claim k)) ≡ size_of slots k
+HasSizes slots files = (k : ℕ) → length (files (claim k)) ≡ size_of slots k
 
 -- only files of claims change, each by a step of its number
 pub record OnClaims (step : ℕ → List ℕ → List ℕ → Type 0) (old new : Files) : Type 0 where

@@ -71,11 +71,16 @@ HasRoom slots (n ∷ ns) = (k : ℕ) × (next_slot slots ≡ Some k) × HasRoom 
 abbrev pub reclaimed : Slot → Slot
 reclaimed slot = if is_idle slot then unused else slot
 
--- so many claims were emptied, none was left as claimed, and their slots are free
+-- nothing is known of a free slot: its file is empty, and nothing refers to it
+abbrev pub HasUnused : List Slot → Type 0
+HasUnused slots = (k : ℕ) → is_live slots k ≡ false → slot_at slots k ≡ unused
+
+-- so many claims were emptied, none was left as claimed, and their slots are free, of which nothing was known before
 pub record IsReclaimed (old new : List Slot) (answer : Reclaimed) : Type 0 where
   pub emptied : answer ≡ record { emptied = count_by is_idle old; claimed = 0 }
   pub slots : new ≡ map reclaimed old
   pub held : held_in new ≡ held_in old
+  pub unused : HasUnused old
 
 -- where a content ends
 abbrev pub end_of : ContentRef → ℕ
@@ -101,7 +106,7 @@ pub record AreSorted (slots : List Slot) (open_slots free_slots : List ℕ) : Ty
   pub long : length slots ≡ SLOTS
   pub opened : (k : ℕ) → k < SLOTS → has open_slots k ≡ bit_of (is_open (slot_at slots k))
   pub free : (k : ℕ) → k < SLOTS → has free_slots k ≡ bit_of (is_free (slot_at slots k))
-  pub unused : (k : ℕ) → is_live slots k ≡ false → slot_at slots k ≡ unused
+  pub unused : HasUnused slots
 
 -- a reference names a slot, and its end is a number of bytes
 abbrev pub IsNamed : ContentRef → Type 0
@@ -111,7 +116,3 @@ IsNamed at = (at.slot < SLOTS) × (end_of at < 2 ^ 64)
 pub record AreLive (refs : List ContentRef) : Type 0 where
   pub few : length refs ≤ LIVE_MAX
   pub named : All IsNamed refs
-
--- the file of a free slot is empty, and nothing refers to it
-abbrev pub HasUnused : List Slot → Type 0
-HasUnused slots = (k : ℕ) → is_live slots k ≡ false → slot_at slots k ≡ unused

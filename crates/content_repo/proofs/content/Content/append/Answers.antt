@@ -20,7 +20,7 @@ returns-clause-written g c told =
     let at_file = subst (λ (f : FileName). At f (Overwritten offset bytes) old new) c.claim_file.ensures (c.in_ok-write.ensures.written told) in
     let at_end = subst (λ (n : ℕ). At (claim slot) (Overwritten n bytes) old new) size at_file in
     let written =
-    is_written slots slot bytes c.args.digest old new c.in-Some.ensures.within (omega (arith, c.in-Some.ensures.within, c.slot-offset.ensures.long)) (c.requires.sizes told) at_end in
+    is_written slots slot bytes c.args.digest old new (omega (arith, c.in-Some.ensures.within, c.slot-offset.ensures.long)) (c.requires.sizes told) at_end in
     let slots_now = c.take.ensures.value ∙ ap (λ (n : ℕ). taken slots slot (n + length bytes)) size in
     subst (λ (n : ℕ). IsWritten bytes (record { slot = slot; offset = n; size = length bytes; digest = c.args.digest }) c.take.new.self old new) (sym size)
     (rw slots_now written)

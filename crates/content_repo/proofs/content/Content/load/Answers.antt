@@ -44,7 +44,7 @@ returns-clause-cut g c told =
         claims = λ k. subst (λ (n : ℕ). new (claim k) ≡ take n (old (claim k))) (loaded.size k) (cut.claims k);
         others = cut.others;
       };
-      sizes = λ k below.
+      sizes = λ k.
           let fits : size_of slots k ≤ length (old (claim k)) = rw (loaded.size k) (covered_within k c.args.live.now old within) in
           ap length (cut.claims k) ∙ length-take (size_of slots k) (old (claim k)) ∙ omega (arith, fits);
     }

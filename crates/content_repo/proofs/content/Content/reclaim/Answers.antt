@@ -68,4 +68,5 @@ returns-clause-reclaimed g c =
           reclaimed_list slots c.loop-number.self inv.long
           (λ k within. inv.before k (omega (arith, within, c.loop-number-test.false, c.len-number-end.ensures.len)));
       held = inv.held;
+      unused = c.len-number-end.ensures.unused;
     }
