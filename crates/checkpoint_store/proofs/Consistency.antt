@@ -15,8 +15,8 @@ use Rattle.record_codec.specs.ActiveFile.{IsActiveFile}
 use Rattle.record_codec.specs.StoreHead.{head, IsHead}
 use Rattle.record_codec.specs.declared.block.TheConstants.{PAYLOAD_MAX}
 use Rattle.record_codec.specs.declared.head.Head.{Head}
-use Rattle.checkpoint_store.specs.Consistent.{IsConsistent, IsFileIn, IsBatchIn, AreDistinctBy, record_size}
-use Rattle.checkpoint_store.specs.Reading.{are_distinct, kept_by, last_number, has_place, may_join}
+use Rattle.checkpoint_store.specs.Consistent.{IsConsistent, HasCounters, IsFileIn, IsBatchIn, AreDistinctBy, record_size}
+use Rattle.checkpoint_store.specs.Reading.{are_distinct, has_counters, kept_by, last_number, has_place, may_join}
 use Rattle.checkpoint_store.proofs.Numbering.{sum_more}
 
 -- ---- tests that failed on each item
@@ -67,33 +67,46 @@ rules_of placed within known is =
     let first = and_parts placed within last.0 in
     (first.0, first.1, not-true known last.1)
 
-last_four : (a b c d e f : Bool) → (a && b && c && d && e && f) ≡ true → (c ≡ true) × (d ≡ true) × (e ≡ true) × (f ≡ true)
-last_four a b c d e f is =
-    let to_f = and_parts (a && b && c && d && e) f is in
+last_five : (a b c d e f g : Bool) → (a && b && c && d && e && f && g) ≡ true → (c ≡ true) × (d ≡ true) × (e ≡ true) × (f ≡ true) × (g ≡ true)
+last_five a b c d e f g is =
+    let to_g = and_parts (a && b && c && d && e && f) g is in
+    let to_f = and_parts (a && b && c && d && e) f to_g.0 in
     let to_e = and_parts (a && b && c && d) e to_f.0 in
     let to_d = and_parts (a && b && c) d to_e.0 in
     let to_c = and_parts (a && b) c to_d.0 in
-    (to_c.1, to_d.1, to_e.1, to_f.1)
+    (to_c.1, to_d.1, to_e.1, to_f.1, to_g.1)
 
 place_of : (k : Kept) (a : ActiveFile) → has_place k a ≡ true
-    → (a.connection < length k.connections) × (a.file.number < k.next_number) × (a.file.arrival < k.next_arrival) × (length k.files < LIVE_FILES_MAX)
+    → (a.connection < length k.connections) × (a.file.number < k.next_number) × (0 < a.file.arrival) × (a.file.arrival < k.next_arrival) × (length k.files < LIVE_FILES_MAX)
 place_of k a is =
-    let four = last_four (length k.batches == 0) (nat_lt (last_number (λ (b : ActiveFile). b.file.number) k.files) a.file.number)
-    (nat_lt a.connection (length k.connections)) (nat_lt a.file.number k.next_number) (nat_lt a.file.arrival k.next_arrival) (nat_lt (length k.files) LIVE_FILES_MAX) is in (
-      ltb-true a.connection (length k.connections) four.0,
-      ltb-true a.file.number k.next_number four.1,
-      ltb-true a.file.arrival k.next_arrival four.2,
-      ltb-true (length k.files) LIVE_FILES_MAX four.3,
+    let five = last_five (length k.batches == 0) (nat_lt (last_number (λ (b : ActiveFile). b.file.number) k.files) a.file.number)
+    (nat_lt a.connection (length k.connections)) (nat_lt a.file.number k.next_number) (nat_lt 0 a.file.arrival) (nat_lt a.file.arrival k.next_arrival) (nat_lt (length k.files) LIVE_FILES_MAX) is in (
+      ltb-true a.connection (length k.connections) five.0,
+      ltb-true a.file.number k.next_number five.1,
+      ltb-true 0 a.file.arrival five.2,
+      ltb-true a.file.arrival k.next_arrival five.3,
+      ltb-true (length k.files) LIVE_FILES_MAX five.4,
     )
 
 -- ---- what is kept
 
+counted : (h : Head) → has_counters h ≡ true → HasCounters (kept_by h)
+counted h is =
+    let to_batch = and_parts (nat_lt 0 h.next_number && nat_lt 0 h.next_arrival) (nat_lt 0 h.next_batch) is in
+    let to_arrival = and_parts (nat_lt 0 h.next_number) (nat_lt 0 h.next_arrival) to_batch.0 in
+    record {
+      next_number = ltb-true 0 h.next_number to_arrival.0;
+      next_arrival = ltb-true 0 h.next_arrival to_arrival.1;
+      next_batch = ltb-true 0 h.next_batch to_batch.1;
+    }
+
 -- what a Head says, which a block held
-pub head_alone : (h : Head) → IsHead h → length (head h) ≤ PAYLOAD_MAX → are_distinct h.connections ≡ true → IsConsistent (kept_by h)
-head_alone h is small distinct = record {
+pub head_alone : (h : Head) → IsHead h → length (head h) ≤ PAYLOAD_MAX → are_distinct h.connections ≡ true → has_counters h ≡ true → IsConsistent (kept_by h)
+head_alone h is small distinct counters = record {
   encoded = is;
   head_size = small;
   connections = distinct_names h.connections distinct;
+  counters = counted h counters;
   files = All-nil (IsFileIn (kept_by h));
   numbers = tt;
   arrivals = tt;
@@ -112,7 +125,7 @@ file_joins k a is none has joins below =
     (list_any (λ (b : ActiveFile). b.file.arrival == a.file.arrival) k.files) joins in
     let place = place_of k a rules.0 in
     let kept : (b : ActiveFile) → IsFileIn k b → IsFileIn more b =
-    λ b known. record { encoded = known.encoded; connection = known.connection; number = known.number; arrival = known.arrival } in
+    λ b known. record { encoded = known.encoded; connection = known.connection; number = known.number; first_arrival = known.first_arrival; arrival = known.arrival } in
     let fresh = any_none (λ (b : ActiveFile). b.file.arrival == a.file.arrival) k.files rules.2 in
     let apart : (b : ActiveFile) → (b.file.arrival == a.file.arrival) ≡ false → b.file.arrival ≢ a.file.arrival = λ b isnt. grind (arith, nat_tests, isnt) in
     let no_files : sum (map (λ (b : SwapBatch). b.files) k.batches) ≡ 0 = ap (λ (l : List SwapBatch). sum (map (λ b. b.files) l)) none in
@@ -121,17 +134,19 @@ file_joins k a is none has joins below =
       encoded = is.encoded;
       head_size = is.head_size;
       connections = is.connections;
+      counters = record { next_number = is.counters.next_number; next_arrival = is.counters.next_arrival; next_batch = is.counters.next_batch };
       files = All-push (IsFileIn more) k.files a (All-weaker (IsFileIn k) (IsFileIn more) kept k.files is.files) (record {
         encoded = has;
         connection = place.0;
         number = place.1;
-        arrival = place.2;
+        first_arrival = place.2;
+        arrival = place.3;
       });
       numbers = ascends_more (λ b. b.file.number) k.files a is.numbers below;
       arrivals = distinct_more (λ b. b.file.arrival) k.files a is.arrivals
           (All-weaker (λ b. (b.file.arrival == a.file.arrival) ≡ false) (λ b. b.file.arrival ≢ a.file.arrival) apart k.files fresh);
       batches = All-same (IsBatchIn more) k.batches [] none (All-nil (IsBatchIn more));
       batch_numbers = is.batch_numbers;
-      live_files = omega (arith, no_files, length-append k.files (a ∷ []), place.3);
+      live_files = omega (arith, no_files, length-append k.files (a ∷ []), place.4);
       live_bytes = omega (arith, no_bytes, sum_more record_size k.files a, leb-true (sum (map record_size k.files) + record_size a) LIVE_BYTES_MAX rules.1);
     }

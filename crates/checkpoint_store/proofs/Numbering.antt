@@ -67,13 +67,13 @@ any_more test (first ∷ items) item = ap (λ (b : Bool). test first || b) (any_
 pub all_three : (a b c : Bool) → a ≡ true → b ≡ true → c ≡ true → (a && b && c) ≡ true
 all_three a b c x y z = rw (x, y, z) refl
 
-second_of_six : (a b c d e f : Bool) → (a && b && c && d && e && f) ≡ true → b ≡ true
-second_of_six true true c d e f is = refl
-second_of_six true false c d e f is = absurd cc
-second_of_six false b c d e f is = absurd cc
+second_of_seven : (a b c d e f g : Bool) → (a && b && c && d && e && f && g) ≡ true → b ≡ true
+second_of_seven true true c d e f g is = refl
+second_of_seven true false c d e f g is = absurd cc
+second_of_seven false b c d e f g is = absurd cc
 
 -- a file that has a place has a greater number than the others
 pub place_above : (k : Kept) (a : ActiveFile) → has_place k a ≡ true → last_number (λ b. b.file.number) k.files < a.file.number
 place_above k a place =
-    ltb-true (last_number (λ (b : ActiveFile). b.file.number) k.files) a.file.number (second_of_six (length k.batches == 0) (nat_lt (last_number (λ (b : ActiveFile). b.file.number) k.files) a.file.number)
-    (nat_lt a.connection (length k.connections)) (nat_lt a.file.number k.next_number) (nat_lt a.file.arrival k.next_arrival) (nat_lt (length k.files) LIVE_FILES_MAX) place)
+    ltb-true (last_number (λ (b : ActiveFile). b.file.number) k.files) a.file.number (second_of_seven (length k.batches == 0) (nat_lt (last_number (λ (b : ActiveFile). b.file.number) k.files) a.file.number)
+    (nat_lt a.connection (length k.connections)) (nat_lt a.file.number k.next_number) (nat_lt 0 a.file.arrival) (nat_lt a.file.arrival k.next_arrival) (nat_lt (length k.files) LIVE_FILES_MAX) place)

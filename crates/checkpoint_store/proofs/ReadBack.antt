@@ -27,8 +27,8 @@ use Rattle.record_codec.proofs.Blocks.{reading_of-block, length-block}
 use Rattle.record_codec.proofs.Sizes.{file_at_most, swap_batch_size}
 use Rattle.record_codec.proofs.Snapshots.{batch_is, ending_is}
 use Rattle.record_codec.proofs.StoreHeads.{head_is}
-use Rattle.checkpoint_store.specs.Consistent.{IsConsistent, IsFileIn, AreDistinctBy, record_size}
-use Rattle.checkpoint_store.specs.Reading.{Next, More, Last, last_number, has_place, may_join, may_follow, are_distinct, kept_by, head_next, file_next, batch_next, end_next, first_in, next_in, said, behind_block, go_on, blocks_from, snapshot_of}
+use Rattle.checkpoint_store.specs.Consistent.{IsConsistent, HasCounters, IsFileIn, AreDistinctBy, record_size}
+use Rattle.checkpoint_store.specs.Reading.{Next, More, Last, last_number, has_place, may_join, may_follow, are_distinct, has_counters, kept_by, head_next, file_next, batch_next, end_next, first_in, next_in, said, behind_block, go_on, blocks_from, snapshot_of}
 use Rattle.checkpoint_store.specs.Snapshot.{head_in, head_block, file_block, batch_block, end_block, blocks_in, snapshot}
 use Rattle.flowfile_record.specs.declared.limits.TheConstants.{LIVE_FILES_MAX, LIVE_BYTES_MAX}
 use Rattle.checkpoint_store.proofs.Numbering.{last_is, sum_more, any_more, all_three}
@@ -81,10 +81,18 @@ distinct_names (name ∷ names) distinct =
     let fresh = none_equal name names distinct.0 in
     rw fresh (distinct_names names distinct.1)
 
+counted : (k : Kept) → HasCounters k → has_counters (head_in k) ≡ true
+counted k has =
+    let number : nat_lt 0 k.next_number ≡ true = grind (arith, nat_tests, has.next_number) in
+    let arrival : nat_lt 0 k.next_arrival ≡ true = grind (arith, nat_tests, has.next_arrival) in
+    let batch : nat_lt 0 k.next_batch ≡ true = grind (arith, nat_tests, has.next_batch) in
+    all_three (nat_lt 0 k.next_number) (nat_lt 0 k.next_arrival) (nat_lt 0 k.next_batch) number arrival batch
+
 head_says : (k : Kept) → IsConsistent k → first_in (kind_code kinds.Head) (head (head_in k)) ≡ Some (kept_by (head_in k))
 head_says k is =
     let names = distinct_names k.connections is.connections in
-    ap head_next (whole_again head_at head IsHead head_is (head_in k) is.encoded) ∙ rw names refl
+    let counters = counted k is.counters in
+    ap head_next (whole_again head_at head IsHead head_is (head_in k) is.encoded) ∙ rw (names, counters) refl
 
 file_says : (k : Kept) (a : ActiveFile) → IsActiveFile a → may_join k a ≡ true → next_in k (kind_code kinds.File) (active_file a) ≡ Some (More (record k { files = k.files ++ a ∷ [] }))
 file_says k a has joins = ap (file_next k) (whole_again active_file_at active_file IsActiveFile active_file_is a has) ∙ rw joins refl
@@ -112,8 +120,8 @@ record MayAllJoin (k : Kept) (taken left : List ActiveFile) : Type 0 where
   pub count : length taken + length left ≤ LIVE_FILES_MAX
   pub bytes : sum (map record_size taken) + sum (map record_size left) ≤ LIVE_BYTES_MAX
 
-six : (a b c d e f : Bool) → a ≡ true → b ≡ true → c ≡ true → d ≡ true → e ≡ true → f ≡ true → (a && b && c && d && e && f) ≡ true
-six a b c d e f p q r s t u = rw (p, q, r, s, t, u) refl
+seven : (a b c d e f g : Bool) → a ≡ true → b ≡ true → c ≡ true → d ≡ true → e ≡ true → f ≡ true → g ≡ true → (a && b && c && d && e && f && g) ≡ true
+seven a b c d e f g p q r s t u v = rw (p, q, r, s, t, u, v) refl
 
 joins_here : (k : Kept) (taken left : List ActiveFile) (a : ActiveFile) → MayAllJoin k taken (a ∷ left) → may_join (with_files k taken) a ≡ true
 joins_here k taken left a may =
@@ -123,10 +131,11 @@ joins_here k taken left a may =
     let b1 : nat_lt (last_number number_of taken) a.file.number ≡ true = grind (arith, nat_tests, above) in
     let b2 : nat_lt a.connection (length k.connections) ≡ true = grind (arith, nat_tests, known.connection) in
     let b3 : nat_lt a.file.number k.next_number ≡ true = grind (arith, nat_tests, known.number) in
+    let b7 : nat_lt 0 a.file.arrival ≡ true = grind (arith, nat_tests, known.first_arrival) in
     let b4 : nat_lt a.file.arrival k.next_arrival ≡ true = grind (arith, nat_tests, known.arrival) in
     let b5 : nat_lt (length taken) LIVE_FILES_MAX ≡ true = grind (arith, nat_tests, may.count) in
     let b6 : nat_le (sum (map record_size taken) + record_size a) LIVE_BYTES_MAX ≡ true = grind (arith, nat_tests, may.bytes, cons) in
-    all_three (has_place (with_files k taken) a) _ _ (six true _ _ _ _ _ refl b1 b2 b3 b4 b5) b6 (ap not (may.fresh 0 a (omega arith)))
+    all_three (has_place (with_files k taken) a) _ _ (seven true _ _ _ _ _ _ refl b1 b2 b3 b7 b4 b5) b6 (ap not (may.fresh 0 a (omega arith)))
 
 or_false : (a b : Bool) → a ≡ false → b ≡ false → (a || b) ≡ false
 or_false a b p q = rw (p, q) refl

@@ -18,11 +18,12 @@ abbrev pub AreDistinctBy : {A B : Type 0} → (A → B) → List A → Type 0
 AreDistinctBy part [] = Unit {0}
 AreDistinctBy part (x ∷ xs) = All (λ y. part x ≢ part y) xs × AreDistinctBy part xs
 
--- a file's connection is there, and its number and arrival are below what comes next
+-- a file's connection is there, and its number and arrival are at least 1 and below what comes next
 pub record IsFileIn (k : Kept) (a : ActiveFile) : Type 0 where
   pub encoded : IsActiveFile a
   pub connection : a.connection < length k.connections
   pub number : a.file.number < k.next_number
+  pub first_arrival : 1 ≤ a.file.arrival
   pub arrival : a.file.arrival < k.next_arrival
 
 -- a batch's connection is there, and its number is at least 1 and below what comes next
@@ -36,10 +37,17 @@ pub record IsBatchIn (k : Kept) (b : SwapBatch) : Type 0 where
 abbrev pub record_size : ActiveFile → ℕ
 record_size a = length (flow_file a.file)
 
+-- numbers, arrivals and batches begin at 1
+pub record HasCounters (k : Kept) : Type 0 where
+  pub next_number : 1 ≤ k.next_number
+  pub next_arrival : 1 ≤ k.next_arrival
+  pub next_batch : 1 ≤ k.next_batch
+
 pub record IsConsistent (k : Kept) : Type 0 where
   pub encoded : IsHead (head_in k)
   pub head_size : length (head (head_in k)) ≤ PAYLOAD_MAX
   pub connections : AreDistinctBy (λ name. name) k.connections
+  pub counters : HasCounters k
   pub files : All (IsFileIn k) k.files
   pub numbers : AscendsByNumber (λ a. a.file.number) k.files
   pub arrivals : AreDistinctBy (λ a. a.file.arrival) k.files

@@ -29,6 +29,10 @@ abbrev pub are_distinct : List (List ℕ) → Bool
 are_distinct [] = true
 are_distinct (name ∷ names) = not (list_any (λ other. bytes_eq other name) names) && are_distinct names
 
+-- numbers, arrivals and batches begin at 1
+abbrev pub has_counters : Head → Bool
+has_counters h = nat_lt 0 h.next_number && nat_lt 0 h.next_arrival && nat_lt 0 h.next_batch
+
 -- what a Head says is kept, before any file
 abbrev pub kept_by : Head → Kept
 kept_by h = record {
@@ -51,13 +55,14 @@ last_number number (item ∷ []) = number item
 last_number number (item ∷ next ∷ items) = last_number number (next ∷ items)
 
 -- The file stands before the batches and has a greater number than those before it. Its connection is there, its number
--- and its arrival are below what comes next, and there is place for one file more.
+-- and its arrival, which is at least 1, are below what comes next, and there is place for one file more.
 abbrev pub has_place : Kept → ActiveFile → Bool
 has_place k a =
     (length k.batches == 0)
     && nat_lt (last_number (λ b. b.file.number) k.files) a.file.number
     && nat_lt a.connection (length k.connections)
     && nat_lt a.file.number k.next_number
+    && nat_lt 0 a.file.arrival
     && nat_lt a.file.arrival k.next_arrival
     && nat_lt (length k.files) LIVE_FILES_MAX
 
@@ -80,7 +85,7 @@ pub data Next : Type 0 where
   Last : Next
 
 abbrev pub head_next : Result Head ℕ → Option Kept
-head_next (Ok h) = if are_distinct h.connections then Some (kept_by h) else None
+head_next (Ok h) = if are_distinct h.connections && has_counters h then Some (kept_by h) else None
 head_next (Err left) = None
 
 abbrev pub file_next : Kept → Result ActiveFile ℕ → Option Next

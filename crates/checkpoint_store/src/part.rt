@@ -5,13 +5,13 @@ ghost use Rattle.flowfile_record.specs.Stored.{kept_of};
 ghost use Rattle.record_codec.specs.ActiveFile.{active_file_at};
 ghost use Rattle.record_codec.specs.SnapshotReading.{batch_at, ending_at};
 ghost use Rattle.record_codec.specs.StoreHeadReading.{head_at};
-ghost use Rattle.checkpoint_store.specs.Reading.{More, Last, are_distinct, head_next, file_next, batch_next, end_next, first_in, next_in};
+ghost use Rattle.checkpoint_store.specs.Reading.{More, Last, are_distinct, has_counters, head_next, file_next, batch_next, end_next, first_in, next_in};
 ghost use Rattle.checkpoint_store.specs.SoFar.{IsSoFar, next_is};
 
 use crate::so_far::{SoFar, Unfit};
 use flowfile_record::Text;
 use record_codec::{
-    PAYLOAD_MAX, SnapshotKind, read_active_file, read_head, read_snapshot_end, read_swap_batch,
+    Head, PAYLOAD_MAX, SnapshotKind, read_active_file, read_head, read_snapshot_end, read_swap_batch,
 };
 use std::alloc::Global;
 
@@ -38,7 +38,7 @@ fn take_head(alloc: Global, payload: &[u8]) -> Result<SoFar, Unfit>
     ensures unfit { IsErrOf result Unfit.Form → head_next (whole head_at payload.now) ≡ None }
 {
     let head = read_head(alloc, payload)?;
-    if !are_distinct(head.connections.as_slice()) {
+    if !are_distinct(head.connections.as_slice()) || !has_counters(&head) {
         return Err(Unfit::Form);
     }
     Ok(SoFar::new(alloc, head))
@@ -56,6 +56,13 @@ fn are_distinct(names: &[Text]) -> bool
         rest = others;
     }
     true
+}
+
+// Whether the next number, the next arrival and the next batch are at least 1.
+fn has_counters(head: &Head) -> bool
+    ensures { result ≡ has_counters head.now }
+{
+    0 < head.next_number && 0 < head.next_arrival && 0 < head.next_batch
 }
 
 impl SoFar {

@@ -125,6 +125,7 @@ impl SoFar {
             && self.last_file < active.file.number
             && u64::from(active.connection) < state.connections.len()
             && active.file.number < state.next_number
+            && 0 < active.file.arrival
             && active.file.arrival < state.next_arrival
             && state.files.len() < LIVE_FILES_MAX
     }

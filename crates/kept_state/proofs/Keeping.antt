@@ -19,7 +19,7 @@ use Rattle.record_codec.specs.declared.entry.SessionEntry.{SessionEntry}
 use Rattle.record_codec.specs.declared.entry.ExpireEntry.{ExpireEntry}
 use Rattle.record_codec.specs.declared.entry.LogEntry.TheVariants.{Session, Expire}
 use Rattle.record_codec.proofs.Sizes.{head_size, numbers_size}
-use Rattle.checkpoint_store.specs.Consistent.{AreDistinctBy, IsFileIn, IsBatchIn, IsConsistent, record_size}
+use Rattle.checkpoint_store.specs.Consistent.{AreDistinctBy, HasCounters, IsFileIn, IsBatchIn, IsConsistent, record_size}
 use Rattle.checkpoint_store.specs.Snapshot.{head_in}
 use Rattle.kept_state.specs.Applied.{number_of, is_among, left_after, with_files, with_count, session_applied, applied}
 use Rattle.kept_state.specs.Arrivals.{arrival_of}
@@ -190,14 +190,26 @@ counters_from k s keeps =
     let b = and_parts (nat_le k.next_number s.next_number) (nat_le k.next_arrival s.next_arrival) a.0 in
     (leb-true k.next_number s.next_number b.0, leb-true k.next_arrival s.next_arrival b.1, leb-true k.last_event s.last_event a.1)
 
+counters_go_on : (k : Kept) (s : SessionEntry) → HasCounters k → keeps_counters k s ≡ true → HasCounters (session_applied k s)
+counters_go_on k s has keeps =
+    let later = counters_from k s keeps in
+    record {
+      next_number = let first = has.next_number in omega (arith, first, later.0);
+      next_arrival = let first = has.next_arrival in omega (arith, first, later.1);
+      next_batch = has.next_batch;
+    }
+
 placed_in_order : (k : Kept) (s : SessionEntry) (a : ActiveFile) → IsActiveFile a → has_place k s a ≡ true → IsFileIn (session_applied k s) a
 placed_in_order k s a is place =
-    let b = and_parts (nat_lt a.connection (length k.connections) && nat_lt a.file.number s.next_number) (nat_lt a.file.arrival s.next_arrival) place in
-    let d = and_parts (nat_lt a.connection (length k.connections)) (nat_lt a.file.number s.next_number) b.0 in
+    let b =
+    and_parts (nat_lt a.connection (length k.connections) && nat_lt a.file.number s.next_number && nat_lt 0 a.file.arrival) (nat_lt a.file.arrival s.next_arrival) place in
+    let e = and_parts (nat_lt a.connection (length k.connections) && nat_lt a.file.number s.next_number) (nat_lt 0 a.file.arrival) b.0 in
+    let d = and_parts (nat_lt a.connection (length k.connections)) (nat_lt a.file.number s.next_number) e.0 in
     record {
       encoded = is;
       connection = ltb-true a.connection (length k.connections) d.0;
       number = ltb-true a.file.number s.next_number d.1;
+      first_arrival = ltb-true 0 a.file.arrival e.1;
       arrival = ltb-true a.file.arrival s.next_arrival b.1;
     }
 
@@ -208,6 +220,7 @@ kept_in_order k s keeps a is =
       encoded = is.encoded;
       connection = is.connection;
       number = let lt = is.number in omega (arith, lt, counters.0);
+      first_arrival = is.first_arrival;
       arrival = let lt = is.arrival in omega (arith, lt, counters.1);
     }
 
@@ -251,6 +264,7 @@ session_keeps k s was none is fit =
             length-with_count s.generator k.counts,
           );
       connections = was.connections;
+      counters = counters_go_on k s was.counters suits.counters;
       files = All-with_files (IsFileIn (session_applied k s)) s.placed left
           (both_all IsActiveFile (λ a. has_place k s a ≡ true) (IsFileIn (session_applied k s)) (placed_in_order k s) s.placed is.placed.1 (all_from (has_place k s) s.placed suits.places))
           (All-filter test (IsFileIn (session_applied k s)) k.files (All-weaker (IsFileIn k) (IsFileIn (session_applied k s)) (kept_in_order k s suits.counters) k.files was.files));
@@ -265,7 +279,7 @@ session_keeps k s was none is fit =
 -- ---- what is kept after files are expired
 
 expired_in_order : (k : Kept) (e : ExpireEntry) (a : ActiveFile) → IsFileIn k a → IsFileIn (applied no_files k (Expire e)) a
-expired_in_order k e a is = record { encoded = is.encoded; connection = is.connection; number = is.number; arrival = is.arrival }
+expired_in_order k e a is = record { encoded = is.encoded; connection = is.connection; number = is.number; first_arrival = is.first_arrival; arrival = is.arrival }
 
 pub expire_keeps : (k : Kept) (e : ExpireEntry) → IsConsistent k → IsExpire e → IsConsistent (applied no_files k (Expire e))
 expire_keeps k e was is =
@@ -283,6 +297,7 @@ expire_keeps k e was is =
       };
       head_size = omega (arith, was.head_size, head_size (head_in k) was.encoded.flow, head_size (head_in (applied no_files k (Expire e))) was.encoded.flow);
       connections = was.connections;
+      counters = record { next_number = was.counters.next_number; next_arrival = was.counters.next_arrival; next_batch = was.counters.next_batch };
       files = All-filter test (IsFileIn (applied no_files k (Expire e))) k.files (All-weaker (IsFileIn k) (IsFileIn (applied no_files k (Expire e))) (expired_in_order k e) k.files was.files);
       numbers = ascends-filter number_of test k.files was.numbers;
       arrivals = distinct-filter arrival_of test k.files was.arrivals;

@@ -62,10 +62,13 @@ placed_are_new files k s =
     are_new (λ f. f.number) (map (λ a. a.file.number) s.placed) lives
     && are_new (λ f. f.arrival) (map (λ a. a.file.arrival) s.placed) lives
 
--- the file's connection is there, and its number and its arrival are below what comes next
+-- the file's connection is there, and its number and its arrival, which is at least 1, are below what comes next
 abbrev pub has_place : Kept → SessionEntry → ActiveFile → Bool
 has_place k s a =
-    nat_lt a.connection (length k.connections) && nat_lt a.file.number s.next_number && nat_lt a.file.arrival s.next_arrival
+    nat_lt a.connection (length k.connections)
+    && nat_lt a.file.number s.next_number
+    && nat_lt 0 a.file.arrival
+    && nat_lt a.file.arrival s.next_arrival
 
 -- ---- the rules on what else an entry says
 

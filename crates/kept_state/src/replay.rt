@@ -228,8 +228,8 @@ fn arrivals_in(alloc: Global, files: &[ActiveFile]) -> Result<Vec<u64>, AllocErr
         .collect(alloc)
 }
 
-// Whether the placed files' connections are there and their numbers below what comes next, the generator's processor is
-// there, and no counter falls.
+// Whether the placed files' connections are there and their numbers and arrivals below what comes next, the generator's
+// processor is there, and no counter falls.
 fn suits_counters(stored: &Stored, session: &SessionEntry) -> bool
     ensures { result ≡ (list_all (has_place (kept_of stored.now) session.now) session.now.placed
         && has_count stored.now.counts session.now.generator && keeps_counters (kept_of stored.now) session.now) }
@@ -249,6 +249,7 @@ fn have_places(stored: &Stored, session: &SessionEntry) -> bool
     for active in session.placed.as_slice() {
         let has_place = u64::from(active.connection) < stored.connections.len()
             && active.file.number < session.next_number
+            && 0 < active.file.arrival
             && active.file.arrival < session.next_arrival;
         if !has_place {
             return false;
