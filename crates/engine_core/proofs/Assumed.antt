@@ -14,13 +14,13 @@ use Rattle.store_core.specs.Flow.{flow_in}
 use Rattle.store_core.specs.State.{queued, stands_for, state_with}
 use Rattle.store_core.specs.Store.{StoreState, Holds, kept_by}
 
-pub kept_valid : (flow : Flow) (k : Kept) (contents : ContentRef → List ℕ) → IsConsistent k → k.batches ≡ []
+pub kept_valid : (flow : Flow) (contents : ContentRef → List ℕ) (k : Kept) → IsConsistent k → k.batches ≡ []
     → length k.connections ≡ length flow.connections → length k.counts ≡ length flow.processors → IsValid flow (state_with contents [] k)
-kept_valid flow k contents consistent batches connections counts = ?
+kept_valid flow contents k consistent batches connections counts = ?
 
-pub kept_queued : (k : Kept) (contents : ContentRef → List ℕ) (a : ActiveFile) → IsConsistent k → Contains k.files a
+pub kept_queued : (contents : ContentRef → List ℕ) (k : Kept) (a : ActiveFile) → IsConsistent k → Contains k.files a
     → Contains (queue_at (state_with contents [] k) a.connection) (queued contents a)
-kept_queued k contents a consistent has = ?
+kept_queued contents k a consistent has = ?
 
 pub kept_stands : (s : StoreState) (files : Files) → (kept_by s).last_event ≡ 0 → Holds s files
     → stands_for (flow_in (kept_by s)) s.lot files ≡ Ok (state_with (content_in files) [] (kept_by s))

@@ -1,5 +1,5 @@
 -- What a commit leaves, said of the store as it was before and of the machine's session.
-use Rattle.std.proofs.Common.{◌≡◌, ℕ, ◌≤◌, Bool, false, IsTrue, [], refl, sym, ap, subst, ◌∙◌, inl, inr}
+use Rattle.std.proofs.Common.{◌≡◌, ℕ, ◌≤◌, Bool, false, IsTrue, [], refl, sym, ap, subst, ◌∙◌, inl, inr, arith}
 use Rattle.std.specs.Prelude.{◌⊎◌, Option, Some, Ok, slice_get}
 use Rattle.disk_trait.specs.Files.{Files}
 use Rattle.disk_trait.specs.Images.{Since}
@@ -32,6 +32,16 @@ module _ {D : Type 0} (tells : Bool) (held : D → Files) (moment : D → ℕ) (
         log = λ works files image. let h = on.log works files image in record { ready = h.ready; entries = h.entries };
         sizes = on.sizes;
       })
+
+  -- nothing was begun
+  pub unstarted : (P : Files → Type 0) (disk : D) → ((files : Files) → images disk (moment disk) files → P files) → Since moment images disk disk P
+  unstarted P disk each = record {
+    later = omega arith;
+    begun = omega arith;
+    past = λ k files le image. image;
+    kept = λ k files le image. image;
+    each = λ k files from to image. let now : k ≡ moment disk = omega arith in each files (subst (λ m. images disk m files) now image);
+  }
 
   -- a session is settled over what this store keeps, and the disk holds that
   pub record IsBegun (c : Case) (s : StoreState) (old : D) : Type 0 where

@@ -1,5 +1,5 @@
 -- The settled session of what a store keeps, and that it is one of the state which this stands for.
-use Rattle.std.proofs.Common.{◌≡◌, ◌≢◌, ℕ, ◌+◌, ◌<◌, ◌≤◌, ◌==◌, List, [], ◌∷◌, length, map, zero, suc, refl, sym, ap, subst, ◌∙◌, arith}
+use Rattle.std.proofs.Common.{◌≡◌, ◌≢◌, ℕ, ◌+◌, ◌^◌, ◌<◌, ◌≤◌, ◌==◌, List, [], ◌∷◌, length, map, zero, suc, refl, sym, ap, subst, ◌∙◌, arith}
 use Rattle.std.specs.Prelude.{All, Contains, Option, Some, None, slice_get, unwrap_or}
 use Rattle.std.specs.List.{AllPairs, flat_map}
 use Rattle.std.proofs.lemmas.List.{length-map}
@@ -27,7 +27,7 @@ use Rattle.machine_model.specs.Valid.{IsWellNumbered, files_of_all}
 use Rattle.machine_model.proofs.Keyed.{differ_from_once, once_from_differ}
 use Rattle.machine_model.proofs.SettlingKeeps.{settle-keeps}
 use Rattle.machine_model.proofs.Tally.{bit, tally-map}
-use Rattle.settlement.specs.Handed.{AreRead, IsHanded, session_of}
+use Rattle.settlement.specs.Handed.{AreRead, IsHanded, MaySettle, session_of}
 use Rattle.settlement.specs.Recording.{RecordsAll}
 use Rattle.settlement.specs.StateAfter.{Settles}
 use Rattle.settlement.specs.TellsOf.{TellsOf}
@@ -88,13 +88,26 @@ found [] place lt = absurd (omega arith)
 found (first ∷ processors) zero lt = (first, refl)
 found (first ∷ processors) (suc place) lt = found processors place (omega arith)
 
+-- the counters of what is kept are those of a state
+pub may_settle : (flow : Flow) (given : Given) (k : Kept) (ended : Ended) → IsSound flow → MayCommit flow given k ended → IsConsistent k → MaySettle flow (counters_of k) ended
+may_settle flow given k ended sound may consistent = record {
+  processor = may.processor;
+  connections = let few = sound.connection_count in omega (arith, few);
+  relationships = may.relationships;
+  outcome = may.outcome;
+  parts = may.parts;
+  next_number = consistent.encoded.next_number;
+  next_arrival = consistent.encoded.next_arrival;
+  last_event = consistent.encoded.last_event;
+}
+
 -- ---- the session is one of that state
 
 pub handed : (c : Case) → IsSettled c → (processor : Processor) → slice_get c.flow.processors c.ended.processor ≡ Some processor → (contents : ContentRef → List ℕ)
     → AreRead contents c.ended.taken c.ended.sources → IsHanded c.flow (counters_of c.k) c.ended processor contents (state_of c contents)
 handed c is processor at contents read = record {
   found = at;
-  valid = kept_valid c.flow c.k contents is.consistent is.batches (connections_same c is) (counts_same c is);
+  valid = kept_valid c.flow contents c.k is.consistent is.batches (connections_same c is) (counts_same c is);
   store = refl;
   next_number = refl;
   next_arrival = refl;
@@ -102,7 +115,7 @@ handed c is processor at contents read = record {
   read = read;
   there = All-map (Contains (queue_at (state_of c contents) c.ended.connection)) (λ (file : FlowFile). queued contents (active c.ended.connection file)) c.ended.taken
       (All-weaker (λ file. Contains c.k.files (active c.ended.connection file)) (λ file. Contains (queue_at (state_of c contents) c.ended.connection) (queued contents (active c.ended.connection file)))
-      (λ file has. kept_queued c.k contents (active c.ended.connection file) is.consistent has) c.ended.taken is.may.there);
+      (λ file has. kept_queued contents c.k (active c.ended.connection file) is.consistent has) c.ended.taken is.may.there);
   differ = is.may.differ;
 }
 

@@ -1,5 +1,5 @@
 -- A settled session may be handed to the store, and makes of its state what the machine makes.
-use Rattle.std.proofs.Common.{◌≡◌, Bool, true, false, ◌||◌, ℕ, ◌+◌, ◌^◌, ◌<◌, ◌≤◌, List, [], ◌∷◌, length, map, refl, sym, ap, subst, ◌∙◌, arith}
+use Rattle.std.proofs.Common.{◌≡◌, Bool, true, false, ◌||◌, ℕ, ◌+◌, ◌^◌, ◌<◌, ◌≤◌, List, [], ◌∷◌, get_or, length, map, refl, sym, ap, subst, ◌∙◌, arith}
 use Rattle.std.specs.Prelude.{All, Contains, MatchOption, Option, None, Some, slice_get}
 use Rattle.std.specs.FinSet.{contains, contains-from_list, contains-union, from_list, same_set, union}
 use Rattle.flowfile_record.specs.Kin.{kin_of_all}
@@ -65,7 +65,10 @@ live_by c is content (Some bytes) has none = absurd cc
 
 pub live_contents : (c : Case) → IsSettled c → (s : StoreState) → kept_by s ≡ c.k → HasLiveContents s (quiet c.settled)
 live_contents c is s same =
-    λ i d lt none. subst (λ (k : Kept). Contains (map (λ (a : ActiveFile). a.file.content) k.files) _) (sym same) (live_by c is _ _ (is.tells.contents i d lt) none)
+    λ i d lt none.
+    let p = get_or c.settled.placed i d in
+    subst (λ (k : Kept). Contains (map (λ (a : ActiveFile). a.file.content) k.files) p.file.content) (sym same)
+    (live_by c is p.file.content p.fresh (is.tells.contents i d lt) none)
 
 -- ---- the state behind it
 

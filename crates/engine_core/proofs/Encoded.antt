@@ -63,7 +63,7 @@ abbrev Stamped : List ContentRef → ContentRef → Option (List ℕ) → Type 0
 Stamped contents content fresh = MatchOption fresh (Contains contents content) (λ bytes. (content.size ≡ length bytes) × (content.digest ≡ sha256 bytes))
 
 record IsFileToBe (connection : ℕ) (file : FlowFile) : Type 0 where
-  connection : connection < 2 ^ 16
+  place : connection < 2 ^ 16
   first_number : 1 ≤ file.number
   number : IsNumber file.number
   attributes : IsWithinLimits file.attributes
@@ -74,7 +74,7 @@ record IsFileToBe (connection : ℕ) (file : FlowFile) : Type 0 where
 active_by : (contents : List ContentRef) (connection : ℕ) (file : FlowFile) (fresh : Option (List ℕ)) → All IsContentRef contents → IsFileToBe connection file
     → Stamped contents file.content fresh → IfSome fresh (λ bytes. length bytes ≤ CONTENT_MAX) → IsActiveFile (recorded connection file fresh)
 active_by contents connection file None known is stamped small = record {
-  connection = is.connection;
+  connection = is.place;
   file = record {
     first_number = is.first_number;
     number = is.number;
@@ -86,7 +86,7 @@ active_by contents connection file None known is stamped small = record {
   };
 }
 active_by contents connection file (Some bytes) known is stamped small = record {
-  connection = is.connection;
+  connection = is.place;
   file = record {
     first_number = is.first_number;
     number = is.number;
@@ -114,7 +114,7 @@ all_active c is below =
     let arrival_below = below.arrival in
     let connection = known.connection in
     active_by (map (λ (file : FlowFile). file.content) c.ended.taken) _ _ _ (kept_contents c is) (record {
-      connection = omega (arith, connection, is.sound.connection_count);
+      place = let few = is.sound.connection_count in omega (arith, connection, few);
       first_number = number.0;
       number = omega (arith, number.1, number_below);
       attributes = known.attributes;

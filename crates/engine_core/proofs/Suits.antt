@@ -83,20 +83,20 @@ all_new c is =
 
 -- where a placed file stands, and that its number and its arrival are in range
 record HasPlace (c : Case) (connection : ℕ) (file : FlowFile) : Type 0 where
-  connection : connection < length c.k.connections
+  place : connection < length c.k.connections
   number : file.number < c.settled.next_number
   first_arrival : 0 < file.arrival
   arrival : file.arrival < c.settled.next_arrival
 
 place_of : (c : Case) (connection : ℕ) (file : FlowFile) (fresh : Option (List ℕ)) → HasPlace c connection file → has_place c.k (entry_in c) (recorded connection file fresh) ≡ true
 place_of c connection file None has =
-    let a : nat_lt connection (length c.k.connections) ≡ true = lt-ltb connection (length c.k.connections) has.connection in
+    let a : nat_lt connection (length c.k.connections) ≡ true = lt-ltb connection (length c.k.connections) has.place in
     let b : nat_lt file.number c.settled.next_number ≡ true = lt-ltb file.number c.settled.next_number has.number in
     let d : nat_lt 0 file.arrival ≡ true = lt-ltb 0 file.arrival has.first_arrival in
     let e : nat_lt file.arrival c.settled.next_arrival ≡ true = lt-ltb file.arrival c.settled.next_arrival has.arrival in
     simp (a, b, d, e)
 place_of c connection file (Some bytes) has =
-    let a : nat_lt connection (length c.k.connections) ≡ true = lt-ltb connection (length c.k.connections) has.connection in
+    let a : nat_lt connection (length c.k.connections) ≡ true = lt-ltb connection (length c.k.connections) has.place in
     let b : nat_lt file.number c.settled.next_number ≡ true = lt-ltb file.number c.settled.next_number has.number in
     let d : nat_lt 0 file.arrival ≡ true = lt-ltb 0 file.arrival has.first_arrival in
     let e : nat_lt file.arrival c.settled.next_arrival ≡ true = lt-ltb file.arrival c.settled.next_arrival has.arrival in
@@ -114,7 +114,7 @@ all_placed c is =
     let number = (new_numbers c is).within i d lt in
     let arrival = (new_arrivals c is).within i d lt in
     place_of c _ _ _ (record {
-      connection = (stand_somewhere c is).placed i d lt;
+      place = (stand_somewhere c is).placed i d lt;
       number = number.1;
       first_arrival = arrival.0;
       arrival = arrival.1;

@@ -80,4 +80,5 @@ pub record KeepsFlow (old new : StoreState) : Type 0 where
 
 -- a session is refused for a fault of the disk, for a limit or for want of memory
 abbrev pub IsRefusal : StoreError → Type 0
-IsRefusal error = (error ≡ error.Disk) ⊎ (error ≡ error.Memory) ⊎ ((limit : Limit) × (error ≡ error.Limit limit))
+IsRefusal refusal =
+    (refusal ≡ error.Disk) ⊎ (refusal ≡ error.Memory) ⊎ ((limit : Limit) × (refusal ≡ error.Limit limit))
