@@ -3,6 +3,7 @@ use Rattle.std.proofs.Common.{◌≡◌, ℕ, ◌+◌, ◌<◌, ◌≤◌, true,
 use Rattle.std.specs.Prelude.{◌==◌, filter, unwrap_or}
 use Rattle.std.specs.List.{flat_map}
 use Rattle.std.proofs.lemmas.List.{map-append}
+use Rattle.machine_model.specs.Changing.{placed_file, placed_into}
 use Rattle.machine_model.specs.Placing as placing
 use Rattle.machine_model.specs.Placing.{SettledFile, SettlementClone, Destination, wanted_clones}
 use Rattle.machine_model.specs.Settling as machine
@@ -13,8 +14,7 @@ use Rattle.flowfile_record.specs.declared.stored.Placed.{Placed}
 use Rattle.settlement.specs.Contents.{fresh_in}
 use Rattle.settlement.specs.Ending.{goes_to}
 use Rattle.settlement.specs.Placing.{Newcomer, clones_from, first_of, firsts, placed_at, placed_from, wanted}
-use Rattle.settlement.specs.StateAfter.{placed_file, placed_in, put_all}
-use Rattle.settlement.proofs.ByArrival.{put_last}
+use Rattle.settlement.proofs.ByArrival.{put_last, put_all}
 use Rattle.settlement.proofs.EndedFiles.{Case, ended_of, place}
 use Rattle.settlement.proofs.Listing.{map-map, flat_map-map, map-flat_map, flat_map-same}
 use Rattle.settlement.proofs.ToldEvents.{as_ended, wanted-same}
@@ -87,7 +87,7 @@ pub placed-queued : (c : Case) (arrival connection number : ℕ) (file : Settled
 placed-queued c arrival connection number file has = λ i. record (in_queue file number arrival) { bytes = has i }
 
 pub arriving-same : (c : Case) (arrival connection : ℕ) (news : List Comer) → Each (λ (one : Comer). HasBytes c one.2) news
-    → placed_in c.bytes connection (placed_from c.ended.sources arrival (map (as_placed c) news)) ≡ arriving arrival connection (map as_queued news)
+    → placed_into c.bytes connection (placed_from c.ended.sources arrival (map (as_placed c) news)) ≡ arriving arrival connection (map as_queued news)
 arriving-same c arrival connection [] has = refl
 arriving-same c arrival connection (one ∷ news) has =
     let later = placed_from c.ended.sources (arrival + 1) (map (as_placed c) news) in

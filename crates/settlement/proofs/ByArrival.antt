@@ -1,11 +1,15 @@
 -- That putting files into a queue by their arrivals leaves what stays of it, each file in its place.
 use Rattle.std.proofs.Common.{◌≡◌, ◌≢◌, ◌⊎◌, inl, inr, ℕ, ◌<◌, ◌≤◌, Bool, true, false, cond, List, [], ◌∷◌, ◌++◌, refl, sym, ap, ◌∙◌, arith}
-use Rattle.std.specs.Prelude.{◌==◌, not, nat_lt, filter}
+use Rattle.std.specs.Prelude.{◌==◌, not, nat_lt, filter, fold}
 use Rattle.std.specs.List.{flat_map}
 use Rattle.std.proofs.lemmas.Bool.{cases_eq, ne_eqb, eq-eqb, lt-ltb, le-ltb}
+use Rattle.machine_model.specs.Changing.{with_arrival}
 use Rattle.machine_model.specs.State.{QueuedFile}
 use Rattle.machine_model.proofs.Tally.{Each}
-use Rattle.settlement.specs.StateAfter.{put_by_arrival, put_all}
+
+-- files put into a queue, one after the other
+abbrev pub put_all : List QueuedFile → List QueuedFile → List QueuedFile
+put_all queue files = fold with_arrival queue files
 
 -- arrivals from one on
 abbrev pub From : ℕ → List QueuedFile → Type 0
@@ -28,26 +32,26 @@ from_filter low p (file ∷ files) h =
       | false ↦ from_filter low p files h.1
     ]
 
-put_later : (file other : QueuedFile) (queue : List QueuedFile) → other.arrival < file.arrival → put_by_arrival (other ∷ queue) file ≡ other ∷ put_by_arrival queue file
+put_later : (file other : QueuedFile) (queue : List QueuedFile) → other.arrival < file.arrival → with_arrival (other ∷ queue) file ≡ other ∷ with_arrival queue file
 put_later file other queue h = let yes : nat_lt other.arrival file.arrival ≡ true = lt-ltb other.arrival file.arrival h in rw yes refl
 
-put_before : (file other : QueuedFile) (queue : List QueuedFile) → file.arrival < other.arrival → put_by_arrival (other ∷ queue) file ≡ file ∷ other ∷ queue
+put_before : (file other : QueuedFile) (queue : List QueuedFile) → file.arrival < other.arrival → with_arrival (other ∷ queue) file ≡ file ∷ other ∷ queue
 put_before file other queue h = let no : nat_lt other.arrival file.arrival ≡ false = le-ltb other.arrival file.arrival (omega arith) in rw no refl
 
 -- before all
-put_first : (file : QueuedFile) (queue : List QueuedFile) → From file.arrival queue → put_by_arrival queue file ≡ file ∷ queue
+put_first : (file : QueuedFile) (queue : List QueuedFile) → From file.arrival queue → with_arrival queue file ≡ file ∷ queue
 put_first file [] h = refl
 put_first file (other ∷ queue) h = put_before file other queue h.0
 
 -- behind all
-pub put_last : (file : QueuedFile) (queue : List QueuedFile) → Each (λ other. other.arrival < file.arrival) queue → put_by_arrival queue file ≡ queue ++ file ∷ []
+pub put_last : (file : QueuedFile) (queue : List QueuedFile) → Each (λ other. other.arrival < file.arrival) queue → with_arrival queue file ≡ queue ++ file ∷ []
 put_last file [] h = refl
 put_last file (other ∷ queue) h = put_later file other queue h.0 ∙ ap (λ rest. other ∷ rest) (put_last file queue h.1)
 
-put_from : (low : ℕ) (file : QueuedFile) (queue : List QueuedFile) → low < file.arrival → From low queue → From low (put_by_arrival queue file)
+put_from : (low : ℕ) (file : QueuedFile) (queue : List QueuedFile) → low < file.arrival → From low queue → From low (with_arrival queue file)
 put_from low file [] l h = (l, tt)
 put_from low file (other ∷ queue) l h =
-    elim (nat_lt other.arrival file.arrival) as (λ b. From low (cond b (other ∷ put_by_arrival queue file) (file ∷ other ∷ queue))) [
+    elim (nat_lt other.arrival file.arrival) as (λ b. From low (cond b (other ∷ with_arrival queue file) (file ∷ other ∷ queue))) [
       | true ↦ (h.0, put_from low file queue l h.1)
       | false ↦ (l, (h.0, h.1))
     ]
@@ -56,7 +60,7 @@ put_from low file (other ∷ queue) l h =
 put_all_behind : (first : QueuedFile) (queue files : List QueuedFile) → From first.arrival files → put_all (first ∷ queue) files ≡ first ∷ put_all queue files
 put_all_behind first queue [] h = refl
 put_all_behind first queue (file ∷ files) h =
-    ap (λ put. put_all put files) (put_later file first queue h.0) ∙ put_all_behind first (put_by_arrival queue file) files h.1
+    ap (λ put. put_all put files) (put_later file first queue h.0) ∙ put_all_behind first (with_arrival queue file) files h.1
 
 abbrev pub others : ℕ → List QueuedFile → List QueuedFile
 others number files = filter (λ file. not (file.number == number)) files
@@ -82,15 +86,15 @@ take_first : (number : ℕ) (first : QueuedFile) (queue files : List QueuedFile)
 take_first number first queue [] only behind later = cc
 take_first number first queue (file ∷ files) only behind later =
     elim (file.number == number) as (λ b. cond b (file ∷ these number files) (these number files) ≡ first ∷ [] → From first.arrival (with_other b file (others number files))
-    → put_all (put_by_arrival queue file) files ≡ first ∷ put_all queue (with_other b file (others number files))) [
+    → put_all (with_arrival queue file) files ≡ first ∷ put_all queue (with_other b file (others number files))) [
       | true ↦ λ only later.
           let same : file ≡ first = cc in
           let none : these number files ≡ [] = cc in
           let rest = none_these number files none in
-          ap (λ put. put_all put files) (ap (put_by_arrival queue) same ∙ put_first first queue behind)
+          ap (λ put. put_all put files) (ap (with_arrival queue) same ∙ put_first first queue behind)
           ∙ put_all_behind first queue files (rw rest at later)
           ∙ ap (λ more. first ∷ put_all queue more) (sym rest)
-      | false ↦ λ only later. take_first number first (put_by_arrival queue file) files only (put_from first.arrival file queue later.0 behind) later.1
+      | false ↦ λ only later. take_first number first (with_arrival queue file) files only (put_from first.arrival file queue later.0 behind) later.1
     ] only later
 
 -- ---- what stays of a queue

@@ -10,11 +10,12 @@ use Rattle.flowfile_record.specs.declared.worked.Worked.{Worked}
 use Rattle.machine_model.specs.declared.flow.Flow.{Flow}
 use Rattle.machine_model.specs.declared.flow.Processor.{Processor}
 use Rattle.machine_model.specs.declared.given.Given.{Given}
+use Rattle.machine_model.specs.Changing.{queued_file}
 use Rattle.machine_model.specs.Placing.{EndedSession, SettledFile, settled_file, settled_files, numbers_from, entered_in}
 use Rattle.machine_model.specs.State.{QueuedFile, State}
 use Rattle.settlement.specs.Contents.{content_in, IsBodyWithin}
 use Rattle.settlement.specs.Ending.{EndingPlace, ended_file, ended_files, goes_to}
-use Rattle.settlement.specs.Handed.{AreRead, queued, session_of}
+use Rattle.settlement.specs.Handed.{AreRead, session_of}
 use Rattle.settlement.specs.Whole.{place_in}
 use Rattle.settlement.specs.declared.counters.Counters.{Counters}
 use Rattle.settlement.specs.declared.file.EndedFile.{EndedFile}
@@ -60,8 +61,8 @@ session c = session_of c.flow c.given c.ended c.processor c.bytes c.state
 pub stamped : (at : ContentRef) (content : List ℕ) → IsStamp at content → at ≡ record at { size = length content; digest = sha256 content }
 stamped at content stamp = λ i. record at { size = stamp.size i; digest = stamp.digest i }
 
-pub taken_contents : (bytes : ContentRef → List ℕ) (taken : List FlowFile) → map (λ (file : QueuedFile). file.bytes) (map (queued bytes) taken) ≡ contents_of bytes taken
-taken_contents bytes taken = map-map (λ (file : QueuedFile). file.bytes) (queued bytes) taken
+pub taken_contents : (bytes : ContentRef → List ℕ) (taken : List FlowFile) → map (λ (file : QueuedFile). file.bytes) (map (queued_file bytes) taken) ≡ contents_of bytes taken
+taken_contents bytes taken = map-map (λ (file : QueuedFile). file.bytes) (queued_file bytes) taken
 
 one_same : (c : Case) (number entered : ℕ) (worked : Worked)
     → AreRead c.bytes c.ended.taken c.ended.sources → IsBodyWithin c.ended.sources worked.body
@@ -73,8 +74,8 @@ one_same c number entered worked read within =
     = content-stamp c.bytes c.ended.taken c.ended.sources worked.body read within in
     let content : content_in c.ended.taken c.ended.sources worked.body
     ≡ record (content_in c.ended.taken c.ended.sources worked.body) {
-      size = length (content_of (map (λ (file : QueuedFile). file.bytes) (map (queued c.bytes) c.ended.taken)) worked.body);
-      digest = sha256 (content_of (map (λ (file : QueuedFile). file.bytes) (map (queued c.bytes) c.ended.taken)) worked.body);
+      size = length (content_of (map (λ (file : QueuedFile). file.bytes) (map (queued_file c.bytes) c.ended.taken)) worked.body);
+      digest = sha256 (content_of (map (λ (file : QueuedFile). file.bytes) (map (queued_file c.bytes) c.ended.taken)) worked.body);
     }
     = rw (taken_contents c.bytes c.ended.taken) (stamped (content_in c.ended.taken c.ended.sources worked.body) (content_of (contents_of c.bytes c.ended.taken) worked.body) stamp) in
     λ i. record (ended_file at (number, entered, worked)) { content = content i }
@@ -93,11 +94,11 @@ each_same c (number ∷ numbers) (moment ∷ entered) (file ∷ files) read with
     let rest = each_same c numbers entered files read (All-tail P file files within) in
     λ i. first i ∷ rest i
 
-pub taken_numbers : (bytes : ContentRef → List ℕ) (taken : List FlowFile) → map (λ (file : QueuedFile). file.number) (map (queued bytes) taken) ≡ map (λ (file : FlowFile). file.number) taken
-taken_numbers bytes taken = map-map (λ (file : QueuedFile). file.number) (queued bytes) taken
+pub taken_numbers : (bytes : ContentRef → List ℕ) (taken : List FlowFile) → map (λ (file : QueuedFile). file.number) (map (queued_file bytes) taken) ≡ map (λ (file : FlowFile). file.number) taken
+taken_numbers bytes taken = map-map (λ (file : QueuedFile). file.number) (queued_file bytes) taken
 
-pub taken_moments : (bytes : ContentRef → List ℕ) (taken : List FlowFile) → map (λ (file : QueuedFile). file.entered) (map (queued bytes) taken) ≡ map (λ (file : FlowFile). file.entered) taken
-taken_moments bytes taken = map-map (λ (file : QueuedFile). file.entered) (queued bytes) taken
+pub taken_moments : (bytes : ContentRef → List ℕ) (taken : List FlowFile) → map (λ (file : QueuedFile). file.entered) (map (queued_file bytes) taken) ≡ map (λ (file : FlowFile). file.entered) taken
+taken_moments bytes taken = map-map (λ (file : QueuedFile). file.entered) (queued_file bytes) taken
 
 -- the files of the machine's session, as the calls inside have them
 pub ended-same : (c : Case) (files : List Worked)

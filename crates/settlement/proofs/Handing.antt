@@ -12,6 +12,7 @@ use Rattle.flowfile_record.specs.declared.worked.Worked.{Worked}
 use Rattle.machine_model.specs.declared.flow.Flow.{Flow}
 use Rattle.machine_model.specs.declared.flow.Processor.{Processor}
 use Rattle.machine_model.specs.declared.given.Given.{Given}
+use Rattle.machine_model.specs.Changing.{queued_file, state_after}
 use Rattle.machine_model.specs.Files.{queue_at}
 use Rattle.machine_model.specs.Placing.{SettledFile, settled_file, numbers_from, entered_in, count_made}
 use Rattle.machine_model.specs.Settling.{settle}
@@ -21,9 +22,9 @@ use Rattle.machine_model.proofs.Keyed.{once_from_differ}
 use Rattle.machine_model.proofs.Tally.{Each, bit, many, run_below, run_once}
 use Rattle.settlement.specs.Contents.{content_in, fresh_in, IsBodyWithin}
 use Rattle.settlement.specs.Ending.{ended_files}
-use Rattle.settlement.specs.Handed.{AreRead, IsHanded, MaySettle, queued, session_of, sizes_of}
+use Rattle.settlement.specs.Handed.{AreRead, IsHanded, MaySettle, session_of, sizes_of}
 use Rattle.settlement.specs.Placing.{wanted}
-use Rattle.settlement.specs.StateAfter.{state_after, Settles}
+use Rattle.settlement.specs.StateAfter.{Settles}
 use Rattle.settlement.specs.Whole.{settled_in}
 use Rattle.settlement.specs.declared.counters.Counters.{Counters}
 use Rattle.settlement.specs.declared.handed.Ended.{Ended}
@@ -73,18 +74,18 @@ case_of flow given ended processor bytes state = record { flow = flow; given = g
 stands : (c : Case) (counters : Counters) → MaySettle c.flow counters c.ended → IsHanded c.flow counters c.ended c.processor c.bytes c.state → Stands c
 stands c counters may handed = record { valid = handed.valid; there = there; known = record { turn = turn; once = once; either = either }; bytes = has }
   where
-    there : (one : FlowFile) → Among one c.ended.taken → Among (queued c.bytes one) (queue_at c.state c.ended.connection)
+    there : (one : FlowFile) → Among one c.ended.taken → Among (queued_file c.bytes one) (queue_at c.state c.ended.connection)
     there one in_taken =
-        among_contained (queued c.bytes one) (queue_at c.state c.ended.connection)
-        (all_among (Contains (queue_at c.state c.ended.connection)) (queued c.bytes one) (map (queued c.bytes) c.ended.taken) handed.there (makes (queued c.bytes) c.ended.taken one in_taken))
+        among_contained (queued_file c.bytes one) (queue_at c.state c.ended.connection)
+        (all_among (Contains (queue_at c.state c.ended.connection)) (queued_file c.bytes one) (map (queued_file c.bytes) c.ended.taken) handed.there (makes (queued_file c.bytes) c.ended.taken one in_taken))
 
     turn : AreInTurn 0 (length c.ended.taken) c.ended.outcome.files
     turn = subst (λ n. AreInTurn 0 n c.ended.outcome.files) (length-map c.ended.taken (λ (file : FlowFile). file.content.size)) may.outcome.in_turn
 
     below : (one : FlowFile) → Among one c.ended.taken → one.number < c.state.next_number
     below one in_taken =
-        (all_among (λ (file : QueuedFile). (1 ≤ file.number) × (file.number < c.state.next_number)) (queued c.bytes one) _ handed.valid.numbered.numbers.within
-        (in_all c.state.queues c.ended.connection (queued c.bytes one) (there one in_taken))).1
+        (all_among (λ (file : QueuedFile). (1 ≤ file.number) × (file.number < c.state.next_number)) (queued_file c.bytes one) _ handed.valid.numbered.numbers.within
+        (in_all c.state.queues c.ended.connection (queued_file c.bytes one) (there one in_taken))).1
 
     once : (n : ℕ) → many (λ (file : SettledFile). file.number) n (files_of c) ≤ 1
     once n = elim (cases_lt n c.state.next_number) [
@@ -95,10 +96,10 @@ stands c counters may handed = record { valid = handed.valid; there = there; kno
     either : Each (IsEitherOne c) (files_of c)
     either =
         rw (taken_numbers c.bytes c.ended.taken)
-        (each-either c may.relationships (sizes_of c.ended.taken) 0 c.state.next_number (entered_in c.given.moment (map (λ (file : QueuedFile). file.entered) (map (queued c.bytes) c.ended.taken)) c.ended.outcome.files) c.ended.outcome.files (omega arith) turn may.outcome.each)
+        (each-either c may.relationships (sizes_of c.ended.taken) 0 c.state.next_number (entered_in c.given.moment (map (λ (file : QueuedFile). file.entered) (map (queued_file c.bytes) c.ended.taken)) c.ended.outcome.files) c.ended.outcome.files (omega arith) turn may.outcome.each)
 
     has : Each (HasBytes c) (files_of c)
-    has = all_has c may.relationships (numbers_from c.state.next_number (map (λ (file : QueuedFile). file.number) (map (queued c.bytes) c.ended.taken)) c.ended.outcome.files) (entered_in c.given.moment (map (λ (file : QueuedFile). file.entered) (map (queued c.bytes) c.ended.taken)) c.ended.outcome.files) c.ended.outcome.files handed.read may.parts may.outcome.each
+    has = all_has c may.relationships (numbers_from c.state.next_number (map (λ (file : QueuedFile). file.number) (map (queued_file c.bytes) c.ended.taken)) c.ended.outcome.files) (entered_in c.given.moment (map (λ (file : QueuedFile). file.entered) (map (queued_file c.bytes) c.ended.taken)) c.ended.outcome.files) c.ended.outcome.files handed.read may.parts may.outcome.each
 
 -- ---- events
 
@@ -111,7 +112,7 @@ files_few c (number ∷ numbers) (moment ∷ entered) (file ∷ files) = omega (
 fits : (c : Case) (counters : Counters) → MaySettle c.flow counters c.ended → IsHanded c.flow counters c.ended c.processor c.bytes c.state → EventsFit c
 fits c counters may handed =
     let files = map (ended_of (place c)) (files_of c) in
-    let few : length files ≤ 10000 = omega (arith, length-map (files_of c) (ended_of (place c)), files_few c (numbers_from c.state.next_number (map (λ (file : QueuedFile). file.number) (map (queued c.bytes) c.ended.taken)) c.ended.outcome.files) (entered_in c.given.moment (map (λ (file : QueuedFile). file.entered) (map (queued c.bytes) c.ended.taken)) c.ended.outcome.files) c.ended.outcome.files, may.outcome.count) in
+    let few : length files ≤ 10000 = omega (arith, length-map (files_of c) (ended_of (place c)), files_few c (numbers_from c.state.next_number (map (λ (file : QueuedFile). file.number) (map (queued_file c.bytes) c.ended.taken)) c.ended.outcome.files) (entered_in c.given.moment (map (λ (file : QueuedFile). file.entered) (map (queued_file c.bytes) c.ended.taken)) c.ended.outcome.files) c.ended.outcome.files, may.outcome.count) in
     let same : ended_files (place c) c.state.next_number c.ended.outcome.files ≡ files = ended-same c c.ended.outcome.files handed.read may.parts in
     let clones : length (wanted files) ≤ length c.ended.outcome.files * 65536
     = subst (λ xs. length (wanted xs) ≤ length c.ended.outcome.files * 65536) same (clones-bound (place c) c.state.next_number 65536 c.ended.outcome.files may.connections) in

@@ -9,6 +9,7 @@ use Rattle.flowfile_record.specs.Outcome.{AreInTurn}
 use Rattle.flowfile_record.specs.declared.flow_file.FlowFile.{FlowFile}
 use Rattle.flowfile_record.specs.declared.stored.Placed.{Placed}
 use Rattle.flowfile_record.specs.declared.worked.Worked.{Worked}
+use Rattle.machine_model.specs.Changing.{placed_file, placed_into, queued_file}
 use Rattle.machine_model.specs.Files.{is_number_among, queue_at}
 use Rattle.machine_model.specs.Placing as placing
 use Rattle.machine_model.specs.Placing.{SettledFile, Destination, settled_file, settled_files, numbers_from, next_behind, entered_in, entered_by, count_made}
@@ -23,12 +24,10 @@ use Rattle.machine_model.proofs.Ordered.{pairs_head, pairs_nil, pairs_tail}
 use Rattle.machine_model.proofs.Tally.{Each, each-append, bit, many, tally, tally-append, tally-map, find-passes, run_below}
 use Rattle.machine_model.proofs.Took.{find-contains}
 use Rattle.settlement.specs.Ending.{goes_to}
-use Rattle.settlement.specs.Handed.{queued}
 use Rattle.settlement.specs.Placing.{arrival_of, placed_at, returned, returning}
-use Rattle.settlement.specs.StateAfter.{placed_file, placed_in, put_all}
 use Rattle.settlement.specs.Whole.{placing_at}
 use Rattle.settlement.proofs.Arriving.{HasBytes, placed-queued}
-use Rattle.settlement.proofs.ByArrival.{AreApart, Has, IsKept, Rising, Stays, stays-in-place, these}
+use Rattle.settlement.proofs.ByArrival.{AreApart, Has, IsKept, Rising, Stays, stays-in-place, these, put_all}
 use Rattle.settlement.proofs.EndedFiles.{Case, ended_of, place, session, taken_numbers}
 use Rattle.settlement.proofs.Listing.{filter-append}
 use Rattle.settlement.proofs.Taken.{IsEitherOne, back, back_of}
@@ -81,7 +80,7 @@ found_back c number (file ∷ files) once =
 -- ---- what is placed as coming back
 
 back_same : (c : Case) (file : SettledFile) (goes : Destination) → HasBytes c file → (connection : ℕ)
-    → placed_in c.bytes connection (returning (placing_at (place c) c.ended.connection c.state.next_arrival) (ended_of (place c) file) (goes_to goes)) ≡ cond (c.ended.connection == connection) (back_of c file goes) []
+    → placed_into c.bytes connection (returning (placing_at (place c) c.ended.connection c.state.next_arrival) (ended_of (place c) file) (goes_to goes)) ≡ cond (c.ended.connection == connection) (back_of c file goes) []
 back_same c file placing.Returns has connection =
     let at = arrival_of c.ended.taken file.worked.origin in
     elim (c.ended.connection == connection) as (λ b. map (placed_file c.bytes) (cond b (placed_at c.ended.sources at (c.ended.connection, file.number, ended_of (place c) file) ∷ []) []) ≡ cond b (in_queue file file.number at ∷ []) []) [
@@ -92,12 +91,12 @@ back_same c file (placing.Queues first others) has connection = elim (c.ended.co
 back_same c file (placing.Drops relationship) has connection = elim (c.ended.connection == connection) as (λ b. [] ≡ cond b (back_of c file (placing.Drops relationship)) []) [ true ↦ refl | false ↦ refl ]
 back_same c file placing.Leaves has connection = elim (c.ended.connection == connection) as (λ b. [] ≡ cond b (back_of c file placing.Leaves) []) [ true ↦ refl | false ↦ refl ]
 
-placed_append : (c : Case) (connection : ℕ) (xs ys : List Placed) → placed_in c.bytes connection (xs ++ ys) ≡ placed_in c.bytes connection xs ++ placed_in c.bytes connection ys
+placed_append : (c : Case) (connection : ℕ) (xs ys : List Placed) → placed_into c.bytes connection (xs ++ ys) ≡ placed_into c.bytes connection xs ++ placed_into c.bytes connection ys
 placed_append c connection xs ys =
     ap (map (placed_file c.bytes)) (filter-append (λ (file : Placed). file.connection == connection) xs ys)
     ∙ map-append (placed_file c.bytes) (filter (λ (file : Placed). file.connection == connection) xs) (filter (λ (file : Placed). file.connection == connection) ys)
 
-pub placed-append : (c : Case) (connection : ℕ) (xs ys : List Placed) → placed_in c.bytes connection (xs ++ ys) ≡ placed_in c.bytes connection xs ++ placed_in c.bytes connection ys
+pub placed-append : (c : Case) (connection : ℕ) (xs ys : List Placed) → placed_into c.bytes connection (xs ++ ys) ≡ placed_into c.bytes connection xs ++ placed_into c.bytes connection ys
 placed-append c connection xs ys = placed_append c connection xs ys
 
 cond_append : (b : Bool) (xs ys : List QueuedFile) → cond b xs [] ++ cond b ys [] ≡ cond b (xs ++ ys) []
@@ -105,7 +104,7 @@ cond_append true xs ys = refl
 cond_append false xs ys = refl
 
 returned_same : (c : Case) (connection : ℕ) (files : List SettledFile) → Each (HasBytes c) files
-    → placed_in c.bytes connection (returned (placing_at (place c) c.ended.connection c.state.next_arrival) (map (ended_of (place c)) files)) ≡ cond (c.ended.connection == connection) (flat_map (back c) files) []
+    → placed_into c.bytes connection (returned (placing_at (place c) c.ended.connection c.state.next_arrival) (map (ended_of (place c)) files)) ≡ cond (c.ended.connection == connection) (flat_map (back c) files) []
 returned_same c connection [] has = elim (c.ended.connection == connection) as (λ b. [] ≡ cond b (flat_map (back c) []) []) [ true ↦ refl | false ↦ refl ]
 returned_same c connection (file ∷ files) has =
     placed_append c connection (returning (placing_at (place c) c.ended.connection c.state.next_arrival) (ended_of (place c) file) (goes_to file.goes)) (returned (placing_at (place c) c.ended.connection c.state.next_arrival) (map (ended_of (place c)) files))
@@ -141,11 +140,11 @@ all_numbers : (c : Case) → AreInTurn 0 (length c.ended.taken) c.ended.outcome.
     → map (λ (file : SettledFile). file.number) (files_of c) ≡ map (λ (file : FlowFile). file.number) c.ended.taken ++ range_with_len c.state.next_number (count_made c.ended.outcome.files)
 all_numbers c turn =
     let files = c.ended.outcome.files in
-    let taken = map (λ (file : QueuedFile). file.number) (map (queued c.bytes) c.ended.taken) in
-    let moments = map (λ (file : QueuedFile). file.entered) (map (queued c.bytes) c.ended.taken) in
+    let taken = map (λ (file : QueuedFile). file.number) (map (queued_file c.bytes) c.ended.taken) in
+    let moments = map (λ (file : QueuedFile). file.entered) (map (queued_file c.bytes) c.ended.taken) in
     numbers_kept c (numbers_from c.state.next_number taken files) (entered_in c.given.moment moments files) files (length_numbers c.state.next_number taken files)
     (length_entered c.given.moment moments [] files ∙ omega arith)
-    ∙ numbers_are taken c.state.next_number 0 files (rw (length-map (map (queued c.bytes) c.ended.taken) (λ (file : QueuedFile). file.number), length-map c.ended.taken (queued c.bytes)) turn)
+    ∙ numbers_are taken c.state.next_number 0 files (rw (length-map (map (queued_file c.bytes) c.ended.taken) (λ (file : QueuedFile). file.number), length-map c.ended.taken (queued_file c.bytes)) turn)
     ∙ ap (λ xs. xs ++ range_with_len c.state.next_number (count_made files)) (taken_numbers c.bytes c.ended.taken)
 
 many_numbers : (n : ℕ) (files : List SettledFile) → many (λ (file : SettledFile). file.number) n files ≡ many (λ (m : ℕ). m) n (map (λ (file : SettledFile). file.number) files)
@@ -206,7 +205,7 @@ pub record AreKnown (c : Case) : Type 0 where
 many_gone : (c : Case) (n : ℕ) → many (λ (file : FlowFile). file.number) n c.ended.taken ≡ many (λ (m : ℕ). m) n (gone c)
 many_gone c n = sym (tally-map (λ (m : ℕ). bit (m == n)) (λ (file : FlowFile). file.number) c.ended.taken)
 
--- a queued file that wasn't taken is none of the session's
+-- a queued_file file that wasn't taken is none of the session's
 not_found : (c : Case) (n : ℕ) → AreKnown c → n < c.state.next_number → is_number_among (gone c) n ≡ false → many (λ (file : SettledFile). file.number) n (files_of c) ≡ 0
 not_found c n known below absent =
     let none : many (λ (m : ℕ). m) n (gone c) ≡ 0 = nothing (many (λ (m : ℕ). m) n (gone c)) (λ some. true≢false (sym (among_numbers n (gone c) some) ∙ absent)) in
@@ -304,7 +303,7 @@ apart (file ∷ queue) once =
 -- all that is known of a session whose files stand in a valid state
 pub record Stands (c : Case) : Type 0 where
   pub valid : IsValid c.flow c.state
-  pub there : (one : FlowFile) → Among one c.ended.taken → Among (queued c.bytes one) (queue_at c.state c.ended.connection)
+  pub there : (one : FlowFile) → Among one c.ended.taken → Among (queued_file c.bytes one) (queue_at c.state c.ended.connection)
   pub known : AreKnown c
   pub bytes : Each (HasBytes c) (files_of c)
 
@@ -315,9 +314,9 @@ only_taken : (c : Case) → Stands c → (k : ℕ) (file : QueuedFile) → Among
 only_taken c s k file there = record {
   taken = λ one in_taken same.
       let all = flat_map (λ (queue : List QueuedFile). queue) c.state.queues in
-      let equal : queued c.bytes one ≡ file
-      = same_key number_of all (queued c.bytes one) file s.valid.numbered.numbers.differ
-      (contains_among (queued c.bytes one) all (in_all c.state.queues c.ended.connection (queued c.bytes one) (s.there one in_taken)))
+      let equal : queued_file c.bytes one ≡ file
+      = same_key number_of all (queued_file c.bytes one) file s.valid.numbered.numbers.differ
+      (contains_among (queued_file c.bytes one) all (in_all c.state.queues c.ended.connection (queued_file c.bytes one) (s.there one in_taken)))
       (contains_among file all (in_all c.state.queues k file there)) same in
       ap (λ (q : QueuedFile). q.arrival) equal;
 }
@@ -336,7 +335,7 @@ same_connection : (c : Case) → Stands c → (k : ℕ) (file : QueuedFile) → 
 same_connection c s k file there is =
     let one = taken_number c.ended.taken file.number (omega (arith, many_gone c file.number, numbers_among file.number (gone c) is)) in
     one_queue file.number c.state.queues c.ended.connection k (all_once c s file.number)
-    (among_counts (queued c.bytes one.0) (queue_at c.state c.ended.connection) file.number (s.there one.0 one.1.0) one.1.1)
+    (among_counts (queued_file c.bytes one.0) (queue_at c.state c.ended.connection) file.number (s.there one.0 one.1.0) one.1.1)
     (among_counts file (queue_at c.state k) file.number there refl)
 
 -- ---- a file that was taken
@@ -403,7 +402,7 @@ back_has c s file (inr new) = rw new.stays_out tt
 back_has c s file (inl one) = by_goal file.goes
   where
     by_goal : (goes : Destination) → Each (Has (queue_at c.state c.ended.connection)) (back_of c file goes)
-    by_goal placing.Returns = (has_from (queue_at c.state c.ended.connection) (queued c.bytes one.taken) _ (s.there one.taken one.there) (sym one.number) (sym one.arrival), tt)
+    by_goal placing.Returns = (has_from (queue_at c.state c.ended.connection) (queued_file c.bytes one.taken) _ (s.there one.taken one.there) (sym one.number) (sym one.arrival), tt)
     by_goal (placing.Queues first others) = tt
     by_goal (placing.Drops relationship) = tt
     by_goal placing.Leaves = tt
@@ -438,7 +437,7 @@ stays_at c s k all each has =
     stays-in-place (keeps c) (stays c) (queue_at c.state k) all (rising (queue_at c.state k) (by_arrival_at c.state.queues k s.valid.by_arrival)) (apart (queue_at c.state k) (queue_once c s k)) each has
 
 pub queue-stays : (c : Case) → Stands c → (k : ℕ)
-    → put_all (without_files (queue_at c.state k) (gone c)) (placed_in c.bytes k (returned (placing_at (place c) c.ended.connection c.state.next_arrival) (map (ended_of (place c)) (files_of c))))
+    → put_all (without_files (queue_at c.state k) (gone c)) (placed_into c.bytes k (returned (placing_at (place c) c.ended.connection c.state.next_arrival) (map (ended_of (place c)) (files_of c))))
     ≡ staying (files_of c) (queue_at c.state k)
 queue-stays c s k =
     ap (put_all (without_files (queue_at c.state k) (gone c))) (returned_same c k (files_of c) s.bytes)

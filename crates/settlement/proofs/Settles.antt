@@ -11,6 +11,7 @@ use Rattle.flowfile_record.specs.declared.change.Settled.{Settled}
 use Rattle.flowfile_record.specs.declared.flow_file.FlowFile.{FlowFile}
 use Rattle.machine_model.specs.declared.kind.Kind.{Kind}
 use Rattle.machine_model.specs.declared.kind.Kind.TheVariants.{GenerateFlowFile}
+use Rattle.machine_model.specs.Changing.{placed_into, queue_after, queued_file, state_after, with_arrival, with_count}
 use Rattle.machine_model.specs.Events.{drafts, numbered_from}
 use Rattle.machine_model.specs.Files.{queue_at}
 use Rattle.machine_model.specs.Placing as placing
@@ -23,12 +24,11 @@ use Rattle.machine_model.proofs.EventsTell.{settle-tells}
 use Rattle.machine_model.proofs.KinSets.{kin_joined}
 use Rattle.machine_model.proofs.Places.{place_of}
 use Rattle.machine_model.proofs.Tally.{Each, each-append, each-map}
-use Rattle.settlement.specs.Handed.{queued}
 use Rattle.settlement.specs.Placing.{arrived, clones_from, firsts, placed_from, returned, wanted}
-use Rattle.settlement.specs.StateAfter.{counts_with, placed_in, put_all, put_by_arrival, queue_after, state_after}
 use Rattle.settlement.specs.Telling.{all_drafts, numbered_wrapping}
 use Rattle.settlement.specs.Whole.{count_of, placing_at, told_of}
 use Rattle.settlement.specs.declared.file.EndedFile.{EndedFile}
+use Rattle.settlement.proofs.ByArrival.{put_all}
 use Rattle.settlement.proofs.AddedEvents.{numbers-fit}
 use Rattle.settlement.proofs.Arriving.{Below, Comer, HasBytes, arriving-same, as_placed, as_queued, comer, comers, comers-placed, comers-queued, put-arriving}
 use Rattle.settlement.proofs.EndedFiles.{Case, ended_of, place, session}
@@ -123,9 +123,9 @@ queue_same c s k =
     let left = without_files (queue_at c.state k) (map (λ (file : FlowFile). file.number) c.ended.taken) in
     let news = comers (files_of c) (clones_of c) in
     ap (put_all left) (placed-append c k (returned at (ended_all c)) (arrived at (first_clone c) (ended_all c)))
-    ∙ fold-append put_by_arrival left (placed_in c.bytes k (returned at (ended_all c))) (placed_in c.bytes k (arrived at (first_clone c) (ended_all c)))
-    ∙ ap (λ queue. put_all queue (placed_in c.bytes k (arrived at (first_clone c) (ended_all c)))) (queue-stays c s k)
-    ∙ ap (λ xs. put_all (staying (files_of c) (queue_at c.state k)) (placed_in c.bytes k xs)) (arrived_same c)
+    ∙ fold-append with_arrival left (placed_into c.bytes k (returned at (ended_all c))) (placed_into c.bytes k (arrived at (first_clone c) (ended_all c)))
+    ∙ ap (λ queue. put_all queue (placed_into c.bytes k (arrived at (first_clone c) (ended_all c)))) (queue-stays c s k)
+    ∙ ap (λ xs. put_all (staying (files_of c) (queue_at c.state k)) (placed_into c.bytes k xs)) (arrived_same c)
     ∙ ap (put_all (staying (files_of c) (queue_at c.state k))) (arriving-same c c.state.next_arrival k news (has_comers c s.bytes))
     ∙ put-arriving c.state.next_arrival k news (staying (files_of c) (queue_at c.state k)) (all_below c.state.next_arrival (files_of c) (queue_at c.state k) (arrival-below c s k))
     ∙ ap (λ xs. staying (files_of c) (queue_at c.state k) ++ arriving c.state.next_arrival k xs) (sym (comers-queued (files_of c) (clones_of c)))
@@ -146,7 +146,7 @@ queues_same c s =
 
 -- ---- counters and counts
 
-counts_same : (kind : Kind) (place index : ℕ) (counts : List ℕ) → counts_with (count_of kind place index) counts ≡ counts_after kind place index counts
+counts_same : (kind : Kind) (place index : ℕ) (counts : List ℕ) → with_count (count_of kind place index) counts ≡ counts_after kind place index counts
 counts_same (GenerateFlowFile count text) place index counts = refl
 counts_same _ place index counts = refl
 
@@ -181,7 +181,7 @@ events_same c fit =
 kin_same : (c : Case) → Stands c → EventsFit c → ◌≡◌ {A = Kin} (union c.state.kin (from_list (kin_of_all (settled_over c (ended_all c)).events))) (settle (session c) c.ended.outcome).kin
 kin_same c s fit =
     let more = (settled_over c (ended_all c)).events in
-    let turn : AreInTurn 0 (length (session c).taken) c.ended.outcome.files = rw (length-map c.ended.taken (queued c.bytes)) s.known.turn in
+    let turn : AreInTurn 0 (length (session c).taken) c.ended.outcome.files = rw (length-map c.ended.taken (queued_file c.bytes)) s.known.turn in
     ap (λ kin. union kin (from_list (kin_of_all more))) s.valid.kin
     ∙ kin_joined (kin_of_all c.state.events) (kin_of_all more)
     ∙ ap from_list (sym (flat_map-append kin_of c.state.events more))

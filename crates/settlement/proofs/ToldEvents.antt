@@ -10,13 +10,13 @@ use Rattle.flowfile_record.specs.declared.worked.Origin.{Origin}
 use Rattle.flowfile_record.specs.declared.worked.Origin.TheVariants as origin
 use Rattle.flowfile_record.specs.declared.worked.Sent.{Sent}
 use Rattle.flowfile_record.specs.declared.worked.Outcome.{Outcome}
+use Rattle.machine_model.specs.Changing.{queued_file}
 use Rattle.machine_model.specs.Events as machine
 use Rattle.machine_model.specs.Events.{Draft, drafts, is_removed}
 use Rattle.machine_model.specs.Placing as placing
 use Rattle.machine_model.specs.Placing.{EndedSession, SettledFile, SettlementClone, Destination, settled_files, settlement_clones, wanted_clones, further_connections, count_made}
 use Rattle.machine_model.specs.State.{QueuedFile}
 use Rattle.settlement.specs.Ending.{goes_to}
-use Rattle.settlement.specs.Handed.{queued}
 use Rattle.settlement.specs.Placing.{wanted, further}
 use Rattle.settlement.specs.Telling.{Told, alone, number_at, created, received, fork_of, joined, clone_event, modified, attributes_modified, if_other, routed, dropped, row_at, row_of, sent, clone_events, all_drafts}
 use Rattle.settlement.specs.Whole.{told_of}
@@ -60,7 +60,7 @@ modified_same c files file (origin.Joined of) = refl
 
 other_same : (c : Case) (files : List SettledFile) (file : SettledFile) (taken : Option FlowFile) → if_other (told c files) (ended_of (place c) file) taken
     ≡ option_map_or (λ (taken : QueuedFile). cond (same_attributes taken.attributes file.attributes) [] (machine.alone (session c) kind.AttributesModified file [] ∷ []))
-    (option_map (queued c.bytes) taken) []
+    (option_map (queued_file c.bytes) taken) []
 other_same c files file None = refl
 other_same c files file (Some taken) = refl
 
@@ -70,7 +70,7 @@ attributes_same c files file (origin.Taken of) =
     ap (cond (is_removed file.worked.«end» || file.worked.written) [])
     (other_same c files file (slice_get c.ended.taken of)
     ∙ ap (λ found. option_map_or (λ (taken : QueuedFile). cond (same_attributes taken.attributes file.attributes) [] (machine.alone (session c) kind.AttributesModified file [] ∷ [])) found [])
-    (sym (get-map (queued c.bytes) c.ended.taken of)))
+    (sym (get-map (queued_file c.bytes) c.ended.taken of)))
 attributes_same c files file origin.Created = refl
 attributes_same c files file origin.Received = refl
 attributes_same c files file (origin.Forked of) = refl

@@ -1,5 +1,5 @@
 -- What is handed in, and the machine's session that it stands for.
-use Rattle.std.specs.Prelude.{◌≡◌, ◌≢◌, ℕ, ◌<◌, ◌≤◌, ◌^◌, List, [], ◌∷◌, map, length, All, Contains, IfSome, Some, None, slice_get}
+use Rattle.std.specs.Prelude.{◌≡◌, ◌≢◌, ℕ, ◌<◌, ◌≤◌, ◌^◌, List, [], ◌∷◌, map, length, All, Contains, IfSome, Some, slice_get}
 use Rattle.std.specs.List.{AllPairs}
 use Rattle.sha2.specs.Sha256.{sha256}
 use Rattle.flowfile_record.specs.Outcome.{IsOutcome}
@@ -10,9 +10,10 @@ use Rattle.process_session.specs.declared.file.Source.{Source}
 use Rattle.machine_model.specs.declared.flow.Flow.{Flow}
 use Rattle.machine_model.specs.declared.flow.Processor.{Processor}
 use Rattle.machine_model.specs.declared.given.Given.{Given}
+use Rattle.machine_model.specs.Changing.{queued_file}
 use Rattle.machine_model.specs.Files.{queue_at}
 use Rattle.machine_model.specs.Placing.{EndedSession}
-use Rattle.machine_model.specs.State.{QueuedFile, State}
+use Rattle.machine_model.specs.State.{State}
 use Rattle.machine_model.specs.Valid.{IsValid}
 use Rattle.settlement.specs.Contents.{IsBodyWithin}
 use Rattle.settlement.specs.declared.counters.Counters.{Counters}
@@ -37,25 +38,13 @@ pub record MaySettle (flow : Flow) (counters : Counters) (ended : Ended) : Type 
 
 -- ---- the session that it stands for, where references stand for these bytes
 
--- a flow file as the machine's queues have it
-abbrev pub queued : (bytes : ContentRef → List ℕ) → FlowFile → QueuedFile
-queued bytes file = record {
-  number = file.number;
-  attributes = file.attributes;
-  bytes = bytes file.content;
-  entered = file.entered;
-  penalty_end = file.penalty_end;
-  arrival = file.arrival;
-  batch = None;
-}
-
 abbrev pub session_of : Flow → Given → Ended → Processor → (bytes : ContentRef → List ℕ) → State → EndedSession
 session_of flow given ended processor bytes state = record {
   flow = flow;
   place = ended.processor;
   processor = processor;
   state = state;
-  taken = map (queued bytes) ended.taken;
+  taken = map (queued_file bytes) ended.taken;
   given = given;
 }
 
@@ -82,5 +71,5 @@ pub record IsHanded (flow : Flow) (counters : Counters) (ended : Ended) (process
   pub next_arrival : state.next_arrival ≡ counters.next_arrival
   pub last_event : length state.events ≡ counters.last_event
   pub read : AreRead bytes ended.taken ended.sources
-  pub there : All (Contains (queue_at state ended.connection)) (map (queued bytes) ended.taken)
+  pub there : All (Contains (queue_at state ended.connection)) (map (queued_file bytes) ended.taken)
   pub differ : AllPairs (λ one other. one.number ≢ other.number) ended.taken
