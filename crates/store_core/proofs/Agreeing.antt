@@ -19,7 +19,8 @@ use Rattle.flowfile_wal.specs.Current.{CurrentLog, current_log}
 use Rattle.machine_model.specs.State.{QueuedFile, State}
 use Rattle.store_core.specs.Flow.{Flow}
 use Rattle.store_core.specs.Kept.{snapshot_for, batches_in, behind_log, behind_snapshot, with_entries, kept_in}
-use Rattle.store_core.specs.State.{digest_damage, content_damage, first_damage, contents_damage, live_contents, events_in, queued, with_arrival, queue_of, state_with, state_by, state_of, behind_kept, stands_for}
+use Rattle.machine_model.specs.Changing.{with_arrival}
+use Rattle.store_core.specs.State.{digest_damage, content_damage, first_damage, contents_damage, live_contents, events_in, queued, queue_of, state_with, state_by, state_of, behind_kept, stands_for}
 use Rattle.store_core.specs.Agreement.{Needs, Agrees, SameContent, IsNeeded}
 use Rattle.kept_state.specs.Applied.{batches_that_matter}
 

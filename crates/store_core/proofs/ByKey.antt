@@ -85,6 +85,10 @@ module _ {A : Type 0} (key : A → ℕ) where
         (All-cons (λ w. key x ≤ key w) z zs le (wider_from (key x) (key z) zs le ascends.0), ascends)
   ]
 
+  pub ascends_fold : (ys zs : List A) → Ascends zs → Ascends (fold put zs ys)
+  ascends_fold [] zs ascends = ascends
+  ascends_fold (y ∷ ys) zs ascends = ascends_fold ys (with_item key y zs) (ascends_put y zs ascends)
+
   module _ (g : A → Bool) where
     past_by : (x z : A) (f : List A) (bz bx : Bool) → key z < key x
         → cond bz (z ∷ cond bx (with_item key x f) f) (cond bx (with_item key x f) f) ≡ cond bx (with_item key x (cond bz (z ∷ f) f)) (cond bz (z ∷ f) f)

@@ -37,7 +37,7 @@ pub kept_let_go : {D : Type 0} (tells : Bool) (held : D → Files) (moment : D �
 kept_let_go tells held moment images s slots disk sizes kept = record {
   holds = λ f c left. let h = kept.holds f c left in record { kept = h.kept; contents = h.contents };
   log = λ f c left. let h = kept.log f c left in record { ready = h.ready; entries = h.entries };
-  sizes = λ f told k lt. kept.sizes f told k lt ∙ sym (sizes k);
+  sizes = λ f told k. kept.sizes f told k ∙ sym (sizes k);
 }
 
 -- ---- the claims are emptied, and the disk is synced

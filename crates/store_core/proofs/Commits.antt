@@ -199,7 +199,7 @@ sound_with files slots s p a sizes live fresh old is = by p.fresh refl
         let at = content_of a in
         let f = fresh bytes some in
         record {
-          covered = omega (arith, is.within, sizes at.slot is.named.0);
+          covered = omega (arith, is.within, sizes at.slot);
           digest = ap sha256 (is.stands refl bytes some) ∙ sym f.2 ∙ sym is.digest;
         }
 

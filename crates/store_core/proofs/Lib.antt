@@ -32,4 +32,6 @@ pub mod Reviving
 pub mod Rooms
 pub mod Sound
 pub mod States
+pub mod Tidying
+pub mod Validity
 pub mod Whole

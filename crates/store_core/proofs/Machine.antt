@@ -19,8 +19,8 @@ use Rattle.kept_state.specs.Applied.{left_after, with_files, session_applied, wi
 use Rattle.kept_state.proofs.Apart.{AreApart}
 use Rattle.machine_model.specs.State.{QueuedFile, State}
 use Rattle.machine_model.specs.Stepping.{without_files}
-use Rattle.store_core.specs.Change.{placed_file, placed_into, queue_after, counts_after, state_after}
-use Rattle.store_core.specs.State.{queued, with_arrival, queue_of, state_with}
+use Rattle.machine_model.specs.Changing.{placed_file, placed_into, with_arrival, queue_after, with_count as counts_after, state_after}
+use Rattle.store_core.specs.State.{queued, queue_of, state_with}
 use Rattle.store_core.proofs.Queues.{IsQueuedAs, queue_behind, line, arrival_of}
 
 -- the session that is recorded is the settled one, each placed file queued as it was handed in

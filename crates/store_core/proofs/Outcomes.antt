@@ -18,7 +18,8 @@ use Rattle.flowfile_wal.specs.Steps.{Adds, IsReadyIn}
 use Rattle.kept_state.specs.Applied.{applied, session_applied}
 use Rattle.kept_state.specs.Changes.{no_files, placed_in, session_of}
 use Rattle.machine_model.specs.State.{State}
-use Rattle.store_core.specs.Change.{HasLiveContents, state_after}
+use Rattle.machine_model.specs.Changing.{state_after}
+use Rattle.store_core.specs.Change.{HasLiveContents}
 use Rattle.store_core.specs.Committed.{PreparedChange, IsPrepared, HasChange, HoldsEither, MayTouch, TouchesOnly}
 use Rattle.store_core.specs.Flow.{flow_in}
 use Rattle.store_core.specs.Placing.{contents_of, GrowsBehind, ArePlaced, PlacesAll}

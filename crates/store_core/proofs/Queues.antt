@@ -14,8 +14,8 @@ use Rattle.kept_state.proofs.Apart.{AreApart}
 use Rattle.machine_model.specs.Files.{is_number_among}
 use Rattle.machine_model.specs.State.{QueuedFile}
 use Rattle.machine_model.specs.Stepping.{without_files}
-use Rattle.store_core.specs.Change.{placed_file, placed_into}
-use Rattle.store_core.specs.State.{queued, with_arrival, queue_of}
+use Rattle.machine_model.specs.Changing.{placed_file, placed_into, with_arrival}
+use Rattle.store_core.specs.State.{queued, queue_of}
 use Rattle.store_core.proofs.ByKey.{put_later, filter_fold}
 
 abbrev pub arrival_of : ActiveFile → ℕ

@@ -27,7 +27,8 @@ use Rattle.kept_state.specs.Changes.{at_content, no_files}
 use Rattle.kept_state.specs.Fits.{session_suits}
 use Rattle.kept_state.proofs.Keeping.{suits_from}
 use Rattle.machine_model.specs.State.{State, QueuedFile}
-use Rattle.store_core.specs.Change.{IsOldLive, placed_file, state_after}
+use Rattle.machine_model.specs.Changing.{placed_file, state_after}
+use Rattle.store_core.specs.Change.{IsOldLive}
 use Rattle.store_core.specs.Flow.{Flow, flow_in}
 use Rattle.store_core.specs.Kept.{kept_in}
 use Rattle.store_core.specs.Placing.{GrowsBehind, IsPlacedAs, ArePlaced}

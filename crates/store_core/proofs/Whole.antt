@@ -184,8 +184,8 @@ entries_more s new e old files number has numbered added more l is =
     omega (arith, more, long, before)
 
 claims_added : (number : ℕ) (e : LogEntry) (slots more : List Slot) (old new : Files) → Adds number e old new → HasSizes slots old → ((k : ℕ) → size_of more k ≡ size_of slots k) → HasSizes more new
-claims_added number e slots more old new added sizes same k lt =
-    ap length (added.others (claim k) (λ (x : claim k ≡ named Log number). let kinds : Claim ≡ Log = ap (λ (f : FileName). f.kind) x in absurd cc)) ∙ sizes k lt ∙ sym (same k)
+claims_added number e slots more old new added sizes same k =
+    ap length (added.others (claim k) (λ (x : claim k ≡ named Log number). let kinds : Claim ≡ Log = ap (λ (f : FileName). f.kind) x in absurd cc)) ∙ sizes k ∙ sym (same k)
 
 module _ {D : Type 0} (tells : Bool) (moment : D → ℕ) (images : D → ℕ → Files → Type 0) (held : D → Files) (s new : StoreState) (number : ℕ) (e : LogEntry) (old mid end : D) (slots : List Slot) where
   pub kept_added : (works : IsWorking s) → InEach (images old (moment old)) (HasLog s) → InEach (images old (moment old)) (Holds s)

@@ -1,15 +1,11 @@
--- What a settled session asks of a store, and what it makes of the machine's state.
+-- What a settled session asks of a store.
 use Rattle.std.specs.Prelude.{◌≡◌, ◌≢◌, ◌⊎◌, ℕ, ◌+◌, ◌==◌, ◌≤◌, List, [], ◌∷◌, ◌++◌, length, map, filter, fold, slice_set, All, Contains, Option, None, Some, unwrap_or}
-use Rattle.std.specs.FinSet.{union, from_list}
-use Rattle.std.specs.List.{enumerate_from, filter_map}
+use Rattle.std.specs.List.{filter_map}
 use Rattle.sha2.specs.Sha256.{sha256}
-use Rattle.flowfile_record.specs.Kin.{kin_of_all}
 use Rattle.flowfile_record.specs.Stored.{Kept}
 use Rattle.flowfile_record.specs.declared.TheConstants.{CONTENT_MAX}
 use Rattle.flowfile_record.specs.declared.change.Settled.{Settled}
 use Rattle.flowfile_record.specs.declared.content.ContentRef.{ContentRef}
-use Rattle.flowfile_record.specs.declared.flow_file.FlowFile.{FlowFile}
-use Rattle.flowfile_record.specs.declared.stored.Counted.{Counted}
 use Rattle.flowfile_record.specs.declared.stored.Placed.{Placed}
 use Rattle.content_repo.specs.Slots.{HasRoom}
 use Rattle.content_repo.specs.declared.slot_set.TheConstants.{SLOTS}
@@ -18,9 +14,6 @@ use Rattle.kept_state.specs.Changes.{session_of, MaySettle}
 use Rattle.kept_state.specs.Limits.{live_limit, numbers_limit}
 use Rattle.kept_state.specs.declared.limit.Limit.{Limit}
 use Rattle.kept_state.specs.declared.limit.Which.TheVariants.{Claims}
-use Rattle.machine_model.specs.State.{QueuedFile, State}
-use Rattle.machine_model.specs.Stepping.{without_files}
-use Rattle.store_core.specs.State.{with_arrival}
 use Rattle.store_core.specs.Store.{StoreState, kept_by, live_in}
 
 -- ---- what may be handed in
@@ -83,41 +76,3 @@ abbrev pub IsLimitOf : StoreState → Settled → Limit → Type 0
 IsLimitOf store s limit =
     (live_limit (kept_with store s) ≡ Some limit)
     ⊎ ((live_limit (kept_with store s) ≡ None) × (PassesClaims store s limit ⊎ PassesNumbers store s limit))
-
--- ---- the machine's state
-
--- a placed file, with its bytes: those of a new content, or those that its reference stands for
-abbrev pub placed_file : (ContentRef → List ℕ) → Placed → QueuedFile
-placed_file contents p = record {
-  number = p.file.number;
-  attributes = p.file.attributes;
-  bytes = unwrap_or p.fresh (contents p.file.content);
-  entered = p.file.entered;
-  penalty_end = p.file.penalty_end;
-  arrival = p.file.arrival;
-  batch = None;
-}
-
--- what is placed into the queue of a connection
-abbrev pub placed_into : (ContentRef → List ℕ) → (place : ℕ) → List Placed → List QueuedFile
-placed_into contents place placed = map (placed_file contents) (filter (λ p. p.connection == place) placed)
-
--- a queue without what is gone, and with what is placed into it, by arrival
-abbrev pub queue_after : (ContentRef → List ℕ) → Settled → ℕ × List QueuedFile → List QueuedFile
-queue_after contents s (place, queue) =
-    fold with_arrival (without_files queue s.gone) (placed_into contents place s.placed)
-
-abbrev pub counts_after : Option Counted → List ℕ → List ℕ
-counts_after None counts = counts
-counts_after (Some g) counts = slice_set counts g.processor g.count
-
--- the state behind a settled session, where references stand for these contents
-abbrev pub state_after : (ContentRef → List ℕ) → State → Settled → State
-state_after contents state s = record state {
-  queues = map (queue_after contents s) (enumerate_from 0 state.queues);
-  events = state.events ++ s.events;
-  kin = union state.kin (from_list (kin_of_all s.events));
-  next_number = s.next_number;
-  next_arrival = s.next_arrival;
-  counts = counts_after s.count state.counts;
-}

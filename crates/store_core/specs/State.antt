@@ -8,13 +8,13 @@ use Rattle.disk_trait.specs.declared.damage.Damage.{Damage}
 use Rattle.disk_trait.specs.declared.damage.Damage.TheVariants.{Digest, Short}
 use Rattle.disk_trait.specs.declared.file_name.FileKind.TheVariants.{Events}
 use Rattle.flowfile_record.specs.Kin.{kin_of_all}
-use Rattle.flowfile_record.specs.NumberedItems.{with_item}
 use Rattle.flowfile_record.specs.Stored.{Kept}
 use Rattle.flowfile_record.specs.declared.content.ContentRef.{ContentRef}
 use Rattle.flowfile_record.specs.declared.event.Event.{Event}
 use Rattle.flowfile_record.specs.declared.stored.ActiveFile.{ActiveFile}
 use Rattle.content_repo.specs.Claims.{claim, content_in}
 use Rattle.content_repo.specs.Slots.{end_of}
+use Rattle.machine_model.specs.Changing.{queued_file, with_arrival}
 use Rattle.machine_model.specs.State.{QueuedFile, State}
 use Rattle.store_core.specs.Flow.{Flow}
 use Rattle.store_core.specs.Kept.{absent, kept_in}
@@ -56,19 +56,7 @@ events_in files last = if last == 0 then Ok [] else Err (absent (named Events 0)
 
 -- a live file as one of a queue, with its bytes
 abbrev pub queued : (ContentRef → List ℕ) → ActiveFile → QueuedFile
-queued contents active = record {
-  number = active.file.number;
-  attributes = active.file.attributes;
-  bytes = contents active.file.content;
-  entered = active.file.entered;
-  penalty_end = active.file.penalty_end;
-  arrival = active.file.arrival;
-  batch = None;
-}
-
--- one file more in a queue, by its arrival
-abbrev pub with_arrival : List QueuedFile → QueuedFile → List QueuedFile
-with_arrival queue file = with_item (λ f. f.arrival) file queue
+queued contents active = queued_file contents active.file
 
 -- the queue of the connection at a place, by arrival
 abbrev pub queue_of : (ContentRef → List ℕ) → List ActiveFile → (place : ℕ) → List QueuedFile

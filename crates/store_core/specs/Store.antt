@@ -1,10 +1,10 @@
 -- What a store has in memory, and how it is tied to its disk.
-use Rattle.std.specs.Prelude.{◌≡◌, ℕ, ◌+◌, ◌-◌, ◌^◌, ◌<◌, ◌≤◌, min, Bool, true, false, IsTrue, is_some, List, length, All, None, Some, Ok}
+use Rattle.std.specs.Prelude.{◌≡◌, ◌≢◌, ℕ, ◌+◌, ◌-◌, ◌^◌, ◌<◌, ◌≤◌, min, Bool, true, false, IsTrue, is_some, List, [], length, All, Contains, None, Some, Ok}
 use Rattle.disk_trait.specs.Files.{Files}
 use Rattle.flowfile_record.specs.Stored.{Kept}
 use Rattle.flowfile_record.specs.declared.content.ContentRef.{ContentRef}
 use Rattle.flowfile_record.specs.declared.limits.TheConstants.{LIVE_FILES_MAX}
-use Rattle.content_repo.specs.Claims.{HasSizes}
+use Rattle.content_repo.specs.Claims.{claim, HasSizes}
 use Rattle.content_repo.specs.Slots.{count_of, size_of, held_in, end_of, references_to, IsNamed}
 use Rattle.content_repo.specs.declared.slot.Slot.{Slot}
 use Rattle.flowfile_wal.specs.Calls.{InEach}
@@ -16,9 +16,9 @@ use Rattle.store_core.specs.Flow.{Flow, flow_in}
 use Rattle.store_core.specs.Kept.{kept_in}
 use Rattle.store_core.specs.State.{contents_damage, live_contents, stands_for}
 
--- What is kept, with room for more files; the current log, and how many entries it has, counted up to 2^64 - 1; the slots of the contents; those
--- that were live when the store was opened; the lot that a new store was to be made of; whether a call met a failure of
--- the disk.
+-- What is kept, with room for more files; the current log, and how many entries it has, counted up to 2^64 - 1; the slots
+-- of the contents; those that were live when the store was opened; the lot that a new store was to be made of; whether a
+-- call met a failure of the disk.
 pub record StoreState : Type 0 where
   pub memory : InMemory
   pub log : LogState
@@ -28,7 +28,8 @@ pub record StoreState : Type 0 where
   pub lot : ℕ
   pub failed : Bool
 
-abbrev pub state_in : InMemory → LogState → (entries : ℕ) → List Slot → (opened : List ContentRef) → (lot : ℕ) → (failed : Bool) → StoreState
+abbrev pub state_in : InMemory → LogState → (entries : ℕ) → List Slot → (opened : List ContentRef) → (lot : ℕ)
+    → (failed : Bool) → StoreState
 state_in memory log entries slots opened lot failed = record {
   memory = memory;
   log = log;
@@ -71,7 +72,8 @@ pub record Holds (s : StoreState) (files : Files) : Type 0 where
 -- the current log of the files is the one in memory
 pub record HasLog (s : StoreState) (files : Files) : Type 0 where
   pub ready : IsReadyIn s.log files
-  pub entries : (log : CurrentLog) → current_log files ≡ Ok (Some log) → s.entries ≡ min (length log.entries) (2 ^ 64 - 1)
+  pub entries : (log : CurrentLog) → current_log files ≡ Ok (Some log)
+      → s.entries ≡ min (length log.entries) (2 ^ 64 - 1)
 
 -- Unless a call met a failure of the disk: whatever a stop leaves now is what the store has in memory, and the claims are
 -- as long as it knows.
@@ -80,6 +82,14 @@ pub record IsKeptOn {D : Type 0} (tells : Bool) (held : D → Files) (moment : D
   pub holds : s.failed ≡ false → InEach (images disk (moment disk)) (Holds s)
   pub log : s.failed ≡ false → InEach (images disk (moment disk)) (HasLog s)
   pub sizes : s.failed ≡ false → IsTrue tells → HasSizes s.slots (held disk)
+
+-- one of these contents stands in the claim of this number
+abbrev pub StandsIn : ℕ → List ContentRef → Type 0
+StandsIn n contents = (at : ContentRef) × Contains contents at × (at.slot ≡ n)
+
+-- each claim that isn't empty has a live content
+pub record IsTidy (k : Kept) (files : Files) : Type 0 where
+  pub claims : (n : ℕ) → files (claim n) ≢ [] → StandsIn n (live_contents k)
 
 -- all files that a stop may leave stand for this state
 abbrev pub EachStandsFor : Flow → (lot : ℕ) → State → (Files → Type 0) → Type 0

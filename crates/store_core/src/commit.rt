@@ -1,10 +1,11 @@
 //! A change becomes part of the store: its contents first, then the log.
 ghost use Rattle.std.specs.Prelude.{◌≡◌, ℕ, ◌⊎◌, true, false, Ok, IfOk, OnOk, IfErr, IsErrOf, IsTrue};
 ghost use Rattle.disk_trait.specs.Images.{After, Since};
+ghost use Rattle.machine_model.specs.Changing.{state_after};
 ghost use Rattle.machine_model.specs.State.{State};
 ghost use Rattle.content_repo.specs.Claims.{content_in};
 ghost use Rattle.store_core.specs.Calls.{RefusesOnFault, IsDiskOrReopen};
-ghost use Rattle.store_core.specs.Change.{HasLiveContents, state_after};
+ghost use Rattle.store_core.specs.Change.{HasLiveContents};
 ghost use Rattle.store_core.specs.Committed.{IsPrepared, HasChange, HoldsEither, MayTouch, TouchesOnly};
 ghost use Rattle.store_core.specs.Flow.{flow_in};
 ghost use Rattle.store_core.specs.State.{stands_for};

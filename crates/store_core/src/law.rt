@@ -6,6 +6,7 @@ ghost use Rattle.store_core.specs.Flow.{Flow};
 ghost use Rattle.store_core.specs.Kept.{kept_in};
 ghost use Rattle.store_core.specs.New.{kept_anew};
 ghost use Rattle.store_core.specs.State.{stands_for, state_with};
+ghost use Rattle.store_core.specs.Valid.{KeptIsValid, LiveFilesAreQueued, QueuedFilesAreLive, HeldFilesStandForKept};
 ghost use Rattle.store_core.specs.Agreement.{Needs, Agrees, IsNeeded, IsUnmade};
 
 /// Where two sets of files agree on what the state of one needs, both keep the same and stand for the same.
@@ -25,4 +26,12 @@ pub fn files_of_no_store_stand_for_a_new_one()
         → kept_in flow lot files ≡ Ok (kept_anew flow lot) }
     ensures state { (flow : Flow) (lot : ℕ) (files : Files) → IsUnmade files
         → (s : State) × (stands_for flow lot files ≡ Ok s) }
+{}
+
+/// What is kept is a state of the machine, its queues have the live files, and files that hold it stand for it.
+pub fn what_is_kept_is_a_state()
+    ensures valid { KeptIsValid }
+    ensures queued { LiveFilesAreQueued }
+    ensures live { QueuedFilesAreLive }
+    ensures stands { HeldFilesStandForKept }
 {}

@@ -4,13 +4,14 @@ ghost use Rattle.disk_trait.specs.Images.{Since, Stays, IsOnly, After};
 ghost use Rattle.disk_trait.specs.declared.damage.Damage.{Damage as TheDamage};
 ghost use Rattle.flowfile_record.specs.Stored.{kept_of};
 ghost use Rattle.flowfile_record.specs.declared.change.Change.TheVariants as change;
+ghost use Rattle.checkpoint_store.specs.Consistent.{IsConsistent};
 ghost use Rattle.content_repo.specs.Claims.{IsRead, IdleShortened, claim};
 ghost use Rattle.content_repo.specs.Slots.{references_to};
 ghost use Rattle.kept_state.specs.declared.limit.Limit.{Limit as TheLimit};
 ghost use Rattle.store_core.specs.Calls.{RefusesOnFault, IsDiskOrReopen};
 ghost use Rattle.store_core.specs.Change.{MayChange, IsWithinLimits, IsLimitOf};
 ghost use Rattle.store_core.specs.Committed.{IsPrepared};
-ghost use Rattle.store_core.specs.Store.{kept_by, live_in, Holds, IsKeptOn};
+ghost use Rattle.store_core.specs.Store.{kept_by, live_in, Holds, IsKeptOn, IsTidy};
 
 use crate::contents::{fresh_sizes, let_go};
 use crate::{Prepared, StoreError};
@@ -57,7 +58,10 @@ impl Model for Store {
 impl Store {
     /// What is kept.
     pub fn state(&self) -> &Stored
-        ensures { kept_of result.now ≡ kept_by self.now }
+        ensures kept { kept_of result.now ≡ kept_by self.now }
+        ensures consistent { IsConsistent (kept_by self.now) }
+        ensures no_batches { (kept_by self.now).batches ≡ [] }
+        ensures no_events { self.now.failed ≡ false → (kept_by self.now).last_event ≡ 0 }
     {
         self.state.stored()
     }
@@ -165,6 +169,8 @@ impl Store {
         ensures images { self.old.failed ≡ false → Since D.moment D.images disk.old disk.new (Holds self.old) }
         // One image alone is left.
         ensures synced { OnOk result (IsOnly (D.held disk.new) (D.images disk.new (D.moment disk.new))) }
+        // What stands in the claims is needed.
+        ensures tidy { OnOk result (IsTrue D.tells → IsTidy (kept_by self.new) (D.held disk.new)) }
         ensures kept { IsKeptOn D.tells D.held D.moment D.images self.new disk.new }
         ensures state { (kept_by self.new ≡ kept_by self.old) × (self.new.lot ≡ self.old.lot) }
         ensures refusal { RefusesOnFault result self.old self.new (D.faults disk.old) (D.faults disk.new) }

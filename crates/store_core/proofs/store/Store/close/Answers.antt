@@ -3,8 +3,9 @@ use Rattle.disk_trait.specs.Images.{Since}
 use Rattle.disk_trait.proofs.Moments.{and_syncs}
 use Rattle.flowfile_record.specs.declared.content.ContentRef.{ContentRef}
 use Rattle.content_repo.specs.Slots.{count_of, held_in, references_to}
-use Rattle.store_core.specs.Store.{StoreState, state_in, IsKeptOn, IsSound, Holds}
+use Rattle.store_core.specs.Store.{StoreState, state_in, IsKeptOn, IsSound, IsTidy, Holds, kept_by}
 use Rattle.store_core.proofs.Closing.{HasLetGo, closed, since_closed, kept_closed, kept_synced, sound_closed}
+use Rattle.store_core.proofs.Tidying.{tidy_closed}
 use Rattle.store_core.proofs.store.Store.close.Goals as goal
 
 pub returns-in_default-clause-images : goal.returns-in_default-clause-images
@@ -119,3 +120,20 @@ returns-clause-kept g c =
     (kept_synced tells held moment images (closed s c.reclaim.new.self) mid c.sync.new.self
     (kept_closed tells held moment images s slots old mid has kept c.reclaim.ensures.images c.reclaim.new.self (λ told. (c.in-Ok.ensures.emptied told).sizes))
     c.sync.ensures.images c.in-Ok-sync.ensures.held)
+
+pub returns-clause-tidy : goal.returns-clause-tidy
+returns-clause-tidy g c = λ told.
+    let i = c.self.inside in
+    let s = state_in i.state i.log i.entries i.contents i.opened.items i.lot i.has_failed in
+    let held = g.D.Disk.held in
+    let mid = c.reclaim.new.disk in
+    let slots = c.let_go.new.contents in
+    let has : HasLetGo s slots = record {
+      works = c.self.invariant.works c.if-self.false;
+      unfailed = c.if-self.false;
+      counts = λ k. subst (λ (refs : List ContentRef). count_of slots k + references_to k refs ≡ count_of i.contents k) c.as_slice.ensures.value (c.let_go.ensures.counts k);
+      held = subst (λ (refs : List ContentRef). held_in slots + length refs ≡ held_in i.contents) c.as_slice.ensures.value c.let_go.ensures.held;
+      sizes = c.let_go.ensures.sizes;
+    } in
+    subst (IsTidy (kept_by s)) (sym c.in-Ok-sync.ensures.held)
+    (tidy_closed s slots c.reclaim.new.self c.in-Ok.field-0 (held mid) has c.in-Ok.ensures.reclaimed (c.in-Ok.ensures.emptied told).sizes)

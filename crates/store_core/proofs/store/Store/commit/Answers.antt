@@ -13,7 +13,7 @@ use Rattle.content_repo.specs.Slots.{count_of, held_in, references_to}
 use Rattle.flowfile_wal.specs.Steps.{LogState, IsFrame, IsReadyIn}
 use Rattle.kept_state.specs.Changes.{no_files, placed_in, record_of}
 use Rattle.kept_state.specs.Fits.{fits}
-use Rattle.store_core.specs.Change.{state_after}
+use Rattle.machine_model.specs.Changing.{state_after}
 use Rattle.store_core.specs.Committed.{PreparedChange}
 use Rattle.store_core.specs.Flow.{flow_in}
 use Rattle.store_core.specs.Placing.{contents_of, MayPlace, PlacesAll}
