@@ -1,5 +1,5 @@
 //! A session becomes part of the store.
-ghost use Rattle.std.specs.Prelude.{◌≡◌, ℕ, ◌⊎◌, false, true, Some, IfOk, OnOk, IfErr, IsErrOf, IsTrue, slice_get};
+ghost use Rattle.std.specs.Prelude.{◌≡◌, ℕ, ◌⊎◌, ◌↔◌, false, true, Some, IfOk, OnOk, IfErr, IsErrOf, IsTrue, slice_get};
 ghost use Rattle.disk_trait.specs.Faults.{CountsFaults};
 ghost use Rattle.disk_trait.specs.Images.{Since};
 ghost use Rattle.content_repo.specs.Claims.{content_in};
@@ -85,6 +85,7 @@ fn settle_kept(
     ensures may { IfOk result (MayChange (kept_by store.now)) }
     ensures live { IfOk result (HasLiveContents store.now) }
     ensures leaves { IfOk result (LeavesState flow.now given.now ended (kept_by store.now)) }
+    ensures no_events { (kept_by store.now).last_event ≡ 0 }
 {
     let state = store.state();
     let counters = Counters {
@@ -94,8 +95,17 @@ fn settle_kept(
         last_event: state.last_event,
     };
     let settled = settle(alloc, flow, given, counters, ended)?;
+    // It says that the moment has 64 bits.
+    let _moment = moment_of(&settled);
     Ok(Settled {
         events: EventList::from(Vec::new(alloc)),
         ..settled
     })
+}
+
+/// When the session ended: a moment of 64 bits.
+fn moment_of(settled: &Settled) -> u64
+    ensures { result ≡ settled.now.moment }
+{
+    settled.moment
 }
