@@ -14,6 +14,10 @@ pub mod NameRoom
 pub mod Placed
 pub mod AddedEvents
 pub mod Queues
+pub mod Recorded
+pub mod RecordedFiles
+pub mod RecordedPlaces
+pub mod RecordedSizes
 pub mod Settles
 pub mod Steps
 pub mod Taken

@@ -11,7 +11,7 @@ use Rattle.flowfile_record.specs.Outcome.{filename_to_come, is_made}
 use Rattle.flowfile_record.specs.declared.worked.Origin.{Origin}
 use Rattle.process_session.proofs.Encoded.{encoded_size-insert}
 
-name_size : (store number : ℕ) → pair_size (codes "filename", hyphenated_text lower (identifier store number)) ≡ 50
+pub name_size : (store number : ℕ) → pair_size (codes "filename", hyphenated_text lower (identifier store number)) ≡ 50
 name_size store number =
     let long : length (hyphenated_text lower (identifier store number)) ≡ 36 = by_index_length 36 _ in
     ap (λ n. 8 + n + 6) long

@@ -1,5 +1,5 @@
 -- That a store can record what a settlement places.
-use Rattle.std.specs.Prelude.{◌≡◌, ◌⊎◌, ℕ, ◌+◌, ◌*◌, ◌<◌, ◌≤◌, ◌^◌, List, length, map, All, IfSome, Some, slice_get}
+use Rattle.std.specs.Prelude.{◌≡◌, ℕ, ◌+◌, ◌*◌, ◌<◌, ◌≤◌, ◌^◌, List, length, map, All, IfSome, Some, slice_get}
 use Rattle.std.specs.List.{sum}
 use Rattle.flowfile_record.specs.Attributes.{IsWithinLimits, encoded_size}
 use Rattle.flowfile_record.specs.declared.TheConstants.{CONTENT_MAX}

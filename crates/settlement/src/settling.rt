@@ -50,7 +50,8 @@ fn settle_at(
     ended: Ended,
 ) -> Result<Settled, AllocError>
     requires { MaySettle flow.now counters ended }
-    ensures { IfOk result (λ settled. settled ≡ settled_in flow.now given.now counters ended processor.now) }
+    ensures settled { IfOk result (λ settled. settled ≡ settled_in flow.now given.now counters ended processor.now) }
+    ensures moment { given.now.moment < 2 ^ 64 }
 {
     let Ended {
         processor: place,
@@ -59,17 +60,25 @@ fn settle_at(
         sources,
         outcome,
     } = ended;
+    let moment = moment_of(given);
     let setting = Setting {
         alloc,
         flow,
         place,
         processor,
         store: counters.store,
-        moment: given.moment,
+        moment,
         taken: taken.as_slice(),
         sources: sources.as_slice(),
     };
     settle_files(&setting, given, counters, connection, outcome)
+}
+
+/// A session's moment, of 64 bits.
+fn moment_of(given: &Given) -> u64
+    ensures { result ≡ given.now.moment }
+{
+    given.moment
 }
 
 /// What becomes of the files of an outcome. Those that were taken stood in the queue of this connection.
