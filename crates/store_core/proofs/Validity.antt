@@ -1,9 +1,10 @@
 -- What is kept is a valid state of the machine: its queues have the live files, each once, by arrival.
-use Rattle.std.proofs.Common.{◌≡◌, ◌≢◌, ◌⊎◌, inl, inr, ℕ, zero, suc, ◌+◌, ◌<◌, ◌≤◌, Bool, true, false, cond, List, [], ◌∷◌, length, map, refl, sym, ap, subst, ◌∙◌, arith, length-map, get_or}
+use Rattle.std.proofs.Common.{◌≡◌, ◌≢◌, ◌⊎◌, inl, inr, ℕ, zero, suc, ◌+◌, ◌<◌, ◌≤◌, Bool, true, false, cond, List, [], ◌∷◌, length, map, refl, sym, ap, subst, ◌∙◌, arith, get_or}
 use Rattle.std.specs.Prelude.{◌==◌, All, Contains, IfSome, Option, None, Some, Ok, filter, fold, is_some, nat_lt, slice_get, unwrap_or}
 use Rattle.std.specs.List.{AllPairs, enumerate_from, flat_map}
 use Rattle.std.proofs.lemmas.Bool.{cases_lt, eqb-true, eq-eqb}
 use Rattle.std.proofs.lemmas.List.Elements.{All-nil, All-cons, All-map, All-weaker, All-contains}
+use Rattle.std.proofs.lemmas.List.{length-map}
 use Rattle.std.proofs.lemmas.List.FromFn.{length-enumerate_from}
 use Rattle.std.proofs.lemmas.List.Kept.{AllPairs-cons}
 use Rattle.disk_trait.specs.Files.{Files}
