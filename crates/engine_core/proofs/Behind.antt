@@ -19,7 +19,7 @@ use Rattle.store_core.specs.State.{stands_for, state_with}
 use Rattle.store_core.specs.Store.{EachStandsFor, IsKeptOn, StoreState, kept_by}
 use Rattle.store_core.proofs.Agreeing.{of_state}
 use Rattle.engine_core.specs.Committing.{LeavesState, session_state}
-use Rattle.engine_core.proofs.Assumed.{kept_stands}
+use Rattle.store_core.proofs.Validity.{held_stands}
 
 -- but for the room in memory the store is the same
 abbrev pub roomier : StoreState → (room : ℕ) → StoreState
@@ -45,7 +45,7 @@ module _ {D : Type 0} (tells : Bool) (held : D → Files) (moment : D → ℕ) (
     -- the state that the files stand for is that which is kept
     the_state : IsTrue tells → (state : State) → stands_for (flow_in (kept_by s)) s.lot (held old) ≡ of_state state → state ≡ state_with (content_in (held old)) [] (kept_by s)
     the_state telling state stands =
-        let keeps = kept_stands s (held old) begun.last_event (begun.on.holds begun.works (held old) (begun.left old telling)) in
+        let keeps = held_stands s (held old) begun.last_event (begun.on.holds begun.works (held old) (begun.left old telling)) in
         let same : of_state state ≡ of_state (state_with (content_in (held old)) [] (kept_by s)) = sym stands ∙ keeps in cc
 
     pub behind : IsTrue tells → (processor : Processor) → slice_get flow.processors ended.processor ≡ Some processor → (state : State)

@@ -37,7 +37,7 @@ use Rattle.store_core.specs.Flow as store
 use Rattle.store_core.specs.Flow.{flow_in}
 use Rattle.store_core.specs.State.{queued, state_with}
 use Rattle.engine_core.specs.Committing.{MayCommit, identity_of}
-use Rattle.engine_core.proofs.Assumed.{kept_queued, kept_valid}
+use Rattle.store_core.proofs.Validity.{kept_is_valid, live_is_queued}
 
 abbrev pub counters_of : Kept → Counters
 counters_of k = record { store = k.store; next_number = k.next_number; next_arrival = k.next_arrival; last_event = k.last_event }
@@ -101,13 +101,30 @@ may_settle flow given k ended sound may consistent = record {
   last_event = consistent.encoded.last_event;
 }
 
+-- what is settled over the counters of what is stored, which is what is kept
+pub settled_over : (flow : Flow) (given : Given) (stored k : Kept) (ended : Ended) (settled : Settled) → stored ≡ k
+    → IsSound flow → flow_in k ≡ identity_of flow → MayCommit flow given k ended → IsConsistent k → k.batches ≡ [] → k.last_event ≡ 0
+    → Settles flow given (counters_of stored) ended settled → TellsOf given ended settled → RecordsAll flow given (counters_of stored) ended settled
+    → IsSettled (record { flow = flow; given = given; k = k; ended = ended; settled = settled })
+settled_over flow given stored k ended settled same sound identity may consistent batches last_event settles tells records = record {
+  sound = sound;
+  identity = identity;
+  may = may;
+  consistent = consistent;
+  batches = batches;
+  last_event = last_event;
+  settles = subst (λ (l : Kept). Settles flow given (counters_of l) ended settled) same settles;
+  tells = tells;
+  records = subst (λ (l : Kept). RecordsAll flow given (counters_of l) ended settled) same records;
+}
+
 -- ---- the session is one of that state
 
 pub handed : (c : Case) → IsSettled c → (processor : Processor) → slice_get c.flow.processors c.ended.processor ≡ Some processor → (contents : ContentRef → List ℕ)
     → AreRead contents c.ended.taken c.ended.sources → IsHanded c.flow (counters_of c.k) c.ended processor contents (state_of c contents)
 handed c is processor at contents read = record {
   found = at;
-  valid = kept_valid c.flow contents c.k is.consistent is.batches (connections_same c is) (counts_same c is);
+  valid = kept_is_valid contents c.k c.flow is.consistent (connections_same c is) (counts_same c is);
   store = refl;
   next_number = refl;
   next_arrival = refl;
@@ -115,7 +132,7 @@ handed c is processor at contents read = record {
   read = read;
   there = All-map (Contains (queue_at (state_of c contents) c.ended.connection)) (λ (file : FlowFile). queued contents (active c.ended.connection file)) c.ended.taken
       (All-weaker (λ file. Contains c.k.files (active c.ended.connection file)) (λ file. Contains (queue_at (state_of c contents) c.ended.connection) (queued contents (active c.ended.connection file)))
-      (λ file has. kept_queued contents c.k (active c.ended.connection file) is.consistent has) c.ended.taken is.may.there);
+      (λ file has. live_is_queued contents c.k (active c.ended.connection file) is.consistent has) c.ended.taken is.may.there);
   differ = is.may.differ;
 }
 
