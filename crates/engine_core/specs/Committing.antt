@@ -1,5 +1,5 @@
 -- What a session asks of a store that it becomes part of, and what it makes of the store's state.
-use Rattle.std.specs.Prelude.{◌≡◌, ◌≢◌, ◌⊎◌, ℕ, ◌<◌, Bool, IsTrue, List, length, map, All, Contains, Some, Ok, slice_get}
+use Rattle.std.specs.Prelude.{◌≡◌, ◌≢◌, ◌⊎◌, ℕ, ◌<◌, Bool, IsTrue, List, [], length, map, All, Contains, Some, Ok, slice_get}
 use Rattle.std.specs.List.{AllPairs}
 use Rattle.disk_trait.specs.Files.{Files}
 use Rattle.flowfile_record.specs.Outcome.{IsOutcome}
@@ -17,12 +17,12 @@ use Rattle.machine_model.specs.Changing.{state_after, without_events}
 use Rattle.machine_model.specs.Settling.{settle}
 use Rattle.machine_model.specs.State.{State}
 use Rattle.settlement.specs.Contents.{IsBodyWithin}
-use Rattle.settlement.specs.Handed.{session_of, sizes_of}
+use Rattle.settlement.specs.Handed.{AreRead, session_of, sizes_of}
 use Rattle.settlement.specs.declared.handed.Ended.{Ended}
 use Rattle.store_core.specs.Change.{IsLimitOf}
 use Rattle.store_core.specs.Flow as store
 use Rattle.store_core.specs.Flow.{flow_in}
-use Rattle.store_core.specs.State.{stands_for}
+use Rattle.store_core.specs.State.{stands_for, state_with}
 use Rattle.store_core.specs.Store.{StoreState, kept_by}
 use Rattle.store_core.specs.declared.error.StoreError.{StoreError}
 use Rattle.store_core.specs.declared.error.StoreError.TheVariants as error
@@ -36,7 +36,8 @@ identity_of flow = record {
 }
 
 -- The session took files of one connection that are kept, each another one, and its outcome is one over these files, whose
--- parts are of contents that were read.
+-- parts are of contents that were read. There are bytes that the references of these files stand for, and those that were
+-- read are these.
 pub record MayCommit (flow : Flow) (given : Given) (k : Kept) (ended : Ended) : Type 0 where
   pub processor : ended.processor < length flow.processors
   pub index : given.index < NUMBER_LIMIT
@@ -45,11 +46,22 @@ pub record MayCommit (flow : Flow) (given : Given) (k : Kept) (ended : Ended) : 
   pub relationships : ℕ
   pub outcome : IsOutcome relationships (sizes_of ended.taken) ended.outcome
   pub parts : All (λ file. IsBodyWithin ended.sources file.body) ended.outcome.files
+  pub bytes : ContentRef → List ℕ
+  pub read : AreRead bytes ended.taken ended.sources
 
 -- the state behind a session, which keeps no event
 abbrev pub session_state : Flow → Given → Ended → Processor → (ContentRef → List ℕ) → State → State
 session_state flow given ended processor contents state =
     without_events (settle (session_of flow given ended processor contents state) ended.outcome)
+
+-- Whatever bytes references stand for, where those that were read are these: behind what is kept the settled session leaves
+-- the state that the machine does.
+abbrev pub LeavesState : Flow → Given → Ended → Kept → Settled → Type 0
+LeavesState flow given ended k settled =
+    (processor : Processor) → slice_get flow.processors ended.processor ≡ Some processor
+    → (contents : ContentRef → List ℕ) → AreRead contents ended.taken ended.sources
+    → state_after contents (state_with contents [] k) settled
+    ≡ session_state flow given ended processor contents (state_with contents [] k)
 
 -- The session would pass this limit, and none before it: this is what it settles to.
 pub record IsAtLimit (tells : Bool) (files : Files) (flow : Flow) (given : Given) (ended : Ended) (s : StoreState) (limit : Limit)
@@ -68,4 +80,5 @@ pub record KeepsFlow (old new : StoreState) : Type 0 where
 
 -- a session is refused for a fault of the disk, for a limit or for want of memory
 abbrev pub IsRefusal : StoreError → Type 0
-IsRefusal error = (error ≡ error.Disk) ⊎ (error ≡ error.Memory) ⊎ ((limit : Limit) × (error ≡ error.Limit limit))
+IsRefusal refusal =
+    (refusal ≡ error.Disk) ⊎ (refusal ≡ error.Memory) ⊎ ((limit : Limit) × (refusal ≡ error.Limit limit))

@@ -1,7 +1,7 @@
 //! What a store keeps of a flow.
 ghost use Rattle.std.specs.Prelude.{◌≡◌, map, IfOk};
 
-use flowfile_record::{Text, TextList};
+use flowfile_record::TextList;
 use machine_model::Flow;
 use std::alloc::{AllocError, Global};
 
@@ -9,10 +9,9 @@ use std::alloc::{AllocError, Global};
 pub fn connection_ids(alloc: Global, flow: &Flow) -> Result<TextList, AllocError>
     ensures { IfOk result (λ ids. ids ≡ map (λ connection. connection.id) flow.now.connections) }
 {
-    let mut ids: Vec<Text> = Vec::new(alloc);
+    let mut ids = TextList::new(alloc);
     for connection in flow.connections.as_slice() {
-        let id = Text::from_str(alloc, connection.id.as_str())?;
-        ids.push(id)?;
+        ids.push(connection.id.clone()?)?;
     }
-    Ok(TextList::from(ids))
+    Ok(ids)
 }

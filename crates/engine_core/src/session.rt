@@ -1,5 +1,5 @@
 //! A session becomes part of the store.
-ghost use Rattle.std.specs.Prelude.{◌≡◌, ℕ, ◌⊎◌, false, true, Some, IfOk, OnOk, IfErr, IsErrOf, IsTrue, slice_get};
+ghost use Rattle.std.specs.Prelude.{◌≡◌, ℕ, ◌⊎◌, ◌↔◌, false, true, Some, IfOk, OnOk, IfErr, IsErrOf, IsTrue, slice_get};
 ghost use Rattle.disk_trait.specs.Faults.{CountsFaults};
 ghost use Rattle.disk_trait.specs.Images.{Since};
 ghost use Rattle.content_repo.specs.Claims.{content_in};
@@ -11,13 +11,14 @@ ghost use Rattle.settlement.specs.Handed.{AreRead};
 ghost use Rattle.store_core.specs.Flow.{flow_in};
 ghost use Rattle.store_core.specs.State.{stands_for};
 ghost use Rattle.store_core.specs.Store.{kept_by, IsKeptOn, EachStandsFor};
-ghost use Rattle.engine_core.specs.Committing.{identity_of, MayCommit, session_state, IsAtLimit, KeepsFlow, IsRefusal};
+ghost use Rattle.store_core.specs.Change.{HasLiveContents, MayChange};
+ghost use Rattle.engine_core.specs.Committing.{identity_of, MayCommit, session_state, IsAtLimit, KeepsFlow, IsRefusal, LeavesState};
 
 use disk_trait::Disk;
 use flowfile_record::{EventList, Settled};
 use machine_model::{Flow, Given};
 use settlement::{Counters, Ended, settle};
-use std::alloc::Global;
+use std::alloc::{AllocError, Global};
 use store_core::{Store, StoreError};
 
 /// Makes a session that has ended part of the store: what it took is gone, and what its outcome says is queued, with the
@@ -64,6 +65,28 @@ pub fn commit_session<D: Disk>(
     ensures kinds { IfErr result IsRefusal }
     ensures cause { CountsFaults (D.faults disk.old) (D.faults disk.new) (IsErrOf result StoreError.Disk) }
 {
+    let settled = settle_kept(alloc, flow, store, given, ended)?;
+    let prepared = store.prepare(&settled)?;
+    store.commit(disk, prepared)
+}
+
+/// What a session changes of what the store keeps, without its events.
+fn settle_kept(
+    alloc: Global,
+    flow: &Flow,
+    store: &Store,
+    given: &Given,
+    ended: Ended,
+) -> Result<Settled, AllocError>
+    requires sound { IsSound flow.now }
+    requires flow { flow_in (kept_by store.now) ≡ identity_of flow.now }
+    requires works { store.now.failed ≡ false }
+    requires may { MayCommit flow.now given.now (kept_by store.now) ended }
+    ensures may { IfOk result (MayChange (kept_by store.now)) }
+    ensures live { IfOk result (HasLiveContents store.now) }
+    ensures leaves { IfOk result (LeavesState flow.now given.now ended (kept_by store.now)) }
+    ensures no_events { (kept_by store.now).last_event ≡ 0 }
+{
     let state = store.state();
     let counters = Counters {
         store: state.store,
@@ -72,10 +95,17 @@ pub fn commit_session<D: Disk>(
         last_event: state.last_event,
     };
     let settled = settle(alloc, flow, given, counters, ended)?;
-    let settled = Settled {
+    // It says that the moment has 64 bits.
+    let _moment = moment_of(&settled);
+    Ok(Settled {
         events: EventList::from(Vec::new(alloc)),
         ..settled
-    };
-    let prepared = store.prepare(&settled)?;
-    store.commit(disk, prepared)
+    })
+}
+
+/// When the session ended: a moment of 64 bits.
+fn moment_of(settled: &Settled) -> u64
+    ensures { result ≡ settled.now.moment }
+{
+    settled.moment
 }

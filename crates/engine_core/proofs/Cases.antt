@@ -1,0 +1,159 @@
+-- The settled session of what a store keeps, and that it is one of the state which this stands for.
+use Rattle.std.proofs.Common.{◌≡◌, ◌≢◌, ℕ, ◌+◌, ◌^◌, ◌<◌, ◌≤◌, ◌==◌, List, [], ◌∷◌, length, map, zero, suc, refl, sym, ap, subst, ◌∙◌, arith}
+use Rattle.std.specs.Prelude.{All, Contains, Option, Some, None, slice_get, unwrap_or}
+use Rattle.std.specs.List.{AllPairs, flat_map}
+use Rattle.std.proofs.lemmas.List.{length-map}
+use Rattle.std.proofs.lemmas.List.Elements.{All-map, All-weaker, Contains-append_left, Contains-append_right}
+use Rattle.flowfile_record.specs.Outcome.{AreInTurn}
+use Rattle.flowfile_record.specs.Stored.{Kept}
+use Rattle.flowfile_record.specs.declared.change.Settled.{Settled}
+use Rattle.flowfile_record.specs.declared.content.ContentRef.{ContentRef}
+use Rattle.flowfile_record.specs.declared.flow_file.FlowFile.{FlowFile}
+use Rattle.record_codec.specs.ActiveFile.{active}
+use Rattle.record_codec.specs.declared.entry.SessionEntry.{SessionEntry}
+use Rattle.checkpoint_store.specs.Consistent.{IsConsistent}
+use Rattle.kept_state.specs.Changes.{session_of as session_entry}
+use Rattle.machine_model.specs.declared.flow.Connection.{Connection}
+use Rattle.machine_model.specs.declared.flow.Flow.{Flow}
+use Rattle.machine_model.specs.declared.flow.Processor.{Processor}
+use Rattle.machine_model.specs.declared.given.Given.{Given}
+use Rattle.machine_model.specs.Changing.{state_after}
+use Rattle.machine_model.specs.Files.{queue_at}
+use Rattle.machine_model.specs.Placing.{EndedSession}
+use Rattle.machine_model.specs.Settling.{settle}
+use Rattle.machine_model.specs.Sound.{IsSound}
+use Rattle.machine_model.specs.State.{QueuedFile, State}
+use Rattle.machine_model.specs.Valid.{IsWellNumbered, files_of_all}
+use Rattle.machine_model.proofs.Keyed.{differ_from_once, once_from_differ}
+use Rattle.machine_model.proofs.SettlingKeeps.{settle-keeps}
+use Rattle.machine_model.proofs.Tally.{bit, tally-map}
+use Rattle.settlement.specs.Handed.{AreRead, IsHanded, MaySettle, session_of}
+use Rattle.settlement.specs.Recording.{RecordsAll}
+use Rattle.settlement.specs.StateAfter.{Settles}
+use Rattle.settlement.specs.TellsOf.{TellsOf}
+use Rattle.settlement.specs.declared.counters.Counters.{Counters}
+use Rattle.settlement.specs.declared.handed.Ended.{Ended}
+use Rattle.store_core.specs.Flow as store
+use Rattle.store_core.specs.Flow.{flow_in}
+use Rattle.store_core.specs.State.{queued, state_with}
+use Rattle.engine_core.specs.Committing.{MayCommit, identity_of}
+use Rattle.store_core.proofs.Validity.{kept_is_valid, live_is_queued}
+
+abbrev pub counters_of : Kept → Counters
+counters_of k = record { store = k.store; next_number = k.next_number; next_arrival = k.next_arrival; last_event = k.last_event }
+
+-- a session that ended over what is kept, and what it settles to
+pub record Case : Type 0 where
+  pub flow : Flow
+  pub given : Given
+  pub k : Kept
+  pub ended : Ended
+  pub settled : Settled
+
+-- the session may be committed, and this is its settlement
+pub record IsSettled (c : Case) : Type 0 where
+  pub sound : IsSound c.flow
+  pub identity : flow_in c.k ≡ identity_of c.flow
+  pub may : MayCommit c.flow c.given c.k c.ended
+  pub consistent : IsConsistent c.k
+  pub batches : c.k.batches ≡ []
+  pub last_event : c.k.last_event ≡ 0
+  pub settles : Settles c.flow c.given (counters_of c.k) c.ended c.settled
+  pub tells : TellsOf c.given c.ended c.settled
+  pub records : RecordsAll c.flow c.given (counters_of c.k) c.ended c.settled
+
+-- the settlement without events, and its entry
+abbrev pub quiet : Settled → Settled
+quiet settled = record settled { events = [] }
+
+abbrev pub entry_in : Case → SessionEntry
+entry_in c = session_entry c.k (quiet c.settled)
+
+-- the state that is kept, where references stand for these contents
+abbrev pub state_of : Case → (ContentRef → List ℕ) → State
+state_of c contents = state_with contents [] c.k
+
+abbrev pub session_in : Case → Processor → (ContentRef → List ℕ) → EndedSession
+session_in c processor contents = session_of c.flow c.given c.ended processor contents (state_of c contents)
+
+pub connections_same : (c : Case) → IsSettled c → length c.k.connections ≡ length c.flow.connections
+connections_same c is = ap (λ (f : store.Flow). length f.connections) is.identity ∙ length-map c.flow.connections (λ (connection : Connection). connection.id)
+
+pub counts_same : (c : Case) → IsSettled c → length c.k.counts ≡ length c.flow.processors
+counts_same c is = ap (λ (f : store.Flow). f.processors) is.identity
+
+-- the processor of a place
+pub found : (processors : List Processor) (place : ℕ) → place < length processors → (processor : Processor) × (slice_get processors place ≡ Some processor)
+found [] place lt = absurd (omega arith)
+found (first ∷ processors) zero lt = (first, refl)
+found (first ∷ processors) (suc place) lt = found processors place (omega arith)
+
+-- the counters of what is kept are those of a state
+pub may_settle : (flow : Flow) (given : Given) (k : Kept) (ended : Ended) → IsSound flow → MayCommit flow given k ended → IsConsistent k → MaySettle flow (counters_of k) ended
+may_settle flow given k ended sound may consistent = record {
+  processor = may.processor;
+  connections = let few = sound.connection_count in omega (arith, few);
+  relationships = may.relationships;
+  outcome = may.outcome;
+  parts = may.parts;
+  next_number = consistent.encoded.next_number;
+  next_arrival = consistent.encoded.next_arrival;
+  last_event = consistent.encoded.last_event;
+}
+
+-- what is settled over the counters of what is stored, which is what is kept
+pub settled_over : (flow : Flow) (given : Given) (stored k : Kept) (ended : Ended) (settled : Settled) → stored ≡ k
+    → IsSound flow → flow_in k ≡ identity_of flow → MayCommit flow given k ended → IsConsistent k → k.batches ≡ [] → k.last_event ≡ 0
+    → Settles flow given (counters_of stored) ended settled → TellsOf given ended settled → RecordsAll flow given (counters_of stored) ended settled
+    → IsSettled (record { flow = flow; given = given; k = k; ended = ended; settled = settled })
+settled_over flow given stored k ended settled same sound identity may consistent batches last_event settles tells records = record {
+  sound = sound;
+  identity = identity;
+  may = may;
+  consistent = consistent;
+  batches = batches;
+  last_event = last_event;
+  settles = subst (λ (l : Kept). Settles flow given (counters_of l) ended settled) same settles;
+  tells = tells;
+  records = subst (λ (l : Kept). RecordsAll flow given (counters_of l) ended settled) same records;
+}
+
+-- ---- the session is one of that state
+
+pub handed : (c : Case) → IsSettled c → (processor : Processor) → slice_get c.flow.processors c.ended.processor ≡ Some processor → (contents : ContentRef → List ℕ)
+    → AreRead contents c.ended.taken c.ended.sources → IsHanded c.flow (counters_of c.k) c.ended processor contents (state_of c contents)
+handed c is processor at contents read = record {
+  found = at;
+  valid = kept_is_valid contents c.k c.flow is.consistent (connections_same c is) (counts_same c is);
+  store = refl;
+  next_number = refl;
+  next_arrival = refl;
+  last_event = sym is.last_event;
+  read = read;
+  there = All-map (Contains (queue_at (state_of c contents) c.ended.connection)) (λ (file : FlowFile). queued contents (active c.ended.connection file)) c.ended.taken
+      (All-weaker (λ file. Contains c.k.files (active c.ended.connection file)) (λ file. Contains (queue_at (state_of c contents) c.ended.connection) (queued contents (active c.ended.connection file)))
+      (λ file has. live_is_queued contents c.k (active c.ended.connection file) is.consistent has) c.ended.taken is.may.there);
+  differ = is.may.differ;
+}
+
+in_some_queue : (queues : List (List QueuedFile)) (place : ℕ) (file : QueuedFile) → Contains (unwrap_or (slice_get queues place) []) file → Contains (flat_map (λ queue. queue) queues) file
+in_some_queue [] place file h = h
+in_some_queue (queue ∷ queues) zero file h = Contains-append_left queue (flat_map (λ queue. queue) queues) file h
+in_some_queue (queue ∷ queues) (suc place) file h = Contains-append_right queue (flat_map (λ queue. queue) queues) file (in_some_queue queues place file h)
+
+-- behind the session the queues are well numbered
+pub numbered_after : (c : Case) → IsSettled c → (processor : Processor) → slice_get c.flow.processors c.ended.processor ≡ Some processor → (contents : ContentRef → List ℕ)
+    → AreRead contents c.ended.taken c.ended.sources → IsWellNumbered (state_after contents (state_of c contents) c.settled)
+numbered_after c is processor at contents read =
+    let state = state_of c contents in
+    let session = session_in c processor contents in
+    let hand = handed c is processor at contents read in
+    let sizes = length-map c.ended.taken (λ (file : FlowFile). file.content.size) in
+    let files = length-map c.ended.taken (λ (file : FlowFile). queued contents (active c.ended.connection file)) in
+    let in_turn : AreInTurn 0 (length session.taken) c.ended.outcome.files = subst (λ n. AreInTurn 0 n c.ended.outcome.files) (sizes ∙ sym files) is.may.outcome.in_turn in
+    subst IsWellNumbered (sym (is.settles processor contents state hand))
+    (settle-keeps session c.ended.outcome hand.valid.numbered (record {
+      differ = differ_from_once (λ (file : QueuedFile). file.number) session.taken
+          (λ n. omega (arith, tally-map (λ (file : QueuedFile). bit (file.number == n)) (λ (file : FlowFile). queued contents (active c.ended.connection file)) c.ended.taken, once_from_differ (λ (file : FlowFile). file.number) c.ended.taken is.may.differ n));
+      there = All-weaker (Contains (queue_at state c.ended.connection)) (Contains (files_of_all state)) (λ file there. in_some_queue state.queues c.ended.connection file there) session.taken hand.there;
+    }) in_turn)

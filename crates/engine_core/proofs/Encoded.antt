@@ -1,0 +1,167 @@
+-- The entry of a settled session has an encoding unless a number passes its limit, and its contents are as its files say.
+use Rattle.std.proofs.Common.{◌≡◌, inl, inr, ℕ, ◌+◌, ◌^◌, ◌<◌, ◌≤◌, Bool, true, false, List, [], ◌∷◌, length, map, refl, sym, ap, subst, ◌∙◌, arith}
+use Rattle.std.specs.Prelude.{All, Contains, IfSome, MatchOption, Option, None, Some, nat_lt}
+use Rattle.std.specs.Option.{option_or}
+use Rattle.std.proofs.lemmas.Bool.{cases_Bool, ltb-false}
+use Rattle.std.proofs.lemmas.List.{length-map}
+use Rattle.std.proofs.lemmas.List.Elements.{All-map, All-same, All-weaker, All-contains}
+use Rattle.sha2.specs.Sha256.{sha256}
+use Rattle.sha2.proofs.Facts256.{length-sha256}
+use Rattle.flowfile_record.specs.Attributes.{IsWithinLimits}
+use Rattle.flowfile_record.specs.Encoding.{IsNumber}
+use Rattle.flowfile_record.specs.declared.TheConstants.{CONTENT_MAX}
+use Rattle.flowfile_record.specs.declared.content.ContentRef.{ContentRef}
+use Rattle.flowfile_record.specs.declared.flow_file.FlowFile.{FlowFile}
+use Rattle.flowfile_record.specs.declared.stored.ActiveFile.{ActiveFile}
+use Rattle.flowfile_record.specs.declared.stored.Counted.{Counted}
+use Rattle.flowfile_record.specs.declared.stored.Placed.{Placed}
+use Rattle.record_codec.specs.ActiveFile.{IsActiveFile, active}
+use Rattle.record_codec.specs.EntryEncoding.{IsEntry, IsGenerator, IsMoment}
+use Rattle.record_codec.specs.FileEncoding.{IsContentRef}
+use Rattle.record_codec.specs.declared.entry.LogEntry.TheVariants.{Session}
+use Rattle.checkpoint_store.specs.Consistent.{IsFileIn}
+use Rattle.kept_state.specs.Applied.{session_applied}
+use Rattle.kept_state.specs.Changes.{record_of, recorded}
+use Rattle.kept_state.specs.Limits.{numbers_limit, passed}
+use Rattle.kept_state.specs.declared.limit.Limit.{Limit}
+use Rattle.kept_state.specs.declared.limit.TheConstants.{NUMBER_MAX}
+use Rattle.kept_state.specs.declared.limit.Which.TheVariants.{Numbers}
+use Rattle.machine_model.specs.declared.kind.Kind.{Kind}
+use Rattle.machine_model.specs.declared.kind.Kind.TheVariants.{GenerateFlowFile}
+use Rattle.settlement.specs.Recording.{IsRecordable}
+use Rattle.settlement.specs.Whole.{count_of}
+use Rattle.store_core.specs.Change.{IsFresh}
+use Rattle.engine_core.proofs.Cases.{Case, IsSettled, entry_in}
+use Rattle.engine_core.proofs.Parts.{new_arrivals, new_numbers}
+use Rattle.engine_core.proofs.Recorded.{kept_contents, few_taken, records, taken_kept}
+
+-- ---- limits
+
+not_passed : (number wanted : ℕ) → passed Numbers number wanted ≡ None → wanted ≤ number
+not_passed number wanted none = elim (cases_Bool (nat_lt number wanted)) [
+  | inl t ↦ absurd (let some = rw t at none in cc)
+  | inr f ↦ ltb-false number wanted f
+]
+
+both_none : (a b : Option Limit) → option_or a b ≡ None → (a ≡ None) × (b ≡ None)
+both_none None b none = (refl, none)
+both_none (Some x) b none = absurd cc
+
+record AreNumbersBelow (c : Case) : Type 0 where
+  number : c.settled.next_number ≤ NUMBER_MAX
+  arrival : c.settled.next_arrival ≤ NUMBER_MAX
+
+numbers_below : (c : Case) → numbers_limit (session_applied c.k (entry_in c)) ≡ None → AreNumbersBelow c
+numbers_below c none =
+    let first = both_none (passed Numbers NUMBER_MAX c.settled.next_number) _ none in
+    let second = both_none (passed Numbers NUMBER_MAX c.settled.next_arrival) _ first.1 in
+    record { number = not_passed NUMBER_MAX c.settled.next_number first.0; arrival = not_passed NUMBER_MAX c.settled.next_arrival second.0 }
+
+-- ---- placed files
+
+abbrev Stamped : List ContentRef → ContentRef → Option (List ℕ) → Type 0
+Stamped contents content fresh = MatchOption fresh (Contains contents content) (λ bytes. (content.size ≡ length bytes) × (content.digest ≡ sha256 bytes))
+
+record IsFileToBe (connection : ℕ) (file : FlowFile) : Type 0 where
+  place : connection < 2 ^ 16
+  first_number : 1 ≤ file.number
+  number : IsNumber file.number
+  attributes : IsWithinLimits file.attributes
+  entered : file.entered < 2 ^ 64
+  penalty_end : file.penalty_end < 2 ^ 64
+  arrival : IsNumber file.arrival
+
+active_by : (contents : List ContentRef) (connection : ℕ) (file : FlowFile) (fresh : Option (List ℕ)) → All IsContentRef contents → IsFileToBe connection file
+    → Stamped contents file.content fresh → IfSome fresh (λ bytes. length bytes ≤ CONTENT_MAX) → IsActiveFile (recorded connection file fresh)
+active_by contents connection file None known is stamped small = record {
+  connection = is.place;
+  file = record {
+    first_number = is.first_number;
+    number = is.number;
+    attributes = is.attributes;
+    content = All-contains IsContentRef contents file.content known stamped;
+    entered = is.entered;
+    penalty_end = is.penalty_end;
+    arrival = is.arrival;
+  };
+}
+active_by contents connection file (Some bytes) known is stamped small = record {
+  connection = is.place;
+  file = record {
+    first_number = is.first_number;
+    number = is.number;
+    attributes = is.attributes;
+    content = record {
+      slot = omega arith;
+      offset = omega arith;
+      size = let same = stamped.0 in omega (arith, same, small);
+      digest = ap length stamped.1 ∙ length-sha256 bytes;
+    };
+    entered = is.entered;
+    penalty_end = is.penalty_end;
+    arrival = is.arrival;
+  };
+}
+
+all_active : (c : Case) → IsSettled c → AreNumbersBelow c → All IsActiveFile (map record_of c.settled.placed)
+all_active c is below =
+    All-map IsActiveFile record_of c.settled.placed
+    (λ i d lt.
+    let known = (records c is).placed i d lt in
+    let number = (new_numbers c is).within i d lt in
+    let arrival = (new_arrivals c is).within i d lt in
+    let number_below = below.number in
+    let arrival_below = below.arrival in
+    let connection = known.connection in
+    active_by (map (λ (file : FlowFile). file.content) c.ended.taken) _ _ _ (kept_contents c is) (record {
+      place = let few = is.sound.connection_count in omega (arith, connection, few);
+      first_number = number.0;
+      number = omega (arith, number.1, number_below);
+      attributes = known.attributes;
+      entered = known.entered;
+      penalty_end = known.penalty_end;
+      arrival = omega (arith, arrival.1, arrival_below);
+    }) (is.tells.contents i d lt) known.fresh)
+
+-- ---- the entry
+
+generated : (kind : Kind) (place index : ℕ) → place < 256 → IsNumber index → IsGenerator (count_of kind place index)
+generated (GenerateFlowFile count text) place index lt is = (omega arith, is)
+generated _ place index lt is = tt
+
+pub encoded : (c : Case) → IsSettled c → IsMoment c.given.moment → numbers_limit (session_applied c.k (entry_in c)) ≡ None → IsEntry (Session (entry_in c))
+encoded c is moment none =
+    let below = numbers_below c none in
+    let all = records c is in
+    let number_below = below.number in
+    let arrival_below = below.arrival in
+    let processor = is.may.processor in
+    let last = is.last_event in
+    record {
+      processor = omega (arith, processor, is.tells.processor, is.sound.processor_count);
+      moment = subst IsMoment (sym is.tells.moment) moment;
+      gone = (
+        let few = few_taken c is in omega (arith, few),
+        All-same IsNumber c.settled.gone (map (λ (file : FlowFile). file.number) c.ended.taken) is.tells.gone
+            (All-map IsNumber (λ (file : FlowFile). file.number) c.ended.taken
+            (All-weaker (λ file. IsFileIn c.k (active c.ended.connection file)) (λ file. IsNumber file.number) (λ file kept. kept.encoded.file.number) c.ended.taken (taken_kept c is))),
+      );
+      placed = (let few = all.few in omega (arith, few, length-map c.settled.placed record_of), all_active c is below);
+      next_number = omega (arith, number_below);
+      next_arrival = omega (arith, arrival_below);
+      last_event = omega (arith, last);
+      generator = subst IsGenerator (sym all.count) (generated _ c.ended.processor c.given.index (omega (arith, processor, is.sound.processor_count)) is.may.index);
+    }
+
+-- ---- new contents
+
+fresh_by : (contents : List ContentRef) (content : ContentRef) (fresh : Option (List ℕ)) (bytes : List ℕ) → Stamped contents content fresh → IfSome fresh (λ b. length b ≤ CONTENT_MAX)
+    → fresh ≡ Some bytes → (length bytes ≤ CONTENT_MAX) × (content.size ≡ length bytes) × (content.digest ≡ sha256 bytes)
+fresh_by contents content None bytes stamped small some = absurd cc
+fresh_by contents content (Some b) bytes stamped small some =
+    let same : b ≡ bytes = cc in
+    subst (λ (l : List ℕ). (length l ≤ CONTENT_MAX) × (content.size ≡ length l) × (content.digest ≡ sha256 l)) same (small, stamped.0, stamped.1)
+
+pub all_fresh : (c : Case) → IsSettled c → All IsFresh c.settled.placed
+all_fresh c is =
+    λ i d lt bytes some. fresh_by (map (λ (file : FlowFile). file.content) c.ended.taken) _ _ bytes (is.tells.contents i d lt) ((records c is).placed i d lt).fresh some

@@ -1,0 +1,11 @@
+pub mod AllFiles
+pub mod Behind
+pub mod Cases
+pub mod Commits
+pub mod Counts
+pub mod Encoded
+pub mod FanOut
+pub mod Parts
+pub mod Payload
+pub mod Recorded
+pub mod Suits
