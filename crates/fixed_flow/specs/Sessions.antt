@@ -1,5 +1,5 @@
 -- The two sessions of the fixed flow, and what each does.
-use Rattle.std.specs.Prelude.{◌≡◌, ◌<◌, ◌≤◌, ℕ, ◌==◌, not, Bool, true, false, List, [], ◌∷◌, ◌++◌, length, filter, map, Option, None, Some, MatchOption, IfSome, Contains}
+use Rattle.std.specs.Prelude.{◌≡◌, ◌<◌, ◌≤◌, ℕ, zero, suc, ◌==◌, not, Bool, true, false, List, [], ◌∷◌, ◌++◌, length, filter, map, Option, None, Some, MatchOption, IfSome, Contains}
 use Rattle.flowfile_record.specs.NamedFile.{bytes_of, with_file}
 use Rattle.flowfile_record.specs.declared.TheConstants.{CONTENT_MAX}
 use Rattle.flowfile_record.specs.declared.worked.Outcome.{Outcome}
@@ -54,10 +54,10 @@ FilesComeIn = (m : Machine) (moment : ℕ) (name bytes : List ℕ) → IsValid f
 
 -- a session of a processor that took these files, over a state
 abbrev pub session : (place : ℕ) → State → List QueuedFile → Given → EndedSession
-session 0 state taken given =
+session zero state taken given =
     record { flow = fixed_flow; place = 0; processor = get; state = state; taken = taken; given = given }
-session place state taken given =
-    record { flow = fixed_flow; place = place; processor = put; state = state; taken = taken; given = given }
+session (suc place) state taken given =
+    record { flow = fixed_flow; place = suc place; processor = put; state = state; taken = taken; given = given }
 
 -- What the step makes of the state is what the session settles that is given the file's bytes too; whether the bytes are
 -- still at hand as it settles is no matter.
