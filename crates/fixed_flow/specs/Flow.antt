@@ -1,5 +1,5 @@
 -- The fixed flow: what comes into the inbox goes out by the outbox.
-use Rattle.std.specs.Prelude.{ℕ, ◌^◌, List, [], ◌∷◌, None, codes}
+use Rattle.std.specs.Prelude.{◌^◌, [], ◌∷◌, None, codes}
 use Rattle.sha2.specs.Sha256.{sha256}
 use Rattle.machine_model.specs.declared.flow.Connection.{Connection}
 use Rattle.machine_model.specs.declared.flow.Flow.{Flow}

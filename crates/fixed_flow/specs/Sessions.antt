@@ -1,19 +1,18 @@
 -- The two sessions of the fixed flow, and what each does.
-use Rattle.std.specs.Prelude.{◌≡◌, ◌<◌, ◌≤◌, ℕ, zero, suc, ◌==◌, not, Bool, true, false, List, [], ◌∷◌, ◌++◌, length, filter, map, Option, None, Some, MatchOption, IfSome, Contains}
+use Rattle.std.specs.Prelude.{◌≡◌, ◌<◌, ◌≤◌, ℕ, zero, suc, ◌==◌, not, Bool, true, false, List, [], ◌∷◌, ◌++◌, length, filter, Option, None, Some, MatchOption, IfSome, Contains}
 use Rattle.flowfile_record.specs.NamedFile.{bytes_of, with_file}
 use Rattle.flowfile_record.specs.declared.TheConstants.{CONTENT_MAX}
 use Rattle.flowfile_record.specs.declared.worked.Outcome.{Outcome}
 use Rattle.machine_model.specs.declared.given.Given.{Given}
 use Rattle.machine_model.specs.declared.journal.Step.{Step}
 use Rattle.machine_model.specs.declared.journal.Step.TheVariants.{Session}
-use Rattle.machine_model.specs.Acting.{TakenFile, act, name_in}
+use Rattle.machine_model.specs.Acting.{act, name_in}
 use Rattle.machine_model.specs.Changing.{without_events}
 use Rattle.machine_model.specs.Files.{queue_at}
 use Rattle.machine_model.specs.Kinds.{is_among}
 use Rattle.machine_model.specs.Placing.{EndedSession}
 use Rattle.machine_model.specs.Quiet.{quiet}
 use Rattle.machine_model.specs.Settling.{settle}
-use Rattle.machine_model.specs.Sound.{IsSound}
 use Rattle.machine_model.specs.State.{QueuedFile, State, World, Machine}
 use Rattle.machine_model.specs.Stepping.{as_taken, is_there, step, without_name}
 use Rattle.machine_model.specs.Valid.{IsValid}

@@ -55,7 +55,11 @@ fn processor(
     terminated: &[&str],
 ) -> Result<Processor, AllocError>
     ensures { IfOk result (λ processor. processor ≡ record {
-        id = id.now; kind = kind; tasks = 1; penalty = PENALTY; terminated = map (λ text. text.now) terminated.now;
+      id = id.now;
+      kind = kind;
+      tasks = 1;
+      penalty = PENALTY;
+      terminated = map (λ text. text.now) terminated.now;
     }) }
 {
     Ok(Processor {
