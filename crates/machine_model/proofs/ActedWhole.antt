@@ -49,11 +49,11 @@ put-size k v (e ∷ es) =
       | Greater ↦ omega (arith, whole, sum_by-cons pair_size e (put_entry (slice_cmp nat_cmp) k v es), put-size k v es)
     ]
 
-insert-size : (attributes : AttributeMap) (k v : List ℕ) → encoded_size (insert attributes k v) ≤ encoded_size attributes + pair_size (k, v)
+pub insert-size : (attributes : AttributeMap) (k v : List ℕ) → encoded_size (insert attributes k v) ≤ encoded_size attributes + pair_size (k, v)
 unfolding encoded_size
 insert-size attributes k v = rw (entries-insert nat_list_cmp_total attributes k v) (omega (arith, put-size k v (entries attributes)))
 
-insert-pairs : (attributes : AttributeMap) (k v : List ℕ) → IsPair (k, v) → All IsPair (entries attributes) → All IsPair (entries (insert attributes k v))
+pub insert-pairs : (attributes : AttributeMap) (k v : List ℕ) → IsPair (k, v) → All IsPair (entries attributes) → All IsPair (entries (insert attributes k v))
 insert-pairs attributes k v pair all =
     rw (entries-insert nat_list_cmp_total attributes k v)
     (All-put nat_list_cmp_total (slice_cmp-IsAntisymmetric nat_cmp-IsAntisymmetric) IsPair k v (entries attributes) pair all)
@@ -85,7 +85,7 @@ below_128 (byte ∷ bytes) h =
     let parts = and_parts (nat_lt byte 128) (list_all (λ b. nat_lt b 128) bytes) h in
     All-cons (λ byte. byte < 128) byte bytes (ltb-true byte 128 parts.0) (below_128 bytes parts.1)
 
-literal : (bytes : List ℕ) → list_all (λ byte. nat_lt byte 128) bytes ≡ true → IsUtf8 bytes
+pub literal : (bytes : List ℕ) → list_all (λ byte. nat_lt byte 128) bytes ≡ true → IsUtf8 bytes
 literal bytes h = IsUtf8-from_ascii bytes (IsAscii-from_all bytes (below_128 bytes h))
 
 path_pair : IsPair (codes "path", codes "./")

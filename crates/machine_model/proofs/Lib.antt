@@ -36,3 +36,4 @@ pub mod Stepped
 pub mod Tally
 pub mod Took
 pub mod Validity
+pub mod WithoutPast
