@@ -74,18 +74,18 @@ pub ended-outcome : (attributes : AttributeMap) (bytes : List ℕ) → outcome_o
 ended-outcome attributes bytes =
     ap outcome_of (ended-is attributes bytes) ∙ outcome-alone 1 [] (record (made_file Received attributes (New bytes)) { «end» = Some (To 0) }) (0 + length bytes) refl (λ stand. refl)
 
--- the bytes that were copied are those that it is given
-pub given-fits : (given : Option (List ℕ)) (bytes copy : List ℕ) → IsSomeAnd given (λ bytes. length bytes ≤ CONTENT_MAX) → given ≡ Some bytes → copy ≡ bytes → length copy ≤ CONTENT_MAX
-given-fits given bytes copy fits is same =
+-- the bytes that it takes out are those that it is given
+pub given-fits : (given : Option (List ℕ)) (bytes taken : List ℕ) → IsSomeAnd given (λ bytes. length bytes ≤ CONTENT_MAX) → given ≡ Some bytes → taken ≡ bytes → length taken ≤ CONTENT_MAX
+given-fits given bytes taken fits is same =
     let P : Option (List ℕ) → Type 0 = λ o. IsSomeAnd o (λ bytes. length bytes ≤ CONTENT_MAX) in
     let short : length bytes ≤ CONTENT_MAX = subst P is fits in
     omega (arith, ap length same)
 
-pub get-file-acts : (filter : Option Pattern) (before : Bench) (given : Given) (after : Bench) (name bytes copy : List ℕ) → Begins (GetFile filter) before given → given.file ≡ Some name → given.bytes ≡ Some bytes → copy ≡ bytes
-    → after ≡ ended_bench (received_attributes name) copy → EndsAs (GetFile filter) before given after
-get-file-acts filter before given after name bytes copy begins name-is bytes-is copy-is is =
+pub get-file-acts : (filter : Option Pattern) (before : Bench) (given : Given) (after : Bench) (name bytes taken : List ℕ) → Begins (GetFile filter) before given → given.file ≡ Some name → given.bytes ≡ Some bytes → taken ≡ bytes
+    → after ≡ ended_bench (received_attributes name) taken → EndsAs (GetFile filter) before given after
+get-file-acts filter before given after name bytes taken begins name-is bytes-is taken-is is =
     let attributes = received_attributes name in
-    let same : after ≡ ended_bench attributes bytes = is ∙ ap (ended_bench attributes) copy-is in
+    let same : after ≡ ended_bench attributes bytes = is ∙ ap (ended_bench attributes) taken-is in
     let of_bytes : received given.file given.bytes ≡ received (Some name) (Some bytes) = ap (λ o. received o given.bytes) name-is ∙ ap (received (Some name)) bytes-is in
     let outcome : alone_outcome (made_worked Received attributes bytes false 0) ≡ outcome_of after = sym (ap outcome_of same ∙ ended-outcome attributes bytes) in
     source-acts (GetFile filter) before given after refl begins (ap refusal_of_finish same ∙ ended-finished attributes bytes)

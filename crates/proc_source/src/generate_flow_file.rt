@@ -50,7 +50,12 @@ impl Acts for GenerateFlowFile<'_> {
         TakeRule::Source
     }
 
-    fn act(&self, alloc: Global, session: &mut Session, given: &Given) -> Result<(), AllocError> {
+    fn act(
+        &self,
+        alloc: Global,
+        session: &mut Session,
+        given: &mut Given,
+    ) -> Result<(), AllocError> {
         let index = given.index;
         let index = format!(in alloc; "{index}")?;
         let file = or_no_memory(session.create())?;

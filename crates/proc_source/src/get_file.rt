@@ -37,12 +37,16 @@ impl Acts for GetFile<'_> {
         TakeRule::Source
     }
 
-    fn act(&self, alloc: Global, session: &mut Session, given: &Given) -> Result<(), AllocError> {
-        let (Some(name), Some(bytes)) = (&given.file, &given.bytes) else {
+    fn act(
+        &self,
+        _alloc: Global,
+        session: &mut Session,
+        given: &mut Given,
+    ) -> Result<(), AllocError> {
+        let (Some(name), Some(bytes)) = (&given.file, given.bytes.take()) else {
             unreachable!()
         };
-        let bytes = Vec::from_slice(alloc, bytes.as_slice())?;
-        let file = or_no_memory(session.receive(bytes))?;
+        let file = or_no_memory(session.receive(bytes.into_vec()))?;
         or_no_memory(session.put_attribute(file, "filename", name.text()))?;
         or_no_memory(session.put_attribute(file, "path", "./"))?;
         session.transfer(file, SUCCESS).unwrap();

@@ -53,7 +53,7 @@ impl PutFile {
 
 impl Acts for PutFile {
     ghost use Rattle.machine_model.specs.declared.kind.Kind.TheVariants.{PutFile as OfPutFile};
-    ghost use Rattle.processor_api.specs.Acts.{Begins, EndsAs};
+    ghost use Rattle.processor_api.specs.Acts.{Begins, EndsAs, KeepsGiven};
 
     ghost kind = { λ processor. OfPutFile processor.conflict };
 
@@ -61,9 +61,10 @@ impl Acts for PutFile {
         TakeRule::One
     }
 
-    fn act(&self, alloc: Global, session: &mut Session, given: &Given) -> Result<(), AllocError>
-        requires { Begins (OfPutFile self.now.conflict) session.old given.now }
-        ensures acts { OnOk result (EndsAs (OfPutFile self.now.conflict) session.old given.now session.new) }
+    fn act(&self, alloc: Global, session: &mut Session, given: &mut Given) -> Result<(), AllocError>
+        requires { Begins (OfPutFile self.now.conflict) session.old given.old }
+        ensures acts { OnOk result (EndsAs (OfPutFile self.now.conflict) session.old given.old session.new) }
+        ensures given { KeepsGiven given.old given.new }
         // A name alone takes memory.
         ensures free { name_in (attributes_at session.old FILE) ≡ None → IsOk result }
     {

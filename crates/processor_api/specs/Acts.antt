@@ -67,6 +67,10 @@ pub record KeepsTaken (before after : Bench) : Type 0 where
   pub relationships : after.relationships ≡ before.relationships
   pub sources : after.sources ≡ before.sources
 
+-- What it is given is as it was, but for the bytes, which it may take out.
+pub record KeepsGiven (before after : Given) : Type 0 where
+  pub but_bytes : after ≡ record before { bytes = after.bytes }
+
 -- The session can be finished with what it took, and its outcome is the one that the machine gives.
 pub record EndsAs (kind : Kind) (before : Bench) (given : Given) (after : Bench) : Type 0 where
   pub finished : refusal_of_finish after ≡ None

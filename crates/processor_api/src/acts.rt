@@ -11,7 +11,7 @@ pub trait Acts {
     ghost use Rattle.std.specs.Prelude.{◌≡◌, OnOk};
     ghost use Rattle.machine_model.specs.Kinds.{take_rule_of};
     ghost use Rattle.machine_model.specs.declared.kind.Kind.{Kind};
-    ghost use Rattle.processor_api.specs.Acts.{Begins, EndsAs};
+    ghost use Rattle.processor_api.specs.Acts.{Begins, EndsAs, KeepsGiven};
 
     /// The kind that it is of, with its properties.
     ghost kind: { Self → Kind };
@@ -20,8 +20,10 @@ pub trait Acts {
     fn takes(&self) -> TakeRule
         ensures { result ≡ take_rule_of (kind self.now) };
 
-    /// Acts on the files that a session took, and ends all of them. Want of memory alone keeps it from that.
-    fn act(&self, alloc: Global, session: &mut Session, given: &Given) -> Result<(), AllocError>
-        requires { Begins (kind self.now) session.old given.now }
-        ensures { OnOk result (EndsAs (kind self.now) session.old given.now session.new) };
+    /// Acts on the files that a session took, and ends all of them. Want of memory alone keeps it from that. The bytes
+    /// that it is given it may take out, so that no content stands in memory twice.
+    fn act(&self, alloc: Global, session: &mut Session, given: &mut Given) -> Result<(), AllocError>
+        requires { Begins (kind self.now) session.old given.old }
+        ensures acts { OnOk result (EndsAs (kind self.now) session.old given.old session.new) }
+        ensures given { KeepsGiven given.old given.new };
 }

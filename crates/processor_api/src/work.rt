@@ -5,7 +5,7 @@ ghost use Rattle.machine_model.specs.Kinds.{relationships_of};
 ghost use Rattle.process_session.specs.Bench.{source_of, sizes_of};
 ghost use Rattle.process_session.specs.Finish.{outcome_of};
 ghost use Rattle.process_session.specs.Refusals.{refusal_of_finish};
-ghost use Rattle.processor_api.specs.Acts.{IsOutcomeOf, MayBeHanded};
+ghost use Rattle.processor_api.specs.Acts.{IsOutcomeOf, KeepsGiven, MayBeHanded};
 
 use crate::{Acts, Given};
 use flowfile_record::Outcome;
@@ -13,19 +13,20 @@ use process_session::{Session, SessionError, SourceList, TakenList};
 use std::alloc::{AllocError, Global};
 
 /// What a processor makes of these files, in a session with as many relationships as its kind names, and beside it what
-/// stays of them.
+/// stays of them. The bytes that it is given may be taken out.
 pub fn work_on<P: Acts>(
     alloc: Global,
     processor: &P,
     relationships: u16,
     taken: TakenList,
-    given: &Given,
+    given: &mut Given,
 ) -> Result<(Outcome, SourceList), AllocError>
     requires relationships { relationships ≡ length (relationships_of (P.kind processor.now)) }
-    requires handed { MayBeHanded (P.kind processor.now) taken given.now }
-    ensures outcome { IfOk result (λ done. IsOutcomeOf (P.kind processor.now) taken given.now done.0) }
+    requires handed { MayBeHanded (P.kind processor.now) taken given.old }
+    ensures outcome { IfOk result (λ done. IsOutcomeOf (P.kind processor.now) taken given.old done.0) }
     ensures sound { IfOk result (λ done. IsOutcome relationships (sizes_of (map source_of taken)) done.0) }
     ensures sources { IfOk result (λ done. done.1 ≡ map source_of taken) }
+    ensures given { KeepsGiven given.old given.new }
 {
     let mut session = Session::new(alloc, relationships, taken)?;
     processor.act(alloc, &mut session, given)?;

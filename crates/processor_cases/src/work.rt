@@ -18,14 +18,14 @@ use std::alloc::Global;
 pub fn outcome_of(alloc: Global, case: &Value) -> Result<Outcome> {
     let kind = case::kind(alloc, case)?;
     let taken = case::taken(alloc, case)?;
-    let given = case::given(alloc, case)?;
+    let mut given = case::given(alloc, case)?;
     if !may_take(kind.take_rule(), taken.len()) {
         bail!("it takes another number of files");
     }
     if !is_given(&kind, &given) {
         bail!("it is given no file");
     }
-    worked(alloc, &kind, taken, &given)
+    worked(alloc, &kind, taken, &mut given)
 }
 
 /// Whether a rule takes so many files. The rules of several files are nobody's here.
@@ -50,8 +50,8 @@ fn is_given(kind: &Kind, given: &Given) -> bool
     }
 }
 
-fn worked(alloc: Global, kind: &Kind, taken: TakenList, given: &Given) -> Result<Outcome>
-    requires { MayBeHanded kind.now taken given.now }
+fn worked(alloc: Global, kind: &Kind, taken: TakenList, given: &mut Given) -> Result<Outcome>
+    requires { MayBeHanded kind.now taken given.old }
 {
     if let Some(get_file) = GetFile::of(kind) {
         let (outcome, _) = work_on(alloc, &get_file, 1, taken, given)?;

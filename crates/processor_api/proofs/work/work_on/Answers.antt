@@ -8,12 +8,12 @@ use Rattle.processor_api.proofs.work.work_on.Goals as goal
 
 pub returns-clause-sound : goal.returns-clause-sound
 returns-clause-sound g c =
-    let many = work-relationships c.args.relationships c.args.taken c.in_ok-session.session c.act.new.session c.in_ok-session.ensures c.in_ok-act.ensures.kept in
-    let sources = work-sources c.args.relationships c.args.taken c.in_ok-session.session c.act.new.session c.in_ok-session.ensures c.in_ok-act.ensures.kept in
+    let many = work-relationships c.args.relationships c.args.taken c.in_ok-session.session c.act.new.session c.in_ok-session.ensures c.in_ok-act.ensures.acts.kept in
+    let sources = work-sources c.args.relationships c.args.taken c.in_ok-session.session c.act.new.session c.in_ok-session.ensures c.in_ok-act.ensures.acts.kept in
     let P : ℕ → List Source → Type 0 = λ n sources. IfOk c.finished.result (λ done. IsOutcome n (sizes_of sources) done.0) in
     subst (P c.args.relationships) sources (subst (λ (n : ℕ). P n c.act.new.session.sources) many c.finished.ensures.sound)
 
 pub returns-clause-sources : goal.returns-clause-sources
 returns-clause-sources g c =
     let P : List Source → Type 0 = λ sources. IfOk c.finished.result (λ done. done.1 ≡ sources) in
-    subst P (work-sources c.args.relationships c.args.taken c.in_ok-session.session c.act.new.session c.in_ok-session.ensures c.in_ok-act.ensures.kept) c.finished.ensures.sources
+    subst P (work-sources c.args.relationships c.args.taken c.in_ok-session.session c.act.new.session c.in_ok-session.ensures c.in_ok-act.ensures.acts.kept) c.finished.ensures.sources

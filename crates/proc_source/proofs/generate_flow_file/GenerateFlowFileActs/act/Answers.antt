@@ -86,8 +86,8 @@ unwrap-requires-2 c =
     changed_so _ _ _ _ _ c.write.ensures.after c.unwrap.ensures ∙ write-at _ _ _ _ _ numbered first text ∙ created-written attributes wanted in
     never_refused _ _ c.transfer.ensures.refusal (transfer_refusal-at _ _ _ 0 written first ∙ end-free attributes wanted)
 
-pub returns : goal.returns
-returns c =
+pub returns-clause-acts : goal.returns-clause-acts
+returns-clause-acts c =
     let begun : c.args.session.now ≡ bench_of 1 [] = source-begins (GenerateFlowFile c.args.self.now.count c.args.self.now.custom_text.now) _ c.args.given.now refl c.requires in
     let first : c.in_ok-file.file ≡ 0 = answer_of (λ place. place ≡ length c.args.session.now.files) _ _ c.create.ensures.place c.in_ok-file.ensures.value ∙ ap (λ (b : Bench). length b.files) begun in
     let created : c.create.new.self ≡ created_bench empty = changed_so _ _ _ _ _ c.create.ensures.after c.in_ok-file.ensures.value ∙ ap with_created begun in

@@ -1,4 +1,4 @@
-use Rattle.std.proofs.Common.{◌≡◌, [], length, refl, ◌∙◌, ap}
+use Rattle.std.proofs.Common.{◌≡◌, [], length, refl, sym, ◌∙◌, ap}
 use Rattle.std.specs.Prelude.{codes}
 use Rattle.std.specs.FinMap.{empty}
 use Rattle.flowfile_record.specs.declared.worked.End.TheVariants.{To}
@@ -16,14 +16,14 @@ use Rattle.proc_source.proofs.get_file.GetFileActs.act.Goals as goal
 pub or_no_memory-requires : goal.or_no_memory-requires
 or_no_memory-requires c =
     let begun : c.args.session.now ≡ bench_of 1 [] = source-begins (GetFile c.args.self.now.filter.now) _ c.args.given.now refl c.requires in
-    let fits = given-fits _ _ c.in_ok-bytes.bytes.items c.requires.handed.is_given.1 c.in-Some-Some.is-1 (c.in_ok-bytes.ensures.items ∙ c.as_slice.ensures) in
-    only_memory _ _ c.receive.ensures.refusal (ap (λ b. refusal_of_receive b c.in_ok-bytes.bytes.items) begun ∙ receive-free 1 c.in_ok-bytes.bytes.items fits)
+    let fits = given-fits _ _ c.into_vec.result.items c.requires.handed.is_given.1 (sym c.take.ensures.value ∙ c.in-Some-Some.is-1) c.into_vec.ensures in
+    only_memory _ _ c.receive.ensures.refusal (ap (λ b. refusal_of_receive b c.into_vec.result.items) begun ∙ receive-free 1 c.into_vec.result.items fits)
 
 pub or_no_memory-requires-2 : goal.or_no_memory-requires-2
 or_no_memory-requires-2 c =
-    let bytes = c.in_ok-bytes.bytes.items in
+    let bytes = c.into_vec.result.items in
     let begun : c.args.session.now ≡ bench_of 1 [] = source-begins (GetFile c.args.self.now.filter.now) _ c.args.given.now refl c.requires in
-    let fits = given-fits _ _ bytes c.requires.handed.is_given.1 c.in-Some-Some.is-1 (c.in_ok-bytes.ensures.items ∙ c.as_slice.ensures) in
+    let fits = given-fits _ _ bytes c.requires.handed.is_given.1 (sym c.take.ensures.value ∙ c.in-Some-Some.is-1) c.into_vec.ensures in
     let first : c.in_ok-file.file ≡ 0 = answer_of (λ place. place ≡ length c.args.session.now.files) _ _ c.receive.ensures.place c.in_ok-file.ensures.value ∙ ap (λ (b : Bench). length b.files) begun in
     let received : c.receive.new.self ≡ received_bench empty bytes = changed_so _ _ _ _ _ c.receive.ensures.after c.in_ok-file.ensures.value ∙ ap (λ b. with_received b bytes) begun in
     only_memory _ _ c.put_attribute.ensures.refusal
@@ -31,9 +31,9 @@ or_no_memory-requires-2 c =
 
 pub or_no_memory-requires-3 : goal.or_no_memory-requires-3
 or_no_memory-requires-3 c =
-    let bytes = c.in_ok-bytes.bytes.items in
+    let bytes = c.into_vec.result.items in
     let begun : c.args.session.now ≡ bench_of 1 [] = source-begins (GetFile c.args.self.now.filter.now) _ c.args.given.now refl c.requires in
-    let fits = given-fits _ _ bytes c.requires.handed.is_given.1 c.in-Some-Some.is-1 (c.in_ok-bytes.ensures.items ∙ c.as_slice.ensures) in
+    let fits = given-fits _ _ bytes c.requires.handed.is_given.1 (sym c.take.ensures.value ∙ c.in-Some-Some.is-1) c.into_vec.ensures in
     let first : c.in_ok-file.file ≡ 0 = answer_of (λ place. place ≡ length c.args.session.now.files) _ _ c.receive.ensures.place c.in_ok-file.ensures.value ∙ ap (λ (b : Bench). length b.files) begun in
     let received : c.receive.new.self ≡ received_bench empty bytes = changed_so _ _ _ _ _ c.receive.ensures.after c.in_ok-file.ensures.value ∙ ap (λ b. with_received b bytes) begun in
     let is_named : c.put_attribute.new.self ≡ received_bench (named c.in-Some-Some.name) bytes =
@@ -44,7 +44,7 @@ or_no_memory-requires-3 c =
 
 pub unwrap-requires : goal.unwrap-requires
 unwrap-requires c =
-    let bytes = c.in_ok-bytes.bytes.items in
+    let bytes = c.into_vec.result.items in
     let begun : c.args.session.now ≡ bench_of 1 [] = source-begins (GetFile c.args.self.now.filter.now) _ c.args.given.now refl c.requires in
     let first : c.in_ok-file.file ≡ 0 = answer_of (λ place. place ≡ length c.args.session.now.files) _ _ c.receive.ensures.place c.in_ok-file.ensures.value ∙ ap (λ (b : Bench). length b.files) begun in
     let received : c.receive.new.self ≡ received_bench empty bytes = changed_so _ _ _ _ _ c.receive.ensures.after c.in_ok-file.ensures.value ∙ ap (λ b. with_received b bytes) begun in
@@ -56,9 +56,9 @@ unwrap-requires c =
     ∙ put-at _ _ _ (codes "path") _ _ is_named first refl ∙ received-put (named c.in-Some-Some.name) bytes (codes "path") (codes "./") refl in
     never_refused _ _ c.transfer.ensures.refusal (transfer_refusal-at _ _ _ 0 done first ∙ end-free (received_attributes c.in-Some-Some.name) bytes)
 
-pub returns : goal.returns
-returns c =
-    let bytes = c.in_ok-bytes.bytes.items in
+pub returns-clause-acts : goal.returns-clause-acts
+returns-clause-acts c =
+    let bytes = c.into_vec.result.items in
     let begun : c.args.session.now ≡ bench_of 1 [] = source-begins (GetFile c.args.self.now.filter.now) _ c.args.given.now refl c.requires in
     let first : c.in_ok-file.file ≡ 0 = answer_of (λ place. place ≡ length c.args.session.now.files) _ _ c.receive.ensures.place c.in_ok-file.ensures.value ∙ ap (λ (b : Bench). length b.files) begun in
     let received : c.receive.new.self ≡ received_bench empty bytes = changed_so _ _ _ _ _ c.receive.ensures.after c.in_ok-file.ensures.value ∙ ap (λ b. with_received b bytes) begun in
@@ -69,4 +69,4 @@ returns c =
     changed_so _ _ _ _ _ c.put_attribute-2.ensures.after c.in_ok-or_no_memory-2.ensures.value
     ∙ put-at _ _ _ (codes "path") _ _ is_named first refl ∙ received-put (named c.in-Some-Some.name) bytes (codes "path") (codes "./") refl in
     let after : c.transfer.new.self ≡ ended_bench (received_attributes c.in-Some-Some.name) bytes = changed_so _ _ _ _ _ c.transfer.ensures.after c.unwrap.ensures ∙ end-at _ _ _ (To 0) done first in
-    get-file-acts c.args.self.now.filter.now c.args.session.now c.args.given.now c.transfer.new.self c.in-Some-Some.name c.in-Some-Some.bytes bytes c.requires c.in-Some-Some.is-0 c.in-Some-Some.is-1 (c.in_ok-bytes.ensures.items ∙ c.as_slice.ensures) after
+    get-file-acts c.args.self.now.filter.now c.args.session.now c.args.given.now c.transfer.new.self c.in-Some-Some.name c.in-Some-Some.bytes bytes c.requires c.in-Some-Some.is-0 (sym c.take.ensures.value ∙ c.in-Some-Some.is-1) c.into_vec.ensures after
