@@ -1,49 +1,52 @@
 -- How a journal grows by one step, and what the disk's images stand for meanwhile.
-use Rattle.std.proofs.Common.{◌≡◌, ◌⊎◌, inl, inr, ⊎_elim, ℕ, ◌+◌, ◌<◌, ◌≤◌, Bool, true, false, List, [], ◌∷◌, ◌++◌, length, refl, sym, ◌∙◌, ap, subst, arith, append_assoc, length-append}
-use Rattle.std.proofs.lemmas.List.{append-nil}
+use Rattle.std.proofs.Common.{◌≡◌, ◌⊎◌, inl, inr, ⊎_elim, ℕ, ◌+◌, ◌<◌, ◌≤◌, Bool, true, false, List, [], ◌∷◌, ◌++◌, length, map, refl, sym, ◌∙◌, ap, subst, arith, append_assoc, length-append}
+use Rattle.std.proofs.lemmas.List.{append-nil, map-append}
 use Rattle.std.proofs.lemmas.Bool.{cases_lt}
 use Rattle.std.proofs.lemmas.Bool.Decides.{nat_tests}
-use Rattle.std.specs.Prelude.{Option, None, Some, Ok, IsSome, MatchOption, if◌then◌else◌}
+use Rattle.std.specs.Prelude.{Option, None, Some, Ok, IsSome, MatchOption, count_by, if◌then◌else◌, option_and_then}
 use Rattle.std.specs.List.{AllByRecursion}
 use Rattle.disk_trait.specs.Files.{Files}
 use Rattle.disk_trait.specs.Images.{Since}
 use Rattle.disk_trait.proofs.Moments.{one_part_after_another}
-use Rattle.first_store.specs.State.{stands_for}
-use Rattle.run_top.specs.Machine.{Machine, Entry, Step, Get, step, replay, replay_from, acknowledged, is_acked_by, IsInOrder, IsAcknowledged, WasGot}
+use Rattle.machine_model.specs.declared.journal.Entry.{Entry}
+use Rattle.machine_model.specs.declared.journal.Step.{Step}
+use Rattle.machine_model.specs.Acknowledged.{steps, acknowledged, is_acknowledged_by, IsInOrder}
+use Rattle.machine_model.specs.Laws.{ReplayOfOneMore}
+use Rattle.machine_model.specs.State.{Machine}
+use Rattle.machine_model.specs.Stepping.{step, replay}
+use Rattle.flowfile_wal.specs.Calls.{InEach}
+use Rattle.fixed_flow.specs.Flow.{fixed_flow}
+use Rattle.fixed_flow.specs.Sessions.{got}
+use Rattle.run_top.specs.Journal.{IsAcknowledged, WasGot}
 use Rattle.run_top.specs.Run.{IsPrefix, Replays}
+use Rattle.run_top.specs.Sessions.{IsBetween, StandsFor}
 
-replay_from-nil : (m : Option Machine) → replay_from m [] ≡ m
-replay_from-nil None = refl
-replay_from-nil (Some m) = refl
+-- a journal and one entry more
+pub replay_one_more : ReplayOfOneMore → (opened reached : Machine) (journal : List Entry) (entry : Entry) → replay fixed_flow opened (steps journal) ≡ Some reached
+    → replay fixed_flow opened (steps (journal ++ entry ∷ [])) ≡ step fixed_flow reached entry.step
+replay_one_more law opened reached journal entry is =
+    ap (replay fixed_flow opened) (map-append (λ (e : Entry). e.step) journal (entry ∷ []))
+    ∙ law fixed_flow opened (steps journal) entry.step
+    ∙ ap (option_and_then (λ (after : Machine). step fixed_flow after entry.step)) is
 
-replay_from-append : (m : Option Machine) (journal : List Entry) (entry : Entry) (reached : Machine) → replay_from m journal ≡ Some reached
-    → replay_from m (journal ++ entry ∷ []) ≡ step reached entry.step
-replay_from-append None journal entry reached is = absurd (cc)
-replay_from-append (Some m) [] entry reached is =
-    let same : m ≡ reached = cc in replay_from-nil (step m entry.step) ∙ ap (λ (n : Machine). step n entry.step) same
-replay_from-append (Some m) (e ∷ journal) entry reached is = replay_from-append (step m e.step) journal entry reached is
-
-pub replay-append : (opened reached : Machine) (journal : List Entry) (entry : Entry) → replay opened journal ≡ Some reached → replay opened (journal ++ entry ∷ []) ≡ step reached entry.step
-replay-append opened reached journal entry is = replay_from-append (Some opened) journal entry reached is
-
-one_at_most : (b : Bool) → (if b then 1 else 0) ≤ 1
-one_at_most true = omega arith
-one_at_most false = omega arith
+count_bound : (b : Bool) → (if b then 1 else 0) ≤ 1
+count_bound true = omega arith
+count_bound false = omega arith
 
 abbrev count_of : Bool → ℕ
 count_of b = if b then 1 else 0
 
 pub acknowledged-most : (journal : List Entry) (k : ℕ) → acknowledged journal k ≤ length journal
 acknowledged-most [] k = omega arith
-acknowledged-most (entry ∷ journal) k = omega (arith, one_at_most (is_acked_by k entry.acked), acknowledged-most journal k)
+acknowledged-most (entry ∷ journal) k = omega (arith, count_bound (is_acknowledged_by k entry.acked), acknowledged-most journal k)
 
-acknowledged-append : (journal : List Entry) (entry : Entry) (k : ℕ) → acknowledged (journal ++ entry ∷ []) k ≡ acknowledged journal k + (if is_acked_by k entry.acked then 1 else 0)
+acknowledged-append : (journal : List Entry) (entry : Entry) (k : ℕ) → acknowledged (journal ++ entry ∷ []) k ≡ acknowledged journal k + (if is_acknowledged_by k entry.acked then 1 else 0)
 acknowledged-append [] entry k = omega arith
 acknowledged-append (e ∷ journal) entry k = omega (arith, acknowledged-append journal entry k)
 
 -- one entry alone
 counts : (low high k : ℕ) (acked : Option ℕ) (rest : List Entry) → IsSome acked → MatchOption acked (AllByRecursion (λ later. later.acked ≡ None) rest) (λ moment. (low ≤ moment) × (moment ≤ high) × IsInOrder moment high rest)
-    → high ≤ k → (is_acked_by k acked ≡ true) × ((m : ℕ) × IsInOrder m high rest)
+    → high ≤ k → (is_acknowledged_by k acked ≡ true) × ((m : ℕ) × IsInOrder m high rest)
 counts low high k None rest some order le = absurd (cc)
 counts low high k (Some moment) rest some order le = (grind (arith, nat_tests, order.1), (moment, order.2))
 
@@ -74,6 +77,11 @@ in_order-append [] entry low high later begun le all order last = last low begun
 in_order-append (e ∷ journal) entry low high later begun le all order last =
     orders low high later e.acked journal (journal ++ entry ∷ []) all.0 le order (λ m up rest. in_order-append journal entry m high later up le all.1 rest last)
 
+-- the same entries, at a later end
+in_order-later : (journal : List Entry) (low high later : ℕ) → IsAcknowledged journal → IsInOrder low high journal → high ≤ later → IsInOrder low later journal
+in_order-later [] low high later all order le = tt
+in_order-later (e ∷ journal) low high later all order le = orders low high later e.acked journal journal all.0 le order (λ m up rest. in_order-later journal m high later all.1 rest le)
+
 pub all-append : (journal : List Entry) (entry : Entry) → IsAcknowledged journal → IsSome entry.acked → IsAcknowledged (journal ++ entry ∷ [])
 all-append [] entry all some = (some, tt)
 all-append (e ∷ journal) entry all some = (all.0, all-append journal entry all.1 some)
@@ -83,13 +91,13 @@ was_got-before name [] entry was = absurd was
 was_got-before name (e ∷ journal) entry (inl here) = inl here
 was_got-before name (e ∷ journal) entry (inr there) = inr (was_got-before name journal entry there)
 
-pub was_got-last : (name : List ℕ) (journal : List Entry) (entry : Entry) → entry.step ≡ Get name → IsSome entry.acked → WasGot name (journal ++ entry ∷ [])
-was_got-last name [] entry is some = inl (is, some)
-was_got-last name (e ∷ journal) entry is some = inr (was_got-last name journal entry is some)
+pub was_got-last : (name : List ℕ) (moment : ℕ) (journal : List Entry) (entry : Entry) → entry.step ≡ got moment name → IsSome entry.acked → WasGot name (journal ++ entry ∷ [])
+was_got-last name moment [] entry is some = inl ((moment, is), some)
+was_got-last name moment (e ∷ journal) entry is some = inr (was_got-last name moment journal entry is some)
 
 -- files that stand for the whole journal
-pub whole_prefix : (opened reached : Machine) (journal : List Entry) (k : ℕ) (c : Files) → replay opened journal ≡ Some reached → stands_for c ≡ Ok reached.queue → IsPrefix opened journal k c
-whole_prefix opened reached journal k c replays stands = record {
+pub whole_prefix : (lot : ℕ) (opened reached : Machine) (journal : List Entry) (k : ℕ) (c : Files) → replay fixed_flow opened (steps journal) ≡ Some reached → StandsFor lot reached c → IsPrefix lot opened journal k c
+whole_prefix lot opened reached journal k c replays stands = record {
   front = journal;
   back = [];
   parts = append-nil journal;
@@ -100,8 +108,8 @@ whole_prefix opened reached journal k c replays stands = record {
 }
 
 -- a prefix of a journal with one entry more, which wasn't acknowledged yet
-pub longer_prefix : (opened : Machine) (journal : List Entry) (entry : Entry) (k : ℕ) (c : Files) → is_acked_by k entry.acked ≡ false → IsPrefix opened journal k c → IsPrefix opened (journal ++ entry ∷ []) k c
-longer_prefix opened journal entry k c isnt prefix =
+pub longer_prefix : (lot : ℕ) (opened : Machine) (journal : List Entry) (entry : Entry) (k : ℕ) (c : Files) → is_acknowledged_by k entry.acked ≡ false → IsPrefix lot opened journal k c → IsPrefix lot opened (journal ++ entry ∷ []) k c
+longer_prefix lot opened journal entry k c isnt prefix =
     let none = ap count_of isnt in
     record {
       front = prefix.front;
@@ -114,49 +122,57 @@ longer_prefix opened journal entry k c isnt prefix =
     }
 
 -- an entry isn't acknowledged before its moment
-not_yet : (now k : ℕ) → k < now → is_acked_by k (Some now) ≡ false
+not_yet : (now k : ℕ) → k < now → is_acknowledged_by k (Some now) ≡ false
 not_yet now k early = grind (arith, nat_tests)
 
-module _ {D : Type 0} (moment : D → ℕ) (images : D → ℕ → Files → Type 0) (first old new : D) (opened reached next : Machine) (journal : List Entry) where
-  abbrev BeforeOrAfter : Files → Type 0
-  BeforeOrAfter c = (stands_for c ≡ Ok reached.queue) ⊎ (stands_for c ≡ Ok next.queue)
-
+module _ (law : ReplayOfOneMore) {D : Type 0} (moment : D → ℕ) (images : D → ℕ → Files → Type 0) (lot : ℕ) (first old new : D) (opened reached next : Machine) (journal : List Entry) where
   -- what a stop leaves while an entry is made, as long as it isn't acknowledged
-  meanwhile : (entry : Entry) → replay opened journal ≡ Some reached → step reached entry.step ≡ Some next → (k : ℕ) (c : Files) → is_acked_by k entry.acked ≡ false → BeforeOrAfter c
-      → IsPrefix opened (journal ++ entry ∷ []) k c
-  meanwhile entry replays steps k c isnt either = ⊎_elim
-      (λ (before : stands_for c ≡ Ok reached.queue). longer_prefix opened journal entry k c isnt (whole_prefix opened reached journal k c replays before))
-      (λ (after : stands_for c ≡ Ok next.queue). whole_prefix opened next (journal ++ entry ∷ []) k c (replay-append opened reached journal entry replays ∙ steps) after)
+  meanwhile : (entry : Entry) → replay fixed_flow opened (steps journal) ≡ Some reached → step fixed_flow reached entry.step ≡ Some next → (k : ℕ) (c : Files) → is_acknowledged_by k entry.acked ≡ false
+      → StandsFor lot reached c ⊎ StandsFor lot next c → IsPrefix lot opened (journal ++ entry ∷ []) k c
+  meanwhile entry replays goes k c isnt either = ⊎_elim
+      (λ (before : StandsFor lot reached c). longer_prefix lot opened journal entry k c isnt (whole_prefix lot opened reached journal k c replays before))
+      (λ (after : StandsFor lot next c). whole_prefix lot opened next (journal ++ entry ∷ []) k c (replay_one_more law opened reached journal entry replays ∙ goes) after)
       either
 
   -- a step that wasn't acknowledged
-  pub step_open : (s : Step) → Replays moment images opened journal reached first old → IsAcknowledged journal → step reached s ≡ Some next → Since moment images old new BeforeOrAfter
-      → Replays moment images opened (journal ++ record { step = s; acked = None } ∷ []) next first new
-  step_open s ran all steps since =
+  pub step_open : (s : Step) → Replays moment images lot opened journal reached first old → IsAcknowledged journal → step fixed_flow reached s ≡ Some next → IsBetween moment images lot reached next old new
+      → Replays moment images lot opened (journal ++ record { step = s; acked = None } ∷ []) next first new
+  step_open s ran all goes since =
       let entry : Entry = record { step = s; acked = None } in
       record {
-        replays = replay-append opened reached journal entry ran.replays ∙ steps;
+        replays = replay_one_more law opened reached journal entry ran.replays ∙ goes;
         in_order = in_order-append journal entry (moment first + 1) (moment old) (moment new) ran.prefixes.begun since.later all ran.in_order (λ m le. tt);
-        prefixes = one_part_after_another moment images (moment first + 1) (moment old) first old new (IsPrefix opened journal) (λ k. BeforeOrAfter) (IsPrefix opened (journal ++ entry ∷ [])) ran.prefixes since (omega arith)
-            (λ k c from early. longer_prefix opened journal entry k c refl)
-            (λ k c late up left. meanwhile entry ran.replays steps k c refl);
+        prefixes = one_part_after_another moment images (moment first + 1) (moment old) first old new (IsPrefix lot opened journal) (λ k c. StandsFor lot reached c ⊎ StandsFor lot next c) (IsPrefix lot opened (journal ++ entry ∷ [])) ran.prefixes since (omega arith)
+            (λ k c from early. longer_prefix lot opened journal entry k c refl)
+            (λ k c late up left. meanwhile entry ran.replays goes k c refl);
       }
 
   -- a step that was acknowledged at the end
-  pub step_acked : (s : Step) → Replays moment images opened journal reached first old → IsAcknowledged journal → step reached s ≡ Some next → Since moment images old new BeforeOrAfter
-      → ((c : Files) → images new (moment new) c → stands_for c ≡ Ok next.queue)
-      → Replays moment images opened (journal ++ record { step = s; acked = Some (moment new) } ∷ []) next first new
-  step_acked s ran all steps since now_stands =
+  pub step_acked : (s : Step) → Replays moment images lot opened journal reached first old → IsAcknowledged journal → step fixed_flow reached s ≡ Some next → IsBetween moment images lot reached next old new
+      → InEach (images new (moment new)) (StandsFor lot next)
+      → Replays moment images lot opened (journal ++ record { step = s; acked = Some (moment new) } ∷ []) next first new
+  step_acked s ran all goes since now_stands =
       let entry : Entry = record { step = s; acked = Some (moment new) } in
       record {
-        replays = replay-append opened reached journal entry ran.replays ∙ steps;
+        replays = replay_one_more law opened reached journal entry ran.replays ∙ goes;
         in_order = in_order-append journal entry (moment first + 1) (moment old) (moment new) ran.prefixes.begun since.later all ran.in_order (λ m le. (omega (arith, since.later), omega arith, tt));
-        prefixes = one_part_after_another moment images (moment first + 1) (moment old) first old new (IsPrefix opened journal) (λ k. BeforeOrAfter) (IsPrefix opened (journal ++ entry ∷ [])) ran.prefixes since (omega arith)
-            (λ k c from early. longer_prefix opened journal entry k c (not_yet (moment new) k (omega (arith, early, since.later))))
+        prefixes = one_part_after_another moment images (moment first + 1) (moment old) first old new (IsPrefix lot opened journal) (λ k c. StandsFor lot reached c ⊎ StandsFor lot next c) (IsPrefix lot opened (journal ++ entry ∷ [])) ran.prefixes since (omega arith)
+            (λ k c from early. longer_prefix lot opened journal entry k c (not_yet (moment new) k (omega (arith, early, since.later))))
             (λ k c late up left either. ⊎_elim
-            (λ (before : k < moment new). meanwhile entry ran.replays steps k c (not_yet (moment new) k before) either)
+            (λ (before : k < moment new). meanwhile entry ran.replays goes k c (not_yet (moment new) k before) either)
             (λ (last : moment new ≤ k).
             let same : k ≡ moment new = omega arith in
-            whole_prefix opened next (journal ++ entry ∷ []) k c (replay-append opened reached journal entry ran.replays ∙ steps) (now_stands c (subst (λ (m : ℕ). images new m c) same left)))
+            whole_prefix lot opened next (journal ++ entry ∷ []) k c (replay_one_more law opened reached journal entry ran.replays ∙ goes) (now_stands c (subst (λ (m : ℕ). images new m c) same left)))
             (cases_lt k (moment new)));
       }
+
+  -- calls that leave the state as it was
+  pub step_none : Replays moment images lot opened journal reached first old → IsAcknowledged journal → Since moment images old new (StandsFor lot reached)
+      → Replays moment images lot opened journal reached first new
+  step_none ran all since = record {
+    replays = ran.replays;
+    in_order = in_order-later journal (moment first + 1) (moment old) (moment new) all ran.in_order since.later;
+    prefixes = one_part_after_another moment images (moment first + 1) (moment old) first old new (IsPrefix lot opened journal) (λ k. StandsFor lot reached) (IsPrefix lot opened journal) ran.prefixes since (omega arith)
+        (λ k c from early left. left)
+        (λ k c late up left. whole_prefix lot opened reached journal k c ran.replays left);
+  }

@@ -1,5 +1,7 @@
-pub mod Ends
 pub mod Journals
+pub mod Left
 pub mod Names
 pub mod Orders
 pub mod Steps
+pub mod Ties
+pub mod Waiting

@@ -13,7 +13,8 @@ use Rattle.std.specs.declared.cmp.Ordering.TheVariants.{Less}
 use Rattle.run_top.specs.Run.{IsGoneByEntry}
 use Rattle.run_top.specs.Running.{IsTooLarge, IsOneOf, IsLeftBut, TakesOrLeaves}
 use Rattle.flowfile_record.specs.declared.TheConstants.{CONTENT_MAX}
-use Rattle.run_top.specs.Machine.{Entry, WasGot}
+use Rattle.machine_model.specs.declared.journal.Entry.{Entry}
+use Rattle.run_top.specs.Journal.{WasGot}
 
 bool_cases : (b : Bool) → (b ≡ true) ⊎ (b ≡ false)
 bool_cases true = inl refl

@@ -1,95 +1,64 @@
-//! What a run does: it takes each file of the inbox into the store, and puts each file of the store into
-//! the outbox.
-ghost use Rattle.std.specs.Prelude.{◌≡◌, ◌⊎◌, ℕ, ◌+◌, ◌<◌, ◌≤◌, false, List, [], ◌∷◌, Option, length, map};
-ghost use Rattle.std.specs.Prelude.{IsTrue, IsSome, OnOk, IsErrOf};
+//! What a run does: it puts what is queued into the outbox, then takes one file of the inbox after another, and puts each.
+ghost use Rattle.std.specs.Prelude.{◌≡◌, ◌⊎◌, ℕ, ◌≤◌, ◌∷◌, [], List, Option, map, Contains, Some, IsTrue, IsSome, IfOk, OnOk, IfErr, IsErrOf, All};
 ghost use Rattle.disk_trait.specs.Faults.{CountsFaults};
 ghost use Rattle.disk_trait.specs.declared.damage.Damage.{Damage as TheDamage};
 ghost use Rattle.flowfile_record.specs.NamedFile.{NamedFile, bytes_of};
+ghost use Rattle.kept_state.specs.declared.limit.Limit.{Limit as TheLimit};
+ghost use Rattle.machine_model.specs.State.{Machine};
+ghost use Rattle.store_core.specs.Store.{kept_by};
 ghost use Rattle.world_io.specs.Inbox.{IsAscending};
-ghost use Rattle.first_store.specs.Kept.{IsKeptOn};
-ghost use Rattle.first_store.specs.Others.{ChangesLogAlone};
-ghost use Rattle.run_top.specs.Machine.{Machine};
-ghost use Rattle.run_top.specs.Run.{HasRun};
-ghost use Rattle.run_top.specs.Running.{IsRunning, TakesOrLeaves, IsLeftBut};
-ghost use Rattle.run_top.specs.Status.{status_of};
+ghost use Rattle.fixed_flow.specs.Flow.{fixed_flow};
+ghost use Rattle.run_top.specs.Running.{IsRunning, IsLeftBut, Stops, TakesOrLeaves};
+ghost use Rattle.run_top.specs.Sessions.{IsAtWork};
 ghost use Rattle.run_top.specs.declared.status.RunError.{RunError as TheError};
 
 use crate::RunError;
-use disk_trait::{Disk, Failed};
-use first_store::Store;
-use std::alloc::Global;
-use world_io::{CONTENT_MAX, Inbox, Name, Outbox};
+use crate::coming::get;
+use crate::going::put;
+use crate::tied::holds_its_state;
+use disk_trait::Disk;
+use fixed_flow::{files_come_in, files_go_out};
+use machine_model::{Flow, replay_goes_on, states_stay_valid};
+use std::alloc::{AllocError, Global};
+use store_core::{Store, what_is_kept_is_a_state};
+use world_io::{CONTENT_MAX, Clock, Inbox, Name, Outbox};
 
-// Puts the first file that waits into the outbox, and then drops it.
-fn put_first<D: Disk, O: Outbox>(
-    store: &mut Store,
-    disk: &mut D,
-    outbox: &mut O,
-) -> Result<(), RunError>
-    requires works { store.old.failed ≡ false }
-    requires kept { IsKeptOn D.moment D.images store.old disk.old }
-    requires some { 0 < length store.old.files }
-
-    ensures goes_on { OnOk result ((opened : Machine) (first : D) (left : List NamedFile) (coming : List (List ℕ))
-        → IsTrue O.tells
-        → IsRunning D.moment D.images opened first disk.old store.old.files left (O.standing outbox.old) coming
-        → IsRunning D.moment D.images opened first disk.new store.new.files left (O.standing outbox.new) coming) }
-    ensures stopped { (error : TheError) → IsErrOf result error
-        → (opened : Machine) (first : D) (left : List NamedFile) (coming : List (List ℕ)) → IsTrue O.tells
-        → IsRunning D.moment D.images opened first disk.old store.old.files left (O.standing outbox.old) coming
-        → HasRun (status_of error) D.held D.moment D.images opened first disk.new left (O.standing outbox.new) }
-
-    ensures works { OnOk result (store.new.failed ≡ false) }
-    ensures kept { OnOk result (IsKeptOn D.moment D.images store.new disk.new) }
-    ensures shorter { OnOk result (length store.new.files + 1 ≡ length store.old.files) }
-    ensures alone { ChangesLogAlone D.moment D.images disk.old disk.new }
-    ensures disk_cause { CountsFaults (D.faults disk.old) (D.faults disk.new) (IsErrOf result RunError.Disk) }
-    ensures outbox_cause { CountsFaults (O.faults outbox.old) (O.faults outbox.new) (IsErrOf result RunError.Outbox) }
-    ensures kinds { (error : TheError) → IsErrOf result error
-        → (error ≡ RunError.Disk) ⊎ (error ≡ RunError.Outbox) }
-{
-    let file = &store.files()[0];
-    let Ok(()) = outbox.put(&file.name, file.bytes.as_slice()) else {
-        return Err(RunError::Outbox);
-    };
-    let Ok(_) = store.drop_first(disk) else {
-        return Err(RunError::Disk);
-    };
-    Ok(())
-}
-
-// Takes a file of the inbox into the store, unless it is larger than a content may be, and removes it.
-fn take<D: Disk, I: Inbox>(
+// Takes a file of the inbox into the store, unless it is larger than a content may be, and removes it. Nothing is queued before.
+fn take<D: Disk, I: Inbox, C: Clock>(
     alloc: Global,
+    flow: &Flow,
     store: &mut Store,
     disk: &mut D,
     inbox: &mut I,
+    clock: &mut C,
     name: &Name,
 ) -> Result<(), RunError>
-    requires works { store.old.failed ≡ false }
-    requires kept { IsKeptOn D.moment D.images store.old disk.old }
+    requires flow { flow.now ≡ fixed_flow }
+    requires work { IsAtWork D.tells D.held D.moment D.images store.old disk.old }
     requires left { IsTrue I.tells → IsSome (bytes_of (I.left inbox.old) name.now) }
-
-    ensures goes_on { OnOk result ((opened : Machine) (first : D) (standing : List ℕ → Option (List ℕ))
-        (coming : List (List ℕ)) → IsTrue I.tells
-        → IsRunning D.moment D.images opened first disk.old store.old.files
-        (I.left inbox.old) standing (name.now ∷ coming)
-        → IsRunning D.moment D.images opened first disk.new store.new.files (I.left inbox.new) standing coming) }
-    ensures stopped { (error : TheError) → IsErrOf result error
-        → (opened : Machine) (first : D) (standing : List ℕ → Option (List ℕ)) (coming : List (List ℕ)) → IsTrue I.tells
-        → IsRunning D.moment D.images opened first disk.old store.old.files
-        (I.left inbox.old) standing (name.now ∷ coming)
-        → HasRun (status_of error) D.held D.moment D.images opened first disk.new (I.left inbox.new) standing }
+    ensures goes_on { OnOk result (IsTrue D.tells → IsTrue I.tells → (opened : Machine) (first : D)
+        (standing : List ℕ → Option (List ℕ)) (coming : List (List ℕ))
+        → IsRunning D.moment D.images store.old.lot opened first disk.old (I.left inbox.old) standing (name.now ∷ coming) []
+        → IsRunning D.moment D.images store.old.lot opened first disk.new (I.left inbox.new) standing coming
+        ((kept_by store.old).next_number ∷ [])) }
+    ensures stopped { (error : TheError) → IsErrOf result error → IsTrue D.tells → IsTrue I.tells → (opened : Machine) (first : D)
+        (standing : List ℕ → Option (List ℕ)) (coming : List (List ℕ))
+        → IsRunning D.moment D.images store.old.lot opened first disk.old (I.left inbox.old) standing (name.now ∷ coming) []
+        → Stops error D.tells D.held D.moment D.images store.old.lot opened first disk.new (I.left inbox.new) standing }
     ensures left { OnOk result (IsTrue I.tells → TakesOrLeaves name.now (I.left inbox.old) (I.left inbox.new)) }
-
-    ensures works { OnOk result (store.new.failed ≡ false) }
-    ensures kept { OnOk result (IsKeptOn D.moment D.images store.new disk.new) }
-    ensures alone { ChangesLogAlone D.moment D.images disk.old disk.new }
+    ensures lot { store.new.lot ≡ store.old.lot }
+    ensures work { OnOk result (IsAtWork D.tells D.held D.moment D.images store.new disk.new) }
+    ensures limited { (limit : TheLimit) → IsErrOf result (RunError.Limit limit)
+        → IsAtWork D.tells D.held D.moment D.images store.new disk.new }
+    ensures undamaged { (damage : TheDamage) → IsErrOf result (RunError.Damaged damage) → IsTrue D.tells → ⊥ }
+    ensures kinds { IfErr result (λ error. (error ≡ RunError.Outbox → ⊥) × (error ≡ RunError.OtherFlow → ⊥)) }
     ensures disk_cause { CountsFaults (D.faults disk.old) (D.faults disk.new) (IsErrOf result RunError.Disk) }
     ensures inbox_cause { CountsFaults (I.faults inbox.old) (I.faults inbox.new) (IsErrOf result RunError.Inbox) }
-    ensures kinds { (error : TheError) → IsErrOf result error
-        → (error ≡ RunError.Disk) ⊎ (error ≡ RunError.Inbox) ⊎ (error ≡ RunError.Memory) }
 {
+    holds_its_state(store, disk);
+    replay_goes_on();
+    states_stay_valid();
+    files_come_in();
     let Ok(size) = inbox.size(name) else {
         return Err(RunError::Inbox);
     };
@@ -100,88 +69,197 @@ fn take<D: Disk, I: Inbox>(
     if let Err(error) = inbox.read(name, &mut bytes) {
         return Err(RunError::from(error));
     }
-    if let Err(error) = store.add(disk, name, bytes.as_slice()) {
-        return Err(RunError::from(error));
-    }
+    get(alloc, flow, store, disk, clock.now(), name, bytes)?;
     let Ok(()) = inbox.remove(name) else {
         return Err(RunError::Inbox);
     };
     Ok(())
 }
 
-// Puts the files that wait into the outbox, the first one first.
-fn put_all<D: Disk, O: Outbox>(
+// Puts the queued file of a number, once its penalty has ended. Where no file has the number there is nothing to do.
+fn put_numbered<D: Disk, O: Outbox, C: Clock>(
+    alloc: Global,
+    flow: &Flow,
     store: &mut Store,
     disk: &mut D,
     outbox: &mut O,
+    clock: &mut C,
+    number: u64,
 ) -> Result<(), RunError>
-    requires works { store.old.failed ≡ false }
-    requires kept { IsKeptOn D.moment D.images store.old disk.old }
-
-    ensures goes_on { OnOk result ((opened : Machine) (first : D) (left : List NamedFile) (coming : List (List ℕ))
-        → IsTrue O.tells
-        → IsRunning D.moment D.images opened first disk.old store.old.files left (O.standing outbox.old) coming
-        → IsRunning D.moment D.images opened first disk.new store.new.files left (O.standing outbox.new) coming) }
-    ensures stopped { (error : TheError) → IsErrOf result error
-        → (opened : Machine) (first : D) (left : List NamedFile) (coming : List (List ℕ)) → IsTrue O.tells
-        → IsRunning D.moment D.images opened first disk.old store.old.files left (O.standing outbox.old) coming
-        → HasRun (status_of error) D.held D.moment D.images opened first disk.new left (O.standing outbox.new) }
-
-    ensures empty { OnOk result (store.new.files ≡ []) }
-    ensures works { OnOk result (store.new.failed ≡ false) }
-    ensures kept { OnOk result (IsKeptOn D.moment D.images store.new disk.new) }
-    ensures alone { ChangesLogAlone D.moment D.images disk.old disk.new }
+    requires flow { flow.now ≡ fixed_flow }
+    requires work { IsAtWork D.tells D.held D.moment D.images store.old disk.old }
+    ensures goes_on { OnOk result (IsTrue D.tells → IsTrue O.tells → (opened : Machine) (first : D) (left : List NamedFile)
+        (coming : List (List ℕ)) (numbers : List ℕ)
+        → IsRunning D.moment D.images store.old.lot opened first disk.old left (O.standing outbox.old) coming (number ∷ numbers)
+        → IsRunning D.moment D.images store.old.lot opened first disk.new left (O.standing outbox.new) coming numbers) }
+    ensures stopped { (error : TheError) → IsErrOf result error → IsTrue D.tells → IsTrue O.tells → (opened : Machine) (first : D)
+        (left : List NamedFile) (coming : List (List ℕ)) (numbers : List ℕ)
+        → IsRunning D.moment D.images store.old.lot opened first disk.old left (O.standing outbox.old) coming (number ∷ numbers)
+        → Stops error D.tells D.held D.moment D.images store.old.lot opened first disk.new left (O.standing outbox.new) }
+    ensures lot { store.new.lot ≡ store.old.lot }
+    ensures work { OnOk result (IsAtWork D.tells D.held D.moment D.images store.new disk.new) }
+    ensures limited { (limit : TheLimit) → IsErrOf result (RunError.Limit limit)
+        → IsAtWork D.tells D.held D.moment D.images store.new disk.new }
+    ensures undamaged { (damage : TheDamage) → IsErrOf result (RunError.Damaged damage) → IsTrue D.tells → ⊥ }
+    ensures kinds { IfErr result (λ error. (error ≡ RunError.Inbox → ⊥) × (error ≡ RunError.OtherFlow → ⊥)) }
     ensures disk_cause { CountsFaults (D.faults disk.old) (D.faults disk.new) (IsErrOf result RunError.Disk) }
     ensures outbox_cause { CountsFaults (O.faults outbox.old) (O.faults outbox.new) (IsErrOf result RunError.Outbox) }
-    ensures kinds { (error : TheError) → IsErrOf result error
-        → (error ≡ RunError.Disk) ⊎ (error ≡ RunError.Outbox) }
 {
-    while !store.files().is_empty() {
-        put_first(store, disk, outbox)?;
+    holds_its_state(store, disk);
+    what_is_kept_is_a_state();
+    replay_goes_on();
+    states_stay_valid();
+    files_go_out();
+    let Some(active) = store.state().files.get(number) else {
+        return Ok(());
+    };
+    let file = active.file.copy()?;
+    let moment = moment_from(clock, file.penalty_end);
+    put(alloc, flow, store, disk, outbox, moment, file)
+}
+
+// A moment that isn't before this one.
+fn moment_from<C: Clock>(clock: &mut C, start: u64) -> u64
+    ensures { start ≤ result }
+{
+    let now = clock.now();
+    if now >= start {
+        return now;
+    }
+    clock.wait(start);
+    clock.now()
+}
+
+// Puts the queued files of these numbers, one after another.
+fn put_all<D: Disk, O: Outbox, C: Clock>(
+    alloc: Global,
+    flow: &Flow,
+    store: &mut Store,
+    disk: &mut D,
+    outbox: &mut O,
+    clock: &mut C,
+    numbers: &[u64],
+) -> Result<(), RunError>
+    requires flow { flow.now ≡ fixed_flow }
+    requires work { IsAtWork D.tells D.held D.moment D.images store.old disk.old }
+    ensures goes_on { OnOk result (IsTrue D.tells → IsTrue O.tells → (opened : Machine) (first : D) (left : List NamedFile)
+        (coming : List (List ℕ))
+        → IsRunning D.moment D.images store.old.lot opened first disk.old left (O.standing outbox.old) coming numbers.now
+        → IsRunning D.moment D.images store.old.lot opened first disk.new left (O.standing outbox.new) coming []) }
+    ensures stopped { (error : TheError) → IsErrOf result error → IsTrue D.tells → IsTrue O.tells → (opened : Machine) (first : D)
+        (left : List NamedFile) (coming : List (List ℕ))
+        → IsRunning D.moment D.images store.old.lot opened first disk.old left (O.standing outbox.old) coming numbers.now
+        → Stops error D.tells D.held D.moment D.images store.old.lot opened first disk.new left (O.standing outbox.new) }
+    ensures lot { store.new.lot ≡ store.old.lot }
+    ensures work { OnOk result (IsAtWork D.tells D.held D.moment D.images store.new disk.new) }
+    ensures limited { (limit : TheLimit) → IsErrOf result (RunError.Limit limit)
+        → IsAtWork D.tells D.held D.moment D.images store.new disk.new }
+    ensures undamaged { (damage : TheDamage) → IsErrOf result (RunError.Damaged damage) → IsTrue D.tells → ⊥ }
+    ensures kinds { IfErr result (λ error. (error ≡ RunError.Inbox → ⊥) × (error ≡ RunError.OtherFlow → ⊥)) }
+    ensures disk_cause { CountsFaults (D.faults disk.old) (D.faults disk.new) (IsErrOf result RunError.Disk) }
+    ensures outbox_cause { CountsFaults (O.faults outbox.old) (O.faults outbox.new) (IsErrOf result RunError.Outbox) }
+{
+    for number in numbers {
+        put_numbered(alloc, flow, store, disk, outbox, clock, *number)?;
     }
     Ok(())
 }
 
-/// Puts what waits into the outbox, and then takes one file after another of those that are left, and
-/// puts each at once.
-pub fn move_all<D: Disk, I: Inbox, O: Outbox>(
+/// The numbers of the files that are queued.
+pub fn queued_numbers(alloc: Global, store: &Store) -> Result<Vec<u64>, AllocError>
+    ensures { IfOk result (λ numbers. numbers.items ≡ map (λ active. active.file.number) (kept_by store.now).files) }
+{
+    let mut numbers = Vec::new(alloc);
+    for active in store.state().files.iter() {
+        numbers.push(active.file.number)?;
+    }
+    Ok(numbers)
+}
+
+// Takes one file of the inbox, and puts it.
+fn pass_on<D: Disk, I: Inbox, O: Outbox, C: Clock>(
     alloc: Global,
+    flow: &Flow,
     store: &mut Store,
     disk: &mut D,
     inbox: &mut I,
     outbox: &mut O,
-    names: &[Name],
+    clock: &mut C,
+    name: &Name,
 ) -> Result<(), RunError>
-    requires works { store.old.failed ≡ false }
-    requires kept { IsKeptOn D.moment D.images store.old disk.old }
-    requires names { IsTrue I.tells → names.now ≡ map (λ file. file.name) (I.left inbox.old) }
-    requires ascending { IsAscending names.now }
-
-    ensures moved { OnOk result ((opened : Machine) (first : D) → IsTrue I.tells → IsTrue O.tells
-        → IsRunning D.moment D.images opened first disk.old store.old.files
-        (I.left inbox.old) (O.standing outbox.old) names.now
-        → IsRunning D.moment D.images opened first disk.new [] (I.left inbox.new) (O.standing outbox.new) []) }
-    ensures stopped { (error : TheError) → IsErrOf result error
-        → (opened : Machine) (first : D) → IsTrue I.tells → IsTrue O.tells
-        → IsRunning D.moment D.images opened first disk.old store.old.files
-        (I.left inbox.old) (O.standing outbox.old) names.now
-        → HasRun (status_of error) D.held D.moment D.images opened first disk.new
+    requires flow { flow.now ≡ fixed_flow }
+    requires work { IsAtWork D.tells D.held D.moment D.images store.old disk.old }
+    requires left { IsTrue I.tells → IsSome (bytes_of (I.left inbox.old) name.now) }
+    ensures goes_on { OnOk result (IsTrue D.tells → IsTrue I.tells → IsTrue O.tells → (opened : Machine) (first : D)
+        (coming : List (List ℕ))
+        → IsRunning D.moment D.images store.old.lot opened first disk.old
+        (I.left inbox.old) (O.standing outbox.old) (name.now ∷ coming) []
+        → IsRunning D.moment D.images store.old.lot opened first disk.new
+        (I.left inbox.new) (O.standing outbox.new) coming []) }
+    ensures stopped { (error : TheError) → IsErrOf result error → IsTrue D.tells → IsTrue I.tells → IsTrue O.tells
+        → (opened : Machine) (first : D) (coming : List (List ℕ))
+        → IsRunning D.moment D.images store.old.lot opened first disk.old
+        (I.left inbox.old) (O.standing outbox.old) (name.now ∷ coming) []
+        → Stops error D.tells D.held D.moment D.images store.old.lot opened first disk.new
         (I.left inbox.new) (O.standing outbox.new) }
-
-    ensures empty { OnOk result (store.new.files ≡ []) }
-    ensures none_to_take { OnOk result (IsTrue I.tells → IsLeftBut [] (I.left inbox.new)) }
-    ensures works { OnOk result (store.new.failed ≡ false) }
-    ensures kept { OnOk result (IsKeptOn D.moment D.images store.new disk.new) }
-    ensures alone { ChangesLogAlone D.moment D.images disk.old disk.new }
+    ensures left { OnOk result (IsTrue I.tells → TakesOrLeaves name.now (I.left inbox.old) (I.left inbox.new)) }
+    ensures lot { store.new.lot ≡ store.old.lot }
+    ensures work { OnOk result (IsAtWork D.tells D.held D.moment D.images store.new disk.new) }
+    ensures limited { (limit : TheLimit) → IsErrOf result (RunError.Limit limit)
+        → IsAtWork D.tells D.held D.moment D.images store.new disk.new }
+    ensures undamaged { (damage : TheDamage) → IsErrOf result (RunError.Damaged damage) → IsTrue D.tells → ⊥ }
+    ensures kinds { IfErr result (λ error. (error ≡ RunError.OtherFlow → ⊥)) }
     ensures disk_cause { CountsFaults (D.faults disk.old) (D.faults disk.new) (IsErrOf result RunError.Disk) }
     ensures inbox_cause { CountsFaults (I.faults inbox.old) (I.faults inbox.new) (IsErrOf result RunError.Inbox) }
     ensures outbox_cause { CountsFaults (O.faults outbox.old) (O.faults outbox.new) (IsErrOf result RunError.Outbox) }
-    ensures kinds { (damage : TheDamage) → IsErrOf result (RunError.Damaged damage) → ⊥ }
 {
-    put_all(store, disk, outbox)?;
+    let number = store.state().next_number;
+    take(alloc, flow, store, disk, inbox, clock, name)?;
+    put_numbered(alloc, flow, store, disk, outbox, clock, number)
+}
+
+/// Puts the queued files of these numbers, which are all, into the outbox; then takes one file after another of those that
+/// are left, and puts each at once.
+pub fn move_all<D: Disk, I: Inbox, O: Outbox, C: Clock>(
+    alloc: Global,
+    flow: &Flow,
+    store: &mut Store,
+    disk: &mut D,
+    inbox: &mut I,
+    outbox: &mut O,
+    clock: &mut C,
+    numbers: &[u64],
+    names: &[Name],
+) -> Result<(), RunError>
+    requires flow { flow.now ≡ fixed_flow }
+    requires work { IsAtWork D.tells D.held D.moment D.images store.old disk.old }
+    requires names { IsTrue I.tells → names.now ≡ map (λ file. file.name) (I.left inbox.old) }
+    requires ascending { IsAscending names.now }
+    ensures moved { OnOk result (IsTrue D.tells → IsTrue I.tells → IsTrue O.tells → (opened : Machine) (first : D)
+        → IsRunning D.moment D.images store.old.lot opened first disk.old
+        (I.left inbox.old) (O.standing outbox.old) names.now numbers.now
+        → IsRunning D.moment D.images store.old.lot opened first disk.new
+        (I.left inbox.new) (O.standing outbox.new) [] []) }
+    ensures stopped { (error : TheError) → IsErrOf result error → IsTrue D.tells → IsTrue I.tells → IsTrue O.tells
+        → (opened : Machine) (first : D)
+        → IsRunning D.moment D.images store.old.lot opened first disk.old
+        (I.left inbox.old) (O.standing outbox.old) names.now numbers.now
+        → Stops error D.tells D.held D.moment D.images store.old.lot opened first disk.new
+        (I.left inbox.new) (O.standing outbox.new) }
+    ensures none_to_take { OnOk result (IsTrue I.tells → IsLeftBut [] (I.left inbox.new)) }
+    ensures lot { store.new.lot ≡ store.old.lot }
+    ensures work { OnOk result (IsAtWork D.tells D.held D.moment D.images store.new disk.new) }
+    ensures limited { (limit : TheLimit) → IsErrOf result (RunError.Limit limit)
+        → IsAtWork D.tells D.held D.moment D.images store.new disk.new }
+    ensures undamaged { (damage : TheDamage) → IsErrOf result (RunError.Damaged damage) → IsTrue D.tells → ⊥ }
+    ensures kinds { IfErr result (λ error. (error ≡ RunError.OtherFlow → ⊥)) }
+    ensures disk_cause { CountsFaults (D.faults disk.old) (D.faults disk.new) (IsErrOf result RunError.Disk) }
+    ensures inbox_cause { CountsFaults (I.faults inbox.old) (I.faults inbox.new) (IsErrOf result RunError.Inbox) }
+    ensures outbox_cause { CountsFaults (O.faults outbox.old) (O.faults outbox.new) (IsErrOf result RunError.Outbox) }
+{
+    put_all(alloc, flow, store, disk, outbox, clock, numbers)?;
     for name in names {
-        take(alloc, store, disk, inbox, name)?;
-        put_all(store, disk, outbox)?;
+        pass_on(alloc, flow, store, disk, inbox, outbox, clock, name)?;
     }
     Ok(())
 }

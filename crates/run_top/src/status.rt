@@ -4,8 +4,8 @@ ghost use Rattle.run_top.specs.Status.{status_of, error_of, inbox_error_of};
 ghost use Rattle.run_top.specs.declared.status.RunError.TheVariants.{Memory};
 
 use disk_trait::Damage;
-use first_store::StoreError;
 use std::alloc::AllocError;
+use store_core::{Limit, StoreError};
 use thiserror::Error;
 use world_io::WorldError;
 
@@ -14,6 +14,9 @@ pub const DONE: u8 = 0;
 
 /// The status of words that say no command.
 pub const USAGE: u8 = 2;
+
+/// The status of a store that was made for another flow.
+pub const OTHER_FLOW: u8 = 3;
 
 /// The status of a store whose files stand for no state.
 pub const DAMAGED: u8 = 4;
@@ -27,6 +30,9 @@ pub const INBOX_FAULT: u8 = 6;
 /// The status of an outbox that failed.
 pub const OUTBOX_FAULT: u8 = 7;
 
+/// The status of a run that a limit ended.
+pub const LIMIT: u8 = 11;
+
 /// The status of a want of memory.
 pub const OUT_OF_MEMORY: u8 = 12;
 
@@ -35,12 +41,16 @@ pub const OUT_OF_MEMORY: u8 = 12;
 pub enum RunError {
     #[error("{0}")]
     Damaged(Damage),
+    #[error("the store is of another flow")]
+    OtherFlow,
     #[error("the disk failed")]
     Disk,
     #[error("the inbox failed")]
     Inbox,
     #[error("the outbox failed")]
     Outbox,
+    #[error("{} are wanted, and the limit is {}", .0.wanted, .0.number)]
+    Limit(Limit),
     #[error("out of memory")]
     Memory,
 }
@@ -51,9 +61,11 @@ impl RunError {
     {
         match self {
             RunError::Damaged(_) => DAMAGED,
+            RunError::OtherFlow => OTHER_FLOW,
             RunError::Disk => DISK_FAULT,
             RunError::Inbox => INBOX_FAULT,
             RunError::Outbox => OUTBOX_FAULT,
+            RunError::Limit(_) => LIMIT,
             RunError::Memory => OUT_OF_MEMORY,
         }
     }
@@ -75,7 +87,9 @@ impl From<StoreError> for RunError {
             // A store that has to be opened anew met a failure of the disk before.
             StoreError::Disk | StoreError::MustReopen => RunError::Disk,
             StoreError::Memory => RunError::Memory,
+            StoreError::Limit(limit) => RunError::Limit(limit),
             StoreError::Damaged(damage) => RunError::Damaged(damage),
+            StoreError::OtherFlow { .. } => RunError::OtherFlow,
         }
     }
 }
