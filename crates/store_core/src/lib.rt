@@ -18,6 +18,9 @@ mod store;
 pub use error::StoreError;
 pub use flow::FlowIdentity;
 pub use kept_state::{Limit, NUMBER_MAX, Which};
-pub use law::{files_of_no_store_stand_for_a_new_one, files_that_agree_stand_for_the_same};
+pub use law::{
+    files_of_no_store_stand_for_a_new_one, files_that_agree_stand_for_the_same,
+    what_is_kept_is_a_state,
+};
 pub use prepared::Prepared;
 pub use store::Store;
