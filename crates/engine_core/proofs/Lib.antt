@@ -1,5 +1,4 @@
 pub mod AllFiles
-pub mod Behind
 pub mod Cases
 pub mod Commits
 pub mod Counts

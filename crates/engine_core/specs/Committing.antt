@@ -62,23 +62,3 @@ LeavesState flow given ended k settled =
     → (contents : ContentRef → List ℕ) → AreRead contents ended.taken ended.sources
     → state_after contents (state_with contents [] k) settled
     ≡ session_state flow given ended processor contents (state_with contents [] k)
-
--- The session would pass this limit, and none before it: this is what it settles to.
-pub record IsAtLimit (tells : Bool) (files : Files) (flow : Flow) (given : Given) (ended : Ended) (s : StoreState) (limit : Limit)
-    : Type 0 where
-  pub settled : Settled
-  pub passes : IsLimitOf s settled limit
-  pub is : IsTrue tells → (processor : Processor) → slice_get flow.processors ended.processor ≡ Some processor
-      → (state : State) → stands_for (flow_in (kept_by s)) s.lot files ≡ Ok state
-      → state_after (content_in files) state settled
-      ≡ session_state flow given ended processor (content_in files) state
-
--- the store is of the same flow and the same lot
-pub record KeepsFlow (old new : StoreState) : Type 0 where
-  pub flow : flow_in (kept_by new) ≡ flow_in (kept_by old)
-  pub lot : new.lot ≡ old.lot
-
--- a session is refused for a fault of the disk, for a limit or for want of memory
-abbrev pub IsRefusal : StoreError → Type 0
-IsRefusal refusal =
-    (refusal ≡ error.Disk) ⊎ (refusal ≡ error.Memory) ⊎ ((limit : Limit) × (refusal ≡ error.Limit limit))

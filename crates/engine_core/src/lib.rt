@@ -1,9 +1,8 @@
-//! What ties the work of processors to the store: a session that has ended becomes part of the store as one step of the
-//! machine.
+//! What ties the work of processors to the store: what a session that has ended changes of it is what the machine settles.
 #![tactic(auto)]
 
 mod identity;
 mod session;
 
 pub use identity::connection_ids;
-pub use session::commit_session;
+pub use session::settle_session;

@@ -8,7 +8,7 @@ use Rattle.store_core.specs.Store.{kept_by}
 use Rattle.engine_core.specs.Committing.{session_state}
 use Rattle.engine_core.proofs.Cases.{Case, settled_over}
 use Rattle.engine_core.proofs.Commits.{live_contents, may_change, state_behind}
-use Rattle.engine_core.proofs.session.settle_kept.Goals as goal
+use Rattle.engine_core.proofs.session.settle_session.Goals as goal
 
 pub returns-clause-may : goal.returns-clause-may
 returns-clause-may c =
