@@ -4,6 +4,7 @@ use std::marker::Model;
 
 /// What a store keeps of its flow: the digest of the flow's text, the ids of its connections, and how many processors
 /// it has.
+#[derive(Drop)]
 pub struct FlowIdentity<'a> {
     pub digest: [u8; DIGEST_SIZE],
     pub connections: &'a TextList,
