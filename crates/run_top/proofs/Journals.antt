@@ -1,7 +1,8 @@
 -- How a journal grows by one step, and what the disk's images stand for meanwhile.
-use Rattle.std.proofs.Common.{◌≡◌, ◌⊎◌, inl, inr, ⊎_elim, ℕ, ◌+◌, ◌<◌, ◌≤◌, Bool, true, false, List, [], ◌∷◌, ◌++◌, length, map, refl, sym, ◌∙◌, ap, subst, arith, append_assoc, length-append}
+use Rattle.std.proofs.Common.{◌≡◌, ◌⊎◌, inl, inr, ⊎_elim, ℕ, ◌+◌, ◌<◌, ◌≤◌, Bool, true, false, cond, List, [], ◌∷◌, ◌++◌, length, map, refl, sym, ◌∙◌, ap, subst, arith, append_assoc, length-append}
 use Rattle.std.proofs.lemmas.List.{append-nil, map-append}
 use Rattle.std.proofs.lemmas.Bool.{cases_lt}
+use Rattle.std.proofs.lemmas.List.Sums.{sum_by-cons}
 use Rattle.std.proofs.lemmas.Bool.Decides.{nat_tests}
 use Rattle.std.specs.Prelude.{Option, None, Some, Ok, IsSome, MatchOption, count_by, if◌then◌else◌, option_and_then}
 use Rattle.std.specs.List.{AllByRecursion}
@@ -29,20 +30,25 @@ replay_one_more law opened reached journal entry is =
     ∙ law fixed_flow opened (steps journal) entry.step
     ∙ ap (option_and_then (λ (after : Machine). step fixed_flow after entry.step)) is
 
-count_bound : (b : Bool) → (if b then 1 else 0) ≤ 1
+abbrev count_of : Bool → ℕ
+count_of b = cond b 1 0
+
+count_bound : (b : Bool) → count_of b ≤ 1
 count_bound true = omega arith
 count_bound false = omega arith
 
-abbrev count_of : Bool → ℕ
-count_of b = if b then 1 else 0
+-- an entry more at the front
+acknowledged-cons : (entry : Entry) (journal : List Entry) (k : ℕ) → acknowledged (entry ∷ journal) k ≡ count_of (is_acknowledged_by k entry.acked) + acknowledged journal k
+acknowledged-cons entry journal k = sum_by-cons (λ (e : Entry). count_of (is_acknowledged_by k e.acked)) entry journal
 
 pub acknowledged-most : (journal : List Entry) (k : ℕ) → acknowledged journal k ≤ length journal
 acknowledged-most [] k = omega arith
-acknowledged-most (entry ∷ journal) k = omega (arith, count_bound (is_acknowledged_by k entry.acked), acknowledged-most journal k)
+acknowledged-most (entry ∷ journal) k = omega (arith, acknowledged-cons entry journal k, count_bound (is_acknowledged_by k entry.acked), acknowledged-most journal k)
 
-acknowledged-append : (journal : List Entry) (entry : Entry) (k : ℕ) → acknowledged (journal ++ entry ∷ []) k ≡ acknowledged journal k + (if is_acknowledged_by k entry.acked then 1 else 0)
-acknowledged-append [] entry k = omega arith
-acknowledged-append (e ∷ journal) entry k = omega (arith, acknowledged-append journal entry k)
+acknowledged-append : (journal : List Entry) (entry : Entry) (k : ℕ) → acknowledged (journal ++ entry ∷ []) k ≡ acknowledged journal k + count_of (is_acknowledged_by k entry.acked)
+acknowledged-append [] entry k = omega (arith, acknowledged-cons entry [] k)
+acknowledged-append (e ∷ journal) entry k =
+    omega (arith, acknowledged-append journal entry k, acknowledged-cons e journal k, acknowledged-cons e (journal ++ entry ∷ []) k)
 
 -- one entry alone
 counts : (low high k : ℕ) (acked : Option ℕ) (rest : List Entry) → IsSome acked → MatchOption acked (AllByRecursion (λ later. later.acked ≡ None) rest) (λ moment. (low ≤ moment) × (moment ≤ high) × IsInOrder moment high rest)
@@ -55,7 +61,7 @@ acknowledged-all [] low high k all order le = refl
 acknowledged-all (entry ∷ journal) low high k all order le =
     let here = counts low high k entry.acked journal all.0 order le in
     let one = ap count_of here.0 in
-    omega (arith, one, acknowledged-all journal here.1.0 high k all.1 here.1.1 le)
+    omega (arith, one, acknowledged-cons entry journal k, acknowledged-all journal here.1.0 high k all.1 here.1.1 le)
 
 -- a journal whose last entry alone isn't acknowledged
 pub acknowledged-open : (journal : List Entry) (s : Step) (low high k : ℕ) → IsAcknowledged journal → IsInOrder low high journal → high ≤ k
@@ -173,6 +179,6 @@ module _ (law : ReplayOfOneMore) {D : Type 0} (moment : D → ℕ) (images : D �
     replays = ran.replays;
     in_order = in_order-later journal (moment first + 1) (moment old) (moment new) all ran.in_order since.later;
     prefixes = one_part_after_another moment images (moment first + 1) (moment old) first old new (IsPrefix lot opened journal) (λ k. StandsFor lot reached) (IsPrefix lot opened journal) ran.prefixes since (omega arith)
-        (λ k c from early left. left)
-        (λ k c late up left. whole_prefix lot opened reached journal k c ran.replays left);
+        (λ k c from early prefix. prefix)
+        (λ k c late up left stands. whole_prefix lot opened reached journal k c ran.replays stands);
   }

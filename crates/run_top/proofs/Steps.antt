@@ -41,7 +41,7 @@ status_isnt_done (RunError.Limit limit) is = omega arith
 status_isnt_done RunError.Memory is = omega arith
 
 -- an error that isn't a limit
-pub IsNoLimit : RunError → Type 0
+abbrev pub IsNoLimit : RunError → Type 0
 IsNoLimit error = (limit : Limit) → error ≡ RunError.Limit limit → ⊥
 
 status_isnt_limit : (error : RunError) → IsNoLimit error → status_of error ≢ LIMIT

@@ -1,6 +1,6 @@
 -- Which files wait, by their numbers.
-use Rattle.std.proofs.Common.{◌≡◌, ◌≢◌, ◌⊎◌, inl, inr, ℕ, ◌==◌, Bool, true, false, not, cond, List, [], ◌∷◌, ◌++◌, false≢true, refl, sym, ◌∙◌, ap, subst}
-use Rattle.std.proofs.lemmas.Bool.{eqb-true, eq-eqb}
+use Rattle.std.proofs.Common.{◌≡◌, ◌≢◌, ◌⊎◌, inl, inr, ℕ, ◌==◌, Bool, true, false, not, cond, List, [], ◌∷◌, ◌++◌, refl, sym, ◌∙◌, ap, subst}
+use Rattle.std.proofs.lemmas.Bool.{eqb-true, eq-eqb, false≢true}
 use Rattle.std.specs.Prelude.{filter, ◌||◌, Contains}
 use Rattle.std.specs.List.{AllByRecursion, list_any}
 use Rattle.machine_model.specs.State.{Machine, QueuedFile}
@@ -15,12 +15,12 @@ abbrev Have : List ℕ → List QueuedFile → Type 0
 Have numbers files = AllByRecursion (λ file. has numbers file ≡ true) files
 
 -- nothing waits where no number may
-none : (files : List QueuedFile) → Have [] files → files ≡ []
-none [] all = refl
-none (file ∷ files) all = absurd (false≢true all.0)
+none_have : (files : List QueuedFile) → Have [] files → files ≡ []
+none_have [] all = refl
+none_have (file ∷ files) all = absurd (false≢true all.0)
 
 pub none_waits : (m : Machine) → IsQueuedAmong [] m → waiting m ≡ []
-none_waits m all = none (waiting m) all
+none_waits m all = none_have (waiting m) all
 
 -- behind a file that came where nothing waited, it waits alone
 pub queued_behind : (name : List ℕ) (before after : Machine) → HasCome name before after → IsQueuedAmong [] before → IsQueuedAmong (before.state.next_number ∷ []) after

@@ -217,7 +217,8 @@ fn taken_of(
 fn one<T: Drop>(alloc: Global, item: T) -> Result<Sequence<T>, AllocError>
     ensures { IfOk result (λ list. list ≡ item ∷ []) }
 {
-    let items = vec![in alloc; item]?;
+    let mut items = Vec::new(alloc);
+    items.push(item)?;
     Ok(Sequence::from(items))
 }
 

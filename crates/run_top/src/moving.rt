@@ -169,11 +169,8 @@ fn put_all<D: Disk, O: Outbox, C: Clock>(
 pub fn queued_numbers(alloc: Global, store: &Store) -> Result<Vec<u64>, AllocError>
     ensures { IfOk result (λ numbers. numbers.items ≡ map (λ active. active.file.number) (kept_by store.now).files) }
 {
-    let mut numbers = Vec::new(alloc);
-    for active in store.state().files.iter() {
-        numbers.push(active.file.number)?;
-    }
-    Ok(numbers)
+    let files = &store.state().files;
+    files.iter().map(|active| active.file.number).collect(alloc)
 }
 
 // Takes one file of the inbox, and puts it.

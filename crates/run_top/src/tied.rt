@@ -23,5 +23,6 @@ pub fn holds_its_state<D: Disk>(store: &Store, disk: &D)
     ensures valid { (contents : TheRef → List ℕ) → IsValid fixed_flow (state_with contents [] (kept_by store.now)) }
 {
     what_is_kept_is_a_state();
-    let _ = (store.state(), disk);
+    let _stored = store.state();
+    let _ = disk;
 }
