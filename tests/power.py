@@ -17,7 +17,7 @@ import re
 import shutil
 import subprocess
 
-import log_format
+import store_format
 from support import (DONE, Report, Wrong, find_program, names, need, new_folder, options, parse_seeded, read_files, run,
                      write_files)
 
@@ -248,6 +248,12 @@ def lay(folder, path, done):
 
 # The trial.
 
+def is_empty(files):
+    """Whether a store's files stand for no file, and no claim is left."""
+    state = store_format.state_of(files)
+    return not isinstance(state, store_format.Damage) and not state.files and not store_format.claims_in(files)
+
+
 def recovers(program, parent, top, what):
     """Lays one image, and runs the program on it. Says what is wrong, or None."""
     with new_folder(parent) as folder:
@@ -263,8 +269,9 @@ def recovers(program, parent, top, what):
             return f"{what}: not delivered as sent: {lost}"
         if names(folder / "out") != sorted(FILES):
             return f"{what}: out holds {names(folder / 'out')}"
-        if log_format.read((folder / "store" / "log-1").read_bytes()):
-            return f"{what}: a file still waits"
+        left = store_format.files_in(folder / "store")
+        if not is_empty(left):
+            return f"{what}: a file still waits, or a claim is left: {sorted(left)}"
     return None
 
 
@@ -320,16 +327,17 @@ def nothing_is_lost_twice(program, parent, picks, rounds):
 
 
 def after_a_refused_sync(program, parent, picks, mark):
-    """The system refused to sync the first file's entry, so that the file is in the log that is read and in the
+    """The system refused to sync the first file's entry, so that the file is in the store that is read and in the
     inbox. A run goes on there, and the power is cut."""
-    held = log_format.log(log_format.add("a.txt", FILES["a.txt"]))
+    writer = store_format.Writer().get("a.txt", FILES["a.txt"])
+    files, durable = writer.files(), store_format.log(1)
 
     def body(start, calls):
         top = durable_tree(start)
-        log = Unreached(log_format.log(), held)
-        top.held[b"store"].held[b"log-1"] = top.held[b"store"].durable[b"log-1"] = log
+        store = top.held[b"store"]
+        store.held[b"log-1"] = store.durable[b"log-1"] = Unreached(durable, files["log-1"])
         return stops(program, parent, top, calls, picks)
-    return recorded(program, parent, body, {"log-1": held, "lock": mark})
+    return recorded(program, parent, body, {**files, "lock": mark})
 
 
 def nothing_is_lost_behind_a_mark(program, parent, picks):
@@ -348,7 +356,8 @@ def is_sync_of(call, kind):
     if call[0] != "sync":
         return False
     path = call[1]
-    return {"log": path == b"store/log-1", "store": path == b"store", "out": path == b"out",
+    return {"log": path == b"store/log-1", "snapshot": path == b"store/snapshot-1",
+            "claim": path.startswith(b"store/claim-"), "store": path == b"store", "out": path == b"out",
             "part": path.startswith(b"out/.flow-aside-")}[kind]
 
 
@@ -380,8 +389,8 @@ def main():
                 nothing_is_lost_behind_a_mark, program, given.folder, given.picks)
     report.case("without the mark of a refused sync a loss is found", a_loss_is_found_without_it, program,
                 given.folder, min(max(given.picks, 4), 20))
-    for kind, text in (("log", "the log"), ("store", "the store's folder"), ("part", "the file put aside"),
-                       ("out", "the outbox's folder")):
+    for kind, text in (("log", "the log"), ("snapshot", "the snapshot"), ("claim", "the contents"),
+                       ("store", "the store's folder"), ("part", "the file put aside"), ("out", "the outbox's folder")):
         report.case(f"without the syncs of {text} a loss is found", a_loss_is_found, program, given.folder,
                     min(max(given.picks, 4), 20), kind)
     report.end()
