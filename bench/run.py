@@ -122,8 +122,8 @@ def compare(program, parent, times, text, files):
 def traced(program, folder, *asked):
     """Runs the program under strace, and gives what that wrote."""
     trace = folder / "trace"
-    ended = subprocess.run(["strace", "-f", "-qq", "-e", "signal=none", *asked, "-o", trace, program, "run"], cwd=folder,
-                           stdin=subprocess.DEVNULL)
+    command = ["strace", "-f", "-qq", "-e", "signal=none", *asked, "-o", trace, program, "run"]
+    ended = subprocess.run(command, cwd=folder, stdin=subprocess.DEVNULL)
     need(ended.returncode == DONE, f"status {ended.returncode} under strace")
     return trace.read_text()
 

@@ -2,9 +2,10 @@
 """Changes each byte of each file of a small store, and cuts each file at each length, and opens it with the program.
 
 The store is written from the format alone: two files wait, one in the snapshot and one by an entry, and an entry let
-a third one go. The program has to end as the reader in store_format.py says: with 4, and then nothing was written
-anywhere; or with 0, and then it delivers the files of the state that the bytes stand for. What is damaged isn't
-healed by trying again.
+a third one go. The program has to end as the reader in store_format.py says: with 4, or with 3 where it is another
+flow's store, and then nothing was written anywhere; or with 0, and then it delivers the files of the state that the
+bytes stand for. Since a digest tells a changed byte, each byte that a digest covers is changed once more with the
+digest made anew: so the fields themselves are tried.
 
 Beside that: a store of the first path, one of another flow, and stores at their limits.
 """
@@ -39,6 +40,30 @@ def changed_bytes(files, values):
                 yield f"{name} byte {at} is {value:02x}", {**files, name: data[:at] + bytes([value]) + data[at + 1:]}
 
 
+def bodies(name, data):
+    """Where the kind and the payload of each block of a file stand."""
+    if name.startswith("claim"):
+        return
+    at = 0
+    while at + 1 < len(data):
+        # In a log a gate stands before each block.
+        start = at + 4 + name.startswith("log")
+        end = start + 1 + int.from_bytes(data[start - 4:start], "big")
+        yield start, end
+        at = end + store_format.DIGEST
+
+
+def changed_fields(files, values):
+    """Each byte of a kind or a payload changed, to so many other values each, with a right digest."""
+    for name, data in sorted(files.items()):
+        for start, end in bodies(name, data):
+            for at in range(start, end):
+                for value in random.sample([value for value in range(256) if value != data[at]], values):
+                    body = data[start:at] + bytes([value]) + data[at + 1:end]
+                    whole = data[:start] + body + hashlib.sha256(body).digest() + data[end + store_format.DIGEST:]
+                    yield f"{name} byte {at} is {value:02x}, and the digest is right", {**files, name: whole}
+
+
 def cuts(files):
     """Each file cut at each length. At length 0 it isn't there."""
     for name, data in sorted(files.items()):
@@ -52,21 +77,35 @@ def put_store(folder, files):
     write_files(folder / "store", {**{name: data for name, data in files.items() if data}, "lock": b"\0"})
 
 
+def refusal(said):
+    """The status of a store that isn't opened, and None for one that is."""
+    if isinstance(said, Damage):
+        return DAMAGED
+    return None if said.flow == store_format.THE_FLOW.digest else OTHER_FLOW
+
+
 def ends_as_said(program, parent, what, files):
-    """Runs the program over these files. Whether they are damaged."""
+    """Runs the program over these files. Whether they are opened."""
     said = state_of(files)
+    refused = refusal(said)
     with new_folder(parent) as folder:
         put_store(folder, files)
         before = photo(folder)
         ended = run(program, folder)
-        if isinstance(said, Damage):
-            need(ended.status == DAMAGED, f"{what}: status {ended.status}, and the reader says {said}")
+        if refused is not None:
+            need(ended.status == refused, f"{what}: status {ended.status}, and the reader says {said}")
             need(photo(folder) == before, f"{what}: something was written")
-            return True
+            return False
         need(ended.status == DONE, f"{what}: status {ended.status}, and the reader says that it is sound")
         need(read_files(folder / "out") == said.delivered(), f"{what}: out holds {names(folder / 'out')}")
         holds_nothing(folder, what)
-        return False
+        return True
+
+
+def waits_for_long(files):
+    """Whether a file is penalised, so that the program waits before it puts it."""
+    said = state_of(files)
+    return not isinstance(said, Damage) and any(file.penalty_end for file in said.files.values())
 
 
 def holds_nothing(folder, what="the store"):
@@ -79,9 +118,9 @@ def holds_nothing(folder, what="the store"):
 def all_cases(program, parent, cases, step):
     """Every so many of the cases, from a random one on."""
     cases = list(cases)
-    tried = cases[random.randrange(step)::step]
-    damaged = sum(ends_as_said(program, parent, what, files) for what, files in tried)
-    return f"{len(tried)} of {len(cases)}: {damaged} are damage, {len(tried) - damaged} are sound"
+    tried = [(what, files) for what, files in cases[random.randrange(step)::step] if not waits_for_long(files)]
+    opened = sum(ends_as_said(program, parent, what, files) for what, files in tried)
+    return f"{len(tried)} of {len(cases)}: {opened} are opened, {len(tried) - opened} are refused"
 
 
 # ---- stores that aren't opened, and stores at their limits
@@ -204,6 +243,8 @@ def main():
     report = Report()
     sizes = ", ".join(f"{name} of {len(data)} bytes" for name, data in sorted(files.items()))
     report.case(f"a byte is changed in {sizes}", all_cases, program, given.folder, changed_bytes(files, values), step)
+    report.case("a byte that a digest covers is changed, and the digest too", all_cases, program, given.folder,
+                changed_fields(files, values), step)
     report.case("a file is cut short, or isn't there", all_cases, program, given.folder, cuts(files), step)
     for text, body in (("a store of the first path: 4, nothing written", first_path),
                        ("a store of another flow: 3, nothing written", other_flow),

@@ -295,18 +295,23 @@ class Cases:
         return self.write_is_refused(5_555, 10)
 
     def memory_is_refused(self):
-        with self.folder() as folder:
-            files = {"large": random.randbytes(CONTENT_MAX), "small": b"s"}
-            write_files(folder / "in", files)
-            before = photo(folder / "in")
+        """Less and less memory: each run ends with 0 or with 12, and nothing is lost."""
+        files = {"large": random.randbytes(CONTENT_MAX), "small": b"s"}
+        statuses = {}
+        for megabytes in (96, 80, 72, 64, 56, 48, 40, 32, 24):
+            with self.folder() as folder:
+                write_files(folder / "in", files)
 
-            def limits():
-                resource.setrlimit(resource.RLIMIT_AS, (40_000_000, 40_000_000))
+                def limits():
+                    resource.setrlimit(resource.RLIMIT_AS, (megabytes * 1_000_000,) * 2)
 
-            need_status(self.run(folder, limits=limits), MEMORY)
-            need(photo(folder / "in") == before, "in changed")
-            need(names(folder / "out") == [] and waiting(folder) == [], "something was taken")
-            self.delivers(folder, files)
+                statuses[megabytes] = status = self.run(folder, limits=limits).status
+                need(status in (DONE, MEMORY), f"status {status} with {megabytes} MB")
+                kept = {**read_files(folder / "out"), **dict(waiting(folder)), **read_files(folder / "in")}
+                need(kept == files, f"a file is lost with {megabytes} MB")
+                self.delivers(folder, files)
+        need(MEMORY in statuses.values(), f"no run wants more: {statuses}")
+        return ", ".join(f"{megabytes} MB: {status}" for megabytes, status in statuses.items())
 
     def streams_are_closed(self):
         """Where the standard streams are closed, nothing of theirs lands in a file of ours."""

@@ -299,12 +299,12 @@ def recorded(program, parent, body, store=None):
         return body(start, record(program, folder))
 
 
-def nothing_is_lost(program, parent, picks):
+def nothing_is_lost(program, parent, picks, store=None):
     def body(start, calls):
         wrong, tried = stops(program, parent, durable_tree(start), calls, picks)
         need(not wrong, f"{len(wrong)} of {tried} stops: {wrong[:3]}")
         return f"{len(calls)} calls, {tried} stops"
-    return recorded(program, parent, body)
+    return recorded(program, parent, body, store)
 
 
 def nothing_is_lost_twice(program, parent, picks, rounds):
@@ -324,6 +324,16 @@ def nothing_is_lost_twice(program, parent, picks, rounds):
         need(not wrong, f"{len(wrong)} of {tried} stops: {wrong[:3]}")
         return f"{rounds} first stops, {tried} second ones"
     return recorded(program, parent, body)
+
+
+def unmended():
+    """A store with a file that waits, and with all that an opening mends or takes away."""
+    writer = store_format.Writer().get("a.txt", FILES["a.txt"])
+    files = writer.files()
+    log, claim = files["log-1"], files["claim-0"]
+    return {**files, "log-1": log[:-1] + b"\x42" + log[1:], "claim-0": claim + b"more", "claim-5": b"other",
+            "log-0": log, "log-3": store_format.CLOSED + log[1:], "snapshot-3": files["snapshot-1"], "swap-1": b"x",
+            "events-0": b"x"}
 
 
 def after_a_refused_sync(program, parent, picks, mark):
@@ -385,6 +395,8 @@ def main():
                 given.picks)
     report.case("the power is cut again while a run recovers", nothing_is_lost_twice, program, given.folder,
                 max(1, given.picks // 10), max(2, given.picks // 2))
+    report.case("the power is cut while a store is mended", nothing_is_lost, program, given.folder, given.picks,
+                unmended())
     report.case("the power is cut behind a refused sync that left its mark, and nothing is lost",
                 nothing_is_lost_behind_a_mark, program, given.folder, given.picks)
     report.case("without the mark of a refused sync a loss is found", a_loss_is_found_without_it, program,

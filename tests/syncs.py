@@ -157,6 +157,22 @@ class Cases:
             wanted = [*FOLDERS, LOG, SNAPSHOT, CLAIM, STORE, *[*PUT, *ENTRY] * len(FILES), *CLOSING]
             need(in_any_order(syncs) == in_any_order(wanted), f"{syncs}")
 
+    def of_a_mended_store(self):
+        """The log is cut behind its last gate, then the gate is closed; a greater log is cut to a byte; then what
+        doesn't matter goes, which the next sync makes durable with the first entry."""
+        files = store_format.Writer().get("a", b"one").files()
+        log, claim = files["log-1"], files["claim-0"]
+        files |= {"log-1": log[:-1] + b"\x42tail", "claim-0": claim + b"more", "log-3": b"\0" + log[1:],
+                  "claim-9": b"x"}
+        with self.folder() as folder:
+            write_files(folder / "store", files)
+            status, syncs = traced(self.program, folder)
+            need(status == DONE, f"status {status}")
+            standing = [("fdatasync", f"store/{name}") for name in files]
+            wanted = [*FOLDERS, *standing, STORE, LOG, LOG, ("fdatasync", "store/log-3"), *PUT, LOG, CLAIM, STORE, LOG,
+                      *CLOSING]
+            need(in_any_order(syncs) == in_any_order(wanted), f"{syncs}")
+
     def of_what_is_not_opened(self):
         """Damage and another flow's store: the opening's first sync, and none behind it."""
         other = store_format.Writer()
@@ -298,6 +314,7 @@ def main():
             ("the syncs of a run over a store that stands", cases.of_a_store),
             ("the syncs of an empty file, and of the first content of a claim", cases.of_all_kinds),
             ("the syncs of a run over a store in which files wait", cases.of_a_queue),
+            ("the syncs of a run over a store that has to be mended", cases.of_a_mended_store),
             ("a damaged store and another flow's: the opening's first sync alone", cases.of_what_is_not_opened),
             ("each sync of a run in a new folder is refused alone", cases.in_a_new_folder),
             ("each sync of a run over a store that stands is refused alone", cases.in_a_store_that_stands),
