@@ -399,7 +399,7 @@ class Fields:
 
     def active_file(self):
         return FlowFile(self.uint(2), self.number(1), self.attributes(), self.content(), self.uint(8), self.uint(8),
-                        self.number(1))
+                        self.number())
 
     def session(self):
         read = Session(self.uint(2), self.uint(8), self.numbers(), self.listed(self.active_file), self.number(),
@@ -426,8 +426,8 @@ class Fields:
         store = self.uint(8)
         if store >= STORE_LIMIT:
             raise Unreadable
-        return State(store, self.raw(DIGEST), self.listed(self.text), self.numbers(), self.number(1), self.number(1),
-                     self.number(), self.number(1))
+        return State(store, self.raw(DIGEST), self.listed(self.text), self.numbers(), self.number(), self.number(),
+                     self.number(), self.number())
 
     def batch(self):
         return Batch(self.uint(2), self.number(), self.number(), self.uint(8), self.uint(8))
@@ -507,7 +507,7 @@ def entries_of(number, data):
 def joins(state, file, last, arrivals, encoded):
     """Whether a file may stand behind those of a snapshot that were read before it."""
     return (not state.batches and last < file.number < state.next_number and file.connection < len(state.connections)
-            and file.arrival < state.next_arrival and file.arrival not in arrivals
+            and 0 < file.arrival < state.next_arrival and file.arrival not in arrivals
             and len(state.files) < LIVE_FILES_MAX and encoded + record_size(file) <= LIVE_BYTES_MAX)
 
 
@@ -526,7 +526,7 @@ def snapshot_of(number, data):
             raise damaged_at(at)("Form") from None
 
     _, state, at = read(0, {HEAD: Fields.head})
-    if len(set(state.connections)) != len(state.connections):
+    if not are_distinct(state.connections) or 0 in (state.next_number, state.next_arrival, state.next_batch):
         raise damaged_at(0)("Form")
     last, arrivals, encoded = 0, set(), 0
     while True:
@@ -601,7 +601,7 @@ class Replay:
         return (are_distinct([file.number for file in placed]) and are_distinct([file.arrival for file in placed])
                 and all(file.number not in state.files and file.arrival not in self.arrivals
                         and file.connection < len(state.connections) and file.number < entry.next_number
-                        and file.arrival < entry.next_arrival for file in placed)
+                        and 0 < file.arrival < entry.next_arrival for file in placed)
                 and (entry.generator == NO_GENERATOR or entry.generator < len(state.counts))
                 and state.next_number <= entry.next_number and state.next_arrival <= entry.next_arrival
                 and state.last_event <= entry.last_event)
