@@ -1,13 +1,14 @@
 #!/usr/bin/env python3
 """What the built program costs, beside a plain durable copy of the same files made in the same run.
 
-It times many small files and a few large ones, counts the syncs for each further file (by strace), and
-shows that twice the files cost about twice as much, and how memory grows. The plain copy is timed twice:
-by the commands `cp` and `sync` for each file and its folder, and by the same calls within one process,
-which is the harder measure, since it starts no process for each file.
+It times many small files and a few large ones, counts the syncs and the system's calls for each further file (by
+strace), and shows that twice the files cost about twice as much, and how memory grows. The plain copy is timed twice:
+by the commands `cp` and `sync` for each file and its folder, and by the same calls within one process, which is the
+harder measure, since it starts no process for each file. Ratios are of figures of one run, and so are the megabytes
+that each second of the processor moves.
 
-Figures depend on the machine: this is no test, and isn't run by one. It ends with 1 where the count of
-syncs or a growth isn't what is demanded.
+Figures depend on the machine: this is no test, and isn't run by one. It ends with 1 where a count or a growth isn't
+what is demanded.
 """
 
 import os
@@ -28,8 +29,15 @@ from support import DONE, find_program, need, need_status, new_folder, options, 
 
 SYNCS = "fsync,fdatasync,sync,syncfs,sync_file_range,msync"
 
-# For each further file: two for the log's add, two for the outbox, two for the log's drop.
-SYNCS_OF_A_FILE = 6
+# For each further file: one for the content and two for the entry that takes it, two for the outbox, two for the entry
+# that lets it go.
+SYNCS_OF_A_FILE = 7
+
+# Each further file may ask the system so many times.
+CALLS_OF_A_FILE = 30
+
+# Of these sizes all contents of a run go into one claim.
+SMALL = 64
 
 # Twice the files may take so many times as long, and a file's name so many bytes of memory.
 LEAST_TIME, MOST_TIME = 1.6, 2.5
@@ -106,19 +114,25 @@ def compare(program, parent, times, text, files):
     line("cp and sync, commands", commands)
     line("the same calls in one process", process)
     print(f"  ratio of time: {ours.seconds / commands:.2f} to the commands, "
-          f"{ours.seconds / process:.2f} to the calls in one process; "
+          f"{ours.seconds / process:.2f} to the calls in one process")
+    print(f"  {ours.busy:.2f} s of the processor: {total / ours.busy:.0f} MB for each of them; "
           f"peak of memory {ours.peak / 1e6:.1f} MB", flush=True)
 
 
+def traced(program, folder, *asked):
+    """Runs the program under strace, and gives what that wrote."""
+    trace = folder / "trace"
+    command = ["strace", "-f", "-qq", "-e", "signal=none", *asked, "-o", trace, program, "run"]
+    ended = subprocess.run(command, cwd=folder, stdin=subprocess.DEVNULL)
+    need(ended.returncode == DONE, f"status {ended.returncode} under strace")
+    return trace.read_text()
+
+
 def syncs(program, parent, count):
-    """How many syncs a run over so many files asks of the system."""
+    """How many syncs a run over so many files asks of the system, by kind."""
     with new_folder(parent) as folder:
-        write_files(folder / "in", many(count, 1024))
-        trace = folder / "trace"
-        command = ["strace", "-f", "-qq", "-e", "signal=none", "-e", f"trace={SYNCS}", "-o", trace, program, "run"]
-        ended = subprocess.run(command, cwd=folder, stdin=subprocess.DEVNULL)
-        need(ended.returncode == DONE, f"status {ended.returncode} under strace")
-        lines = trace.read_text().splitlines()
+        write_files(folder / "in", many(count, SMALL))
+        lines = traced(program, folder, "-e", f"trace={SYNCS}").splitlines()
         need(all(line.endswith("= 0") for line in lines), "a sync failed, or was cut in two")
         kinds = {}
         for line in lines:
@@ -127,16 +141,37 @@ def syncs(program, parent, count):
         return len(lines), kinds
 
 
+def calls(program, parent, count):
+    """How many calls a run over so many files makes, by name, as strace counts them."""
+    with new_folder(parent) as folder:
+        write_files(folder / "in", many(count, SMALL))
+        table = traced(program, folder, "-c")
+        rows = re.findall(r"^ *[\d.]+ +[\d.]+ +\d+ +(\d+) (?: *\d+)? *(\w+)$", table, re.MULTILINE)
+        return {name: int(number) for number, name in rows if name != "total"}
+
+
 def count_syncs(program, parent):
-    opening, kinds = syncs(program, parent, 0)
-    print(f"syncs with no file: {opening} ({told(kinds)}): three folders made, a log begun", flush=True)
+    none, kinds = syncs(program, parent, 0)
+    print(f"syncs with no file: {none} ({told(kinds)}): three folders made, a store made", flush=True)
     one, _ = syncs(program, parent, 1000)
     two, kinds = syncs(program, parent, 2000)
     slope = (two - one) / 1000
     print(f"syncs with 1,000 files: {one}; with 2,000 files: {two} ({told(kinds)})")
-    print(f"  for each further file: {slope:g}, {SYNCS_OF_A_FILE} are demanded; "
-          f"beside them {one - 1000 * SYNCS_OF_A_FILE} for the opening")
+    print(f"  for each further file: {slope:g}, {SYNCS_OF_A_FILE} are demanded; beside them "
+          f"{one - 1000 * SYNCS_OF_A_FILE}: {none} for the opening, and for the first claim and the closing "
+          f"{one - 1000 * SYNCS_OF_A_FILE - none}", flush=True)
     return slope == SYNCS_OF_A_FILE
+
+
+def count_calls(program, parent):
+    one, two = calls(program, parent, 1000), calls(program, parent, 2000)
+    each = {name: (two[name] - one.get(name, 0)) / 1000 for name in two}
+    total = sum(each.values())
+    told_each = ", ".join(f"{name} {number:.2f}" for name, number in sorted(each.items(), key=lambda pair: -pair[1])
+                          if number >= 0.01)
+    print(f"calls of the system with 1,000 files: {sum(one.values())}; with 2,000 files: {sum(two.values())}")
+    print(f"  for each further file: {total:.2f}, at most {CALLS_OF_A_FILE} are demanded: {told_each}", flush=True)
+    return total <= CALLS_OF_A_FILE
 
 
 def told(kinds):
@@ -150,9 +185,10 @@ def grows(program, parent, times):
         one.append(flow(program, parent, once))
         two.append(flow(program, parent, twice))
     one, two = middle(one), middle(two)
-    ratio = two.seconds / one.seconds
+    ratio, busy = two.seconds / one.seconds, two.busy / one.busy
     name = (two.peak - one.peak) / 2000
-    print(f"2,000 files take {one.seconds:.2f} s and 4,000 take {two.seconds:.2f} s: ratio {ratio:.2f}")
+    print(f"2,000 files take {one.seconds:.2f} s and 4,000 take {two.seconds:.2f} s: ratio {ratio:.2f}; "
+          f"of the processor {one.busy:.2f} s and {two.busy:.2f} s: ratio {busy:.2f}")
     print(f"  peak of memory {one.peak / 1e6:.2f} and {two.peak / 1e6:.2f} MB: {name:.0f} bytes for each further "
           "file, all of 4,096 bytes", flush=True)
     return LEAST_TIME <= ratio <= MOST_TIME and name <= MEMORY_OF_A_NAME
@@ -169,7 +205,7 @@ def machine(parent):
 def main():
     parser = options(__doc__)
     parser.add_argument("--times", type=int, default=3, help="runs of each, the median counts (default 3)")
-    parser.add_argument("--no-strace", action="store_true", help="leave out the count of syncs")
+    parser.add_argument("--no-strace", action="store_true", help="leave out the counts of syncs and of calls")
     given = parser.parse_args()
     if not given.no_strace and shutil.which("strace") is None:
         sys.exit("strace is missing: install it (on Debian: apt-get install -y strace), or give --no-strace")
@@ -183,6 +219,7 @@ def main():
     good &= grows(program, given.folder, given.times)
     if not given.no_strace:
         good &= count_syncs(program, given.folder)
+        good &= count_calls(program, given.folder)
     print("as demanded" if good else "NOT as demanded")
     sys.exit(0 if good else 1)
 

@@ -9,10 +9,9 @@ import signal
 import subprocess
 import time
 
-import log_format
-from support import (DAMAGED, DISK, DONE, INBOX, MEMORY, OUTBOX, USAGE, Report, Wrong, find_program,
-                     names, need, need_status, new_folder, options, parse_seeded, photo, read_files, run,
-                     write_files)
+import store_format
+from support import (DISK, DONE, INBOX, MEMORY, OUTBOX, USAGE, Report, Wrong, find_program, names, need, need_status,
+                     new_folder, options, parse_seeded, photo, read_files, run, write_files)
 
 CONTENT_MAX = 16_777_216
 
@@ -39,6 +38,7 @@ class Cases:
         need(names(folder / "out") == sorted(files), f"out holds {names(folder / 'out')[:8]}")
         need(read_files(folder / "out") == files, "a file of out has other bytes")
         need(waiting(folder) == [], "the store still holds a file")
+        need(claims(folder) == [], f"the store still holds contents: {claims(folder)}")
 
     # What is delivered.
 
@@ -58,7 +58,9 @@ class Cases:
         with self.folder() as folder:
             self.delivers(folder, {})
             need(names(folder) == ["in", "out", "store"], "the three folders aren't made")
-            need(log_format.log() == (folder / "store" / "log-1").read_bytes(), "the log isn't an empty one")
+            files = store_format.files_in(folder / "store")
+            state = state_of(folder)
+            need(files == store_format.Writer(state.store).files(), "the store isn't a new one")
 
     def largest(self):
         with self.folder() as folder:
@@ -94,14 +96,44 @@ class Cases:
             self.delivers(folder, {"a": b"newer", "other": b"stays"})
 
     def order(self):
-        """The log tells in which order the files came: by the bytes of their names."""
+        """The log tells in which order the files came: by the bytes of their names, and that each went at once."""
         with self.folder() as folder:
             write_files(folder / "in", {name: name.encode() for name in ("b", "a", "é", "B", "aa")})
+            started = time.time() * 1000
             need_status(self.run(folder), DONE)
-            frames = b"".join(log_format.add(name, name.encode()) + log_format.drop()
-                              for name in ("B", "a", "aa", "b", "é"))
-            need((folder / "store" / "log-1").read_bytes() == log_format.begin() + frames + b"\0",
-                 "the log isn't an add and a drop for each file, by name")
+            state = state_of(folder)
+            moments = [entry.moment for entry in state.entries]
+            need(moments == sorted(moments), f"the moments fall: {moments}")
+            need(started - 1 <= moments[0] and moments[-1] <= time.time() * 1000 + 1, "the moments are another time's")
+            writer = store_format.Writer(state.store)
+            for name in ("B", "a", "aa", "b", "é"):
+                for step in (lambda: writer.get(name, name.encode()), writer.put):
+                    writer.moment = moments[len(writer.entries)]
+                    step()
+            need((folder / "store" / "log-1").read_bytes() == writer.log(), "the log isn't two entries for each file")
+
+    def other_ids(self):
+        """Each store has an id of its own, which stays."""
+        ids = set()
+        for _ in range(4):
+            with self.folder() as folder:
+                write_files(folder / "in", THREE)
+                self.delivers(folder, THREE)
+                ids.add(state_of(folder).store)
+                write_files(folder / "in", THREE)
+                self.delivers(folder, THREE)
+                ids.add(state_of(folder).store)
+        need(len(ids) == 4, f"four stores have the ids {ids}")
+
+    def claims_grow(self):
+        """Contents share a claim until it has a MiB, and the claims go at the end."""
+        with self.folder() as folder:
+            files = {f"{n:02}": random.randbytes(300_000) for n in range(9)}
+            write_files(folder / "in", files)
+            self.delivers(folder, files)
+            places = [(placed.content.slot, placed.content.offset) for entry in state_of(folder).entries
+                      for placed in entry.placed]
+            need(places == [(n // 4, n % 4 * 300_000) for n in range(9)], f"the contents stand at {places}")
 
     def twice(self):
         with self.folder() as folder:
@@ -118,7 +150,8 @@ class Cases:
         """What stands in the store's folder under other names is left alone."""
         with self.folder() as folder:
             write_files(folder / "in", THREE)
-            others = {"notes": b"mine", "log-01": b"x", "log-": b"y", "LOG-1": b"z", "log-1.old": b"w"}
+            others = {"notes": b"mine", "log-01": b"x", "log-": b"y", "LOG-1": b"z", "log-1.old": b"w",
+                      "claim-00": b"v", "claims-0": b"u", "snapshot-18446744073709551616": b"t"}
             write_files(folder / "store", others)
             before = photo(*(folder / "store" / name for name in others))
             self.delivers(folder, THREE)
@@ -132,10 +165,10 @@ class Cases:
             write_files(folder, {"out": b"no folder"})
             need_status(self.run(folder), OUTBOX)
             need((folder / "out").read_bytes() == b"no folder", "out changed")
-            need(waiting(folder) == [(b"a.txt", THREE["a.txt"])], "the log doesn't hold the first file's bytes")
+            need(waiting(folder) == [("a.txt", THREE["a.txt"])], "the store doesn't hold the first file's bytes")
             need(names(folder / "in") == ["b.csv", "c"], f"in holds {names(folder / 'in')}")
             need_status(self.run(folder), OUTBOX)
-            need(waiting(folder) == [(b"a.txt", THREE["a.txt"])], "the second run lost it")
+            need(waiting(folder) == [("a.txt", THREE["a.txt"])], "the second run lost it")
             (folder / "out").unlink()
             self.delivers(folder, THREE)
 
@@ -144,7 +177,7 @@ class Cases:
             write_files(folder / "in", THREE)
             (folder / "out" / "b.csv").mkdir(parents=True)
             need_status(self.run(folder), OUTBOX)
-            need(waiting(folder) == [(b"b.csv", THREE["b.csv"])], "the log doesn't hold the file")
+            need(waiting(folder) == [("b.csv", THREE["b.csv"])], "the store doesn't hold the file")
             need(names(folder / "out") == ["a.txt", "b.csv"], f"out holds {names(folder / 'out')}")
             (folder / "out" / "b.csv").rmdir()
             self.delivers(folder, THREE)
@@ -160,15 +193,20 @@ class Cases:
             (folder / "store").unlink()
             self.delivers(folder, THREE)
 
-    def log_is_a_folder(self):
+    def stands_a_folder(self, name):
+        """A folder stands under the name of a file of the store."""
         with self.folder() as folder:
             write_files(folder / "in", THREE)
-            (folder / "store" / "log-1").mkdir(parents=True)
+            (folder / "store" / name).mkdir(parents=True)
             before = photo(folder / "in")
             need_status(self.run(folder), DISK)
             need(photo(folder / "in") == before, "in changed")
-            (folder / "store" / "log-1").rmdir()
+            (folder / "store" / name).rmdir()
             self.delivers(folder, THREE)
+
+    def log_is_a_folder(self):
+        for name in ("log-1", "snapshot-1", "claim-0", "claim-9"):
+            self.stands_a_folder(name)
 
     def in_is_a_file(self):
         with self.folder() as folder:
@@ -215,7 +253,7 @@ class Cases:
             try:
                 wait_for(lambda: (folder / "out").is_dir() and len(os.listdir(folder / "out")) > 3, first)
                 first.send_signal(signal.SIGSTOP)
-                wait_for(lambda: state_of(first.pid) == "T", first)
+                wait_for(lambda: process_state(first.pid) == "T", first)
                 left = len(names(folder / "in"))
                 need(left > 0, "the first process was done too early")
                 before = photo(folder / "store", folder / "in", folder / "out")
@@ -232,15 +270,15 @@ class Cases:
             self.delivers(folder, files)
             return f"stopped with {left} of {len(files)} files left"
 
-    def write_is_refused(self):
-        """The system refuses a write of the log past a size, in the middle of it."""
+    def write_is_refused(self, limit, size):
+        """The system refuses a write of a file past a size, in the middle of it."""
         with self.folder() as folder:
-            files = {f"{n:03}": random.randbytes(1000) for n in range(60)}
+            files = {f"{n:03}": random.randbytes(size) for n in range(60)}
             write_files(folder / "in", files)
 
             def limits():
                 signal.signal(signal.SIGXFSZ, signal.SIG_IGN)
-                resource.setrlimit(resource.RLIMIT_FSIZE, (33_333, 33_333))
+                resource.setrlimit(resource.RLIMIT_FSIZE, (limit, limit))
 
             need_status(self.run(folder, limits=limits), DISK)
             put = read_files(folder / "out")
@@ -250,19 +288,30 @@ class Cases:
             self.delivers(folder, files)
             return f"{len(put)} files were put before it"
 
+    def claim_is_refused(self):
+        return self.write_is_refused(33_333, 2000)
+
+    def entry_is_refused(self):
+        return self.write_is_refused(5_555, 10)
+
     def memory_is_refused(self):
-        with self.folder() as folder:
-            files = {"large": random.randbytes(CONTENT_MAX), "small": b"s"}
-            write_files(folder / "in", files)
-            before = photo(folder / "in")
+        """Less and less memory: each run ends with 0 or with 12, and nothing is lost."""
+        files = {"large": random.randbytes(CONTENT_MAX), "small": b"s"}
+        statuses = {}
+        for megabytes in (96, 80, 72, 64, 56, 48, 40, 32, 24):
+            with self.folder() as folder:
+                write_files(folder / "in", files)
 
-            def limits():
-                resource.setrlimit(resource.RLIMIT_AS, (40_000_000, 40_000_000))
+                def limits():
+                    resource.setrlimit(resource.RLIMIT_AS, (megabytes * 1_000_000,) * 2)
 
-            need_status(self.run(folder, limits=limits), MEMORY)
-            need(photo(folder / "in") == before, "in changed")
-            need(names(folder / "out") == [] and waiting(folder) == [], "something was taken")
-            self.delivers(folder, files)
+                statuses[megabytes] = status = self.run(folder, limits=limits).status
+                need(status in (DONE, MEMORY), f"status {status} with {megabytes} MB")
+                kept = {**read_files(folder / "out"), **dict(waiting(folder)), **read_files(folder / "in")}
+                need(kept == files, f"a file is lost with {megabytes} MB")
+                self.delivers(folder, files)
+        need(MEMORY in statuses.values(), f"no run wants more: {statuses}")
+        return ", ".join(f"{megabytes} MB: {status}" for megabytes, status in statuses.items())
 
     def streams_are_closed(self):
         """Where the standard streams are closed, nothing of theirs lands in a file of ours."""
@@ -293,8 +342,18 @@ class Cases:
             self.delivers(folder, {"a": b"one"})
 
 
+def state_of(folder):
+    state = store_format.state_of(store_format.files_in(folder / "store"))
+    need(not isinstance(state, store_format.Damage), f"the store is damaged: {state}")
+    return state
+
+
 def waiting(folder):
-    return log_format.read((folder / "store" / "log-1").read_bytes())
+    return state_of(folder).queued()
+
+
+def claims(folder):
+    return store_format.claims_in(store_format.files_in(folder / "store"))
 
 
 def start(program, folder):
@@ -302,7 +361,7 @@ def start(program, folder):
                             stdout=subprocess.DEVNULL, stderr=subprocess.DEVNULL)
 
 
-def state_of(pid):
+def process_state(pid):
     return pathlib.Path(f"/proc/{pid}/stat").read_text().rpartition(")")[2].split()[0]
 
 
@@ -326,24 +385,27 @@ def main():
     for text, body in (
             (f"{given.count} files of 1 KiB are delivered, and in is empty", cases.many),
             ("an empty file is delivered", cases.empty_file),
-            ("with nothing to do the three folders and an empty log are made", cases.no_files),
+            ("with nothing to do the three folders and a new store are made", cases.no_files),
             ("a file of 16,777,216 bytes is delivered, and one of 16,777,217 stays", cases.largest),
             ("a folder, two links and a pipe stay, and the files beside them are delivered", cases.others_stay),
             ("names that need care are delivered", cases.odd_names),
             ("a file of the same name in out is replaced, and another one stays", cases.replaces),
             ("files are taken in the order of their names' bytes", cases.order),
+            ("each store has an id of its own", cases.other_ids),
+            ("contents share claims, which go at the end", cases.claims_grow),
             ("a second run after status 0 ends with 0 and changes nothing", cases.twice),
             ("other entries in store are left alone", cases.other_entries),
-            ("out is a file: 7, the log holds the bytes, and the next run delivers them", cases.out_is_a_file),
+            ("out is a file: 7, the store holds the bytes, and the next run delivers them", cases.out_is_a_file),
             ("a folder stands under the name in out: 7, and later delivered", cases.out_has_a_folder),
             ("store is a file: 5, in untouched", cases.store_is_a_file),
-            ("log-1 is a folder: 5, in untouched", cases.log_is_a_folder),
+            ("a folder stands under the name of a file of the store: 5, in untouched", cases.log_is_a_folder),
             ("in is a file: 6", cases.in_is_a_file),
             ("a name in in isn't UTF-8: 6, in untouched", cases.name_is_no_text),
             ("other words than run: 2, nothing touched", cases.other_words),
             ("other words than run in a new folder: nothing is made", cases.other_words_make_nothing),
             ("a second process gets 5 and touches nothing, and the first ends with 0", cases.second_process),
-            ("a write that the system refuses: 5, nothing lost", cases.write_is_refused),
+            ("the system refuses to write a content: 5, nothing lost", cases.claim_is_refused),
+            ("the system refuses to write an entry: 5, nothing lost", cases.entry_is_refused),
             ("memory that the system refuses: 12, nothing lost", cases.memory_is_refused),
             ("the standard streams are closed", cases.streams_are_closed),
             ("what a stop left aside in out is swept", cases.aside_is_swept),

@@ -1,88 +1,141 @@
 #!/usr/bin/env python3
-"""Opens long logs, written from the format alone, and shows that time and memory grow in a straight line.
+"""Opens long logs and large snapshots, written from the format alone, and shows that time and memory grow in a
+straight line.
 
-Each shape is tried with a number of entries and with twice as many. The processor's time beyond that of
-an empty log has to grow by about 2, and so may the peak of memory, where the shape's queue grows at all.
-A queue in which dropping the first file moved the others would make the time grow fourfold.
+Each shape is tried with a number of sessions and with twice as many. The processor's time beyond that of an empty
+store has to grow by about 2, and so may the peak of memory. A state in which letting a file go moved the others would
+make the time grow fourfold.
 """
 
+import hashlib
 
-import log_format
+import store_format
+from store_format import GET, PUT, Content, FlowFile, Session
 from support import DONE, Report, find_program, names, need, need_status, new_folder, options, run
 
-CONTENT = 200
+CONTENT = bytes(200)
+DIGEST = hashlib.sha256(CONTENT).digest()
 
 # Twice the entries may take so many times as long, and so many times the memory.
 LEAST_TIME, MOST_TIME = 1.5, 2.7
 MOST_MEMORY = 2.6
 
-# How often each log is opened.
+# How often each store is opened.
 LEAST_TRIES, MOST_TRIES = 3, 20
 
-# Where no more files wait, memory may grow by so much, in bytes.
-SAME_MEMORY = 2_000_000
+
+class Store:
+    """A store that is written fast: each file has the same content."""
+
+    def __init__(self):
+        self.state = store_format.new_state(1)
+        self.frames = [store_format.frame(store_format.Begin(1))]
+        self.first = store_format.snapshot(self.state)
+        self.next = 1
+
+    def made(self):
+        number, self.next = self.next, self.next + 1
+        return FlowFile(0, number, (("filename", f"file-{number:07}"), ("path", "./")),
+                        Content(0, 0, len(CONTENT), DIGEST), 1000, 0, number)
+
+    def session(self, processor, gone, placed):
+        self.frames.append(store_format.frame(Session(processor, 1000, gone, placed, self.next, self.next)))
+
+    def get(self):
+        self.session(GET, (), (self.made(),))
+
+    def put(self, *numbers):
+        self.session(PUT, numbers, ())
+
+    def files(self):
+        return {"log-1": b"".join([*self.frames, store_format.CLOSED]), "snapshot-1": self.first, "claim-0": CONTENT}
 
 
-def content(n):
-    return n.to_bytes(8, "big") * (CONTENT // 8)
+def empty(entries):
+    return Store()
 
 
-def add(n):
-    return log_format.add(f"file-{n:07}", content(n))
-
-
-def adds_then_drops(entries):
-    half = entries // 2
-    yield from (add(n) for n in range(half))
-    yield from (log_format.drop() for _ in range(half))
+def gets_then_puts(entries):
+    store = Store()
+    for _ in range(entries // 2):
+        store.get()
+    for number in range(1, entries // 2 + 1):
+        store.put(number)
+    return store
 
 
 def in_turn(entries):
-    for n in range(entries // 2):
-        yield add(n)
-        yield log_format.drop()
+    store = Store()
+    for number in range(1, entries // 2 + 1):
+        store.get()
+        store.put(number)
+    return store
 
 
 def never_empty(entries):
-    """In turn, but one file waits all the time, and at the end."""
-    yield add(0)
-    for n in range(1, entries // 2):
-        yield add(n)
-        yield log_format.drop()
-    # As many entries as the other shapes have.
-    yield add(entries)
+    """In turn, but the first file waits all the time, and at the end."""
+    store = Store()
+    store.get()
+    for number in range(2, entries // 2 + 1):
+        store.get()
+        store.put(number)
+    return store
 
 
-def none_wait(entries):
+def last_first(entries):
+    """All come, and then the last one goes first."""
+    store = Store()
+    for _ in range(entries // 2):
+        store.get()
+    for number in range(entries // 2, 0, -1):
+        store.put(number)
+    return store
+
+
+def in_snapshot(entries):
+    """As many files in the snapshot, and one entry that lets all of them go."""
+    store = Store()
+    files = {file.number: file for file in (store.made() for _ in range(entries))}
+    store.state.files = files
+    store.state.next_number = store.state.next_arrival = store.next
+    store.first = store_format.snapshot(store.state)
+    store.put(*files)
+    return store
+
+
+def none_wait():
     return []
 
 
-def last_two_wait(entries):
-    return [f"file-{entries // 2 - 1:07}", f"file-{entries:07}"]
+def first_waits():
+    return ["file-0000001"]
 
 
-# Of each shape its frames, the files that wait behind them, and whether its queue grows with the log.
+# Of each shape its store, and the files that wait in it.
 SHAPES = {
-    "adds, then as many drops": (adds_then_drops, none_wait, True),
-    "adds and drops in turn": (in_turn, none_wait, False),
-    "in turn, over a queue that is never empty": (never_empty, last_two_wait, True),
+    "all come, then all go": (gets_then_puts, none_wait),
+    "all come, and the last one goes first": (last_first, none_wait),
+    "they come and go in turn": (in_turn, none_wait),
+    "in turn, and one file waits all the time": (never_empty, first_waits),
+    "all are in the snapshot, and one entry lets them go": (in_snapshot, none_wait),
 }
 
 
 class Opening:
-    """A log that is opened again and again. The fastest opening and the peak of memory are kept."""
+    """A store that is opened again and again. The fastest opening and the peak of memory are kept."""
 
-    def __init__(self, program, folder, frames):
+    def __init__(self, program, folder, store):
         self.program = program
         self.folder = folder
-        self.log = log_format.log(*frames)
+        self.files = store.files()
         self.fastest = None
         self.peak = 0
         for part in ("store", "in", "out"):
             (folder / part).mkdir()
 
     def again(self, waits):
-        (self.folder / "store" / "log-1").write_bytes(self.log)
+        for name, data in self.files.items():
+            (self.folder / "store" / name).write_bytes(data)
         ended = run(self.program, self.folder)
         need_status(ended, DONE)
         put = names(self.folder / "out")
@@ -92,33 +145,30 @@ class Opening:
         self.peak = max(self.peak, ended.peak)
 
     def said(self):
-        return (f"{len(self.log) / 1e6:.1f} MB in {self.fastest.busy:.2f} s ({self.fastest.seconds:.2f} s by the "
-                f"clock), peak {self.peak / 1e6:.1f} MB")
+        return (f"{sum(map(len, self.files.values())) / 1e6:.1f} MB in {self.fastest.busy:.2f} s "
+                f"({self.fastest.seconds:.2f} s by the clock), peak {self.peak / 1e6:.1f} MB")
 
 
 def grows(program, parent, entries, shape):
-    frames, waits, queue_grows = SHAPES[shape]
+    made, waits = SHAPES[shape]
     with new_folder(parent) as idle, new_folder(parent) as once, new_folder(parent) as twice:
-        none = Opening(program, idle, ())
-        one = Opening(program, once, frames(entries))
-        two = Opening(program, twice, frames(2 * entries))
+        none = Opening(program, idle, empty(0))
+        one = Opening(program, once, made(entries))
+        two = Opening(program, twice, made(2 * entries))
         # In turn, so that what else the machine does meets all; and until the fastest are near enough.
         for tries in range(1, MOST_TRIES + 1):
             none.again([])
-            one.again(waits(entries))
-            two.again(waits(2 * entries))
+            one.again(waits())
+            two.again(waits())
             time_ratio = (two.fastest.busy - none.fastest.busy) / max(1e-9, one.fastest.busy - none.fastest.busy)
             if tries >= LEAST_TRIES and LEAST_TIME <= time_ratio <= MOST_TIME:
                 break
     memory_ratio = (two.peak - none.peak) / max(1, one.peak - none.peak)
-    note = (f"{one.said()}; {two.said()}; with an empty log peak {none.peak / 1e6:.1f} MB; "
+    note = (f"{one.said()}; {two.said()}; with an empty store peak {none.peak / 1e6:.1f} MB; "
             f"ratio of time {time_ratio:.2f}, of memory {memory_ratio:.2f}, fastest of {tries}")
     need(LEAST_TIME <= time_ratio <= MOST_TIME,
          f"the time's ratio isn't between {LEAST_TIME} and {MOST_TIME}: {note}")
-    if queue_grows:
-        need(memory_ratio <= MOST_MEMORY, f"the memory's ratio is above {MOST_MEMORY}: {note}")
-    else:
-        need(two.peak - one.peak <= SAME_MEMORY, f"memory grew by more than {SAME_MEMORY} bytes: {note}")
+    need(memory_ratio <= MOST_MEMORY, f"the memory's ratio is above {MOST_MEMORY}: {note}")
     return note
 
 
@@ -128,7 +178,7 @@ def main():
                         help="entries of the shorter log (default 50000); the longer one has twice as many")
     given = parser.parse_args()
     program = find_program(given.program)
-    print(f"log_growth: {given.entries} and {2 * given.entries} entries of {CONTENT} bytes", flush=True)
+    print(f"log_growth: {given.entries} and {2 * given.entries} entries", flush=True)
     report = Report()
     for shape in SHAPES:
         report.case(shape, grows, program, given.folder, given.entries, shape)

@@ -1,21 +1,47 @@
 #!/usr/bin/env python3
-"""Opens logs that are written from the format alone, whole, cut short and damaged, with the built program.
+"""Opens stores that are written from the format alone, whole, cut short and damaged, with the built program.
 
-Of a log that a stop may leave, the files that wait are delivered, and its end is mended. A damaged log
-gives status 4, and nothing is written anywhere.
+Of a store that a stop may leave, the files that wait are delivered, its log is mended, and what doesn't matter goes.
+A damaged store gives status 4, and nothing is written anywhere. Of each damage the reader in store_format.py has to
+say the same as the table here.
 """
 
-import hashlib
 import re
 import struct
 
-import log_format
-from log_format import CLOSED, OPEN, add, begin, block, drop, log
-from support import DAMAGED, DONE, ROOT, Report, find_program, names, need, need_status, new_folder, options, \
-    photo, read_files, run, write_files
+import store_format
+from store_format import (CLOSED, OPEN, PUT, SWAP_IN, Batch, Begin, Content, Damage, Expire, Session, SwapOut, Writer,
+                          block, frame, log, snapshot, state_of)
+from support import (DAMAGED, DONE, ROOT, Report, find_program, names, need, need_status, new_folder, options, photo,
+                     read_files, run, write_files)
 
-A, B, C = add("a", b"one"), add("b", b""), add("größe", "drei".encode())
-ALL = {"a": b"one", "b": b"", "größe": b"drei"}
+ABC = {"a": b"one", "b": b"", "größe": "drei".encode()}
+
+# What the worked example of docs/STORE.md is made of.
+EXAMPLE_STORE, EXAMPLE_MOMENT = 0x123456789abcde, 1000
+
+
+def three():
+    """A store with three files that wait."""
+    writer = Writer()
+    for name, content in ABC.items():
+        writer.get(name, content)
+    return writer
+
+
+THREE = three()
+BEGIN = frame(Begin(1))
+A, B, C = map(frame, THREE.entries)
+DROP = frame(Session(PUT, 1000, (1,), (), 4, 4))
+EMPTY = snapshot(Writer().state)
+WHOLE = BEGIN + A + B + C + CLOSED
+
+
+def store(log=WHOLE, snapshot=EMPTY, claims=None, number=1, **others):
+    """The files of a store with this log and snapshot; the claims are those of the three files."""
+    claims = THREE.claims.files() if claims is None else claims
+    return {f"log-{number}": log, f"snapshot-{number}": snapshot, **claims,
+            **{name.replace("_", "-"): data for name, data in others.items()}}
 
 
 def flipped(data, at, bit=0):
@@ -25,93 +51,297 @@ def flipped(data, at, bit=0):
     return bytes(changed)
 
 
-def closed(data, frame):
+def closed(data, part):
     """These bytes, with the gate of this frame closed: the frame stands behind a gate that isn't open."""
-    at = data.index(frame)
+    at = data.index(part)
     return data[:at] + CLOSED + data[at + 1:]
 
 
-# A log, and what is delivered from it.
+def first(*wanted):
+    return {name: ABC[name] for name in wanted}
+
+
+def of(number, entries, begins=None):
+    """A log of this number with these entries."""
+    return frame(Begin(number if begins is None else begins)) + b"".join(entries) + CLOSED
+
+
+def in_snapshot():
+    """A store whose snapshot has the three files; the first one is let go by an entry."""
+    writer = Writer()
+    for name, content in ABC.items():
+        writer.made(name, content)
+    return writer.start().put().files()
+
+
+def one_entry():
+    """An entry lets one file go, places another, and sets the count of a generator."""
+    writer = Writer().get("a", b"one")
+    del writer.state.files[1]
+    placed = writer.made("b", b"two")
+    writer.entries.append(Session(1, 5, (1,), (placed,), 3, 3, 0, 1, 7))
+    return writer.files()
+
+
+def twice():
+    return Writer().get("a", b"one").get("a", b"two").files()
+
+
+def named(*names):
+    """A store with a file under each of these names, or under none."""
+    writer = Writer()
+    for name in names:
+        writer.made(name or "", b"x")
+        if name is None:
+            last = writer.state.next_number - 1
+            writer.state.files[last] = writer.state.files[last]._replace(attributes=())
+    return writer.start().files()
+
+
+NONE = {}
+
+# The files of a store, and what is delivered from it.
 SOUND = {
-    "no file": (None, {}),
-    "an empty file": (b"", {}),
-    "one byte, a closed gate": (CLOSED, {}),
-    "one byte, an open gate": (OPEN, {}),
-    "a first byte that is no open gate": (b"\x00" + begin()[1:] + A, {}),
-    "a torn first byte": (b"\x18" + begin()[1:] + A, {}),
-    "an empty log": (log(), {}),
-    "three files wait": (log(A, B, C), ALL),
-    "two of three were dropped": (log(A, drop(), B, C, drop()), {"größe": b"drei"}),
-    "the same name twice, the later one counts": (log(A, add("a", b"two")), {"a": b"two"}),
-    "all were dropped": (log(A, B, C, drop(), drop(), drop()), {}),
-    "the last gate is missing": (log(A, B)[:-1], {"a": b"one", "b": b""}),
-    "the last gate is open, and the last byte": (log(A, B)[:-1] + OPEN, {"a": b"one", "b": b""}),
-    "the last gate is torn": (log(A, B)[:-1] + b"\x42", {"a": b"one", "b": b""}),
-    "half a frame behind a closed gate": (log(A) + B[1:20], {"a": b"one"}),
-    "a whole frame behind a closed gate": (closed(log(A, B), B), {"a": b"one"}),
-    "rubbish behind a closed gate": (log(A) + b"\xff" * 500, {"a": b"one"}),
-    "open gates behind a closed one": (log(A) + B + C + CLOSED, {"a": b"one"}),
-    "the Begin's gate alone behind it": (begin() + CLOSED, {}),
-    "a changed bit in an open gate: a shorter state": (flipped(log(A, B, C), len(begin() + A)), {"a": b"one"}),
+    "no file": ({}, NONE),
+    "an empty log": ({"log-1": b""}, NONE),
+    "a log of one byte, a closed gate": ({"log-1": CLOSED}, NONE),
+    "a log of one byte, an open gate": ({"log-1": OPEN}, NONE),
+    "a log whose first byte is no open gate": ({"log-1": CLOSED + BEGIN[1:] + CLOSED, "snapshot-1": EMPTY}, NONE),
+    "a log whose first byte is torn": ({"log-1": b"\x18" + BEGIN[1:] + CLOSED}, NONE),
+    "a snapshot that is torn, and no log": ({"snapshot-1": b"\xff" * 100}, NONE),
+    "a snapshot, and a log of one byte": ({"log-1": CLOSED, "snapshot-1": EMPTY}, NONE),
+    "a new store": (store(log(1), claims={}), NONE),
+    "three files wait": (store(), ABC),
+    "two of three were let go": (Writer().get("a", b"1").get("b", b"2").put(2).get("c", b"3").put(1).files(),
+                                 {"c": b"3"}),
+    "the same name twice, the later one counts": (twice(), {"a": b"two"}),
+    "all were let go": (three().put().put().put().files(), NONE),
+    "three files in the snapshot, the first was let go": (in_snapshot(), first("b", "größe")),
+    "an entry that lets a file go and places one": (one_entry(), {"b": b"two"}),
+    "files under no name or a bad one are dropped": (
+        named(None, "", ".", "..", "a/b", "nul\0", "n" * 256, "good"), {"good": b"x"}),
+    "an expiry of no file": (store(of(1, [A, B, frame(Expire(0, 7, (), 0))])), first("a", "b")),
+    "the last gate is missing": (store(WHOLE[:-1]), ABC),
+    "the last gate is open, and the last byte": (store(WHOLE[:-1] + OPEN), ABC),
+    "the last gate is torn": (store(WHOLE[:-1] + b"\x42"), ABC),
+    "half a frame behind a closed gate": (store(BEGIN + A + CLOSED + B[1:90]), first("a")),
+    "a whole frame behind a closed gate": (store(closed(WHOLE, C)), first("a", "b")),
+    "rubbish behind a closed gate": (store(BEGIN + A + CLOSED + b"\xff" * 500), first("a")),
+    "open gates behind a closed one": (store(BEGIN + A + CLOSED + B + C + CLOSED), first("a")),
+    "a changed bit in an open gate: a shorter state": (store(flipped(WHOLE, len(BEGIN + A))), first("a")),
+    "bytes past the end of a claim": (store(claims={"claim-0": b"onedrei" + b"\xff" * 9}), ABC),
+    "bytes behind the snapshot's End": (store(snapshot=EMPTY + b"\x00" * 9), ABC),
+    "a greater log of one byte": (store(log_2=OPEN), ABC),
+    "a greater log that is passed over": (store(log_9=CLOSED + WHOLE[1:]), ABC),
+    "log 7 is current": (store(of(7, [A, B, C]), number=7), ABC),
+    "lower logs and other snapshots don't matter": (
+        store(of(7, [A, B]), number=7, log_1=b"\x5a\xff", log_6=OPEN * 99, snapshot_1=b"x", snapshot_8=EMPTY),
+        first("a", "b")),
+    "other claims, batches and events don't matter": (
+        store(claim_3=b"x", claim_70000=b"y", swap_1=b"z", events_0=b"w"), ABC),
 }
 
-# Logs that stand for nothing.
+
+def ended(number=1, at=0, cause="Form", kind="log"):
+    return Damage(kind, number, at, cause)
+
+
+def changed(at, **fields):
+    """The log of the three files, of which the one at a place has other fields in its entry."""
+    entries = list(THREE.entries)
+    placed = entries[at].placed[0]._replace(**{name: value for name, value in fields.items()
+                                               if name in placed_fields()})
+    entries[at] = entries[at]._replace(placed=(placed,), **{name: value for name, value in fields.items()
+                                                            if name not in placed_fields()})
+    return store(log(1, *entries))
+
+
+def placed_fields():
+    return store_format.FlowFile._fields
+
+
+def head(**fields):
+    """A store with no entry whose Head has other fields."""
+    state = Writer().state
+    for name, value in fields.items():
+        setattr(state, name, value)
+    return store(log(1), snapshot(state), claims={})
+
+
+def counted(blocks):
+    """A snapshot of a Head and these blocks, and a right End."""
+    state = Writer().state
+    state.next_number = state.next_arrival = 9
+    return store(log(1), block(store_format.HEAD, store_format.head(state)) + b"".join(blocks)
+                 + block(store_format.END, struct.pack(">Q", 1 + len(blocks))))
+
+
+FILES = [THREE.state.files[number] for number in (1, 2, 3)]
+HEAD_SIZE = len(block(store_format.HEAD, store_format.head(Writer().state)))
+
+
+def file_blocks(*files):
+    return [block(store_format.FILE, store_format.active_file(file)) for file in files]
+
+
+ATS = [0, len(BEGIN), len(BEGIN + A), len(BEGIN + A + B), len(BEGIN + A + B + C)]
+SECOND = HEAD_SIZE + len(file_blocks(FILES[0])[0])
+BATCH = block(store_format.BATCH, store_format.batch_payload(Batch(0, 1, 2, 3, 4)))
+
+# The files of a store that stand for nothing, and the first damage.
 DAMAGE = {
-    "one bit of the first digest": flipped(log(A), len(begin()) - 1),
-    "one bit of the Begin's payload": flipped(log(A), 6),
-    "one bit of a content": flipped(log(A, B), len(begin()) + 20),
-    "one bit of a kind": flipped(log(A, B), len(begin()) + 5),
-    "one bit of the last digest": flipped(log(A, B), len(log(A, B)) - 2),
-    "a length that is too great by one": flipped(log(A, drop()), len(begin()) + 4),
-    "a length past 2^30": log(A)[:-1] + OPEN + struct.pack(">I", 2**30 + 1) + b"\x1e",
-    "an open gate with half a block behind it": log(A)[:-1] + B[:20],
-    "an open gate with one byte behind it": log(A)[:-1] + OPEN + b"\x00",
-    "a block without its last byte": (log(A)[:-1] + B)[:-1],
-    "no Begin": A + CLOSED,
-    "a Begin of another log": OPEN + block(1, struct.pack(">BQ", 0, 2)) + A + CLOSED,
-    "a Begin of another version": OPEN + block(1, struct.pack(">BQ", 1, 1)) + A + CLOSED,
-    "a Begin that stands twice": log(begin()),
-    "a drop from an empty queue": log(drop()),
-    "a drop too many": log(A, drop(), drop(), B),
-    "a drop with a payload": log(A, OPEN + block(31, b"x")),
-    "a kind that there isn't": log(A, OPEN + block(32)),
-    "an empty name": log(add("", b"x")),
-    "a name with a slash": log(add("a/b", b"x")),
-    "the name ..": log(add("..", b"x")),
-    "a name that isn't UTF-8": log(add(b"caf\xe9", b"x")),
-    "a name of 256 bytes": log(add("n" * 256, b"x")),
-    "a content that is shorter than said": log(OPEN + block(30, b"\x00\x01a\x00\x00\x00\x05four")),
-    "a content that is longer than said": log(OPEN + block(30, b"\x00\x01a\x00\x00\x00\x03four")),
-    "an add with no content's length": log(OPEN + block(30, b"\x00\x01a")),
+    # The log.
+    "one bit of the Begin's digest": (store(flipped(WHOLE, len(BEGIN) - 1)), ended(cause="Digest")),
+    "one bit of the Begin's payload": (store(flipped(WHOLE, 6)), ended(cause="Digest")),
+    "one bit of an entry": (store(flipped(WHOLE, ATS[1] + 20)), ended(at=ATS[1], cause="Digest")),
+    "one bit of a kind": (store(flipped(WHOLE, ATS[1] + 5)), ended(at=ATS[1], cause="Digest")),
+    "one bit of the last digest": (store(flipped(WHOLE, len(WHOLE) - 2)), ended(at=ATS[3], cause="Digest")),
+    "a length that is too great by one": (store(flipped(BEGIN + A + CLOSED, ATS[1] + 4, 0)),
+                                          ended(at=ATS[1], cause="Digest")),
+    "a length past the end": (store(flipped(BEGIN + A + CLOSED, ATS[1] + 3)), ended(at=ATS[1], cause="Short")),
+    "a length past 2^30": (store(WHOLE[:-1] + OPEN + struct.pack(">I", 2**30 + 1) + b"\x02"), ended(at=ATS[4])),
+    "an open gate with half a block behind it": (store(BEGIN + A + B[:90]), ended(at=ATS[2], cause="Short")),
+    "an open gate with one byte behind it": (store(WHOLE[:-1] + OPEN + b"\0"), ended(at=ATS[4], cause="Short")),
+    "a block without its last byte": (store(WHOLE[:-2]), ended(at=ATS[3], cause="Short")),
+    "no Begin": (store(A + CLOSED), ended()),
+    "a Begin of another log": (store(of(1, [A], begins=2)), ended()),
+    "a Begin of version 0, as the first path has it": (
+        store(OPEN + block(1, struct.pack(">BQ", 0, 1)) + CLOSED), ended()),
+    "a Begin that stands twice": (store(of(1, [A, BEGIN])), ended(at=ATS[2])),
+    "a kind that there isn't": (store(of(1, [A, OPEN + block(30)])), ended(at=ATS[2])),
+    "an entry with a byte left over": (store(of(1, [OPEN + block(2, A[6:-32] + b"\0")])), ended(at=ATS[1])),
+    "an entry with a byte missing": (store(of(1, [OPEN + block(2, A[6:-33])])), ended(at=ATS[1])),
+    "a greater log is damaged": (store(log_3=OPEN + b"x"), ended(3, cause="Short")),
+    # Fields that have no reading.
+    "a file of number 0": (changed(1, number=0), ended(at=ATS[2])),
+    "a file of number 2^62": (changed(1, number=2**62), ended(at=ATS[2])),
+    "a file of arrival 0": (changed(1, arrival=0), ended(at=ATS[2])),
+    "a slot past the last": (changed(1, content=FILES[1].content._replace(slot=65_536)), ended(at=ATS[2])),
+    "a content of more than 16 MiB": (changed(1, content=FILES[1].content._replace(size=2**24 + 1)), ended(at=ATS[2])),
+    "the attribute uuid": (changed(1, attributes=(("uuid", "x"),)), ended(at=ATS[2])),
+    "an empty key": (changed(1, attributes=(("", "x"),)), ended(at=ATS[2])),
+    "a key of 256 bytes": (changed(1, attributes=(("k" * 256, "x"),)), ended(at=ATS[2])),
+    "a key twice": (changed(1, attributes=(("k", "x"), ("k", "x"))), ended(at=ATS[2])),
+    "attributes of 65,537 bytes": (changed(1, attributes=(("k", "v" * 65_528),)), ended(at=ATS[2])),
+    "a value that isn't UTF-8": (store(of(1, [OPEN + block(2, A[6:-32].replace(b"./", b"\xff/"))])), ended(at=ATS[1])),
+    "no generator, and a count": (changed(1, count=1), ended(at=ATS[2])),
+    # The entries' fit.
+    "a file goes that isn't there": (store(of(1, [DROP])), ended(at=ATS[1])),
+    "a file goes twice": (store(of(1, [A, B, C, DROP, DROP])), ended(at=ATS[4] + len(DROP))),
+    "a file goes twice in one entry": (changed(1, gone=(1, 1)), ended(at=ATS[2])),
+    "a number that is taken": (changed(1, number=1), ended(at=ATS[2])),
+    "an arrival that is taken": (changed(1, arrival=1), ended(at=ATS[2])),
+    "a number that isn't below the next": (changed(1, number=3), ended(at=ATS[2])),
+    "an arrival that isn't below the next": (changed(1, arrival=3), ended(at=ATS[2])),
+    "a connection that there isn't": (changed(1, connection=1), ended(at=ATS[2])),
+    "a generator that there isn't": (changed(1, generator=2), ended(at=ATS[2])),
+    "a counter that falls": (changed(2, next_number=2, number=1, gone=(1,)), ended(at=ATS[3])),
+    "an expiry of a file that isn't there": (store(of(1, [A, frame(Expire(0, 7, (2,), 1))])), ended(at=ATS[2])),
+    "the return of a batch that isn't swapped out": (
+        store(of(1, [A, OPEN + block(SWAP_IN, struct.pack(">HQ", 0, 1))])), ended(at=ATS[2])),
+    # The snapshot.
+    "no snapshot": (store(snapshot=b""), ended(kind="snapshot", cause="Short")),
+    "a snapshot of another number": (store(of(2, [A]), EMPTY, number=2) | {"snapshot-2": b"", "snapshot-1": EMPTY},
+                                     ended(2, kind="snapshot", cause="Short")),
+    "a Head cut short": (store(snapshot=EMPTY[:60]), ended(kind="snapshot", cause="Short")),
+    "one bit of a Head": (store(snapshot=flipped(EMPTY, 20)), ended(kind="snapshot", cause="Digest")),
+    "no End": (store(snapshot=EMPTY[:HEAD_SIZE]), ended(at=HEAD_SIZE, kind="snapshot", cause="Short")),
+    "an End that counts wrong": (
+        store(snapshot=EMPTY[:HEAD_SIZE] + block(13, struct.pack(">Q", 2))), ended(at=HEAD_SIZE, kind="snapshot")),
+    "no Head": (store(snapshot=EMPTY[HEAD_SIZE:]), ended(kind="snapshot")),
+    "two Heads": (store(snapshot=EMPTY[:HEAD_SIZE] + EMPTY), ended(at=HEAD_SIZE, kind="snapshot")),
+    "a store id of 2^60": (head(store=2**60), ended(kind="snapshot")),
+    "a next number of 0": (head(next_number=0), ended(kind="snapshot")),
+    "a next arrival of 0": (head(next_arrival=0), ended(kind="snapshot")),
+    "a next batch of 0": (head(next_batch=0), ended(kind="snapshot")),
+    "a next number of 2^62": (head(next_number=2**62), ended(kind="snapshot")),
+    "a connection twice": (head(connections=("c1", "c1")), ended(kind="snapshot")),
+    "this flow, and another connection": (head(connections=("c2",)), ended(kind="snapshot")),
+    "this flow, and another number of processors": (head(counts=(0,)), ended(kind="snapshot")),
+    "files that don't ascend": (counted(file_blocks(FILES[1], FILES[0])), ended(at=SECOND, kind="snapshot")),
+    "a file twice": (counted(file_blocks(FILES[0], FILES[0])), ended(at=SECOND, kind="snapshot")),
+    "an arrival twice": (
+        counted(file_blocks(FILES[0], FILES[1]._replace(arrival=1))), ended(at=SECOND, kind="snapshot")),
+    "an arrival of 0": (counted(file_blocks(FILES[0]._replace(arrival=0))), ended(at=HEAD_SIZE, kind="snapshot")),
+    "a file in a connection that there isn't": (
+        counted(file_blocks(FILES[0]._replace(connection=1))), ended(at=HEAD_SIZE, kind="snapshot")),
+    "a file past the next number": (
+        counted(file_blocks(FILES[0]._replace(number=9))), ended(at=HEAD_SIZE, kind="snapshot")),
+    "a batch, and a file behind it": (counted([BATCH, *file_blocks(FILES[0])]),
+                                      ended(at=HEAD_SIZE + len(BATCH), kind="snapshot")),
+    # Batches, contents and events.
+    "a batch in the snapshot": (counted([BATCH]), ended(kind="swap", cause="Short")),
+    "a batch that an entry swaps out": (store(of(1, [A, frame(SwapOut(0, 1, (1,)))]), swap_1=b"x"),
+                                        ended(kind="swap", cause="Short")),
+    "a content cut short": (store(claims={"claim-0": b"onedre"}), ended(0, 3, "Short", "claim")),
+    "no claim": (store(claims={}), ended(0, 0, "Short", "claim")),
+    "one bit of a content": (store(claims={"claim-0": b"onedrej"}), ended(0, 3, "Digest", "claim")),
+    "a content in another claim": (
+        changed(0, content=Content(5, 0, 3, FILES[0].content.digest)), ended(5, 0, "Short", "claim")),
+    "a last event past 0": (head(last_event=1), ended(0, 0, "Short", "events")),
+    "a last event past 0 in an entry": (changed(2, last_event=1), ended(0, 0, "Short", "events")),
+    # Which of two is the first.
+    "log before snapshot": (store(flipped(WHOLE, 20), snapshot=b""), ended(cause="Digest")),
+    "snapshot before fit": (store(of(1, [DROP]), snapshot=b""), ended(kind="snapshot", cause="Short")),
+    "batches before fit": (store(of(1, [DROP, frame(SwapOut(0, 4, ())), frame(SwapOut(0, 2, ()))])),
+                           ended(2, kind="swap", cause="Short")),
+    "fit before contents": (store(of(1, [A, A]), claims={}), ended(at=ATS[2])),
+    "contents before events": (changed(2, last_event=1) | {"claim-0": b""}, ended(0, 0, "Short", "claim")),
+    # No log is current.
+    "no log, and a claim": ({"claim-3": b"x", "claim-2": b"x"}, ended(2, kind="claim")),
+    "a closed first gate, and a claim": (store(CLOSED + WHOLE[1:]), ended(0, kind="claim")),
+    "no log, and a greater one that is passed over": ({"log-2": CLOSED, "snapshot-3": EMPTY}, ended(2)),
+    "no log, and a greater snapshot": ({"snapshot-2": EMPTY, "swap-1": b"x"}, ended(2, kind="snapshot")),
+    "no log, and a batch": ({"swap-1": b"x", "claim-0": b"x"}, ended(kind="swap")),
+    "no log, and events": ({"events-0": b"x"}, ended(0, kind="events")),
 }
 
 
-def put_log(folder, data):
-    for part in ("store", "in", "out"):
+def put_store(folder, files):
+    for part in ("in", "out"):
         (folder / part).mkdir()
-    if data is not None:
-        (folder / "store" / "log-1").write_bytes(data)
+    write_files(folder / "store", {**files, "lock": b"\0"})
+
+
+def is_at_rest(folder):
+    """The store stands for no file, its log for that state alone, and there is no file that doesn't matter."""
+    files = store_format.files_in(folder / "store")
+    state = state_of(files)
+    need(not isinstance(state, Damage), f"the store is damaged: {state}")
+    need(state.log is not None and not state.files, "the store isn't an empty one")
+    log = files[f"log-{state.log}"]
+    need(log[state.end:] == CLOSED, "the log isn't at rest")
+    need(names(folder / "store") == sorted(["lock", f"log-{state.log}", f"snapshot-{state.log}"]),
+         f"store holds {names(folder / 'store')}")
+    return state
 
 
 def sound(program, parent, case):
-    data, delivered = SOUND[case]
+    files, delivered = SOUND[case]
+    state = state_of(files)
+    need(not isinstance(state, Damage), f"the reader says {state}")
+    need(state.delivered() == delivered, f"the reader says {state.queued()}")
     with new_folder(parent) as folder:
-        put_log(folder, data)
+        put_store(folder, files)
         need_status(run(program, folder), DONE)
         need(read_files(folder / "out") == delivered, f"out holds {read_files(folder / 'out')}")
-        mended = (folder / "store" / "log-1").read_bytes()
-        need(log_format.read(mended) == [] and mended[-1:] == CLOSED, "the log isn't at rest afterwards")
+        after = is_at_rest(folder)
+        need((after.log, after.counts, after.next_number) == (state.log or 1, state.counts, state.next_number),
+             "it keeps something else")
         write_files(folder / "in", {"later": b"more"})
         need_status(run(program, folder), DONE)
         need(read_files(folder / "out") == {**delivered, "later": b"more"}, "a later file isn't delivered")
+        need(is_at_rest(folder).next_number == state.next_number + 1, "the later file isn't the next one")
 
 
 def damaged(program, parent, case):
+    files, damage = DAMAGE[case]
+    found = state_of(files)
+    need(found == damage, f"the reader says {found}")
     with new_folder(parent) as folder:
-        put_log(folder, DAMAGE[case])
+        put_store(folder, files)
         write_files(folder / "in", {"waits": b"untouched"})
         write_files(folder / "out", {"a": b"from before"})
-        (folder / "store" / "lock").write_bytes(b"\0")
         before = photo(folder)
         need_status(run(program, folder), DAMAGED)
         need(photo(folder) == before, "something was written")
@@ -130,50 +360,38 @@ def dumps():
     return found
 
 
-def session_example(_program, _parent):
-    """The block of a session in the docs is what the format says: its length, and the digest of kind and payload."""
-    data = dumps()[1]
-    size = int.from_bytes(data[:4], "big")
-    need(len(data) == size + 37, f"a block of {size} bytes of payload has {len(data)} bytes")
-    need(data[4] == 2, f"kind {data[4]}")
-    need(hashlib.sha256(data[4:-32]).digest() == data[-32:], "another digest")
-    need(data[5:-32] == session_payload(), "it isn't what the format says")
-
-
-def session_payload():
-    """That session's payload, from the format alone."""
-    file = b"".join([
-        number(1, 8), number(1, 2), number(8, 2), b"filename", number(5, 4), b"a.txt",
-        number(0, 4), number(0, 8), number(2, 8), hashlib.sha256(b"hi").digest(),
-        number(1000, 8), number(0, 8), number(1, 8),
-    ])
-    return b"".join([
-        number(0, 2), number(1000, 8), number(0, 4), number(1, 4), number(0, 2), file,
-        number(2, 8), number(2, 8), number(1, 8), number(65535, 2), number(0, 8),
-    ])
-
-
-def number(value, size):
-    return value.to_bytes(size, "big")
-
-
 def example(program, parent):
-    """The worked example of the docs is what the format says, and what the program writes."""
-    data = dumps()[0]
-    need(data == log(add("a.txt", b"hi"), drop()), "it isn't what the format says")
+    """The worked example of the docs is what the format says, and what the program writes but for id and moments."""
+    writer = Writer(EXAMPLE_STORE, EXAMPLE_MOMENT).get("a.txt", b"hi").put()
+    need(dumps() == [writer.files()["snapshot-1"], writer.log()], "it isn't what the format says")
     with new_folder(parent) as folder:
         write_files(folder / "in", {"a.txt": b"hi"})
         need_status(run(program, folder), DONE)
-        need((folder / "store" / "log-1").read_bytes() == data, "it isn't what the program writes")
+        state = is_at_rest(folder)
+        files = store_format.files_in(folder / "store")
+    got, put = state.entries
+    again = Writer(state.store, got.moment).get("a.txt", b"hi")
+    again.moment = put.moment
+    again.put()
+    need(files == {"log-1": again.log(), "snapshot-1": again.first}, "it isn't what the program writes")
+    need(0 < got.moment <= put.moment, f"moments {got.moment} and {put.moment}")
+
+
+def smaller_examples(_program, _parent):
+    """The smaller examples of the docs, in one line each."""
+    text = (ROOT / "docs" / "STORE.md").read_text()
+    for what, data in (("the attributes", store_format.attributes([("filename", "a.txt")])),
+                       ("the block of kind 0x61", block(0x61, b"bc"))):
+        need(f"`{data.hex()}`" in text, f"{what} should be {data.hex()}")
 
 
 def changed_bits(program, parent):
     """One bit of each byte of a log at rest is changed. Only a gate's is not told, and ends the log there."""
-    data = log(A, B)
-    gates = {0: {}, len(begin()): {}, len(begin() + A): {"a": b"one"}, len(data) - 1: {"a": b"one", "b": b""}}
+    data = BEGIN + A + B + CLOSED
+    gates = {ATS[1]: NONE, ATS[2]: first("a"), ATS[3]: first("a", "b")}
     for at in range(len(data)):
         with new_folder(parent) as folder:
-            put_log(folder, flipped(data, at, at % 8))
+            put_store(folder, store(flipped(data, at, at % 8)))
             ended = run(program, folder)
             what = f"byte {at}, bit {at % 8}"
             if at in gates:
@@ -188,9 +406,9 @@ def main():
     given = options(__doc__).parse_args()
     program = find_program(given.program)
     report = Report()
-    print("logs: written from the format alone", flush=True)
+    print("logs: stores written from the format alone", flush=True)
     report.case("the worked example of docs/STORE.md", example, program, given.folder)
-    report.case("the block of a session in docs/STORE.md", session_example, program, given.folder)
+    report.case("the smaller examples of docs/STORE.md", smaller_examples, program, given.folder)
     report.case("a changed bit is told, unless it is a gate's", changed_bits, program, given.folder)
     for case in SOUND:
         report.case(f"opens: {case}", sound, program, given.folder, case)

@@ -17,7 +17,7 @@ import re
 import shutil
 import subprocess
 
-import log_format
+import store_format
 from support import (DONE, Report, Wrong, find_program, names, need, new_folder, options, parse_seeded, read_files, run,
                      write_files)
 
@@ -248,6 +248,12 @@ def lay(folder, path, done):
 
 # The trial.
 
+def is_empty(files):
+    """Whether a store's files stand for no file, and no claim is left."""
+    state = store_format.state_of(files)
+    return not isinstance(state, store_format.Damage) and not state.files and not store_format.claims_in(files)
+
+
 def recovers(program, parent, top, what):
     """Lays one image, and runs the program on it. Says what is wrong, or None."""
     with new_folder(parent) as folder:
@@ -263,8 +269,9 @@ def recovers(program, parent, top, what):
             return f"{what}: not delivered as sent: {lost}"
         if names(folder / "out") != sorted(FILES):
             return f"{what}: out holds {names(folder / 'out')}"
-        if log_format.read((folder / "store" / "log-1").read_bytes()):
-            return f"{what}: a file still waits"
+        left = store_format.files_in(folder / "store")
+        if not is_empty(left):
+            return f"{what}: a file still waits, or a claim is left: {sorted(left)}"
     return None
 
 
@@ -292,12 +299,12 @@ def recorded(program, parent, body, store=None):
         return body(start, record(program, folder))
 
 
-def nothing_is_lost(program, parent, picks):
+def nothing_is_lost(program, parent, picks, store=None):
     def body(start, calls):
         wrong, tried = stops(program, parent, durable_tree(start), calls, picks)
         need(not wrong, f"{len(wrong)} of {tried} stops: {wrong[:3]}")
         return f"{len(calls)} calls, {tried} stops"
-    return recorded(program, parent, body)
+    return recorded(program, parent, body, store)
 
 
 def nothing_is_lost_twice(program, parent, picks, rounds):
@@ -319,17 +326,28 @@ def nothing_is_lost_twice(program, parent, picks, rounds):
     return recorded(program, parent, body)
 
 
+def unmended():
+    """A store with a file that waits, and with all that an opening mends or takes away."""
+    writer = store_format.Writer().get("a.txt", FILES["a.txt"])
+    files = writer.files()
+    log, claim = files["log-1"], files["claim-0"]
+    return {**files, "log-1": log[:-1] + b"\x42" + log[1:], "claim-0": claim + b"more", "claim-5": b"other",
+            "log-0": log, "log-3": store_format.CLOSED + log[1:], "snapshot-3": files["snapshot-1"], "swap-1": b"x",
+            "events-0": b"x"}
+
+
 def after_a_refused_sync(program, parent, picks, mark):
-    """The system refused to sync the first file's entry, so that the file is in the log that is read and in the
+    """The system refused to sync the first file's entry, so that the file is in the store that is read and in the
     inbox. A run goes on there, and the power is cut."""
-    held = log_format.log(log_format.add("a.txt", FILES["a.txt"]))
+    writer = store_format.Writer().get("a.txt", FILES["a.txt"])
+    files, durable = writer.files(), store_format.log(1)
 
     def body(start, calls):
         top = durable_tree(start)
-        log = Unreached(log_format.log(), held)
-        top.held[b"store"].held[b"log-1"] = top.held[b"store"].durable[b"log-1"] = log
+        store = top.held[b"store"]
+        store.held[b"log-1"] = store.durable[b"log-1"] = Unreached(durable, files["log-1"])
         return stops(program, parent, top, calls, picks)
-    return recorded(program, parent, body, {"log-1": held, "lock": mark})
+    return recorded(program, parent, body, {**files, "lock": mark})
 
 
 def nothing_is_lost_behind_a_mark(program, parent, picks):
@@ -348,7 +366,8 @@ def is_sync_of(call, kind):
     if call[0] != "sync":
         return False
     path = call[1]
-    return {"log": path == b"store/log-1", "store": path == b"store", "out": path == b"out",
+    return {"log": path == b"store/log-1", "snapshot": path == b"store/snapshot-1",
+            "claim": path.startswith(b"store/claim-"), "store": path == b"store", "out": path == b"out",
             "part": path.startswith(b"out/.flow-aside-")}[kind]
 
 
@@ -376,12 +395,14 @@ def main():
                 given.picks)
     report.case("the power is cut again while a run recovers", nothing_is_lost_twice, program, given.folder,
                 max(1, given.picks // 10), max(2, given.picks // 2))
+    report.case("the power is cut while a store is mended", nothing_is_lost, program, given.folder, given.picks,
+                unmended())
     report.case("the power is cut behind a refused sync that left its mark, and nothing is lost",
                 nothing_is_lost_behind_a_mark, program, given.folder, given.picks)
     report.case("without the mark of a refused sync a loss is found", a_loss_is_found_without_it, program,
                 given.folder, min(max(given.picks, 4), 20))
-    for kind, text in (("log", "the log"), ("store", "the store's folder"), ("part", "the file put aside"),
-                       ("out", "the outbox's folder")):
+    for kind, text in (("log", "the log"), ("snapshot", "the snapshot"), ("claim", "the contents"),
+                       ("store", "the store's folder"), ("part", "the file put aside"), ("out", "the outbox's folder")):
         report.case(f"without the syncs of {text} a loss is found", a_loss_is_found, program, given.folder,
                     min(max(given.picks, 4), 20), kind)
     report.end()

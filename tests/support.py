@@ -18,7 +18,7 @@ import time
 ROOT = pathlib.Path(__file__).resolve().parent.parent
 
 # Statuses of the program.
-DONE, USAGE, DAMAGED, DISK, INBOX, OUTBOX, MEMORY = 0, 2, 4, 5, 6, 7, 12
+DONE, USAGE, OTHER_FLOW, DAMAGED, DISK, INBOX, OUTBOX, LIMIT, MEMORY = 0, 2, 3, 4, 5, 6, 7, 11, 12
 
 # The longest that a single run may take, in seconds.
 LONGEST = 600

@@ -11,21 +11,38 @@ import os
 import re
 import subprocess
 
-from support import (DISK, DONE, INBOX, OUTBOX, Report, find_program, names, need, need_status, new_folder, options,
-                     photo, read_files, run, write_files)
+import store_format
+from support import (DAMAGED, DISK, DONE, INBOX, OTHER_FLOW, OUTBOX, Report, find_program, names, need, need_status,
+                     new_folder, options, photo, read_files, run, write_files)
 
 FILES = {"a": b"first", "b": b"", "c": bytes(range(256)) * 9}
 
 FOLDERS = [("fsync", ".")] * 3
 LOG = ("fdatasync", "store/log-1")
+SNAPSHOT = ("fdatasync", "store/snapshot-1")
+CLAIM = ("fdatasync", "store/claim-0")
 STORE = ("fsync", "store")
 
-# What is asked for before the first file: main's three folders, what stands in the store, and the log's Begin.
-OPENING_NEW = [*FOLDERS, STORE, LOG, STORE, LOG, LOG]
-OPENING = [*FOLDERS, LOG, STORE]
+# What is asked for before the first file: main's three folders, what stands in the store, and where there is none the
+# snapshot, a log of one closed gate, its Begin, and its first gate open.
+OPENING_NEW = [*FOLDERS, STORE, SNAPSHOT, STORE, LOG, STORE, LOG, LOG]
+OPENING = [*FOLDERS, LOG, SNAPSHOT, STORE]
 
-# A file is added behind a closed gate, and the gate is opened; it is put; it is dropped in the same way.
-FILE = [LOG, LOG, ("fsync", "out/.flow-aside-0/part"), ("fsync", "out"), LOG, LOG]
+# An entry is added behind a closed gate, and the gate is opened.
+ENTRY = [LOG, LOG]
+
+# A file is taken by an entry, with its content at the first of its syncs; it is put; an entry lets it go.
+PUT = [("fsync", "out/.flow-aside-0/part"), ("fsync", "out")]
+FILE = [LOG, CLAIM, LOG, *PUT, *ENTRY]
+# The first content of a claim makes it, which the store's folder has to keep; an empty content has no bytes.
+FILE_FIRST = [LOG, CLAIM, STORE, LOG, *PUT, *ENTRY]
+FILE_EMPTY = [*ENTRY, *PUT, *ENTRY]
+
+# At the end the claims go.
+CLOSING = [STORE]
+
+# What FILES asks for, by name.
+ALL = [*FILE_FIRST, *FILE_EMPTY, *FILE, *CLOSING]
 
 # A marked store's files are written anew under this name.
 COPY = ("fsync", "store/.flow-aside")
@@ -43,12 +60,20 @@ def traced(program, folder, *asked):
         return child.returncode, syncs
 
 
+def in_any_order(syncs):
+    """These syncs, those of the files that stand in the store at the start without their paths: the folder lists them
+    in any order."""
+    first = syncs.index(STORE) if STORE in syncs else len(syncs)
+    return [(kind, None if len(FOLDERS) <= place < first else path) for place, (kind, path) in enumerate(syncs)]
+
+
 def refused(program, folder, syncs, number):
     """Runs the program with one of its syncs refused, and gives its status."""
     kind = syncs[number][0]
     when = sum(earlier == kind for earlier, _ in syncs[:number + 1])
     status, asked = traced(program, folder, "-e", f"inject={kind}:error=EIO:when={when}")
-    need(asked[:number + 1] == syncs[:number + 1], f"the run asked for other syncs: {asked[:number + 1]}")
+    need(in_any_order(asked)[:number + 1] == in_any_order(syncs)[:number + 1]
+         or in_any_order(asked) == in_any_order(syncs[:number + 1]), f"other syncs are asked for: {asked[:number + 1]}")
     return status
 
 
@@ -76,10 +101,15 @@ def inodes(folder):
 
 def delivers(program, folder):
     need_status(run(program, folder), DONE)
+    has_delivered(folder)
+
+
+def has_delivered(folder):
     need(names(folder / "out") == sorted(FILES), f"out holds {names(folder / 'out')}")
     need(read_files(folder / "out") == FILES, "a file of out has other bytes")
     need(names(folder / "in") == [], f"in holds {names(folder / 'in')}")
     need(mark(folder) == b"\0", f"the lock holds {mark(folder)}")
+    need(names(folder / "store") == ["lock", "log-1", "snapshot-1"], f"store holds {names(folder / 'store')}")
 
 
 class Cases:
@@ -102,11 +132,59 @@ class Cases:
             write_files(folder / "in", {f"{number}": b"x" for number in range(count)})
             status, syncs = traced(self.program, folder)
             need(status == DONE, f"status {status}")
-            need(syncs == [*opening, *FILE * count], f"{count} files: {syncs}")
+            each = [*FILE_FIRST, *FILE * (count - 1), *CLOSING] if count else []
+            need(in_any_order(syncs) == in_any_order([*opening, *each]), f"{count} files: {syncs}")
 
     def of_a_store(self):
         for count in (0, 1, 5):
             self.asks_for(count, OPENING, lambda folder: need_status(run(self.program, folder), DONE))
+
+    def of_all_kinds(self):
+        with self.folder() as folder:
+            write_files(folder / "in", FILES)
+            status, syncs = traced(self.program, folder)
+            need(status == DONE and syncs == [*OPENING_NEW, *ALL], f"status {status}, {syncs}")
+
+    def of_a_queue(self):
+        """What waits is put and let go: two syncs of the outbox and two of the log for each file."""
+        writer = store_format.Writer()
+        for name, content in FILES.items():
+            writer.get(name, content)
+        with self.folder() as folder:
+            write_files(folder / "store", writer.files())
+            status, syncs = traced(self.program, folder)
+            need(status == DONE, f"status {status}")
+            wanted = [*FOLDERS, LOG, SNAPSHOT, CLAIM, STORE, *[*PUT, *ENTRY] * len(FILES), *CLOSING]
+            need(in_any_order(syncs) == in_any_order(wanted), f"{syncs}")
+
+    def of_a_mended_store(self):
+        """The log is cut behind its last gate, then the gate is closed; a greater log is cut to a byte; then what
+        doesn't matter goes, which the next sync makes durable with the first entry."""
+        files = store_format.Writer().get("a", b"one").files()
+        log, claim = files["log-1"], files["claim-0"]
+        files |= {"log-1": log[:-1] + b"\x42tail", "claim-0": claim + b"more", "log-3": b"\0" + log[1:],
+                  "claim-9": b"x"}
+        with self.folder() as folder:
+            write_files(folder / "store", files)
+            status, syncs = traced(self.program, folder)
+            need(status == DONE, f"status {status}")
+            standing = [("fdatasync", f"store/{name}") for name in files]
+            wanted = [*FOLDERS, *standing, STORE, LOG, LOG, ("fdatasync", "store/log-3"), *PUT, LOG, CLAIM, STORE, LOG,
+                      *CLOSING]
+            need(in_any_order(syncs) == in_any_order(wanted), f"{syncs}")
+
+    def of_what_is_not_opened(self):
+        """Damage and another flow's store: the opening's first sync, and none behind it."""
+        other = store_format.Writer()
+        other.state.flow = bytes(32)
+        torn = store_format.Writer().get("a", b"one").files() | {"claim-0": b"two"}
+        for files, wanted in ((other.start().files(), OTHER_FLOW), (torn, DAMAGED)):
+            with self.folder() as folder:
+                write_files(folder / "store", files)
+                status, syncs = traced(self.program, folder)
+                need(status == wanted, f"status {status}")
+                standing = [("fdatasync", f"store/{name}") for name in files]
+                need(in_any_order(syncs) == in_any_order([*FOLDERS, *standing, STORE]), f"{syncs}")
 
     # Each is refused alone.
 
@@ -130,15 +208,20 @@ class Cases:
         # A mark stays until the store was written anew, which the syncs of its copies and of the folder end.
         left = b"\1" if is_store(syncs[number]) else mark_left(syncs, number, was)
         need(mark(folder) == left, f"{what}: the lock holds {mark(folder)}")
-        before = inodes(folder) if (folder / "store").exists() else {}
+        before = names(folder / "store") if (folder / "store").exists() else []
         need(".flow-aside" not in before, f"{what}: a copy is left")
-        delivers(self.program, folder)
-        after = inodes(folder)
-        for name, inode in before.items():
-            need((after[name] != inode) == (left == b"\1"), f"{what}: {name} had inode {inode}, and has {after[name]}")
+        self.delivers_anew(folder, len(before) - 1 if left == b"\1" else 0, what)
         stays = photo(folder)
         delivers(self.program, folder)
         need(photo(folder) == stays, f"{what}: the third run changed something")
+
+    def delivers_anew(self, folder, copies, what):
+        """The next run delivers, and first writes so many files of the store anew."""
+        status, syncs = traced(self.program, folder)
+        need(status == DONE, f"{what}: status {status} of the second run")
+        need(syncs.count(COPY) == copies, f"{what}: {syncs.count(COPY)} files are written anew, and not {copies}")
+        need(syncs[len(FOLDERS):len(FOLDERS) + copies] == [COPY] * copies, f"{what}: the opening asks for {syncs[:8]}")
+        has_delivered(folder)
 
     def in_a_new_folder(self):
         return self.each_refused(lambda folder: write_files(folder / "in", FILES))
@@ -153,31 +236,33 @@ class Cases:
         return self.each_refused(self.marked)
 
     def marked(self, folder):
-        """A store with three files, the log with entries among them, and a sync of it that was refused."""
+        """A store that took the first of three files, and of which the sync behind that entry's gate was refused."""
         write_files(folder / "in", FILES)
-        status = refused(self.program, folder, [*OPENING_NEW, *FILE], len(OPENING_NEW) + 1)
+        status = refused(self.program, folder, [*OPENING_NEW, *ALL], len(OPENING_NEW) + FILE_FIRST.index(STORE) + 1)
         need(status == DISK and mark(folder) == b"\1", f"status {status}, and the lock holds {mark(folder)}")
-        write_files(folder / "store", {"claim-7": b"content" * 30_000, "events-0": b""})
+        need(names(folder / "store") == ["claim-0", "lock", "log-1", "snapshot-1"], f"{names(folder / 'store')}")
 
     # What a mark has the next run do.
 
     def every_file_anew(self):
         with self.folder() as folder:
             self.marked(folder)
-            os.chmod(folder / "store" / "claim-7", 0o600)
+            for name in ("log-1", "snapshot-1"):
+                os.chmod(folder / "store" / name, 0o600)
+            # Files that don't matter are written anew, too, before they go; other entries aren't.
             others = {"notes": b"mine", "log-01": b"x"}
-            write_files(folder / "store", others)
-            before, held = inodes(folder), read_files(folder / "store")
+            write_files(folder / "store", {**others, "claim-7": b"content" * 30_000, "snapshot-0": b"x"})
+            before = inodes(folder)
             status, syncs = traced(self.program, folder)
             need(status == DONE, f"status {status}")
-            need(syncs[3:7] == [COPY, COPY, COPY, STORE], f"the opening asks for {syncs[:8]}")
-            delivers(self.program, folder)
-            after, holds = inodes(folder), read_files(folder / "store")
-            need(sorted(after) == sorted(before), f"store holds {sorted(after)}")
-            for name in before:
+            need(syncs[3:9] == [*[COPY] * 5, STORE], f"the opening asks for {syncs[:10]}")
+            after = inodes(folder)
+            need(sorted(after) == sorted([*others, "log-1", "snapshot-1"]), f"store holds {sorted(after)}")
+            for name in after:
                 need((after[name] != before[name]) == (name not in others), f"{name} has inode {after[name]}")
-                need(name == "log-1" or holds[name] == held[name], f"{name} has other bytes")
-            need(os.lstat(folder / "store" / "claim-7").st_mode & 0o777 == 0o600, "a file may be read by others now")
+            need(read_files(folder / "out") == FILES, "a file of out has other bytes")
+            for name in ("log-1", "snapshot-1"):
+                need(os.lstat(folder / "store" / name).st_mode & 0o777 == 0o600, "a file may be read by others now")
 
     def left_copy(self):
         """What a stop left of a copy goes, with the mark or without it."""
@@ -186,7 +271,6 @@ class Cases:
                 (self.marked if marked else lambda folder: write_files(folder / "in", FILES))(folder)
                 write_files(folder / "store", {".flow-aside": b"half"})
                 delivers(self.program, folder)
-                need(".flow-aside" not in names(folder / "store"), "the copy is left")
 
     def copy_refused(self):
         """Where the copy can't be made the files stand, and so does the mark."""
@@ -225,8 +309,13 @@ def main():
     cases = Cases(find_program(given.program), given.folder)
     report = Report()
     for text, body in (
-            ("the syncs of a run in a new folder: the opening's, and six for each file", cases.of_a_new_store),
+            ("the syncs of a run in a new folder: the opening's, seven for each further file, and the end's",
+             cases.of_a_new_store),
             ("the syncs of a run over a store that stands", cases.of_a_store),
+            ("the syncs of an empty file, and of the first content of a claim", cases.of_all_kinds),
+            ("the syncs of a run over a store in which files wait", cases.of_a_queue),
+            ("the syncs of a run over a store that has to be mended", cases.of_a_mended_store),
+            ("a damaged store and another flow's: the opening's first sync alone", cases.of_what_is_not_opened),
             ("each sync of a run in a new folder is refused alone", cases.in_a_new_folder),
             ("each sync of a run over a store that stands is refused alone", cases.in_a_store_that_stands),
             ("each sync of a run that writes a store anew is refused alone", cases.in_a_marked_store),

@@ -1,6 +1,6 @@
 -- Behind a settled session the queues have the files that are left and those that are placed, and no other.
-use Rattle.std.proofs.Common.{◌≡◌, ℕ, ◌+◌, ◌<◌, ◌==◌, List, [], ◌∷◌, length, map, refl, sym, ap, ◌∙◌, arith}
-use Rattle.std.specs.Prelude.{All, filter, fold}
+use Rattle.std.proofs.Common.{◌≡◌, ℕ, ◌+◌, ◌<◌, ◌==◌, List, [], ◌∷◌, length, map, refl, ap, ◌∙◌, arith}
+use Rattle.std.specs.Prelude.{All, filter}
 use Rattle.std.specs.List.{enumerate_from, flat_map}
 use Rattle.flowfile_record.specs.Stored.{Kept}
 use Rattle.flowfile_record.specs.declared.change.Settled.{Settled}
@@ -8,7 +8,7 @@ use Rattle.flowfile_record.specs.declared.content.ContentRef.{ContentRef}
 use Rattle.flowfile_record.specs.declared.stored.ActiveFile.{ActiveFile}
 use Rattle.flowfile_record.specs.declared.stored.Placed.{Placed}
 use Rattle.kept_state.specs.Applied.{left_after}
-use Rattle.machine_model.specs.Changing.{placed_file, placed_into, queue_after, state_after, with_arrival}
+use Rattle.machine_model.specs.Changing.{placed_file, placed_into, queue_after, state_after}
 use Rattle.machine_model.specs.State.{QueuedFile}
 use Rattle.machine_model.specs.Stepping.{without_files}
 use Rattle.machine_model.specs.Valid.{files_of_all}

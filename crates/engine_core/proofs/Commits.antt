@@ -1,5 +1,5 @@
 -- A settled session may be handed to the store, and makes of its state what the machine makes.
-use Rattle.std.proofs.Common.{◌≡◌, Bool, true, false, ◌||◌, ℕ, ◌+◌, ◌^◌, ◌<◌, ◌≤◌, List, [], ◌∷◌, get_or, length, map, refl, sym, ap, subst, ◌∙◌, arith}
+use Rattle.std.proofs.Common.{◌≡◌, Bool, true, false, ◌||◌, ℕ, List, [], get_or, length, map, refl, sym, ap, subst, ◌∙◌, arith}
 use Rattle.std.specs.Prelude.{All, Contains, MatchOption, Option, None, Some, slice_get}
 use Rattle.std.specs.FinSet.{contains, contains-from_list, contains-union, from_list, same_set, union}
 use Rattle.flowfile_record.specs.Kin.{kin_of_all}
@@ -8,12 +8,11 @@ use Rattle.flowfile_record.specs.declared.change.Settled.{Settled}
 use Rattle.flowfile_record.specs.declared.content.ContentRef.{ContentRef}
 use Rattle.flowfile_record.specs.declared.flow_file.FlowFile.{FlowFile}
 use Rattle.flowfile_record.specs.declared.stored.ActiveFile.{ActiveFile}
-use Rattle.flowfile_record.specs.declared.stored.Placed.{Placed}
 use Rattle.record_codec.specs.ActiveFile.{active}
 use Rattle.record_codec.specs.EntryEncoding.{IsMoment}
 use Rattle.machine_model.specs.declared.flow.Processor.{Processor}
-use Rattle.machine_model.specs.Changing.{queue_after, state_after, with_count, without_events}
-use Rattle.machine_model.specs.State.{Kin, State}
+use Rattle.machine_model.specs.Changing.{state_after, without_events}
+use Rattle.machine_model.specs.State.{Kin}
 use Rattle.sha2.specs.Sha256.{sha256}
 use Rattle.machine_model.proofs.KinSets.{kin_cmp-IsAntisymmetric, kin_cmp-total}
 use Rattle.machine_model.proofs.Among.{Among, all_among, among_contained, contains_among, is_made, makes}
@@ -22,7 +21,7 @@ use Rattle.store_core.specs.Change.{HasLiveContents, MayChange}
 use Rattle.store_core.specs.State.{state_with}
 use Rattle.store_core.specs.Store.{StoreState, kept_by}
 use Rattle.engine_core.specs.Committing.{session_state}
-use Rattle.engine_core.proofs.Cases.{Case, IsSettled, handed, quiet, session_in, state_of}
+use Rattle.engine_core.proofs.Cases.{Case, IsSettled, handed, quiet, state_of}
 use Rattle.engine_core.proofs.Encoded.{all_fresh, encoded}
 use Rattle.engine_core.proofs.Payload.{payload}
 use Rattle.engine_core.proofs.Recorded.{digests, few_taken, records}

@@ -1,5 +1,5 @@
 -- The entry of a settled session has an encoding unless a number passes its limit, and its contents are as its files say.
-use Rattle.std.proofs.Common.{◌≡◌, inl, inr, ℕ, ◌+◌, ◌^◌, ◌<◌, ◌≤◌, Bool, true, false, List, [], ◌∷◌, length, map, refl, sym, ap, subst, ◌∙◌, arith}
+use Rattle.std.proofs.Common.{◌≡◌, inl, inr, ℕ, ◌^◌, ◌<◌, ◌≤◌, List, length, map, refl, sym, ap, subst, ◌∙◌, arith}
 use Rattle.std.specs.Prelude.{All, Contains, IfSome, MatchOption, Option, None, Some, nat_lt}
 use Rattle.std.specs.Option.{option_or}
 use Rattle.std.proofs.lemmas.Bool.{cases_Bool, ltb-false}
@@ -12,9 +12,6 @@ use Rattle.flowfile_record.specs.Encoding.{IsNumber}
 use Rattle.flowfile_record.specs.declared.TheConstants.{CONTENT_MAX}
 use Rattle.flowfile_record.specs.declared.content.ContentRef.{ContentRef}
 use Rattle.flowfile_record.specs.declared.flow_file.FlowFile.{FlowFile}
-use Rattle.flowfile_record.specs.declared.stored.ActiveFile.{ActiveFile}
-use Rattle.flowfile_record.specs.declared.stored.Counted.{Counted}
-use Rattle.flowfile_record.specs.declared.stored.Placed.{Placed}
 use Rattle.record_codec.specs.ActiveFile.{IsActiveFile, active}
 use Rattle.record_codec.specs.EntryEncoding.{IsEntry, IsGenerator, IsMoment}
 use Rattle.record_codec.specs.FileEncoding.{IsContentRef}
@@ -28,7 +25,6 @@ use Rattle.kept_state.specs.declared.limit.TheConstants.{NUMBER_MAX}
 use Rattle.kept_state.specs.declared.limit.Which.TheVariants.{Numbers}
 use Rattle.machine_model.specs.declared.kind.Kind.{Kind}
 use Rattle.machine_model.specs.declared.kind.Kind.TheVariants.{GenerateFlowFile}
-use Rattle.settlement.specs.Recording.{IsRecordable}
 use Rattle.settlement.specs.Whole.{count_of}
 use Rattle.store_core.specs.Change.{IsFresh}
 use Rattle.engine_core.proofs.Cases.{Case, IsSettled, entry_in}

@@ -1,8 +1,8 @@
 -- No name leads to more connections than a relationship of a sound flow may.
-use Rattle.std.proofs.Common.{◌≡◌, inl, inr, ℕ, zero, suc, ◌+◌, ◌<◌, ◌≤◌, ◌==◌, ◌&&◌, ◌||◌, not, Bool, true, false, cond, List, [], ◌∷◌, length, map, refl, sym, ap, ◌∙◌, arith, sum_by}
-use Rattle.std.specs.Prelude.{filter, nat_lt, nat_le, slice_get, Option, Some, None, bytes_eq, count_by}
-use Rattle.std.specs.List.{enumerate_from, list_any, list_all}
-use Rattle.std.proofs.lemmas.Bool.{cases_Bool, and_parts, and_from, or_parts, eqb-true, leb-true, true≢false, false≢true}
+use Rattle.std.proofs.Common.{◌≡◌, inl, inr, ℕ, zero, suc, ◌+◌, ◌≤◌, ◌==◌, ◌&&◌, Bool, true, false, cond, List, [], ◌∷◌, length, refl, sym, ap, ◌∙◌, arith}
+use Rattle.std.specs.Prelude.{filter, nat_lt, nat_le, slice_get, Some, None, bytes_eq, count_by}
+use Rattle.std.specs.List.{enumerate_from, list_all}
+use Rattle.std.proofs.lemmas.Bool.{cases_Bool, and_parts, eqb-true, leb-true, false≢true}
 use Rattle.std.proofs.lemmas.List.{length-map}
 use Rattle.std.proofs.lemmas.List.Sums.{sum_by-cons}
 use Rattle.std.proofs.lemmas.Slice.Eq.{bytes_eq-Decides}

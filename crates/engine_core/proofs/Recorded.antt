@@ -1,21 +1,18 @@
 -- What is known of a settlement that a store may record: of the files that were taken, and of those that are placed.
-use Rattle.std.proofs.Common.{◌≡◌, ℕ, ◌+◌, ◌*◌, ◌^◌, ◌<◌, ◌≤◌, List, [], ◌∷◌, length, map, refl, sym, ap, subst, ◌∙◌, arith}
+use Rattle.std.proofs.Common.{◌≡◌, ℕ, ◌<◌, ◌≤◌, List, [], ◌∷◌, length, map, ap, ◌∙◌, arith}
 use Rattle.std.specs.Prelude.{All, Contains, MatchOption, Option, Some, None, slice_get}
 use Rattle.std.proofs.lemmas.List.{length-map}
 use Rattle.std.proofs.lemmas.List.Elements.{All-head, All-map, All-weaker, All-contains, All-filter}
 use Rattle.sha2.specs.Sha256.{sha256}
 use Rattle.sha2.proofs.Facts256.{length-sha256}
 use Rattle.flowfile_record.specs.Encoding.{IsDigest}
-use Rattle.flowfile_record.specs.Outcome.{IsOutcome}
 use Rattle.flowfile_record.specs.declared.content.ContentRef.{ContentRef}
 use Rattle.flowfile_record.specs.declared.flow_file.FlowFile.{FlowFile}
 use Rattle.flowfile_record.specs.declared.limits.TheConstants.{TAKEN_MAX}
-use Rattle.flowfile_record.specs.declared.stored.ActiveFile.{ActiveFile}
-use Rattle.flowfile_record.specs.declared.stored.Placed.{Placed}
 use Rattle.record_codec.specs.ActiveFile.{active}
 use Rattle.record_codec.specs.FileEncoding.{IsContentRef}
 use Rattle.checkpoint_store.specs.Consistent.{IsFileIn}
-use Rattle.kept_state.specs.Applied.{is_among, left_after}
+use Rattle.kept_state.specs.Applied.{is_among}
 use Rattle.machine_model.specs.declared.flow.Processor.{Processor}
 use Rattle.settlement.specs.Recording.{IsKeptFile, IsRecordable, Records}
 use Rattle.settlement.specs.TellsOf.{HasContent}

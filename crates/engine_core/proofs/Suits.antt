@@ -1,5 +1,5 @@
 -- The entry of a settled session suits what is kept.
-use Rattle.std.proofs.Common.{◌≡◌, inl, inr, ℕ, ◌+◌, ◌<◌, ◌≤◌, ◌==◌, ◌&&◌, Bool, true, false, cond, List, [], ◌∷◌, length, map, refl, sym, ap, ◌∙◌, arith}
+use Rattle.std.proofs.Common.{◌≡◌, inl, inr, ℕ, ◌<◌, ◌==◌, ◌&&◌, Bool, true, false, List, [], ◌∷◌, length, map, refl, ap, ◌∙◌, arith}
 use Rattle.std.specs.Prelude.{All, Contains, Option, None, Some, nat_lt, nat_le}
 use Rattle.std.specs.List.{list_all}
 use Rattle.std.proofs.lemmas.Bool.{and_from, eq-eqb, ne_eqb, lt-ltb, le-leb}
@@ -7,8 +7,6 @@ use Rattle.std.proofs.lemmas.List.Elements.{All-head, All-tail}
 use Rattle.flowfile_record.specs.NumberedItems.{AscendsByNumber}
 use Rattle.flowfile_record.specs.declared.flow_file.FlowFile.{FlowFile}
 use Rattle.flowfile_record.specs.declared.stored.ActiveFile.{ActiveFile}
-use Rattle.flowfile_record.specs.declared.stored.Counted.{Counted}
-use Rattle.flowfile_record.specs.declared.stored.Placed.{Placed}
 use Rattle.record_codec.specs.ActiveFile.{active}
 use Rattle.kept_state.specs.Applied.{left_after, number_of}
 use Rattle.kept_state.specs.Changes.{no_files, record_of, recorded}

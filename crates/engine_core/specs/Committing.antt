@@ -1,15 +1,12 @@
 -- What a session asks of a store that it becomes part of, and what it makes of the store's state.
-use Rattle.std.specs.Prelude.{◌≡◌, ◌≢◌, ◌⊎◌, ℕ, ◌<◌, Bool, IsTrue, List, [], length, map, All, Contains, Some, Ok, slice_get}
+use Rattle.std.specs.Prelude.{◌≡◌, ◌≢◌, ℕ, ◌<◌, List, [], length, map, All, Contains, Some, slice_get}
 use Rattle.std.specs.List.{AllPairs}
-use Rattle.disk_trait.specs.Files.{Files}
 use Rattle.flowfile_record.specs.Outcome.{IsOutcome}
 use Rattle.flowfile_record.specs.Stored.{Kept}
 use Rattle.flowfile_record.specs.declared.change.Settled.{Settled}
 use Rattle.flowfile_record.specs.declared.content.ContentRef.{ContentRef}
 use Rattle.flowfile_record.specs.declared.limits.TheConstants.{NUMBER_LIMIT}
 use Rattle.record_codec.specs.ActiveFile.{active}
-use Rattle.content_repo.specs.Claims.{content_in}
-use Rattle.kept_state.specs.declared.limit.Limit.{Limit}
 use Rattle.machine_model.specs.declared.flow.Flow.{Flow}
 use Rattle.machine_model.specs.declared.flow.Processor.{Processor}
 use Rattle.machine_model.specs.declared.given.Given.{Given}
@@ -19,13 +16,9 @@ use Rattle.machine_model.specs.State.{State}
 use Rattle.settlement.specs.Contents.{IsBodyWithin}
 use Rattle.settlement.specs.Handed.{AreRead, session_of, sizes_of}
 use Rattle.settlement.specs.declared.handed.Ended.{Ended}
-use Rattle.store_core.specs.Change.{IsLimitOf}
 use Rattle.store_core.specs.Flow as store
 use Rattle.store_core.specs.Flow.{flow_in}
-use Rattle.store_core.specs.State.{stands_for, state_with}
-use Rattle.store_core.specs.Store.{StoreState, kept_by}
-use Rattle.store_core.specs.declared.error.StoreError.{StoreError}
-use Rattle.store_core.specs.declared.error.StoreError.TheVariants as error
+use Rattle.store_core.specs.State.{state_with}
 
 -- what a store keeps of a flow
 abbrev pub identity_of : Flow → store.Flow

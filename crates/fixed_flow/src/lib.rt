@@ -3,8 +3,6 @@
 
 mod flow;
 mod laws;
-#[cfg(test)]
-mod tests;
 
 pub use flow::{GET, PUT, QUEUE, fixed_flow};
 pub use laws::{files_come_in, files_go_out, the_flow_is_quiet, the_flow_is_sound};

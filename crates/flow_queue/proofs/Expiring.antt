@@ -1,8 +1,8 @@
 -- The numbers of files that expired, of some files and one more; they ascend as those of the files do.
-use Rattle.std.proofs.Common.{◌≡◌, ℕ, ◌+◌, ◌<◌, ◌&&◌, not, nat_le, Bool, true, false, cond, List, [], ◌∷◌, ◌++◌, length, take, get_or, refl, sym, ap, ◌∙◌, arith}
+use Rattle.std.proofs.Common.{◌≡◌, ℕ, ◌+◌, ◌<◌, ◌&&◌, not, nat_le, Bool, true, false, cond, List, [], ◌∷◌, ◌++◌, length, take, drop, get_or, length-append, refl, sym, ap, ◌∙◌, arith}
 use Rattle.std.specs.Prelude.{All, Contains, Some, filter}
 use Rattle.std.proofs.lemmas.Bool.{le-leb, true≢false}
-use Rattle.std.proofs.lemmas.List.{map-append}
+use Rattle.std.proofs.lemmas.List.{map-append, take-append-drop}
 use Rattle.std.proofs.lemmas.List.Elements.{All-head, All-weaker, All-map, All-filter, All-contains_itself, filter-append}
 use Rattle.flowfile_record.specs.NumberedItems.{AscendsByNumber}
 use Rattle.machine_model.specs.declared.flow.QueueLimits.{QueueLimits}
@@ -41,6 +41,32 @@ pub expiring-next : (limits : QueueLimits) (moment : ℕ) (files : List Held) (i
     ≡ expiring limits moment (views_of (take i files)) ++ cond (not (get_or files i d).in_flight && is_expired limits.expiration moment (view_of (get_or files i d))) ((get_or files i d).file.number ∷ []) []
 expiring-next limits moment files i d lt =
     ap (expiring limits moment) (views-more files i d lt) ∙ expiring-more limits moment (views_of (take i files)) (view_of (get_or files i d))
+
+expiring-append : (limits : QueueLimits) (moment : ℕ) (files others : List Held) → expiring limits moment (views_of (files ++ others)) ≡ expiring limits moment (views_of files) ++ expiring limits moment (views_of others)
+expiring-append limits moment files others =
+    let test = is_expired limits.expiration moment in
+    let rests : FileView → Bool = λ other. not other.in_flight in
+    ap (expiring limits moment) (map-append view_of files others)
+    ∙ ap (λ l. numbers_of (filter test l)) (filter-append rests (views_of files) (views_of others))
+    ∙ ap numbers_of (filter-append test (filter rests (views_of files)) (filter rests (views_of others)))
+    ∙ map-append (λ (other : FileView). other.number) (filter test (filter rests (views_of files))) (filter test (filter rests (views_of others)))
+
+-- where one of the files expired there is a number
+pub expiring-some : (limits : QueueLimits) (moment : ℕ) (files : List Held) (i : ℕ) (held : Held) → held ≡ get_or files i held → i < length files
+    → held.in_flight ≡ false → is_expired limits.expiration moment (view_of held) ≡ true → expiring limits moment (views_of files) ≡ [] → ⊥
+expiring-some limits moment files i held read lt resting expired none =
+    let first = expiring limits moment (views_of (take i files)) in
+    let rest = expiring limits moment (views_of (drop (i + 1) files)) in
+    let expires : Held → Bool = λ h. not h.in_flight && is_expired limits.expiration moment (view_of h) in
+    let here : Held → List ℕ = λ h. cond (expires h) (h.file.number ∷ []) [] in
+    let one : here held ≡ held.file.number ∷ [] =
+    ap (λ b. cond b (held.file.number ∷ []) []) (ap (λ b. not b && is_expired limits.expiration moment (view_of held)) resting ∙ expired) in
+    let is : expiring limits moment (views_of files) ≡ (first ++ held.file.number ∷ []) ++ rest =
+    ap (λ fs. expiring limits moment (views_of fs)) (sym (take-append-drop (i + 1) files))
+    ∙ expiring-append limits moment (take (i + 1) files) (drop (i + 1) files)
+    ∙ ap (λ l. l ++ rest) (expiring-next limits moment files i held lt ∙ ap (λ h. first ++ here h) (sym read) ∙ ap (λ l. first ++ l) one) in
+    let none_is : length ((first ++ held.file.number ∷ []) ++ rest) ≡ 0 = ap length (sym is ∙ none) in
+    omega (arith, none_is, length-append (first ++ held.file.number ∷ []) rest, length-append first (held.file.number ∷ []))
 
 put-first : (n : ℕ) (numbers : List ℕ) → All (λ later. n < later) numbers → put_ascending n numbers ≡ n ∷ numbers
 put-first n [] above = refl

@@ -1,5 +1,5 @@
 -- What a processor is handed, and what it owes: the outcome that the machine gives.
-use Rattle.std.specs.Prelude.{◌≡◌, ◌≤◌, nat_le, Bool, List, [], ◌∷◌, length, sum_by, All, None, Some, is_some, IsSome, IsSomeAnd, IfSome}
+use Rattle.std.specs.Prelude.{◌≡◌, ◌⊎◌, ◌≤◌, nat_le, Bool, List, [], ◌∷◌, length, sum_by, All, None, Some, is_some, IsSome, IsSomeAnd, IfSome}
 use Rattle.flowfile_record.specs.declared.TheConstants.{CONTENT_MAX}
 use Rattle.flowfile_record.specs.declared.worked.Outcome.{Outcome}
 use Rattle.machine_model.specs.Acting.{TakenFile, act}
@@ -70,6 +70,7 @@ pub record KeepsTaken (before after : Bench) : Type 0 where
 -- What it is given is as it was, but for the bytes, which it may take out.
 pub record KeepsGiven (before after : Given) : Type 0 where
   pub but_bytes : after ≡ record before { bytes = after.bytes }
+  pub taken_out : (after.bytes ≡ before.bytes) ⊎ (after.bytes ≡ None)
 
 -- The session can be finished with what it took, and its outcome is the one that the machine gives.
 pub record EndsAs (kind : Kind) (before : Bench) (given : Given) (after : Bench) : Type 0 where

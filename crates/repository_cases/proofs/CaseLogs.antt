@@ -1,7 +1,6 @@
 -- The log of a case.
-use Rattle.std.proofs.Common.{◌≡◌, ℕ, ◌<◌, ◌≤◌, [], length, refl, ap, ◌∙◌, inl, arith}
-use Rattle.disk_trait.specs.Files.{Files, named}
-use Rattle.disk_trait.specs.Images.{IsOnly}
+use Rattle.std.proofs.Common.{◌≡◌, ℕ, [], length, refl, ap, inl, arith}
+use Rattle.disk_trait.specs.Files.{Files}
 use Rattle.disk_trait.specs.declared.file_name.FileName.{FileName}
 use Rattle.checkpoint_store.specs.Begun.{MayBegin, log_file}
 use Rattle.record_codec.specs.EntryEncoding.{entry as encoding}

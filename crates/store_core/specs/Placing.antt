@@ -68,7 +68,8 @@ pub record MayPlace (slots : List Slot) (placed : List Placed) : Type 0 where
 -- the file stands at this place, without its new content
 abbrev pub IsRecordedAt : ℕ → Placed → List ActiveFile → Type 0
 IsRecordedAt place p files =
-    (front : List ActiveFile) × (back : List ActiveFile) × (length front ≡ place) × (files ≡ front ++ record_of p ∷ back)
+    (front : List ActiveFile) × (back : List ActiveFile) × (length front ≡ place)
+    × (files ≡ front ++ record_of p ∷ back)
 
 -- The file at this place is recorded in the entry, and each other file as before.
 pub record PlacesOne (tells : Bool) (files : Files) (place : ℕ) (p : Placed) (old new : List Slot)

@@ -1,5 +1,5 @@
 //! What a queue answers.
-ghost use Rattle.std.specs.Prelude.{◌≡◌, [], length, All, IfOk, IfSome, OnOk, OnErr, is_some};
+ghost use Rattle.std.specs.Prelude.{◌≡◌, [], None, length, All, IfOk, IfSome, IsOk, OnOk, OnErr, is_some};
 ghost use Rattle.std.specs.Option.{option_map};
 ghost use Rattle.machine_model.specs.Due.{expired_numbers};
 ghost use Rattle.machine_model.specs.Laws.{ArrivalsDiffer};
@@ -41,6 +41,8 @@ impl Queue {
         ensures numbers { OnOk result (list.new.items ≡ picked_numbers (picked rule moment self.now)) }
         ensures at_rest { All (IsAtRest self.now) list.new.items }
         ensures failed { OnErr result (list.new.items ≡ []) }
+        // Memory is taken for a number alone.
+        ensures free { picked rule moment self.now ≡ None → IsOk result }
     {
         let TakeRule::One = rule else {
             return Ok(false);
@@ -61,6 +63,8 @@ impl Queue {
             (list.new.items ≡ expired_numbers self.now.limits moment (seen self.now).active) }
         ensures at_rest { All (IsAtRest self.now) list.new.items }
         ensures failed { OnErr result (list.new.items ≡ []) }
+        // Memory is taken for numbers alone.
+        ensures free { expired_numbers self.now.limits moment (seen self.now).active ≡ [] → IsOk result }
     {
         for held in &self.files {
             if !held.in_flight && held.is_expired(&self.limits, moment) {

@@ -1,6 +1,5 @@
 use Rattle.std.proofs.Common.{◌≡◌, ℕ, ap, subst, ◌∙◌}
 use Rattle.disk_trait.specs.Files.{Files}
-use Rattle.disk_trait.specs.declared.file_name.FileName.{FileName}
 use Rattle.repository_cases.proofs.CaseLogs.{may_begin}
 use Rattle.repository_cases.proofs.logs.begun_and_appended.Goals as goal
 
