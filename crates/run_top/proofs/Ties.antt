@@ -3,7 +3,7 @@ use Rattle.std.proofs.Common.{◌≡◌, ◌⊎◌, inl, inr, ⊎_elim, ℕ, Boo
 use Rattle.std.specs.Prelude.{Ok, Err, Result, Some, None}
 use Rattle.disk_trait.specs.Files.{Files}
 use Rattle.disk_trait.specs.Images.{Since, Stays}
-use Rattle.disk_trait.specs.declared.damage.Damage.{Damage}
+use Rattle.disk_trait.proofs.Moments.{wider}
 use Rattle.flowfile_record.specs.declared.change.Settled.{Settled}
 use Rattle.content_repo.specs.Claims.{content_in}
 use Rattle.flowfile_wal.specs.Calls.{InEach}
@@ -14,6 +14,10 @@ use Rattle.store_core.specs.State.{stands_for, state_with}
 use Rattle.store_core.specs.Store.{StoreState, kept_by, EachStandsFor, HasLog, Holds, IsKeptOn}
 use Rattle.engine_core.specs.Committing.{identity_of}
 use Rattle.fixed_flow.specs.Flow.{fixed_flow}
+use Rattle.kept_state.specs.declared.limit.Limit.{Limit}
+use Rattle.store_core.specs.declared.error.StoreError.{StoreError}
+use Rattle.run_top.specs.Status.{error_of}
+use Rattle.run_top.specs.declared.status.RunError.{RunError}
 use Rattle.run_top.specs.Sessions.{Changes, IsAtWork, IsBetween, IsStepped, StandsFor}
 
 ok_is : {A E : Type 0} {a b : A} → ◌≡◌ {A = Result A E} (Ok a) (Ok b) → a ≡ b
@@ -44,3 +48,48 @@ stands_as s lot m c flow is stands = (λ i. stands_for (flow i) (is i) c) ∙ st
 
 pub stands_back : (s : StoreState) (lot : ℕ) (m : Machine) (state : State) (c : Files) → flow_in (kept_by s) ≡ identity_of fixed_flow → s.lot ≡ lot → state ≡ without_events m.state → stands_for (flow_in (kept_by s)) s.lot c ≡ Ok state → StandsFor lot m c
 stands_back s lot m state c flow is same stands = sym (λ i. stands_for (flow i) (is i) c) ∙ stands ∙ ap Ok same
+
+-- ---- a commit, over the store as it was before the preparation
+
+module _ {D : Type 0} (held : D → Files) (moment : D → ℕ) (images : D → ℕ → Files → Type 0) (s t : StoreState) (room : ℕ) (settled change : Settled) (old new : D) (before after : Machine)
+    (same : t ≡ roomy s room) (prepared : change ≡ settled) (flow : flow_in (kept_by s) ≡ identity_of fixed_flow)
+    (tied : state_with (content_in (held old)) [] (kept_by s) ≡ without_events before.state) (changes : Changes s (content_in (held old)) settled before after) where
+  leaves : state_after (content_in (held old)) (without_events before.state) change ≡ without_events after.state
+  leaves =
+      ap (state_after (content_in (held old)) (without_events before.state)) prepared
+      ∙ subst (λ (u : State). state_after (content_in (held old)) u settled ≡ without_events after.state) tied (changes tied)
+
+  begins_with : InEach (images old (moment old)) (StandsFor s.lot before) → EachStandsFor (flow_in (kept_by s)) s.lot (without_events before.state) (images old (moment old))
+  begins_with each c now = stands_as s s.lot before c flow refl (each c now)
+
+  pub committed_between : (t.failed ≡ false → (state : State) → EachStandsFor (flow_in (kept_by t)) t.lot state (images old (moment old))
+      → Since moment images old new (λ c. (stands_for (flow_in (kept_by t)) t.lot c ≡ Ok state) ⊎ (stands_for (flow_in (kept_by t)) t.lot c ≡ Ok (state_after (content_in (held old)) state change))))
+      → s.failed ≡ false → InEach (images old (moment old)) (StandsFor s.lot before) → IsBetween moment images s.lot before after old new
+  committed_between committed works each =
+      let since = subst (λ (u : StoreState). u.failed ≡ false → (state : State) → EachStandsFor (flow_in (kept_by u)) u.lot state (images old (moment old))
+      → Since moment images old new (λ c. (stands_for (flow_in (kept_by u)) u.lot c ≡ Ok state) ⊎ (stands_for (flow_in (kept_by u)) u.lot c ≡ Ok (state_after (content_in (held old)) state change)))) same committed works
+      (without_events before.state) (begins_with each) in
+      wider moment images old new _ (λ c. StandsFor s.lot before c ⊎ StandsFor s.lot after c) since
+      (λ c either. ⊎_elim
+      (λ (was : stands_for (flow_in (kept_by s)) s.lot c ≡ Ok (without_events before.state)). inl (stands_back s s.lot before (without_events before.state) c flow refl refl was))
+      (λ (is : stands_for (flow_in (kept_by s)) s.lot c ≡ Ok (state_after (content_in (held old)) (without_events before.state) change)).
+      inr (stands_back s s.lot after (state_after (content_in (held old)) (without_events before.state) change) c flow refl leaves is))
+      either)
+
+  pub committed_done : ((state : State) → EachStandsFor (flow_in (kept_by t)) t.lot state (images old (moment old))
+      → EachStandsFor (flow_in (kept_by t)) t.lot (state_after (content_in (held old)) state change) (images new (moment new)))
+      → InEach (images old (moment old)) (StandsFor s.lot before) → InEach (images new (moment new)) (StandsFor s.lot after)
+  committed_done acknowledged each c now =
+      let stands = subst (λ (u : StoreState). (state : State) → EachStandsFor (flow_in (kept_by u)) u.lot state (images old (moment old))
+      → EachStandsFor (flow_in (kept_by u)) u.lot (state_after (content_in (held old)) state change) (images new (moment new))) same acknowledged
+      (without_events before.state) (begins_with each) c now in
+      stands_back s s.lot after (state_after (content_in (held old)) (without_events before.state) change) c flow refl leaves stands
+
+-- which error of the store a run's limit is
+pub limit_of : (e : StoreError) (limit : Limit) → error_of e ≡ RunError.Limit limit → e ≡ StoreError.Limit limit
+limit_of StoreError.Disk limit is = cc
+limit_of StoreError.Memory limit is = cc
+limit_of StoreError.MustReopen limit is = cc
+limit_of (StoreError.Limit other) limit is = cc
+limit_of (StoreError.Damaged damage) limit is = cc
+limit_of (StoreError.OtherFlow kept found) limit is = cc

@@ -1,30 +1,42 @@
-use Rattle.std.proofs.Common.{rules, ◌≡◌, ◌⊎◌, ℕ, ◌≤◌, false, length, Some, IfOk, OnOk, IfErr, IsErrOf, IsTrue, List, ◌+◌, ◌-◌, ◌*◌, ◌<◌, ◌/◌, ◌%◌, Bool, true, nat_eq, nat_lt, [], ◌∷◌, ◌++◌, slice_index_or, slice_set, bit_and, bit_or, Fits, w8, w32, w64, Bor, MutBor}
-use Rattle.disk_trait.specs.Faults.{CountsFaults}
-use Rattle.flowfile_record.specs.NamedFile.{bytes_of}
-use Rattle.flowfile_record.specs.declared.TheConstants.{CONTENT_MAX}
-use Rattle.flowfile_record.specs.declared.content.ContentRef.{ContentRef as TheRef}
-use Rattle.flowfile_wal.specs.Calls.{InEach}
-use Rattle.kept_state.specs.declared.limit.Limit.{Limit as TheLimit}
-use Rattle.machine_model.specs.State.{Machine}
-use Rattle.machine_model.specs.Stepping.{step}
-use Rattle.store_core.specs.Change.{MayChange, HasLiveContents}
-use Rattle.store_core.specs.Flow.{flow_in}
-use Rattle.store_core.specs.Store.{kept_by}
-use Rattle.engine_core.specs.Committing.{identity_of}
-use Rattle.fixed_flow.specs.Flow.{fixed_flow}
-use Rattle.fixed_flow.specs.Sessions.{got}
-use Rattle.run_top.specs.Sessions.{Changes, IsAtWork, IsBetween, IsSpared, IsStepped, PassesLimit, StandsFor}
-use Rattle.run_top.specs.declared.status.RunError.{RunError as TheError}
+use Rattle.std.proofs.Common.{arith, ◌≡◌, inl, inr, refl, sym, ◌∙◌, ap, subst}
+use Rattle.std.proofs.lemmas.Grind.{common_steps}
+use Rattle.std.specs.Prelude.{Err, Result, ⊤}
+use Rattle.flowfile_record.specs.declared.change.Settled.{Settled}
+use Rattle.content_repo.specs.Claims.{content_in}
+use Rattle.machine_model.specs.Changing.{without_events}
+use Rattle.store_core.specs.Store.{StoreState, kept_by}
+use Rattle.run_top.specs.Sessions.{PassesLimit}
+use Rattle.run_top.specs.Status.{error_of}
+use Rattle.run_top.specs.declared.status.RunError.{RunError}
+use Rattle.run_top.specs.declared.status.RunError.TheVariants.{Disk, Limit}
+use Rattle.run_top.proofs.Ties.{committed_between, committed_done, limit_of}
 use Rattle.run_top.proofs.coming.get.Goals as goal
 
--- src/coming.rt:72:20
 pub returns-in_err-prepared-clause-limit : goal.returns-in_err-prepared-clause-limit
-returns-in_err-prepared-clause-limit g c = ?
+returns-in_err-prepared-clause-limit g c limit is telling before after goes found = record {
+  settled = c.in_ok-settled.settled;
+  passes = c.in_err-prepared.ensures.limit limit (grind (arith, common_steps, is, c.from_residual-in_err-prepared.ensures, c.in_err-prepared.ensures.others));
+  makes = c.in_ok-settled.ensures.comes before after goes found (content_in (g.D.Disk.held c.args.disk.now));
+}
 
--- src/coming.rt:73:5
 pub returns-in_err-commit-clause-stopped : goal.returns-in_err-commit-clause-stopped
-returns-in_err-commit-clause-stopped g c = ?
+returns-in_err-commit-clause-stopped g c error is telling before after goes found each =
+    let held = g.D.Disk.held in
+    let s = c.args.store.now in
+    let tied = c.holds_its_state.ensures.tied telling before each in
+    let changes = c.in_ok-settled.ensures.comes before after goes found (content_in (held c.args.disk.now)) in
+    inr (grind (arith, common_steps, is, c.from_residual-in_err-commit.ensures, c.in_err-commit.ensures.kinds), committed_between held g.D.Disk.moment g.D.Disk.images s c.prepare.new.self c.prepare.new.self.memory.room c.in_ok-settled.settled c.in_ok-prepared.prepared.settled c.args.disk.now c.commit.new.disk before after
+    c.prepare.ensures.same c.in_ok-prepared.ensures.prepared.0 c.requires.work.flow tied changes c.commit.ensures.states c.requires.work.works each)
 
--- src/coming.rt:36:1
 pub returns-clause-steps : goal.returns-clause-steps
-returns-clause-steps g c = ?
+returns-clause-steps g c telling before after goes found each =
+    let held = g.D.Disk.held in
+    let s = c.args.store.now in
+    let tied = c.holds_its_state.ensures.tied telling before each in
+    let changes = c.in_ok-settled.ensures.comes before after goes found (content_in (held c.args.disk.now)) in
+    record {
+      since = committed_between held g.D.Disk.moment g.D.Disk.images s c.prepare.new.self c.prepare.new.self.memory.room c.in_ok-settled.settled c.in_ok-prepared.prepared.settled c.args.disk.now c.commit.new.disk before after
+          c.prepare.ensures.same c.in_ok-prepared.ensures.prepared.0 c.requires.work.flow tied changes c.commit.ensures.states c.requires.work.works each;
+      done = committed_done held g.D.Disk.moment g.D.Disk.images s c.prepare.new.self c.prepare.new.self.memory.room c.in_ok-settled.settled c.in_ok-prepared.prepared.settled c.args.disk.now c.commit.new.disk before after
+          c.prepare.ensures.same c.in_ok-prepared.ensures.prepared.0 c.requires.work.flow tied changes c.in_ok-commit.ensures.acknowledged_state each;
+    }

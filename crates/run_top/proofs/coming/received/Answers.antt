@@ -1,26 +1,48 @@
-use Rattle.std.proofs.Common.{rules, ◌≡◌, ◌⊎◌, ℕ, ◌≤◌, false, length, Some, IfOk, OnOk, IfErr, IsErrOf, IsTrue, List, ◌+◌, ◌-◌, ◌*◌, ◌<◌, ◌/◌, ◌%◌, Bool, true, nat_eq, nat_lt, [], ◌∷◌, ◌++◌, slice_index_or, slice_set, bit_and, bit_or, Fits, w8, w32, w64, Bor, MutBor}
-use Rattle.disk_trait.specs.Faults.{CountsFaults}
-use Rattle.flowfile_record.specs.NamedFile.{bytes_of}
-use Rattle.flowfile_record.specs.declared.TheConstants.{CONTENT_MAX}
-use Rattle.flowfile_record.specs.declared.content.ContentRef.{ContentRef as TheRef}
-use Rattle.flowfile_wal.specs.Calls.{InEach}
-use Rattle.kept_state.specs.declared.limit.Limit.{Limit as TheLimit}
-use Rattle.machine_model.specs.State.{Machine}
-use Rattle.machine_model.specs.Stepping.{step}
-use Rattle.store_core.specs.Change.{MayChange, HasLiveContents}
-use Rattle.store_core.specs.Flow.{flow_in}
-use Rattle.store_core.specs.Store.{kept_by}
-use Rattle.engine_core.specs.Committing.{identity_of}
-use Rattle.fixed_flow.specs.Flow.{fixed_flow}
-use Rattle.fixed_flow.specs.Sessions.{got}
-use Rattle.run_top.specs.Sessions.{Changes, IsAtWork, IsBetween, IsSpared, IsStepped, PassesLimit, StandsFor}
-use Rattle.run_top.specs.declared.status.RunError.{RunError as TheError}
+use Rattle.std.proofs.Common.{◌≡◌, ℕ, List, [], refl, sym, ◌∙◌, ap, subst}
+use Rattle.std.specs.Prelude.{Some, None, map}
+use Rattle.machine_model.specs.declared.given.Given.{Given}
+use Rattle.machine_model.specs.Acting.{act}
+use Rattle.process_session.specs.Bench.{source_of, sizes_of}
+use Rattle.process_session.specs.declared.file.Taken.{Taken}
+use Rattle.process_session.specs.declared.file.Source.{Source}
+use Rattle.processor_api.specs.Acts.{AreTakenAs, KeepsGiven}
+use Rattle.fixed_flow.specs.Flow.{get}
+use Rattle.run_top.proofs.Received.{comes_as, given_of, if_ok, may_come}
 use Rattle.run_top.proofs.coming.received.Goals as goal
 
--- src/coming.rt:114:5
 pub settle_session-requires-clause-may : goal.settle_session-requires-clause-may
-settle_session-requires-clause-may c = ?
+settle_session-requires-clause-may c =
+    let name : List ℕ = c.args.name.now in
+    let bytes : List ℕ = c.args.bytes.items in
+    let cloned : c.in_ok-clone.field-0 ≡ name = c.in_ok-clone.ensures.cases in
+    let outcome = c.in_ok-outcome.outcome in
+    let acts : act get.kind [] (given_of c.args.moment name (Some bytes)) ≡ Some outcome =
+    subst (λ (n : List ℕ). act get.kind [] (given_of c.args.moment n (Some bytes)) ≡ Some outcome) cloned
+    (subst (λ (b : List ℕ). act get.kind [] (given_of c.args.moment c.in_ok-clone.field-0 (Some b)) ≡ Some outcome) c.from.ensures
+    (c.in_ok-outcome.ensures.outcome [] (subst (λ (t : List Taken). AreTakenAs [] t) (sym c.new.ensures) tt))) in
+    may_come c.args.flow.now _ c.work_on.new.given c.new-2.result c.in_ok-outcome.sources outcome _ c.args.moment name bytes
+    c.requires.flow
+    (ap (λ (g : Given). g.index) c.in_ok-outcome.ensures.given.but_bytes)
+    c.new-2.ensures
+    (c.in_ok-outcome.ensures.sources ∙ ap (map source_of) c.new.ensures)
+    (ap (λ (t : List Taken). sizes_of (map source_of t)) c.new.ensures)
+    c.in_ok-outcome.ensures.sound
+    acts
 
--- src/coming.rt:78:1
 pub returns-clause-comes : goal.returns-clause-comes
-returns-clause-comes c = ?
+returns-clause-comes c =
+    let name : List ℕ = c.args.name.now in
+    let bytes : List ℕ = c.args.bytes.items in
+    let cloned : c.in_ok-clone.field-0 ≡ name = c.in_ok-clone.ensures.cases in
+    let outcome = c.in_ok-outcome.outcome in
+    let acts : act get.kind [] (given_of c.args.moment name (Some bytes)) ≡ Some outcome =
+    subst (λ (n : List ℕ). act get.kind [] (given_of c.args.moment n (Some bytes)) ≡ Some outcome) cloned
+    (subst (λ (b : List ℕ). act get.kind [] (given_of c.args.moment c.in_ok-clone.field-0 (Some b)) ≡ Some outcome) c.from.ensures
+    (c.in_ok-outcome.ensures.outcome [] (subst (λ (t : List Taken). AreTakenAs [] t) (sym c.new.ensures) tt))) in
+    let keeps : KeepsGiven (given_of c.args.moment name (Some bytes)) c.work_on.new.given =
+    subst (λ (n : List ℕ). KeepsGiven (given_of c.args.moment n (Some bytes)) c.work_on.new.given) cloned
+    (subst (λ (b : List ℕ). KeepsGiven (given_of c.args.moment c.in_ok-clone.field-0 (Some b)) c.work_on.new.given) c.from.ensures c.in_ok-outcome.ensures.given) in
+    if_ok c.settle_session.result _ _
+    (λ settled leaves. comes_as c.files_come_in.ensures.settles c.args.store.now c.args.flow.now c.work_on.new.given c.new-2.result c.in_ok-outcome.sources outcome settled c.args.moment name bytes
+    c.requires.flow keeps c.new-2.ensures (c.in_ok-outcome.ensures.sources ∙ ap (map source_of) c.new.ensures) acts leaves)
+    c.settle_session.ensures.leaves
