@@ -1,8 +1,8 @@
 -- Which files of the inbox are left, by the names that are.
 use Rattle.std.proofs.Common.{◌≡◌, ◌⊎◌, inl, inr, ⊎_elim, ℕ, Bool, true, false, not, cond, List, [], ◌∷◌, bytes_eq, true≢false, refl, sym, ◌∙◌, ap, subst}
 use Rattle.std.proofs.lemmas.Slice.Eq.{bytes_eq-Decides}
-use Rattle.std.specs.Prelude.{filter, ◌||◌}
-use Rattle.flowfile_record.specs.NamedFile.{NamedFile, without}
+use Rattle.std.specs.Prelude.{filter, ◌||◌, Option, Some}
+use Rattle.flowfile_record.specs.NamedFile.{NamedFile, bytes_of, without}
 use Rattle.machine_model.specs.Kinds.{is_among}
 use Rattle.machine_model.specs.State.{World}
 use Rattle.machine_model.specs.Stepping.{without_name}
@@ -79,3 +79,29 @@ left_without before after name fewer same =
 
 pub left_same : (before after : World) → after.left ≡ before.left → after.inbox ≡ before.inbox → files_left after ≡ files_left before
 left_same before after names same = λ i. filter (among (names i)) (same i)
+
+-- a file that is left stands in the inbox under its name, which is left
+found_list : (names : List (List ℕ)) (name bytes : List ℕ) (files : List NamedFile) → bytes_of (filter (among names) files) name ≡ Some bytes → (is_among name names ≡ true) × (bytes_of files name ≡ Some bytes)
+found_list names name bytes [] found = absurd cc
+found_list names name bytes (file ∷ files) found = by (is_among file.name names) refl found (λ later. found_list names name bytes files later)
+  where
+    kept : is_among file.name names ≡ true → (b : Bool) → bytes_eq file.name name ≡ b → cond b (Some file.bytes) (bytes_of (filter (among names) files) name) ≡ Some bytes
+        → (bytes_of (filter (among names) files) name ≡ Some bytes → (is_among name names ≡ true) × (bytes_of files name ≡ Some bytes))
+        → (is_among name names ≡ true) × (cond b (Some file.bytes) (bytes_of files name) ≡ Some bytes)
+    kept some true same found later = (subst (λ (n : List ℕ). is_among n names ≡ true) ((bytes_eq-Decides file.name name).0 same) some, found)
+    kept some false same found later = later found
+
+    dropped : is_among file.name names ≡ false → (b : Bool) → bytes_eq file.name name ≡ b → (is_among name names ≡ true) × (bytes_of files name ≡ Some bytes)
+        → (is_among name names ≡ true) × (cond b (Some file.bytes) (bytes_of files name) ≡ Some bytes)
+    dropped none true same there =
+        absurd (true≢false (sym there.0 ∙ subst (λ (n : List ℕ). is_among n names ≡ false) ((bytes_eq-Decides file.name name).0 same) none))
+    dropped none false same there = there
+
+    by : (b : Bool) → is_among file.name names ≡ b → bytes_of (cond b (file ∷ filter (among names) files) (filter (among names) files)) name ≡ Some bytes
+        → (bytes_of (filter (among names) files) name ≡ Some bytes → (is_among name names ≡ true) × (bytes_of files name ≡ Some bytes))
+        → (is_among name names ≡ true) × (cond (bytes_eq file.name name) (Some file.bytes) (bytes_of files name) ≡ Some bytes)
+    by true some found later = kept some (bytes_eq file.name name) refl found later
+    by false none found later = dropped none (bytes_eq file.name name) refl (later found)
+
+pub found_left : (w : World) (name bytes : List ℕ) → bytes_of (files_left w) name ≡ Some bytes → (is_among name w.left ≡ true) × (bytes_of w.inbox name ≡ Some bytes)
+found_left w name bytes found = found_list w.left name bytes w.inbox found

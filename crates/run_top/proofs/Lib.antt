@@ -4,5 +4,6 @@ pub mod Names
 pub mod Orders
 pub mod Received
 pub mod Steps
+pub mod Stopping
 pub mod Ties
 pub mod Waiting

@@ -127,7 +127,7 @@ module _ (tells : Bool) {D : Type 0} (held : D → Files) (moment : D → ℕ) (
 module _ (law : ReplayOfOneMore) (stays : StepsStayValid) (tells : Bool) {D : Type 0} (held : D → Files) (moment : D → ℕ) (images : D → ℕ → Files → Type 0) (lot : ℕ) (opened : Machine) (first old new : D)
     (left : List NamedFile) (standing : List ℕ → Option (List ℕ)) (coming : List (List ℕ)) (numbers : List ℕ) (run : IsRunning moment images lot opened first old left standing coming numbers) where
   -- calls that leave the state
-  pub runs_on : IsSpared moment images lot run.reached old new → IsRunning moment images lot opened first new left standing coming numbers
+  abbrev pub runs_on : IsSpared moment images lot run.reached old new → IsRunning moment images lot opened first new left standing coming numbers
   runs_on spared = record {
     journal = run.journal;
     reached = run.reached;
