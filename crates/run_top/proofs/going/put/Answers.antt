@@ -1,23 +1,20 @@
-use Rattle.std.proofs.Common.{◌≡◌, ◌⊎◌, inl, inr, ⊎_elim, ℕ, Bool, List, [], ◌∷◌, Option, Some, None, is_some, false, sym, ◌∙◌, ap, subst}
+use Rattle.std.proofs.Common.{◌≡◌, inl, inr, ⊎_elim, ℕ, Bool, List, Option, Some, is_some, false, sym, ◌∙◌, ap, subst}
 use Rattle.std.specs.Prelude.{Err}
 use Rattle.std.specs.Option.{option_map_or}
 use Rattle.std.proofs.lemmas.Result.{err_from_is_err_and}
 use Rattle.content_repo.specs.Claims.{content_in}
 use Rattle.kept_state.specs.declared.limit.Limit.{Limit}
 use Rattle.machine_model.specs.Acting.{name_in}
-use Rattle.machine_model.specs.State.{Machine}
 use Rattle.machine_model.specs.Stepping.{step}
 use Rattle.store_core.specs.Calls.{IsDiskOrReopen}
 use Rattle.store_core.specs.Change.{IsLimitOf}
 use Rattle.store_core.specs.Store.{StoreState, kept_by}
 use Rattle.store_core.specs.declared.error.StoreError.{StoreError}
-use Rattle.store_core.specs.declared.error.StoreError.TheVariants as StoreError
 use Rattle.fixed_flow.specs.Flow.{fixed_flow}
 use Rattle.fixed_flow.specs.Sessions.{gone_out}
 use Rattle.run_top.specs.Sessions.{Changes, IsLeftUnder, with_sent}
 use Rattle.run_top.specs.Status.{error_of}
 use Rattle.run_top.specs.declared.status.RunError.{RunError}
-use Rattle.run_top.specs.declared.status.RunError.TheVariants as RunError
 use Rattle.run_top.proofs.Commits.{between, left_by_put, limit_passed, spared_by_read, stepped}
 use Rattle.run_top.proofs.going.put.Goals as goal
 

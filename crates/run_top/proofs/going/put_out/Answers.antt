@@ -1,6 +1,5 @@
-use Rattle.std.proofs.Common.{◌≡◌, ℕ, List, Option, None, map, ap, subst, ◌∷◌, []}
+use Rattle.std.proofs.Common.{List, None, map, ap, subst, ◌∷◌, []}
 use Rattle.flowfile_record.specs.Outcome.{IsOutcome}
-use Rattle.machine_model.specs.Acting.{name_in}
 use Rattle.machine_model.specs.declared.given.Given.{Given}
 use Rattle.machine_model.specs.Placing.{uuid_text}
 use Rattle.process_session.specs.Bench.{sizes_of, source_of}
