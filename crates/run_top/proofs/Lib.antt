@@ -1,7 +1,9 @@
+pub mod Commits
 pub mod Journals
 pub mod Left
 pub mod Names
 pub mod Orders
+pub mod Outgoing
 pub mod Received
 pub mod Steps
 pub mod Stopping

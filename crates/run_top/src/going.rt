@@ -2,10 +2,11 @@
 ghost use Rattle.std.specs.Prelude.{◌≡◌, ◌⊎◌, ℕ, ◌∷◌, [], false, length, Contains, Some, None, IfOk, OnOk, IfErr, IsErr, IsErrOf, IsTrue, MatchOption, List, Bool, is_some, option_map, Option};
 ghost use Rattle.std.specs.Option.{option_map_or};
 ghost use Rattle.disk_trait.specs.Faults.{CountsFaults};
+ghost use Rattle.disk_trait.specs.Images.{Stays};
 ghost use Rattle.disk_trait.specs.declared.damage.Damage.{Damage as TheDamage};
 ghost use Rattle.flowfile_record.specs.declared.content.ContentRef.{ContentRef as TheRef};
 ghost use Rattle.record_codec.specs.ActiveFile.{active};
-ghost use Rattle.content_repo.specs.Claims.{content_in};
+ghost use Rattle.content_repo.specs.Claims.{IsRead, content_in};
 ghost use Rattle.flowfile_wal.specs.Calls.{InEach};
 ghost use Rattle.kept_state.specs.declared.limit.Limit.{Limit as TheLimit};
 ghost use Rattle.machine_model.specs.Acting.{name_in};
@@ -17,7 +18,7 @@ ghost use Rattle.machine_model.specs.Valid.{IsValid};
 ghost use Rattle.sha2.specs.Sha256.{sha256};
 ghost use Rattle.store_core.specs.Change.{MayChange, HasLiveContents};
 ghost use Rattle.store_core.specs.Flow.{flow_in};
-ghost use Rattle.store_core.specs.Store.{kept_by};
+ghost use Rattle.store_core.specs.Store.{kept_by, live_in};
 ghost use Rattle.engine_core.specs.Committing.{identity_of};
 ghost use Rattle.fixed_flow.specs.Flow.{fixed_flow};
 ghost use Rattle.fixed_flow.specs.Sessions.{gone_out, waiting};
@@ -30,7 +31,7 @@ use disk_trait::Disk;
 use engine_core::settle_session;
 use fixed_flow::{PUT, QUEUE, files_go_out, the_flow_is_sound};
 use flowfile_record::{
-    Attributes, Bytes, FlowFile, NameError, Outcome, Sequence, Settled, Text, uuid_of,
+    Attributes, Bytes, ContentRef, FlowFile, NameError, Outcome, Sequence, Settled, Text, uuid_of,
 };
 use machine_model::{Conflict, Flow, Given};
 use proc_source::PutFile;
@@ -38,7 +39,7 @@ use process_session::{Source, SourceList, Taken, TakenList};
 use processor_api::work_on;
 use settlement::Ended;
 use std::alloc::{AllocError, Global};
-use store_core::Store;
+use store_core::{Store, StoreError};
 use world_io::{Name, Outbox};
 
 /// Puts a queued file into the outbox, and drops it.
@@ -94,13 +95,41 @@ pub fn put<D: Disk, O: Outbox>(
     ensures outbox_cause { CountsFaults (O.faults outbox.old) (O.faults outbox.new) (IsErrOf result RunError.Outbox) }
 {
     holds_its_state(store, disk);
-    let bytes = store.read(disk, &file.content)?;
+    let bytes = read_content(store, disk, &file.content)?;
     let there = is_there(alloc, outbox, &file.attributes)?;
     let (settled, sent) = put_out(alloc, flow, store, moment, there, file, bytes)?;
     let prepared = store.prepare(&settled)?;
     send(outbox, &sent)?;
     store.commit(disk, prepared)?;
     Ok(())
+}
+
+// The bytes of a content that is kept.
+fn read_content<D: Disk>(
+    store: &mut Store,
+    disk: &mut D,
+    at: &ContentRef,
+) -> Result<Vec<u8>, RunError>
+    requires work { IsAtWork D.tells D.held D.moment D.images store.old disk.old }
+    requires live { Contains (live_in store.old) at.now }
+    ensures read { IfOk result (λ bytes. IsRead D.tells (D.held disk.old) at.now bytes.items) }
+    ensures undamaged { (damage : TheDamage) → IsErrOf result (RunError.Damaged damage) → IsTrue D.tells → ⊥ }
+    ensures same { OnOk result (store.new ≡ store.old) }
+    ensures lot { store.new.lot ≡ store.old.lot }
+    ensures stays { Stays D.held D.moment D.images disk.old disk.new }
+    ensures kinds { IfErr result (λ error. (error ≡ RunError.Disk) ⊎ (error ≡ RunError.Memory)
+        ⊎ ((damage : TheDamage) × (error ≡ RunError.Damaged damage))) }
+    ensures cause { CountsFaults (D.faults disk.old) (D.faults disk.new) (IsErrOf result RunError.Disk) }
+{
+    match store.read(disk, at) {
+        Ok(bytes) => Ok(bytes),
+        Err(StoreError::Disk | StoreError::MustReopen) => Err(RunError::Disk),
+        Err(StoreError::Damaged(damage)) => Err(RunError::Damaged(damage)),
+        // Reading passes no limit, and asks for no flow.
+        Err(StoreError::Memory | StoreError::Limit(_) | StoreError::OtherFlow { .. }) => {
+            Err(RunError::Memory)
+        }
+    }
 }
 
 /// What a session sends to the outbox.

@@ -1,37 +1,42 @@
-use Rattle.std.proofs.Common.{rules, ◌≡◌, ◌⊎◌, ℕ, ◌∷◌, [], false, length, Contains, Some, None, IfOk, OnOk, IfErr, IsErr, IsErrOf, IsTrue, MatchOption, List, Bool, is_some, option_map, Option, ◌+◌, ◌-◌, ◌*◌, ◌<◌, ◌≤◌, ◌/◌, ◌%◌, true, nat_eq, nat_lt, ◌++◌, slice_index_or, slice_set, bit_and, bit_or, Fits, w8, w32, w64, Bor, MutBor}
-use Rattle.std.specs.Option.{option_map_or}
-use Rattle.disk_trait.specs.Faults.{CountsFaults}
-use Rattle.disk_trait.specs.declared.damage.Damage.{Damage as TheDamage}
-use Rattle.flowfile_record.specs.declared.content.ContentRef.{ContentRef as TheRef}
-use Rattle.record_codec.specs.ActiveFile.{active}
-use Rattle.content_repo.specs.Claims.{content_in}
-use Rattle.flowfile_wal.specs.Calls.{InEach}
-use Rattle.kept_state.specs.declared.limit.Limit.{Limit as TheLimit}
-use Rattle.machine_model.specs.Acting.{name_in}
-use Rattle.machine_model.specs.Changing.{queued_file}
+use Rattle.std.proofs.Common.{List, None, map, ap, subst, ◌∷◌, []}
+use Rattle.flowfile_record.specs.Outcome.{IsOutcome}
+use Rattle.machine_model.specs.declared.given.Given.{Given}
 use Rattle.machine_model.specs.Placing.{uuid_text}
-use Rattle.machine_model.specs.State.{Machine}
-use Rattle.machine_model.specs.Stepping.{is_there, step}
-use Rattle.machine_model.specs.Valid.{IsValid}
-use Rattle.sha2.specs.Sha256.{sha256}
-use Rattle.store_core.specs.Change.{MayChange, HasLiveContents}
-use Rattle.store_core.specs.Flow.{flow_in}
+use Rattle.process_session.specs.Bench.{sizes_of, source_of}
+use Rattle.process_session.specs.declared.file.Taken.{Taken}
 use Rattle.store_core.specs.Store.{kept_by}
-use Rattle.engine_core.specs.Committing.{identity_of}
-use Rattle.fixed_flow.specs.Flow.{fixed_flow}
-use Rattle.fixed_flow.specs.Sessions.{gone_out, waiting}
-use Rattle.run_top.specs.Sessions.{Changes, IsAtWork, IsBetween, IsLeftByPut, IsSpared, IsStepped, PassesLimit, Sends, SplitsOff, IsLeftUnder, StandsFor, with_sent}
-use Rattle.run_top.specs.declared.status.RunError.{RunError as TheError}
+use Rattle.run_top.proofs.Outgoing.{given_of, goes_so, may_go, out_is, sends_so, split_is}
 use Rattle.run_top.proofs.going.put_out.Goals as goal
 
--- src/going.rt:188:19
 pub settle_session-requires-clause-may : goal.settle_session-requires-clause-may
-settle_session-requires-clause-may c = ?
+settle_session-requires-clause-may c =
+    let file = c.args.file in
+    let uuid = uuid_text c.state.result.now.store file.number in
+    let bytes = c.args.bytes.items in
+    let is = out_is file uuid bytes c.in_ok-taken.taken (given_of c.args.moment c.args.there None) c.in_ok-outcome.outcome c.in_ok-taken.ensures c.requires.size c.in_ok-outcome.ensures.outcome in
+    let split = split_is file uuid bytes c.in_ok-taken.taken c.in_ok-outcome.sources c.in_ok-sources.sources c.in_ok-sources.bytes c.in_ok-taken.ensures c.in_ok-outcome.ensures.sources c.in_ok-sources.ensures in
+    let sound : IsOutcome 2 (file.content.size ∷ []) c.in_ok-outcome.outcome
+    = subst (λ (t : List Taken). IsOutcome 2 (sizes_of (map source_of t)) c.in_ok-outcome.outcome) c.in_ok-taken.ensures c.in_ok-outcome.ensures.sound in
+    may_go c.args.flow.now c.work_on.new.given (kept_by c.args.store.now) file uuid bytes c.in_ok-one.field-0 c.in_ok-sources.sources c.in_ok-outcome.outcome
+    c.requires.flow (ap (λ (g : Given). g.index) c.work_on.ensures.given.but_bytes) c.requires.waits c.requires.size c.requires.digest c.in_ok-one.ensures split.0 is sound
 
--- src/going.rt:140:1
 pub returns-clause-goes : goal.returns-clause-goes
-returns-clause-goes c = ?
+returns-clause-goes c before after contents holds valid waits there steps stands =
+    let file = c.args.file in
+    let uuid = uuid_text c.state.result.now.store file.number in
+    let bytes = c.args.bytes.items in
+    let is = out_is file uuid bytes c.in_ok-taken.taken (given_of c.args.moment c.args.there None) c.in_ok-outcome.outcome c.in_ok-taken.ensures c.requires.size c.in_ok-outcome.ensures.outcome in
+    let split = split_is file uuid bytes c.in_ok-taken.taken c.in_ok-outcome.sources c.in_ok-sources.sources c.in_ok-sources.bytes c.in_ok-taken.ensures c.in_ok-outcome.ensures.sources c.in_ok-sources.ensures in
+    goes_so c.args.flow.now c.work_on.new.given (kept_by c.args.store.now) c.in_ok-settled.settled file uuid bytes c.in_ok-one.field-0 c.in_ok-sources.sources c.in_ok-outcome.outcome
+    c.args.moment c.args.there before after contents
+    c.files_go_out.ensures.settles c.requires.flow c.work_on.ensures.given.but_bytes c.requires.size c.requires.digest c.in_ok-one.ensures split.0 is
+    c.in_ok-settled.ensures.leaves holds valid waits there steps stands
 
--- src/going.rt:140:1
 pub returns-clause-sends : goal.returns-clause-sends
-returns-clause-sends c = ?
+returns-clause-sends c =
+    let file = c.args.file in
+    let uuid = uuid_text c.state.result.now.store file.number in
+    let bytes = c.args.bytes.items in
+    let is = out_is file uuid bytes c.in_ok-taken.taken (given_of c.args.moment c.args.there None) c.in_ok-outcome.outcome c.in_ok-taken.ensures c.requires.size c.in_ok-outcome.ensures.outcome in
+    let split = split_is file uuid bytes c.in_ok-taken.taken c.in_ok-outcome.sources c.in_ok-sources.sources c.in_ok-sources.bytes c.in_ok-taken.ensures c.in_ok-outcome.ensures.sources c.in_ok-sources.ensures in
+    sends_so file.attributes c.in_ok-outcome.outcome bytes c.in_ok-sources.bytes c.in_ok-sent.sent is split.1 c.in_ok-sent.ensures
