@@ -4,6 +4,7 @@ pub mod Left
 pub mod Names
 pub mod Orders
 pub mod Outgoing
+pub mod Putting
 pub mod Received
 pub mod Steps
 pub mod Stopping

@@ -1,22 +1,23 @@
 -- What a run that stops leaves, by its error.
-use Rattle.std.proofs.Common.{◌≡◌, ◌⊎◌, inl, inr, ℕ, Bool, false, List, [], ◌∷◌, refl, sym, ◌∙◌, ap, subst}
-use Rattle.std.specs.Prelude.{Option, Some}
+use Rattle.std.proofs.Common.{◌≡◌, ◌≢◌, ◌⊎◌, inl, inr, ℕ, Bool, false, List, [], ◌∷◌, refl, sym, ◌∙◌, ap, subst}
+use Rattle.std.specs.Prelude.{Option, Some, Contains}
 use Rattle.disk_trait.specs.Files.{Files}
 use Rattle.flowfile_record.specs.NamedFile.{NamedFile}
 use Rattle.kept_state.specs.declared.limit.Limit.{Limit}
 use Rattle.machine_model.specs.declared.journal.Step.{Step}
 use Rattle.machine_model.specs.Laws.{ReplayOfOneMore, StepsStayValid}
-use Rattle.machine_model.specs.State.{Machine}
+use Rattle.machine_model.specs.State.{Machine, QueuedFile}
 use Rattle.machine_model.specs.Stepping.{step}
 use Rattle.store_core.specs.Store.{StoreState, IsKeptOn}
 use Rattle.world_io.specs.declared.error.WorldError.{WorldError}
 use Rattle.fixed_flow.specs.Flow.{fixed_flow}
+use Rattle.fixed_flow.specs.Sessions.{waiting}
 use Rattle.run_top.specs.Running.{IsQueuedAmong, IsRunning, Stops}
 use Rattle.run_top.specs.Sessions.{IsSpared, PassesLimit}
 use Rattle.run_top.specs.Status.{inbox_error_of}
 use Rattle.run_top.specs.declared.status.RunError.{RunError}
 use Rattle.run_top.proofs.Steps.{IsNoLimit, runs_on, stops_between, to_stops}
-use Rattle.run_top.proofs.Waiting.{none_waits}
+use Rattle.run_top.proofs.Waiting.{none_waits, queued_without_none}
 
 -- an error is a limit, or it is none
 pub limit_or_none : (error : RunError) → ((limit : Limit) × (error ≡ RunError.Limit limit)) ⊎ IsNoLimit error
@@ -83,3 +84,21 @@ with_numbers moment images lot opened first now left standing coming numbers run
   where
     queued_any : (m : Machine) → IsQueuedAmong [] m → IsQueuedAmong numbers m
     queued_any m none = rw (none_waits m none) tt
+
+-- a number that no waiting file has
+pub without_number : {D : Type 0} (moment : D → ℕ) (images : D → ℕ → Files → Type 0) (lot : ℕ) (opened : Machine) (first now : D) (left : List NamedFile) (standing : List ℕ → Option (List ℕ)) (coming : List (List ℕ)) (number : ℕ) (numbers : List ℕ)
+    (run : IsRunning moment images lot opened first now left standing coming (number ∷ numbers)) → ((file : QueuedFile) → Contains (waiting run.reached) file → file.number ≢ number)
+    → IsRunning moment images lot opened first now left standing coming numbers
+without_number moment images lot opened first now left standing coming number numbers run none = record {
+  journal = run.journal;
+  reached = run.reached;
+  ran = run.ran;
+  all = run.all;
+  gone = run.gone;
+  order = run.order;
+  valid = run.valid;
+  queued = queued_without_none number numbers run.reached none run.queued;
+  holds = run.holds;
+  lies = run.lies;
+  stands = run.stands;
+}

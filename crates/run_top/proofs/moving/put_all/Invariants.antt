@@ -1,16 +1,17 @@
-use Rattle.std.proofs.Common.{◌≡◌, ◌⊎◌, ℕ, ◌≤◌, ◌∷◌, [], List, Option, map, Contains, Some, IsTrue, IsSome, IfOk, OnOk, IfErr, IsErrOf, All, ◌+◌, ◌-◌, ◌*◌, ◌<◌, length}
-use Rattle.disk_trait.specs.Faults.{CountsFaults}
-use Rattle.disk_trait.specs.declared.damage.Damage.{Damage as TheDamage}
-use Rattle.flowfile_record.specs.NamedFile.{NamedFile, bytes_of}
-use Rattle.kept_state.specs.declared.limit.Limit.{Limit as TheLimit}
+use Rattle.std.proofs.Common.{◌≡◌, ◌≤◌, ℕ, List, Option, drop, IsTrue}
+use Rattle.flowfile_record.specs.NamedFile.{NamedFile}
 use Rattle.machine_model.specs.State.{Machine}
-use Rattle.store_core.specs.Store.{kept_by}
-use Rattle.world_io.specs.Inbox.{IsAscending}
-use Rattle.fixed_flow.specs.Flow.{fixed_flow}
-use Rattle.run_top.specs.Running.{IsRunning, IsLeftBut, Stops, TakesOrLeaves}
+use Rattle.run_top.specs.Running.{IsRunning}
 use Rattle.run_top.specs.Sessions.{IsAtWork}
-use Rattle.run_top.specs.declared.status.RunError.{RunError as TheError}
 use Rattle.run_top.proofs.moving.put_all.Given as goal
 
 abbrev pub invariant-loop-number : goal.invariant-loop-number
-invariant-loop-number g l = ?
+invariant-loop-number g l = record {
+  lot : l.store.lot ≡ l.fn.store.lot;
+  work : IsAtWork g.D.Disk.tells g.D.Disk.held g.D.Disk.moment g.D.Disk.images l.store l.disk;
+  goes_on : IsTrue g.D.Disk.tells → IsTrue g.O.Outbox.tells → (opened : Machine) (first : g.row.D.Denot) (left : List NamedFile) (coming : List (List ℕ))
+      → IsRunning g.D.Disk.moment g.D.Disk.images l.fn.store.lot opened first l.fn.disk left (g.O.Outbox.standing l.fn.outbox) coming l.numbers
+      → IsRunning g.D.Disk.moment g.D.Disk.images l.fn.store.lot opened first l.disk left (g.O.Outbox.standing l.outbox) coming (drop l.number-index l.numbers);
+  disk_faults : g.D.Disk.faults l.fn.disk ≤ g.D.Disk.faults l.disk;
+  outbox_faults : g.O.Outbox.faults l.fn.outbox ≤ g.O.Outbox.faults l.outbox;
+}
