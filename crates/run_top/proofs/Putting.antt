@@ -96,3 +96,7 @@ sent_is (Some name) bytes before after standing is same = ap (λ (s : List ℕ �
 pub on_both : {A E : Type 0} (result : Result A E) (P Q R : Type 0) → (P → Q → R) → OnOk result P → OnOk result Q → OnOk result R
 on_both (Ok a) P Q R to p q = to p q
 on_both (Err error) P Q R to p q = tt
+
+pub on_one : {A E : Type 0} (result : Result A E) (P Q : Type 0) → (P → Q) → OnOk result P → OnOk result Q
+on_one (Ok a) P Q to p = to p
+on_one (Err error) P Q to p = tt

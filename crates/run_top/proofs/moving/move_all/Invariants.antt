@@ -9,7 +9,7 @@ invariant-loop-name g l = record {
   lot : l.store.lot ≡ l.fn.store.lot;
   work : IsAtWork g.D.Disk.tells g.D.Disk.held g.D.Disk.moment g.D.Disk.images l.store l.disk;
   goes_on : IsTrue g.D.Disk.tells → IsTrue g.I.Inbox.tells → IsTrue g.O.Outbox.tells → (opened : Machine) (first : g.row.D.Denot)
-      → IsRunning g.D.Disk.moment g.D.Disk.images l.fn.store.lot opened first l.fn.disk (g.I.Inbox.left l.fn.inbox) (g.O.Outbox.standing l.fn.outbox) l.names l.fn.numbers.now
+      → IsRunning g.D.Disk.moment g.D.Disk.images l.fn.store.lot opened first l.fn.disk (g.I.Inbox.left l.fn.inbox) (g.O.Outbox.standing l.fn.outbox) l.names l.fn.numbers
       → IsRunning g.D.Disk.moment g.D.Disk.images l.fn.store.lot opened first l.disk (g.I.Inbox.left l.inbox) (g.O.Outbox.standing l.outbox) (drop l.name-index l.names) [];
   left : IsTrue g.I.Inbox.tells → IsLeftBut (drop l.name-index l.names) (g.I.Inbox.left l.inbox);
   disk_faults : g.D.Disk.faults l.fn.disk ≤ g.D.Disk.faults l.disk;

@@ -1,25 +1,46 @@
-use Rattle.std.proofs.Common.{rules, ◌≡◌, ◌⊎◌, ℕ, ◌≤◌, ◌∷◌, [], List, Option, map, Contains, Some, IsTrue, IsSome, IfOk, OnOk, IfErr, IsErrOf, All, ◌+◌, ◌-◌, ◌*◌, ◌<◌, length, ◌/◌, ◌%◌, Bool, true, false, nat_eq, nat_lt, ◌++◌, slice_index_or, slice_set, bit_and, bit_or, Fits, w8, w32, w64, Bor, MutBor}
-use Rattle.disk_trait.specs.Faults.{CountsFaults}
-use Rattle.disk_trait.specs.declared.damage.Damage.{Damage as TheDamage}
-use Rattle.flowfile_record.specs.NamedFile.{NamedFile, bytes_of}
-use Rattle.kept_state.specs.declared.limit.Limit.{Limit as TheLimit}
-use Rattle.machine_model.specs.State.{Machine}
-use Rattle.store_core.specs.Store.{kept_by}
-use Rattle.world_io.specs.Inbox.{IsAscending}
-use Rattle.fixed_flow.specs.Flow.{fixed_flow}
-use Rattle.run_top.specs.Running.{IsRunning, IsLeftBut, Stops, TakesOrLeaves}
-use Rattle.run_top.specs.Sessions.{IsAtWork}
-use Rattle.run_top.specs.declared.status.RunError.{RunError as TheError}
+use Rattle.std.proofs.Common.{arith, ◌≡◌, ℕ, List, [], ◌∷◌, refl, sym, ◌∙◌, ap, subst}
+use Rattle.std.proofs.lemmas.Result.{err_from_is_err_and}
+use Rattle.std.specs.Prelude.{Err, Result, Ok, OnOk}
+use Rattle.flowfile_record.specs.Stored.{Kept}
+use Rattle.run_top.specs.Running.{IsRunning, Stops}
+use Rattle.run_top.specs.declared.status.RunError.{RunError}
+use Rattle.run_top.proofs.Putting.{on_one}
 use Rattle.run_top.proofs.moving.pass_on.Goals as goal
 
--- src/moving.rt:214:5
 pub returns-in_err-take-clause-stopped : goal.returns-in_err-take-clause-stopped
-returns-in_err-take-clause-stopped g c = ?
+returns-in_err-take-clause-stopped g c error is telling in_telling out_telling opened first coming run =
+    let D = g.D.Disk in
+    let p = err_from_is_err_and c.from_residual.result c.from_residual.ensures.1 in
+    let e : RunError = c.in_err-take.field-0.0 in
+    let fails : c.from_residual.result ≡ Err e = cc (p.1, p.2) in
+    let same : e ≡ error = cc (fails, is) in
+    let standing = g.O.Outbox.standing c.args.outbox.now in
+    subst (λ (x : RunError). Stops x D.tells D.held D.moment D.images c.args.store.now.lot opened first c.take.new.disk (g.I.Inbox.left c.take.new.inbox) standing) same
+    (c.in_err-take.ensures.stopped e refl telling in_telling opened first standing coming run)
 
--- src/moving.rt:177:1
 pub returns-clause-goes_on : goal.returns-clause-goes_on
-returns-clause-goes_on g c = ?
+returns-clause-goes_on g c =
+    on_one c.put_numbered.result _ _
+    (λ goes telling in_telling out_telling opened first coming run.
+    let D = g.D.Disk in
+    let left = g.I.Inbox.left c.take.new.inbox in
+    let standing = g.O.Outbox.standing c.args.outbox.now in
+    let lot : c.take.new.store.lot ≡ c.args.store.now.lot = c.take.ensures.lot in
+    let taken = c.in_ok-take.ensures.goes_on telling in_telling opened first standing coming run in
+    let here = subst (λ (n : ℕ). IsRunning D.moment D.images n opened first c.take.new.disk left standing coming (c.state.result.now.next_number ∷ [])) (sym lot)
+    (subst (λ (n : ℕ). IsRunning D.moment D.images c.args.store.now.lot opened first c.take.new.disk left standing coming (n ∷ [])) (sym (ap (λ (k : Kept). k.next_number) c.state.ensures.kept)) taken) in
+    subst (λ (n : ℕ). IsRunning D.moment D.images n opened first c.put_numbered.new.disk left (g.O.Outbox.standing c.put_numbered.new.outbox) coming []) lot
+    (goes telling out_telling opened first left coming [] here))
+    c.put_numbered.ensures.goes_on
 
--- src/moving.rt:177:1
 pub returns-clause-stopped : goal.returns-clause-stopped
-returns-clause-stopped g c = ?
+returns-clause-stopped g c error is telling in_telling out_telling opened first coming run =
+    let D = g.D.Disk in
+    let left = g.I.Inbox.left c.take.new.inbox in
+    let standing = g.O.Outbox.standing c.args.outbox.now in
+    let lot : c.take.new.store.lot ≡ c.args.store.now.lot = c.take.ensures.lot in
+    let taken = c.in_ok-take.ensures.goes_on telling in_telling opened first standing coming run in
+    let here = subst (λ (n : ℕ). IsRunning D.moment D.images n opened first c.take.new.disk left standing coming (c.state.result.now.next_number ∷ [])) (sym lot)
+    (subst (λ (n : ℕ). IsRunning D.moment D.images c.args.store.now.lot opened first c.take.new.disk left standing coming (n ∷ [])) (sym (ap (λ (k : Kept). k.next_number) c.state.ensures.kept)) taken) in
+    subst (λ (n : ℕ). Stops error D.tells D.held D.moment D.images n opened first c.put_numbered.new.disk left (g.O.Outbox.standing c.put_numbered.new.outbox)) lot
+    (c.put_numbered.ensures.stopped error is telling out_telling opened first left coming [] here)
