@@ -1,6 +1,10 @@
+pub mod Anew
+pub mod Begins
+pub mod Ends
 pub mod Journals
 pub mod Left
 pub mod Names
+pub mod Opened
 pub mod Orders
 pub mod Steps
 pub mod Ties
