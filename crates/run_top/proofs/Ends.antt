@@ -17,13 +17,14 @@ use Rattle.machine_model.specs.State.{Machine, World}
 use Rattle.fixed_flow.specs.Flow.{fixed_flow}
 use Rattle.fixed_flow.specs.Sessions.{QuietWithNothing}
 use Rattle.run_top.specs.Journal.{files_left, names_got}
-use Rattle.run_top.specs.Run.{HasRun, status_at}
+use Rattle.run_top.specs.Run.{HasRun, Replays, status_at}
 use Rattle.run_top.specs.Running.{IsLeftBut, IsLimited, IsQueuedAmong, IsRunning, IsTooLarge, Stops}
 use Rattle.run_top.specs.Sessions.{IsSpared, StandsFor}
-use Rattle.run_top.specs.Status.{is_limit, status_of}
+use Rattle.run_top.specs.Status.{inbox_error_of, is_limit, status_of}
+use Rattle.world_io.specs.declared.error.WorldError.{WorldError}
 use Rattle.run_top.specs.declared.status.RunError.{RunError}
 use Rattle.run_top.specs.declared.status.TheConstants.{DONE, LIMIT}
-use Rattle.run_top.proofs.Journals.{acknowledged-all}
+use Rattle.run_top.proofs.Journals.{acknowledged-all, step_none}
 use Rattle.run_top.proofs.Orders.{ascends_front}
 use Rattle.run_top.proofs.Steps.{runs_on, stops_between}
 use Rattle.run_top.proofs.Waiting.{none_waits}
@@ -89,29 +90,32 @@ module _ (law : ReplayOfOneMore) (stays : StepsStayValid) (quiets : QuietWithNot
   }
 
   -- it is closed, which ends well or by a fault of the disk
-  pub closes : (run : IsRunning moment images lot opened first old left standing [] []) → IsLeftBut [] left → IsSpared moment images lot run.reached old new → images new (moment new) (held new)
+  pub closes : IsRunning moment images lot opened first old left standing [] [] → IsLeftBut [] left → ((m : Machine) → InEach (images old (moment old)) (StandsFor lot m) → IsSpared moment images lot m old new) → images new (moment new) (held new)
       → (result : Result ⊤ RunError) → IfErr result (λ error. error ≡ RunError.Disk) → HasRun (status_at result) tells held moment images lot opened first new left standing
-  closes run but spared is_left (Ok done) disk = ends (runs_on law stays tells held moment images lot opened first old new left standing [] [] run spared) but is_left
-  closes run but spared is_left (Err error) disk =
+  closes run but spares is_left (Ok done) disk = ends (runs_on law stays tells held moment images lot opened first old new left standing [] [] run (spares run.reached run.holds)) but is_left
+  closes run but spares is_left (Err error) disk =
       stops_between tells held moment images lot opened first new left standing [] []
-      (runs_on law stays tells held moment images lot opened first old new left standing [] [] run spared) error (disk_is_no_limit error disk)
+      (runs_on law stays tells held moment images lot opened first old new left standing [] [] run (spares run.reached run.holds)) error (disk_is_no_limit error disk)
 
   module _ (limited : IsLimited tells held moment images lot opened first old left standing) (spared : IsSpared moment images lot limited.run.reached old new) where
     run_on : IsRunning moment images lot opened first new left standing limited.coming limited.numbers
     run_on = runs_on law stays tells held moment images lot opened first old new left standing limited.coming limited.numbers limited.run spared
 
+    still_ran : Replays moment images lot opened limited.run.journal limited.run.reached first new
+    still_ran = step_none law moment images lot first old new opened limited.run.reached limited.run.reached limited.run.journal limited.run.ran limited.run.all spared
+
     limit_stops : images new (moment new) (held new) → HasRun LIMIT tells held moment images lot opened first new left standing
     limit_stops is_left = record {
-      journal = run_on.journal;
-      reached = run_on.reached;
-      ran = run_on.ran;
-      acked = inl (acknowledged-all run_on.journal (moment first + 1) (moment new) (moment new) run_on.all run_on.ran.in_order (omega arith));
-      order = ascends_front (names_got run_on.journal) limited.coming run_on.order;
-      gone = run_on.gone;
-      inbox = inl run_on.lies;
-      outbox = inl run_on.stands;
+      journal = limited.run.journal;
+      reached = limited.run.reached;
+      ran = still_ran;
+      acked = inl (acknowledged-all limited.run.journal (moment first + 1) (moment new) (moment new) limited.run.all still_ran.in_order (omega arith));
+      order = ascends_front (names_got limited.run.journal) limited.coming limited.run.order;
+      gone = limited.run.gone;
+      inbox = inl limited.run.lies;
+      outbox = inl limited.run.stands;
       done = λ is. absurd (omega (arith, is));
-      limited = λ is. record { disk = run_on.holds (held new) is_left; at = old; met = limited.met };
+      limited = λ is. record { disk = spared.each (moment new) (held new) spared.later (omega arith) is_left; at = old; met = limited.met };
     }
 
     -- the close failed
@@ -152,3 +156,29 @@ to_run tells held moment images lot opened first now left standing RunError.Inbo
 to_run tells held moment images lot opened first now left standing RunError.Outbox none ran = ran
 to_run tells held moment images lot opened first now left standing (RunError.Limit limit) none ran = absurd cc
 to_run tells held moment images lot opened first now left standing RunError.Memory none ran = ran
+
+-- ---- the same run
+
+module _ {D : Type 0} (moment : D → ℕ) (images : D → ℕ → Files → Type 0) (lot : ℕ) (opened : Machine) (first now : D) (standing : List ℕ → Option (List ℕ)) where
+  pub same_run : (left left2 : List NamedFile) (coming coming2 : List (List ℕ)) (numbers numbers2 : List ℕ) → left2 ≡ left → coming2 ≡ coming → numbers2 ≡ numbers
+      → IsRunning moment images lot opened first now left standing coming numbers → IsRunning moment images lot opened first now left2 standing coming2 numbers2
+  same_run left left2 coming coming2 numbers numbers2 l c n run =
+      subst (λ (m : List NamedFile). IsRunning moment images lot opened first now m standing coming2 numbers2) (sym l)
+      (subst (λ (m : List (List ℕ)). IsRunning moment images lot opened first now left standing m numbers2) (sym c)
+      (subst (λ (m : List ℕ). IsRunning moment images lot opened first now left standing coming m) (sym n) run))
+
+pub spares_by : {D : Type 0} (moment : D → ℕ) (images : D → ℕ → Files → Type 0) (old new : D) (lot other : ℕ) → other ≡ lot
+    → ((m : Machine) → InEach (images old (moment old)) (StandsFor other m) → IsSpared moment images other m old new)
+    → (m : Machine) → InEach (images old (moment old)) (StandsFor lot m) → IsSpared moment images lot m old new
+spares_by moment images old new lot other is spares = subst (λ (l : ℕ). (m : Machine) → InEach (images old (moment old)) (StandsFor l m) → IsSpared moment images l m old new) is spares
+
+-- a refusal of the inbox is no limit
+pub inbox_no_limit : (failure : WorldError) (error : RunError) → error ≡ inbox_error_of failure → (limit : Limit) → error ≡ RunError.Limit limit → ⊥
+inbox_no_limit WorldError.Failed error is limit other = absurd cc
+inbox_no_limit WorldError.Memory error is limit other = absurd cc
+
+pub memory_no_limit : (limit : Limit) → ◌≡◌ {A = RunError} RunError.Memory (RunError.Limit limit) → ⊥
+memory_no_limit limit is = absurd cc
+
+pub disk_of : (result : Result ⊤ RunError) (error : RunError) → result ≡ Err error → IfErr result (λ e. e ≡ RunError.Disk) → error ≡ RunError.Disk
+disk_of result error is disk = subst (λ (r : Result ⊤ RunError). IfErr r (λ e. e ≡ RunError.Disk)) is disk

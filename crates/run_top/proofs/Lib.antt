@@ -6,6 +6,7 @@ pub mod Left
 pub mod Names
 pub mod Opened
 pub mod Orders
+pub mod Started
 pub mod Steps
 pub mod Ties
 pub mod Waiting
