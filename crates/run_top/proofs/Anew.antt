@@ -1,17 +1,15 @@
 -- A new store of the fixed flow says nothing that a snapshot may not.
-use Rattle.std.proofs.Common.{◌≡◌, ℕ, ◌%◌, ◌<◌, ◌≤◌, List, [], ◌∷◌, length, map, codes, refl, sym, ◌∙◌, ap, subst, arith}
+use Rattle.std.proofs.Common.{◌≡◌, ℕ, ◌<◌, List, [], ◌∷◌, length, map, codes, refl, sym, ◌∙◌, ap, subst, arith}
 use Rattle.std.proofs.Math.Nat.{mod-lt}
 use Rattle.std.proofs.lemmas.List.Elements.{All-nil, All-cons}
 use Rattle.std.proofs.lemmas.Str.{IsUtf8-from_ascii}
 use Rattle.std.proofs.lemmas.Str.Ascii.{IsAscii-from_all}
 use Rattle.std.specs.Str.{IsUtf8}
 use Rattle.std.specs.Prelude.{◌≢◌}
-use Rattle.sha2.specs.Sha256.{sha256}
 use Rattle.sha2.proofs.Facts256.{length-sha256}
 use Rattle.flowfile_record.specs.Encoding.{IsNumber, IsText, numbers}
-use Rattle.flowfile_record.specs.declared.limits.TheConstants.{STORE_LIMIT}
 use Rattle.flowfile_record.specs.Stored.{Kept}
-use Rattle.record_codec.specs.StoreHead.{head, IsHead}
+use Rattle.record_codec.specs.StoreHead.{IsHead}
 use Rattle.record_codec.specs.Texts.{texts}
 use Rattle.record_codec.proofs.Sizes.{head_size}
 use Rattle.checkpoint_store.specs.Consistent.{IsConsistent, IsBatchIn, IsFileIn}

@@ -1,8 +1,8 @@
 -- How a run begins, and what its store's close leaves.
-use Rattle.std.proofs.Common.{◌≡◌, ◌⊎◌, inl, inr, ⊎_elim, ℕ, ◌+◌, ◌<◌, ◌≤◌, ◌==◌, Bool, true, false, cond, bytes_eq, List, [], ◌∷◌, length, map, refl, sym, ◌∙◌, ap, subst, arith}
-use Rattle.std.proofs.lemmas.Bool.{cond-true, eqb-true, eq-eqb}
+use Rattle.std.proofs.Common.{◌≡◌, ◌⊎◌, inl, inr, ℕ, ◌+◌, ◌==◌, Bool, true, false, cond, bytes_eq, List, [], ◌∷◌, map, refl, sym, ◌∙◌, ap, subst, arith}
+use Rattle.std.proofs.lemmas.Bool.{cond-true, eq-eqb}
 use Rattle.std.proofs.lemmas.Slice.Eq.{bytes_eq-Decides}
-use Rattle.std.specs.Prelude.{Option, None, Some, Ok, Err, Result, IsSome, IsNone, filter, ◌||◌, Contains}
+use Rattle.std.specs.Prelude.{Option, None, Some, Ok, Result, IsSome, IsNone, filter, ◌||◌, Contains}
 use Rattle.std.specs.List.{list_any}
 use Rattle.disk_trait.specs.Files.{Files}
 use Rattle.disk_trait.specs.Images.{Since}
@@ -32,13 +32,11 @@ use Rattle.store_core.proofs.Agreeing.{keeps_of, sound_of}
 use Rattle.engine_core.specs.Committing.{identity_of}
 use Rattle.fixed_flow.specs.Flow.{fixed_flow}
 use Rattle.fixed_flow.specs.Sessions.{waiting}
-use Rattle.run_top.specs.Journal.{files_left, names_got}
 use Rattle.run_top.specs.Run.{HasRun, IsPrefix, Replays, machine_at}
 use Rattle.run_top.specs.Running.{IsQueuedAmong, IsRunning}
 use Rattle.run_top.specs.Sessions.{IsAtWork, IsSpared, StandsFor}
 use Rattle.run_top.specs.Status.{status_of}
 use Rattle.run_top.specs.declared.status.RunError.{RunError}
-use Rattle.run_top.specs.declared.status.TheConstants.{DONE, LIMIT}
 use Rattle.run_top.proofs.Journals.{whole_prefix}
 use Rattle.run_top.proofs.Steps.{status_isnt_done, status_isnt_limit}
 use Rattle.run_top.proofs.Waiting.{queued_among}

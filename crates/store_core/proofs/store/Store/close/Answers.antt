@@ -3,7 +3,6 @@ use Rattle.disk_trait.specs.Images.{Since}
 use Rattle.disk_trait.proofs.Moments.{and_syncs}
 use Rattle.flowfile_record.specs.declared.content.ContentRef.{ContentRef}
 use Rattle.content_repo.specs.Slots.{count_of, held_in, references_to}
-use Rattle.machine_model.specs.State.{State}
 use Rattle.store_core.specs.Flow.{flow_in}
 use Rattle.store_core.specs.State.{stands_for}
 use Rattle.store_core.specs.Store.{StoreState, state_in, EachStandsFor, IsKeptOn, IsSound, IsTidy, Holds, kept_by}
