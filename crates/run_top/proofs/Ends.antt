@@ -1,11 +1,9 @@
 -- How a run begins and ends.
-use Rattle.std.proofs.Common.{◌≡◌, ◌≢◌, ◌⊎◌, inl, inr, ⊎_elim, ℕ, ◌+◌, ◌<◌, ◌≤◌, Bool, true, false, cond, bytes_eq, List, [], ◌∷◌, length, refl, sym, ◌∙◌, ap, subst, arith}
+use Rattle.std.proofs.Common.{◌≡◌, ◌⊎◌, inl, inr, ⊎_elim, ℕ, ◌+◌, ◌<◌, Bool, true, false, bytes_eq, List, [], ◌∷◌, length, refl, sym, ◌∙◌, ap, subst, arith}
 use Rattle.std.proofs.lemmas.Bool.{cond-true, cond-false}
 use Rattle.std.proofs.lemmas.Slice.Eq.{bytes_eq-Decides}
-use Rattle.std.specs.Prelude.{⊤, Option, None, Some, Ok, Err, Result, IsSome, IfSome, IfErr, IsTrue, filter}
+use Rattle.std.specs.Prelude.{⊤, Option, None, Some, Ok, Err, Result, IsSome, IfSome, IfErr, filter}
 use Rattle.disk_trait.specs.Files.{Files}
-use Rattle.disk_trait.specs.Images.{Since}
-use Rattle.disk_trait.specs.declared.damage.Damage.{Damage}
 use Rattle.flowfile_record.specs.NamedFile.{NamedFile, bytes_of}
 use Rattle.flowfile_record.specs.declared.TheConstants.{CONTENT_MAX}
 use Rattle.flowfile_wal.specs.Calls.{InEach}
@@ -13,12 +11,12 @@ use Rattle.kept_state.specs.declared.limit.Limit.{Limit}
 use Rattle.machine_model.specs.Kinds.{is_among}
 use Rattle.machine_model.specs.Laws.{ReplayOfOneMore, StepsStayValid}
 use Rattle.machine_model.specs.Quiet.{quiet}
-use Rattle.machine_model.specs.State.{Machine, World}
+use Rattle.machine_model.specs.State.{Machine}
 use Rattle.fixed_flow.specs.Flow.{fixed_flow}
 use Rattle.fixed_flow.specs.Sessions.{QuietWithNothing}
 use Rattle.run_top.specs.Journal.{files_left, names_got}
 use Rattle.run_top.specs.Run.{HasRun, Replays, status_at}
-use Rattle.run_top.specs.Running.{IsLeftBut, IsLimited, IsQueuedAmong, IsRunning, IsTooLarge, Stops}
+use Rattle.run_top.specs.Running.{IsLeftBut, IsLimited, IsQueuedAmong, IsRunning, Stops}
 use Rattle.run_top.specs.Sessions.{IsSpared, StandsFor}
 use Rattle.run_top.specs.Status.{inbox_error_of, is_limit, status_of}
 use Rattle.world_io.specs.declared.error.WorldError.{WorldError}

@@ -1,5 +1,5 @@
 -- A store that was opened, or was not, as the beginning of a run.
-use Rattle.std.proofs.Common.{◌≡◌, ◌⊎◌, inl, inr, ⊎_elim, ℕ, ◌≤◌, Bool, List, [], map, refl, sym, ◌∙◌, ap, subst, arith}
+use Rattle.std.proofs.Common.{◌≡◌, ◌⊎◌, inl, inr, ⊎_elim, ℕ, Bool, List, [], map, refl, sym, ◌∙◌, ap, subst, arith}
 use Rattle.std.specs.Prelude.{⊤, Option, Ok, Err, Result, IsErrOf}
 use Rattle.disk_trait.specs.Files.{Files}
 use Rattle.flowfile_record.specs.NamedFile.{NamedFile}
@@ -19,7 +19,6 @@ use Rattle.run_top.specs.Run.{IsNotOpened, IsUnopened, machine_at, status_at}
 use Rattle.run_top.specs.Running.{IsRunning}
 use Rattle.run_top.specs.Sessions.{IsAtWork}
 use Rattle.run_top.specs.declared.status.RunError.{RunError}
-use Rattle.run_top.specs.declared.status.TheConstants.{DISK_FAULT, OUT_OF_MEMORY}
 use Rattle.run_top.proofs.Begins.{begins, queued_live, state_is_kept}
 
 err_is : {A E : Type 0} {a b : E} → ◌≡◌ {A = Result A E} (Err a) (Err b) → a ≡ b
