@@ -1,11 +1,16 @@
+pub mod Anew
+pub mod Begins
 pub mod Commits
+pub mod Ends
 pub mod Journals
 pub mod Left
 pub mod Names
+pub mod Opened
 pub mod Orders
 pub mod Outgoing
 pub mod Putting
 pub mod Received
+pub mod Started
 pub mod Steps
 pub mod Stopping
 pub mod Ties

@@ -31,7 +31,7 @@ use Rattle.run_top.proofs.Orders.{ascends_front, ascends_but, put_order, get_ord
 use Rattle.run_top.proofs.Waiting.{queued_behind, queued_without}
 
 -- no error has the status of a run that was done
-status_isnt_done : (error : RunError) → status_of error ≢ DONE
+pub status_isnt_done : (error : RunError) → status_of error ≢ DONE
 status_isnt_done (RunError.Damaged damage) is = omega arith
 status_isnt_done RunError.OtherFlow is = omega arith
 status_isnt_done RunError.Disk is = omega arith
@@ -44,7 +44,7 @@ status_isnt_done RunError.Memory is = omega arith
 abbrev pub IsNoLimit : RunError → Type 0
 IsNoLimit error = (limit : Limit) → error ≡ RunError.Limit limit → ⊥
 
-status_isnt_limit : (error : RunError) → IsNoLimit error → status_of error ≢ LIMIT
+pub status_isnt_limit : (error : RunError) → IsNoLimit error → status_of error ≢ LIMIT
 status_isnt_limit (RunError.Damaged damage) none is = omega arith
 status_isnt_limit RunError.OtherFlow none is = omega arith
 status_isnt_limit RunError.Disk none is = omega arith

@@ -1,5 +1,5 @@
 -- The statuses of a run's errors.
-use Rattle.std.specs.Prelude.{ℕ}
+use Rattle.std.specs.Prelude.{ℕ, Bool, true, false}
 use Rattle.store_core.specs.declared.error.StoreError.{StoreError}
 use Rattle.world_io.specs.declared.error.WorldError.{WorldError}
 use Rattle.run_top.specs.declared.status.RunError.{RunError}
@@ -14,6 +14,11 @@ status_of Inbox = INBOX_FAULT
 status_of Outbox = OUTBOX_FAULT
 status_of (Limit limit) = LIMIT
 status_of Memory = OUT_OF_MEMORY
+
+-- whether it is that of a limit
+abbrev pub is_limit : RunError → Bool
+is_limit (Limit limit) = true
+is_limit error = false
 
 -- what a refusal of the store means for the run
 abbrev pub error_of : StoreError → RunError

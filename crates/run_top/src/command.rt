@@ -2,6 +2,7 @@
 ghost use Rattle.std.specs.Prelude.{◌≡◌, ◌⊎◌, ◌↔◌, true, false, IsTrue, IsErrOf, IfOk, IfErr, map};
 ghost use Rattle.disk_trait.specs.Faults.{CountsFaults};
 ghost use Rattle.disk_trait.specs.declared.damage.Damage.{Damage as TheDamage};
+ghost use Rattle.flowfile_wal.specs.Calls.{InEach};
 ghost use Rattle.kept_state.specs.declared.limit.Limit.{Limit as TheLimit};
 ghost use Rattle.machine_model.specs.State.{Machine, State};
 ghost use Rattle.store_core.specs.Opened.{IsShut};
@@ -10,10 +11,11 @@ ghost use Rattle.engine_core.specs.Committing.{identity_of};
 ghost use Rattle.fixed_flow.specs.Flow.{fixed_flow};
 ghost use Rattle.run_top.specs.Run.{CountsEachFault, HasRun, IsLeftShut, IsLeftUnwritten, IsNotOpened, IsOfFlow, IsToldBy, IsToldShut, Opens, machine_at, status_at};
 ghost use Rattle.run_top.specs.Running.{IsRunning};
-ghost use Rattle.run_top.specs.Sessions.{IsAtWork};
+ghost use Rattle.run_top.specs.Sessions.{IsAtWork, IsSpared, StandsFor};
 ghost use Rattle.run_top.specs.Words.{is_run};
 
 use crate::moving::{move_all, queued_numbers};
+use crate::tied::holds_its_state;
 use crate::{
     DAMAGED, DISK_FAULT, DONE, INBOX_FAULT, LIMIT, OTHER_FLOW, OUT_OF_MEMORY, OUTBOX_FAULT,
     RunError, USAGE,
@@ -21,9 +23,9 @@ use crate::{
 use disk_trait::Disk;
 use engine_core::connection_ids;
 use fixed_flow::{fixed_flow, the_flow_is_quiet};
-use machine_model::Flow;
+use machine_model::{Flow, replay_goes_on, states_stay_valid};
 use std::alloc::Global;
-use store_core::{FlowIdentity, Store};
+use store_core::{FlowIdentity, Store, what_is_kept_is_a_state};
 use world_io::{Clock, Gate, Inbox, Outbox, Sink, Source};
 
 /// Runs the command that the words say, and answers its status.
@@ -124,6 +126,9 @@ fn run_flow<D: Disk, I: Inbox, O: Outbox, C: Clock>(
 {
     let flow = fixed_flow(alloc)?;
     let mut store = open(alloc, lot, disk, &flow)?;
+    what_is_kept_is_a_state();
+    holds_its_state(&store, disk);
+    let _stored = store.state();
     run_over(alloc, &flow, &mut store, disk, inbox, outbox, clock)
 }
 
@@ -176,6 +181,8 @@ fn run_over<D: Disk, I: Inbox, O: Outbox, C: Clock>(
     ensures inbox_cause { CountsFaults (I.faults inbox.old) (I.faults inbox.new) (IsErrOf result RunError.Inbox) }
     ensures outbox_cause { CountsFaults (O.faults outbox.old) (O.faults outbox.new) (IsErrOf result RunError.Outbox) }
 {
+    replay_goes_on();
+    states_stay_valid();
     the_flow_is_quiet();
     let mut names = Vec::new(alloc);
     if let Err(error) = inbox.list(&mut names) {
@@ -193,11 +200,25 @@ fn run_over<D: Disk, I: Inbox, O: Outbox, C: Clock>(
         &numbers,
         names.as_slice(),
     ) {
-        Ok(()) => Ok(store.close(disk)?),
-        Err(RunError::Limit(limit)) => {
-            store.close(disk)?;
-            Err(RunError::Limit(limit))
+        Ok(()) => close(store, disk),
+        Err(error) => {
+            if error.is_limit() {
+                close(store, disk)?;
+                return Err(error);
+            }
+            Err(error)
         }
-        Err(error) => Err(error),
     }
+}
+
+// Closes the store. Whatever a stop leaves stands for the same state.
+fn close<D: Disk>(store: &mut Store, disk: &mut D) -> Result<(), RunError>
+    requires { IsAtWork D.tells D.held D.moment D.images store.old disk.old }
+    ensures spared { (m : Machine) → InEach (D.images disk.old (D.moment disk.old)) (StandsFor store.old.lot m)
+        → IsSpared D.moment D.images store.old.lot m disk.old disk.new }
+    ensures kinds { IfErr result (λ error. error ≡ RunError.Disk) }
+    ensures cause { CountsFaults (D.faults disk.old) (D.faults disk.new) (IsErrOf result RunError.Disk) }
+{
+    store.close(disk)?;
+    Ok(())
 }

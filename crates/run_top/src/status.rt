@@ -1,6 +1,6 @@
 //! How a run ends, and the status that says so.
 ghost use Rattle.std.specs.Prelude.{◌≡◌};
-ghost use Rattle.run_top.specs.Status.{status_of, error_of, inbox_error_of};
+ghost use Rattle.run_top.specs.Status.{status_of, is_limit, error_of, inbox_error_of};
 ghost use Rattle.run_top.specs.declared.status.RunError.TheVariants.{Memory};
 
 use disk_trait::Damage;
@@ -67,6 +67,17 @@ impl RunError {
             RunError::Outbox => OUTBOX_FAULT,
             RunError::Limit(_) => LIMIT,
             RunError::Memory => OUT_OF_MEMORY,
+        }
+    }
+
+    /// Whether a limit was met.
+    pub fn is_limit(&self) -> bool
+        ensures { result ≡ is_limit self.now }
+    {
+        match self {
+            RunError::Limit(_) => true,
+            RunError::Damaged(_) | RunError::OtherFlow | RunError::Disk => false,
+            RunError::Inbox | RunError::Outbox | RunError::Memory => false,
         }
     }
 }

@@ -11,7 +11,14 @@ use Rattle.disk_trait.proofs.Moments.{wider, at_the_end}
 use Rattle.content_repo.specs.Claims.{IdleShortened}
 use Rattle.content_repo.specs.Slots.{IsReclaimed}
 use Rattle.content_repo.specs.declared.reclaim.Reclaimed.{Reclaimed}
-use Rattle.store_core.proofs.Reclaiming.{since_reclaimed, kept_reclaimed, sound_reclaimed}
+use Rattle.machine_model.specs.State.{State}
+use Rattle.store_core.specs.Flow.{flow_in}
+use Rattle.store_core.specs.State.{stands_for}
+use Rattle.store_core.specs.Store.{EachStandsFor, kept_by}
+use Rattle.store_core.proofs.Agreeing.{of_state}
+use Rattle.store_core.proofs.ClaimsAlone.{current_stays, snapshot_stays}
+use Rattle.store_core.proofs.Following.{Follows, state_following}
+use Rattle.store_core.proofs.Reclaiming.{live_stay, since_reclaimed, kept_reclaimed, sound_reclaimed}
 
 abbrev pub let_go : StoreState → List Slot → StoreState
 let_go s slots = record s { slots = slots; opened = [] }
@@ -64,6 +71,19 @@ module _ {D : Type 0} (tells : Bool) (held : D → Files) (moment : D → ℕ) (
       wider moment images old mid (Holds (let_go s slots)) (Holds s)
       (since_reclaimed moment images (let_go s slots) old mid (works_on s slots has) (kept_on.holds has.unfailed) (kept_on.log has.unfailed) since)
       (λ c h. record { kept = h.kept; contents = h.contents })
+
+  follows_emptied : (before c : Files) → IdleShortened slots before c → Follows s before c
+  follows_emptied before c step = record {
+    current = current_stays before c step.others;
+    snapshot = snapshot_stays before c step.others;
+    contents = live_stay (let_go s slots) before c (works_on s slots has) step;
+  }
+
+  -- whatever a stop leaves stands for the same state
+  pub states_closed : (state : State) → EachStandsFor (flow_in (kept_by s)) s.lot state (images old (moment old)) → Since moment images old mid (λ c. stands_for (flow_in (kept_by s)) s.lot c ≡ of_state state)
+  states_closed state stands =
+      wider moment images old mid (After (IdleShortened slots) (images old (moment old))) (λ c. stands_for (flow_in (kept_by s)) s.lot c ≡ of_state state) since
+      (λ c after. state_following s state after.0 c (kept.log has.unfailed after.0 after.1) (follows_emptied after.0 c after.2) (kept.holds has.unfailed after.0 after.1) (stands after.0 after.1))
 
   pub kept_closed : (emptied : List Slot) → (IsTrue tells → HasSizes emptied (held mid)) → IsKeptOn tells held moment images (closed s emptied) mid
   kept_closed emptied sizes = kept_reclaimed moment images (let_go s slots) old mid tells held emptied (works_on s slots has) has.unfailed kept_on since sizes

@@ -1,5 +1,5 @@
 //! The store: what a flow keeps, in memory and on a disk.
-ghost use Rattle.std.specs.Prelude.{◌≡◌, ℕ, ◌⊎◌, [], true, false, Some, None, IfOk, OnOk, IsErrOf, IfErr, Contains, IsTrue};
+ghost use Rattle.std.specs.Prelude.{◌≡◌, ℕ, ◌⊎◌, [], true, false, Ok, Some, None, IfOk, OnOk, IsErrOf, IfErr, Contains, IsTrue};
 ghost use Rattle.disk_trait.specs.Images.{Since, Stays, IsOnly, After};
 ghost use Rattle.disk_trait.specs.declared.damage.Damage.{Damage as TheDamage};
 ghost use Rattle.flowfile_record.specs.Stored.{kept_of};
@@ -8,10 +8,13 @@ ghost use Rattle.checkpoint_store.specs.Consistent.{IsConsistent};
 ghost use Rattle.content_repo.specs.Claims.{IsRead, IdleShortened, claim};
 ghost use Rattle.content_repo.specs.Slots.{references_to};
 ghost use Rattle.kept_state.specs.declared.limit.Limit.{Limit as TheLimit};
+ghost use Rattle.machine_model.specs.State.{State};
 ghost use Rattle.store_core.specs.Calls.{RefusesOnFault, IsDiskOrReopen};
 ghost use Rattle.store_core.specs.Change.{MayChange, IsWithinLimits, IsLimitOf};
 ghost use Rattle.store_core.specs.Committed.{IsPrepared};
-ghost use Rattle.store_core.specs.Store.{kept_by, live_in, Holds, IsKeptOn, IsTidy};
+ghost use Rattle.store_core.specs.Flow.{flow_in};
+ghost use Rattle.store_core.specs.State.{stands_for};
+ghost use Rattle.store_core.specs.Store.{kept_by, live_in, EachStandsFor, Holds, IsKeptOn, IsTidy};
 
 use crate::contents::{fresh_sizes, let_go};
 use crate::{Prepared, StoreError};
@@ -172,6 +175,11 @@ impl Store {
     pub fn close<D: Disk>(&mut self, disk: &mut D) -> Result<(), StoreError>
         requires { IsKeptOn D.tells D.held D.moment D.images self.old disk.old }
         ensures images { self.old.failed ≡ false → Since D.moment D.images disk.old disk.new (Holds self.old) }
+        // Whatever a stop leaves stands for the same state.
+        ensures states { self.old.failed ≡ false → (state : State)
+            → EachStandsFor (flow_in (kept_by self.old)) self.old.lot state (D.images disk.old (D.moment disk.old))
+            → Since D.moment D.images disk.old disk.new
+            (λ c. stands_for (flow_in (kept_by self.old)) self.old.lot c ≡ Ok state) }
         // One image alone is left.
         ensures synced { OnOk result (IsOnly (D.held disk.new) (D.images disk.new (D.moment disk.new))) }
         // What stands in the claims is needed.

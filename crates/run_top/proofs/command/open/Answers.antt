@@ -1,26 +1,28 @@
-use Rattle.std.proofs.Common.{rules, ◌≡◌, ◌⊎◌, ◌↔◌, true, false, IsTrue, IsErrOf, IfOk, IfErr, map, ℕ, ◌+◌, ◌-◌, ◌*◌, ◌<◌, ◌≤◌, length, ◌/◌, ◌%◌, Bool, nat_eq, nat_lt, List, [], ◌∷◌, ◌++◌, slice_index_or, slice_set, bit_and, bit_or, Fits, w8, w32, w64, Bor, MutBor}
-use Rattle.disk_trait.specs.Faults.{CountsFaults}
-use Rattle.disk_trait.specs.declared.damage.Damage.{Damage as TheDamage}
-use Rattle.kept_state.specs.declared.limit.Limit.{Limit as TheLimit}
-use Rattle.machine_model.specs.State.{Machine, State}
-use Rattle.store_core.specs.Opened.{IsShut}
-use Rattle.store_core.specs.Store.{kept_by}
-use Rattle.engine_core.specs.Committing.{identity_of}
-use Rattle.fixed_flow.specs.Flow.{fixed_flow}
-use Rattle.run_top.specs.Run.{CountsEachFault, HasRun, IsLeftShut, IsLeftUnwritten, IsNotOpened, IsOfFlow, IsToldBy, IsToldShut, Opens, machine_at, status_at}
-use Rattle.run_top.specs.Running.{IsRunning}
-use Rattle.run_top.specs.Sessions.{IsAtWork}
-use Rattle.run_top.specs.Words.{is_run}
+use Rattle.std.proofs.Common.{◌≡◌, ◌∙◌, refl, ap}
+use Rattle.std.proofs.lemmas.Result.{err_from_is_err_and}
+use Rattle.std.specs.Prelude.{Err}
+use Rattle.store_core.specs.declared.error.StoreError.TheVariants as StoreError
+use Rattle.run_top.specs.declared.status.RunError.TheVariants as RunError
+use Rattle.run_top.proofs.Anew.{anew_is_consistent, same_identity}
+use Rattle.run_top.proofs.Opened.{damage_of, other_of, told_damage, told_other}
 use Rattle.run_top.proofs.command.open.Goals as goal
 
--- src/command.rt:152:17
 pub load-requires-after_bounds : goal.load-requires-after_bounds
-load-requires-after_bounds g c κs within = ?
+load-requires-after_bounds g c κs within =
+    anew_is_consistent c.args.lot _ (same_identity c.args.flow.now _ _ _ c.requires refl c.in_ok-ids.ensures c.len.ensures)
 
--- src/command.rt:152:17
 pub returns-in_err-store-clause-damaged : goal.returns-in_err-store-clause-damaged
-returns-in_err-store-clause-damaged g c = ?
+returns-in_err-store-clause-damaged g c damage is =
+    let p = err_from_is_err_and c.from_residual-in_err-store.result c.from_residual-in_err-store.ensures.1 in
+    let was : c.in_err-store.field-0.0 ≡ StoreError.Damaged damage = damage_of c.in_err-store.field-0.0 damage (cc (p.1, p.2, is)) in
+    let refused = c.in_err-store.was ∙ ap Err was in
+    told_damage g.D.Disk.tells g.D.Disk.held g.D.Disk.moment _ (same_identity c.args.flow.now _ _ _ c.requires refl c.in_ok-ids.ensures c.len.ensures) c.args.lot c.args.disk.now c.load.new.disk damage
+    (c.load.ensures.damaged damage refused) (c.load.ensures.unwritten damage refused)
 
--- src/command.rt:152:17
 pub returns-in_err-store-clause-other_flow : goal.returns-in_err-store-clause-other_flow
-returns-in_err-store-clause-other_flow g c = ?
+returns-in_err-store-clause-other_flow g c is =
+    let p = err_from_is_err_and c.from_residual-in_err-store.result c.from_residual-in_err-store.ensures.1 in
+    let was = other_of c.in_err-store.field-0.0 (cc (p.1, p.2, is)) in
+    let refused = c.in_err-store.was ∙ ap Err was.1.1 in
+    told_other g.D.Disk.tells g.D.Disk.held g.D.Disk.moment _ (same_identity c.args.flow.now _ _ _ c.requires refl c.in_ok-ids.ensures c.len.ensures) c.args.lot c.args.disk.now c.load.new.disk was.0
+    (c.load.ensures.other_flow was.0 was.1.0 refused).1 (c.load.ensures.other_unwritten was.0 was.1.0 refused)

@@ -3,8 +3,11 @@ use Rattle.disk_trait.specs.Images.{Since}
 use Rattle.disk_trait.proofs.Moments.{and_syncs}
 use Rattle.flowfile_record.specs.declared.content.ContentRef.{ContentRef}
 use Rattle.content_repo.specs.Slots.{count_of, held_in, references_to}
-use Rattle.store_core.specs.Store.{StoreState, state_in, IsKeptOn, IsSound, IsTidy, Holds, kept_by}
-use Rattle.store_core.proofs.Closing.{HasLetGo, closed, since_closed, kept_closed, kept_synced, sound_closed}
+use Rattle.store_core.specs.Flow.{flow_in}
+use Rattle.store_core.specs.State.{stands_for}
+use Rattle.store_core.specs.Store.{StoreState, state_in, EachStandsFor, IsKeptOn, IsSound, IsTidy, Holds, kept_by}
+use Rattle.store_core.proofs.Agreeing.{of_state}
+use Rattle.store_core.proofs.Closing.{HasLetGo, closed, since_closed, states_closed, kept_closed, kept_synced, sound_closed}
 use Rattle.store_core.proofs.Tidying.{tidy_closed}
 use Rattle.store_core.proofs.store.Store.close.Goals as goal
 
@@ -137,3 +140,71 @@ returns-clause-tidy g c = λ told.
     } in
     subst (IsTidy (kept_by s)) (sym c.in-Ok-sync.ensures.held)
     (tidy_closed s slots c.reclaim.new.self c.in-Ok.field-0 (held mid) has c.in-Ok.ensures.reclaimed (c.in-Ok.ensures.emptied told).sizes)
+
+pub returns-in_default-clause-states : goal.returns-in_default-clause-states
+returns-in_default-clause-states g c works state =
+    let i = c.self.inside in
+    let s = state_in i.state i.log i.entries i.contents i.opened.items i.lot i.has_failed in
+    let moment = g.D.Disk.moment in
+    let images = g.D.Disk.images in
+    let held = g.D.Disk.held in
+    let tells = g.D.Disk.tells in
+    let old = c.args.disk.now in
+    let mid = c.reclaim.new.disk in
+    let slots = c.let_go.new.contents in
+    let has : HasLetGo s slots = record {
+      works = c.self.invariant.works c.if-self.false;
+      unfailed = c.if-self.false;
+      counts = λ k. subst (λ (refs : List ContentRef). count_of slots k + references_to k refs ≡ count_of i.contents k) c.as_slice.ensures.value (c.let_go.ensures.counts k);
+      held = subst (λ (refs : List ContentRef). held_in slots + length refs ≡ held_in i.contents) c.as_slice.ensures.value c.let_go.ensures.held;
+      sizes = c.let_go.ensures.sizes;
+    } in
+    let kept = subst (λ (t : StoreState). IsKeptOn tells held moment images t old) (sym c.self.view_is) c.requires in
+    subst (λ (t : StoreState). EachStandsFor (flow_in (kept_by t)) t.lot state (images old (moment old)) → Since moment images old mid (λ c'. stands_for (flow_in (kept_by t)) t.lot c' ≡ of_state state)) c.self.view_is
+    (states_closed tells held moment images s slots old mid has kept c.reclaim.ensures.images state)
+
+pub returns-in_default-sync-clause-states : goal.returns-in_default-sync-clause-states
+returns-in_default-sync-clause-states g c works state =
+    let i = c.self.inside in
+    let s = state_in i.state i.log i.entries i.contents i.opened.items i.lot i.has_failed in
+    let moment = g.D.Disk.moment in
+    let images = g.D.Disk.images in
+    let held = g.D.Disk.held in
+    let tells = g.D.Disk.tells in
+    let old = c.args.disk.now in
+    let mid = c.reclaim.new.disk in
+    let slots = c.let_go.new.contents in
+    let has : HasLetGo s slots = record {
+      works = c.self.invariant.works c.if-self.false;
+      unfailed = c.if-self.false;
+      counts = λ k. subst (λ (refs : List ContentRef). count_of slots k + references_to k refs ≡ count_of i.contents k) c.as_slice.ensures.value (c.let_go.ensures.counts k);
+      held = subst (λ (refs : List ContentRef). held_in slots + length refs ≡ held_in i.contents) c.as_slice.ensures.value c.let_go.ensures.held;
+      sizes = c.let_go.ensures.sizes;
+    } in
+    let kept = subst (λ (t : StoreState). IsKeptOn tells held moment images t old) (sym c.self.view_is) c.requires in
+    subst (λ (t : StoreState). EachStandsFor (flow_in (kept_by t)) t.lot state (images old (moment old)) → Since moment images old c.sync.new.self (λ c'. stands_for (flow_in (kept_by t)) t.lot c' ≡ of_state state)) c.self.view_is
+    (λ stands. and_syncs moment images old mid c.sync.new.self (λ c'. stands_for (flow_in (kept_by s)) s.lot c' ≡ of_state state)
+    (states_closed tells held moment images s slots old mid has kept c.reclaim.ensures.images state stands) c.sync.ensures.images)
+
+pub returns-clause-states : goal.returns-clause-states
+returns-clause-states g c works state =
+    let i = c.self.inside in
+    let s = state_in i.state i.log i.entries i.contents i.opened.items i.lot i.has_failed in
+    let moment = g.D.Disk.moment in
+    let images = g.D.Disk.images in
+    let held = g.D.Disk.held in
+    let tells = g.D.Disk.tells in
+    let old = c.args.disk.now in
+    let mid = c.reclaim.new.disk in
+    let slots = c.let_go.new.contents in
+    let has : HasLetGo s slots = record {
+      works = c.self.invariant.works c.if-self.false;
+      unfailed = c.if-self.false;
+      counts = λ k. subst (λ (refs : List ContentRef). count_of slots k + references_to k refs ≡ count_of i.contents k) c.as_slice.ensures.value (c.let_go.ensures.counts k);
+      held = subst (λ (refs : List ContentRef). held_in slots + length refs ≡ held_in i.contents) c.as_slice.ensures.value c.let_go.ensures.held;
+      sizes = c.let_go.ensures.sizes;
+    } in
+    let kept = subst (λ (t : StoreState). IsKeptOn tells held moment images t old) (sym c.self.view_is) c.requires in
+    subst (λ (t : StoreState). EachStandsFor (flow_in (kept_by t)) t.lot state (images old (moment old)) → Since moment images old c.sync.new.self (λ c'. stands_for (flow_in (kept_by t)) t.lot c' ≡ of_state state)) c.self.view_is
+    (λ stands. and_syncs moment images old mid c.sync.new.self (λ c'. stands_for (flow_in (kept_by s)) s.lot c' ≡ of_state state)
+    (states_closed tells held moment images s slots old mid has kept c.reclaim.ensures.images state stands) c.sync.ensures.images)
