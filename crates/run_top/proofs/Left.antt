@@ -1,7 +1,7 @@
 -- Which files of the inbox are left, by the names that are.
 use Rattle.std.proofs.Common.{◌≡◌, ◌⊎◌, inl, inr, ⊎_elim, ℕ, Bool, true, false, not, cond, List, [], ◌∷◌, bytes_eq, true≢false, refl, sym, ◌∙◌, ap, subst}
 use Rattle.std.proofs.lemmas.Slice.Eq.{bytes_eq-Decides}
-use Rattle.std.specs.Prelude.{filter, ◌||◌, Option, Some}
+use Rattle.std.specs.Prelude.{filter, ◌||◌, Some}
 use Rattle.flowfile_record.specs.NamedFile.{NamedFile, bytes_of, without}
 use Rattle.machine_model.specs.Kinds.{is_among}
 use Rattle.machine_model.specs.State.{World}

@@ -1,6 +1,6 @@
 -- What the session of a GetFile settles to.
-use Rattle.std.proofs.Common.{◌≡◌, ◌≢◌, ◌⊎◌, ℕ, ◌<◌, false, List, [], ◌∷◌, length, refl, sym, ◌∙◌, ap, subst, arith}
-use Rattle.std.specs.Prelude.{Option, None, Some, Ok, Err, Result, IfOk, All, slice_get}
+use Rattle.std.proofs.Common.{◌≡◌, ◌≢◌, ℕ, false, List, [], refl, sym, ◌∙◌, ap, subst, arith}
+use Rattle.std.specs.Prelude.{Option, Some, Ok, Err, Result, IfOk, All}
 use Rattle.std.proofs.lemmas.List.Elements.{All-cons, All-nil}
 use Rattle.flowfile_record.specs.NamedFile.{bytes_of}
 use Rattle.flowfile_record.specs.Outcome.{IsOutcome}
@@ -10,11 +10,10 @@ use Rattle.flowfile_record.specs.declared.content.ContentRef.{ContentRef}
 use Rattle.flowfile_record.specs.declared.flow_file.FlowFile.{FlowFile}
 use Rattle.flowfile_record.specs.declared.worked.Outcome.{Outcome}
 use Rattle.flowfile_record.specs.declared.worked.Worked.{Worked}
-use Rattle.record_codec.specs.ActiveFile.{active}
 use Rattle.machine_model.specs.declared.flow.Flow.{Flow}
 use Rattle.machine_model.specs.declared.given.Given.{Given}
 use Rattle.machine_model.specs.Acting.{act, alone, made_file, received_attributes}
-use Rattle.machine_model.specs.Changing.{state_after, without_events}
+use Rattle.machine_model.specs.Changing.{without_events}
 use Rattle.machine_model.specs.Settling.{settle}
 use Rattle.machine_model.specs.State.{Machine, State}
 use Rattle.machine_model.specs.Stepping.{step}
@@ -23,7 +22,6 @@ use Rattle.process_session.specs.declared.file.Source.{Source}
 use Rattle.processor_api.specs.Acts.{KeepsGiven}
 use Rattle.settlement.specs.Contents.{IsBodyWithin}
 use Rattle.settlement.specs.declared.handed.Ended.{Ended}
-use Rattle.store_core.specs.State.{state_with}
 use Rattle.store_core.specs.Store.{StoreState, kept_by}
 use Rattle.engine_core.specs.Committing.{LeavesState, MayCommit}
 use Rattle.fixed_flow.specs.Flow.{fixed_flow, get}

@@ -1,12 +1,9 @@
 -- What one step of a run keeps, and what a run that stops within it leaves.
-use Rattle.std.proofs.Common.{◌≡◌, ◌≢◌, ◌⊎◌, inl, inr, ⊎_elim, ℕ, ◌+◌, ◌<◌, ◌≤◌, Bool, true, false, List, [], ◌∷◌, ◌++◌, length, refl, sym, ◌∙◌, ap, subst, arith}
-use Rattle.std.specs.Prelude.{Option, None, Some, Ok, IfSome, Contains}
+use Rattle.std.proofs.Common.{◌≡◌, ◌≢◌, ◌⊎◌, inl, inr, ⊎_elim, ℕ, ◌+◌, Bool, List, [], ◌∷◌, ◌++◌, refl, sym, ◌∙◌, ap, subst, arith}
+use Rattle.std.specs.Prelude.{Option, None, Some, IfSome, Contains}
 use Rattle.disk_trait.specs.Files.{Files}
-use Rattle.disk_trait.specs.Images.{Since}
-use Rattle.disk_trait.specs.declared.damage.Damage.{Damage}
-use Rattle.flowfile_record.specs.NamedFile.{NamedFile, bytes_of, without}
+use Rattle.flowfile_record.specs.NamedFile.{NamedFile, without}
 use Rattle.kept_state.specs.declared.limit.Limit.{Limit}
-use Rattle.flowfile_wal.specs.Calls.{InEach}
 use Rattle.machine_model.specs.declared.journal.Entry.{Entry}
 use Rattle.machine_model.specs.declared.journal.Step.{Step}
 use Rattle.machine_model.specs.Acting.{name_in}
@@ -17,10 +14,10 @@ use Rattle.machine_model.specs.Valid.{IsValid}
 use Rattle.world_io.specs.Inbox.{IsAscending}
 use Rattle.fixed_flow.specs.Flow.{fixed_flow}
 use Rattle.fixed_flow.specs.Sessions.{HasCome, HasGone, got, gone_out, waiting}
-use Rattle.run_top.specs.Journal.{files_left, names_got}
-use Rattle.run_top.specs.Run.{Replays, HasRun, IsAtLimit, IsGoneByEntry}
-use Rattle.run_top.specs.Running.{IsLimited, IsQueuedAmong, IsRunning, Stops}
-use Rattle.run_top.specs.Sessions.{IsBetween, IsLeftUnder, IsSpared, IsStepped, StandsFor}
+use Rattle.run_top.specs.Journal.{names_got}
+use Rattle.run_top.specs.Run.{Replays, HasRun, IsGoneByEntry}
+use Rattle.run_top.specs.Running.{IsQueuedAmong, IsRunning, Stops}
+use Rattle.run_top.specs.Sessions.{IsBetween, IsLeftUnder, IsSpared, IsStepped}
 use Rattle.run_top.specs.Status.{status_of}
 use Rattle.run_top.specs.declared.status.RunError.{RunError}
 use Rattle.run_top.specs.declared.status.TheConstants.{DONE, DISK_FAULT, INBOX_FAULT, LIMIT, OUTBOX_FAULT}

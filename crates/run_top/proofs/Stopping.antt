@@ -1,5 +1,5 @@
 -- What a run that stops leaves, by its error.
-use Rattle.std.proofs.Common.{◌≡◌, ◌≢◌, ◌⊎◌, inl, inr, ℕ, Bool, false, List, [], ◌∷◌, refl, sym, ◌∙◌, ap, subst}
+use Rattle.std.proofs.Common.{◌≡◌, ◌≢◌, ◌⊎◌, inl, inr, ℕ, Bool, false, List, [], ◌∷◌, refl}
 use Rattle.std.specs.Prelude.{Option, Some, Contains}
 use Rattle.disk_trait.specs.Files.{Files}
 use Rattle.flowfile_record.specs.NamedFile.{NamedFile}

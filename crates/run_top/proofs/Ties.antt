@@ -1,24 +1,24 @@
 -- How the store in memory and the machine's state are tied.
-use Rattle.std.proofs.Common.{◌≡◌, ◌⊎◌, inl, inr, ⊎_elim, ℕ, Bool, true, false, List, [], refl, sym, ◌∙◌, ap, subst, IsTrue}
-use Rattle.std.specs.Prelude.{Ok, Err, Result, Some, None}
+use Rattle.std.proofs.Common.{◌≡◌, ◌⊎◌, inl, inr, ⊎_elim, ℕ, Bool, false, [], refl, sym, ◌∙◌, ap, subst}
+use Rattle.std.specs.Prelude.{Ok, Result}
 use Rattle.disk_trait.specs.Files.{Files}
-use Rattle.disk_trait.specs.Images.{Since, Stays}
+use Rattle.disk_trait.specs.Images.{Since}
 use Rattle.disk_trait.proofs.Moments.{wider}
 use Rattle.flowfile_record.specs.declared.change.Settled.{Settled}
 use Rattle.content_repo.specs.Claims.{content_in}
 use Rattle.flowfile_wal.specs.Calls.{InEach}
 use Rattle.machine_model.specs.Changing.{state_after, without_events}
 use Rattle.machine_model.specs.State.{Machine, State}
-use Rattle.store_core.specs.Flow.{Flow, flow_in}
+use Rattle.store_core.specs.Flow.{flow_in}
 use Rattle.store_core.specs.State.{stands_for, state_with}
-use Rattle.store_core.specs.Store.{StoreState, kept_by, EachStandsFor, HasLog, Holds, IsKeptOn}
+use Rattle.store_core.specs.Store.{StoreState, kept_by, EachStandsFor, IsKeptOn}
 use Rattle.engine_core.specs.Committing.{identity_of}
 use Rattle.fixed_flow.specs.Flow.{fixed_flow}
 use Rattle.kept_state.specs.declared.limit.Limit.{Limit}
 use Rattle.store_core.specs.declared.error.StoreError.{StoreError}
 use Rattle.run_top.specs.Status.{error_of}
 use Rattle.run_top.specs.declared.status.RunError.{RunError}
-use Rattle.run_top.specs.Sessions.{Changes, IsAtWork, IsBetween, IsStepped, StandsFor}
+use Rattle.run_top.specs.Sessions.{Changes, IsAtWork, IsBetween, StandsFor}
 
 ok_is : {A E : Type 0} {a b : A} → ◌≡◌ {A = Result A E} (Ok a) (Ok b) → a ≡ b
 ok_is is = cc

@@ -1,10 +1,10 @@
 -- Which files wait, by their numbers.
-use Rattle.std.proofs.Common.{◌≡◌, ◌≢◌, ◌⊎◌, inl, inr, ℕ, ◌==◌, Bool, true, false, not, cond, List, [], ◌∷◌, ◌++◌, refl, sym, ◌∙◌, ap, subst}
+use Rattle.std.proofs.Common.{◌≡◌, ◌≢◌, inl, inr, ℕ, ◌==◌, Bool, true, false, not, cond, List, [], ◌∷◌, ◌++◌, refl, sym, ◌∙◌, ap, subst}
 use Rattle.std.proofs.lemmas.Bool.{eqb-true, eq-eqb, false≢true}
 use Rattle.std.specs.Prelude.{filter, ◌||◌, Contains}
 use Rattle.std.specs.List.{AllByRecursion, list_any}
 use Rattle.machine_model.specs.State.{Machine, QueuedFile}
-use Rattle.machine_model.proofs.Among.{Among, among_contained, contains_among}
+use Rattle.machine_model.proofs.Among.{Among, contains_among}
 use Rattle.fixed_flow.specs.Sessions.{HasCome, HasGone, waiting}
 use Rattle.run_top.specs.Running.{IsQueuedAmong}
 

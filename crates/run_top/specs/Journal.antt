@@ -1,5 +1,5 @@
 -- What a journal of the fixed flow says of the inbox.
-use Rattle.std.specs.Prelude.{◌≡◌, ◌⊎◌, ℕ, List, [], ◌∷◌, filter, Option, None, Some, IsSome}
+use Rattle.std.specs.Prelude.{◌≡◌, ◌⊎◌, ℕ, List, [], ◌∷◌, filter, IsSome}
 use Rattle.std.specs.List.{AllByRecursion}
 use Rattle.flowfile_record.specs.NamedFile.{NamedFile}
 use Rattle.machine_model.specs.declared.journal.Entry.{Entry}

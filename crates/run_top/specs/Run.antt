@@ -2,7 +2,7 @@
 use Rattle.std.specs.Prelude.{◌≡◌, ◌≢◌, ◌⊎◌, ⊤, ℕ, ◌+◌, ◌≤◌, Bool, true, false, List, [], ◌∷◌, ◌++◌, length, map, Contains}
 use Rattle.std.specs.Prelude.{Option, Some, Result, Ok, Err, IsSome, IsNone, IsTrue, IsErrOf}
 use Rattle.disk_trait.specs.Files.{Files}
-use Rattle.disk_trait.specs.Images.{SinceMoment, Since, next_moment}
+use Rattle.disk_trait.specs.Images.{SinceMoment, Since}
 use Rattle.disk_trait.specs.Faults.{CountsFaults}
 use Rattle.disk_trait.specs.declared.damage.Damage.{Damage}
 use Rattle.flowfile_record.specs.NamedFile.{NamedFile, bytes_of}
@@ -17,7 +17,7 @@ use Rattle.machine_model.specs.State.{Machine, QueuedFile, State}
 use Rattle.machine_model.specs.Stepping.{step, replay}
 use Rattle.store_core.specs.Calls.{SinceSync, IsUnwritten}
 use Rattle.store_core.specs.Kept.{kept_in}
-use Rattle.store_core.specs.Opened.{IsOfOther, IsShut, SameMeaning}
+use Rattle.store_core.specs.Opened.{IsOfOther, SameMeaning}
 use Rattle.store_core.specs.State.{stands_for}
 use Rattle.store_core.specs.Store.{StoreState, IsKeptOn}
 use Rattle.world_io.specs.Inbox.{IsAscending}

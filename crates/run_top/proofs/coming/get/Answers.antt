@@ -1,15 +1,7 @@
-use Rattle.std.proofs.Common.{arith, ◌≡◌, inl, inr, refl, sym, ◌∙◌, ap, subst}
+use Rattle.std.proofs.Common.{arith, inr}
 use Rattle.std.proofs.lemmas.Grind.{common_steps}
-use Rattle.std.specs.Prelude.{Err, Result, ⊤}
-use Rattle.flowfile_record.specs.declared.change.Settled.{Settled}
 use Rattle.content_repo.specs.Claims.{content_in}
-use Rattle.machine_model.specs.Changing.{without_events}
-use Rattle.store_core.specs.Store.{StoreState, kept_by}
-use Rattle.run_top.specs.Sessions.{PassesLimit}
-use Rattle.run_top.specs.Status.{error_of}
-use Rattle.run_top.specs.declared.status.RunError.{RunError}
-use Rattle.run_top.specs.declared.status.RunError.TheVariants.{Disk, Limit}
-use Rattle.run_top.proofs.Ties.{committed_between, committed_done, limit_of}
+use Rattle.run_top.proofs.Ties.{committed_between, committed_done}
 use Rattle.run_top.proofs.coming.get.Goals as goal
 
 pub returns-in_err-prepared-clause-limit : goal.returns-in_err-prepared-clause-limit
@@ -25,8 +17,11 @@ returns-in_err-commit-clause-stopped g c error is telling before after goes foun
     let s = c.args.store.now in
     let tied = c.holds_its_state.ensures.tied telling before each in
     let changes = c.in_ok-settled.ensures.comes before after goes found (content_in (held c.args.disk.now)) in
-    inr (grind (arith, common_steps, is, c.from_residual-in_err-commit.ensures, c.in_err-commit.ensures.kinds), committed_between held g.D.Disk.moment g.D.Disk.images s c.prepare.new.self c.prepare.new.self.memory.room c.in_ok-settled.settled c.in_ok-prepared.prepared.settled c.args.disk.now c.commit.new.disk before after
-    c.prepare.ensures.same c.in_ok-prepared.ensures.prepared.0 c.requires.work.flow tied changes c.commit.ensures.states c.requires.work.works each)
+    inr (
+      grind (arith, common_steps, is, c.from_residual-in_err-commit.ensures, c.in_err-commit.ensures.kinds),
+      committed_between held g.D.Disk.moment g.D.Disk.images s c.prepare.new.self c.prepare.new.self.memory.room c.in_ok-settled.settled c.in_ok-prepared.prepared.settled c.args.disk.now c.commit.new.disk before after
+          c.prepare.ensures.same c.in_ok-prepared.ensures.prepared.0 c.requires.work.flow tied changes c.commit.ensures.states c.requires.work.works each,
+    )
 
 pub returns-clause-steps : goal.returns-clause-steps
 returns-clause-steps g c telling before after goes found each =

@@ -1,10 +1,9 @@
-use Rattle.std.proofs.Common.{◌≡◌, ℕ, List, [], refl, sym, ◌∙◌, ap, subst}
-use Rattle.std.specs.Prelude.{Some, None, map}
+use Rattle.std.proofs.Common.{◌≡◌, ℕ, List, [], sym, ◌∙◌, ap, subst}
+use Rattle.std.specs.Prelude.{Some, map}
 use Rattle.machine_model.specs.declared.given.Given.{Given}
 use Rattle.machine_model.specs.Acting.{act}
 use Rattle.process_session.specs.Bench.{source_of, sizes_of}
 use Rattle.process_session.specs.declared.file.Taken.{Taken}
-use Rattle.process_session.specs.declared.file.Source.{Source}
 use Rattle.processor_api.specs.Acts.{AreTakenAs, KeepsGiven}
 use Rattle.fixed_flow.specs.Flow.{get}
 use Rattle.run_top.proofs.Received.{comes_as, given_of, if_ok, may_come}

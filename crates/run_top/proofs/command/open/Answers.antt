@@ -2,7 +2,6 @@ use Rattle.std.proofs.Common.{◌≡◌, ◌∙◌, refl, ap}
 use Rattle.std.proofs.lemmas.Result.{err_from_is_err_and}
 use Rattle.std.specs.Prelude.{Err}
 use Rattle.store_core.specs.declared.error.StoreError.TheVariants as StoreError
-use Rattle.run_top.specs.declared.status.RunError.TheVariants as RunError
 use Rattle.run_top.proofs.Anew.{anew_is_consistent, same_identity}
 use Rattle.run_top.proofs.Opened.{damage_of, other_of, told_damage, told_other}
 use Rattle.run_top.proofs.command.open.Goals as goal

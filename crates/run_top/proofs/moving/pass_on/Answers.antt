@@ -1,6 +1,6 @@
-use Rattle.std.proofs.Common.{arith, ◌≡◌, ℕ, List, [], ◌∷◌, refl, sym, ◌∙◌, ap, subst}
+use Rattle.std.proofs.Common.{◌≡◌, ℕ, [], ◌∷◌, refl, sym, ap, subst}
 use Rattle.std.proofs.lemmas.Result.{err_from_is_err_and}
-use Rattle.std.specs.Prelude.{Err, Result, Ok, OnOk}
+use Rattle.std.specs.Prelude.{Err}
 use Rattle.flowfile_record.specs.Stored.{Kept}
 use Rattle.run_top.specs.Running.{IsRunning, Stops}
 use Rattle.run_top.specs.declared.status.RunError.{RunError}

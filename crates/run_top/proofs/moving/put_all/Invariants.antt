@@ -1,4 +1,4 @@
-use Rattle.std.proofs.Common.{◌≡◌, ◌≤◌, ℕ, List, Option, drop, IsTrue}
+use Rattle.std.proofs.Common.{◌≡◌, ◌≤◌, ℕ, List, drop, IsTrue}
 use Rattle.flowfile_record.specs.NamedFile.{NamedFile}
 use Rattle.machine_model.specs.State.{Machine}
 use Rattle.run_top.specs.Running.{IsRunning}

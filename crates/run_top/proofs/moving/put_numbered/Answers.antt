@@ -1,9 +1,8 @@
-use Rattle.std.proofs.Common.{arith, ◌≡◌, ◌⊎◌, inl, inr, ℕ, List, [], ◌∷◌, refl, sym, ◌∙◌, ap, subst}
+use Rattle.std.proofs.Common.{arith, ◌≡◌, inl, inr, ℕ, List, [], ◌∷◌, refl, sym, ◌∙◌, ap, subst}
 use Rattle.std.proofs.lemmas.Grind.{common_steps}
 use Rattle.std.specs.Option.{option_copied}
-use Rattle.std.specs.Prelude.{Err, Some, None, IsErrOf, Option}
+use Rattle.std.specs.Prelude.{Some, None, IsErrOf, Option}
 use Rattle.disk_trait.proofs.Moments.{nothing, wider}
-use Rattle.flowfile_record.specs.NamedFile.{NamedFile}
 use Rattle.flowfile_record.specs.NumberedItems.{item_of}
 use Rattle.flowfile_record.specs.Stored.{Kept}
 use Rattle.flowfile_record.specs.declared.stored.ActiveFile.{ActiveFile}
@@ -14,7 +13,7 @@ use Rattle.machine_model.specs.Changing.{queued_file}
 use Rattle.machine_model.specs.Stepping.{is_there}
 use Rattle.store_core.specs.Store.{kept_by}
 use Rattle.fixed_flow.specs.Sessions.{gone_out}
-use Rattle.run_top.specs.Running.{IsRunning, Stops}
+use Rattle.run_top.specs.Running.{Stops}
 use Rattle.run_top.specs.declared.status.RunError.{RunError}
 use Rattle.run_top.specs.declared.status.RunError.TheVariants.{Limit, Memory}
 use Rattle.run_top.proofs.Putting.{kept_here, numbered_so, on_both, sent_is, waits_here, waits_not}

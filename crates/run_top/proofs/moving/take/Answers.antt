@@ -1,20 +1,18 @@
-use Rattle.std.proofs.Common.{arith, ◌≡◌, ◌⊎◌, ⊎_elim, inl, inr, ℕ, ◌≤◌, List, [], ◌∷◌, length, refl, sym, ◌∙◌, ap, subst}
+use Rattle.std.proofs.Common.{◌≡◌, ◌⊎◌, inl, inr, ℕ, List, [], ◌∷◌, refl, sym, ◌∙◌, ap, subst}
 use Rattle.std.proofs.lemmas.Result.{err_from_is_err_and}
 use Rattle.std.specs.Prelude.{Err, Some}
 use Rattle.disk_trait.proofs.Moments.{nothing, wider}
 use Rattle.flowfile_record.specs.NamedFile.{NamedFile, bytes_of, without}
-use Rattle.flowfile_record.specs.declared.TheConstants.{CONTENT_MAX}
-use Rattle.kept_state.specs.declared.limit.Limit.{Limit}
 use Rattle.machine_model.specs.State.{State}
 use Rattle.store_core.specs.Store.{kept_by, IsKeptOn}
 use Rattle.fixed_flow.specs.Sessions.{got}
 use Rattle.run_top.specs.Journal.{files_left}
 use Rattle.run_top.specs.Running.{IsRunning, Stops}
-use Rattle.run_top.specs.Sessions.{PassesLimit, StandsFor}
+use Rattle.run_top.specs.Sessions.{PassesLimit}
 use Rattle.run_top.specs.declared.status.RunError.{RunError}
-use Rattle.run_top.specs.declared.status.RunError.TheVariants.{Disk, Inbox}
+use Rattle.run_top.specs.declared.status.RunError.TheVariants.{Inbox}
 use Rattle.run_top.proofs.Left.{found_left}
-use Rattle.run_top.proofs.Steps.{get_done, get_left, get_open, passes_over, runs_on, to_stops}
+use Rattle.run_top.proofs.Steps.{get_done, get_left, get_open, passes_over}
 use Rattle.run_top.proofs.Stopping.{limit_or_none, world_no_limit, stops_limited, stops_spared, with_numbers}
 use Rattle.run_top.proofs.moving.take.Goals as goal
 
