@@ -298,7 +298,7 @@ class Cases:
         """Less and less memory: each run ends with 0 or with 12, and nothing is lost."""
         files = {"large": random.randbytes(CONTENT_MAX), "small": b"s"}
         statuses = {}
-        for megabytes in (96, 80, 72, 64, 56, 48, 40, 32, 24):
+        for megabytes in (64, 48, 32, 24, 22, 20, 18, 16):
             with self.folder() as folder:
                 write_files(folder / "in", files)
 
