@@ -12,6 +12,7 @@ use flowfile_record::{CONTENT_MAX, Name, NameError};
 use std::alloc::Global;
 use std::fs::{self, File};
 use std::io::{self, ErrorKind};
+use std::os::unix::fs::FileExt;
 use std::rt::Files;
 use world_io::{Inbox, WorldError};
 
@@ -191,11 +192,23 @@ fn read_whole<R: Files<File = File>>(
     if size > CONTENT_MAX {
         return Err(ErrorKind::FileTooLarge.into());
     }
-    into.resize(size as usize, 0)?;
-    file.read(0, into.as_mut_slice())?;
-    ends_at(&file, size)?;
+    into.resize(size as usize + 1, 0)?;
+    let read = file.file.read_at(into.as_mut_slice(), 0);
+    into.truncate(size as usize);
+    if !is_count(read, size) {
+        file.read(0, into.as_mut_slice())?;
+        ends_at(&file, size)?;
+    }
     keep(seen, name, file);
     Ok(())
+}
+
+// One read of a byte more than there should be gives all of them, and tells that it is all.
+fn is_count(read: io::Result<usize>, size: u64) -> bool {
+    match read {
+        Ok(count) => count as u64 == size,
+        Err(_) => false,
+    }
 }
 
 // A file that grew since it was looked at is still being written.

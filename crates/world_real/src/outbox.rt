@@ -3,7 +3,7 @@ ghost use Rattle.std.specs.Prelude.{◌≡◌, false, None};
 ghost use Rattle.world_real.specs.Untold.{told_by_none};
 
 use crate::faults::counted;
-use crate::folder::{Entry, Folder, Place, entry_at, open_folder};
+use crate::folder::{Entry, Folder, Place, entry_at};
 use crate::numbered::{is_no_text, read_number};
 use crate::open_file::create_file;
 use disk_trait::Failed;
@@ -70,19 +70,7 @@ fn holds<R: Files<File = File> + Alloc>(
     sweep_once(place, is_swept)?;
     match entry_at(place.rt, place.entry(name.text())?.as_str())? {
         Entry::File(_) | Entry::Other => Ok(true),
-        Entry::Folder => Ok(false),
-        Entry::Nothing => {
-            is_folder(place.rt, place.path()?)?;
-            Ok(false)
-        }
-    }
-}
-
-fn is_folder<R: Files>(rt: &R, path: &str) -> io::Result<()> {
-    if fs::metadata(rt, path)?.is_dir() {
-        Ok(())
-    } else {
-        Err(ErrorKind::NotADirectory.into())
+        Entry::Folder | Entry::Nothing => Ok(false),
     }
 }
 
@@ -94,11 +82,8 @@ fn put<R: Files<File = File> + Alloc>(
 ) -> io::Result<()> {
     sweep_once(place, is_swept)?;
     let path = place.entry(name)?;
-    if let Entry::Folder = entry_at(place.rt, path.as_str())? {
-        return Err(ErrorKind::IsADirectory.into());
-    }
-    let aside = pick_aside(place, name)?;
     *is_swept = false;
+    let aside = make_aside(place, name)?;
     let answer = put_through(place, aside.as_str(), path.as_str(), bytes);
     if answer.is_err() {
         // The next put looks again for what this one leaves.
@@ -149,27 +134,33 @@ fn remove_folder<R: Files + Alloc>(rt: &R, path: &str) -> io::Result<()> {
     }
 }
 
-/// A path in the outbox where nothing stands, for the folder of a put under `name`.
-fn pick_aside<R: Files + Alloc>(place: &Place<'_, R>, name: &str) -> io::Result<String> {
+/// Makes the folder of a put under `name`, and gives its path.
+fn make_aside<R: Files + Alloc>(place: &Place<'_, R>, name: &str) -> io::Result<String> {
     for number in 0..u64::MAX {
         let aside = format!(in place.alloc; "{ASIDE}{number}")?;
         let path = place.entry(aside.as_str())?;
-        if aside.as_str() != name && is_free(place.rt, path.as_str())? {
+        if aside.as_str() != name && is_made(place.rt, path.as_str())? {
             return Ok(path);
         }
     }
     Err(ErrorKind::AlreadyExists.into())
 }
 
-/// Whether nothing stands there, once a folder is removed.
-fn is_free<R: Files + Alloc>(rt: &R, path: &str) -> io::Result<bool> {
+/// Makes an empty folder where nothing or a folder stands; false where anything else does.
+fn is_made<R: Files + Alloc>(rt: &R, path: &str) -> io::Result<bool> {
+    match fs::create_dir(rt, path) {
+        Err(error) if error.kind() == ErrorKind::AlreadyExists => is_made_anew(rt, path),
+        made => made.map(|()| true),
+    }
+}
+
+fn is_made_anew<R: Files + Alloc>(rt: &R, path: &str) -> io::Result<bool> {
     match entry_at(rt, path)? {
-        Entry::Nothing => Ok(true),
         Entry::Folder => {
             fs::remove_dir_all(rt, path)?;
-            Ok(true)
+            fs::create_dir(rt, path).map(|()| true)
         }
-        Entry::File(_) | Entry::Other => Ok(false),
+        Entry::Nothing | Entry::File(_) | Entry::Other => Ok(false),
     }
 }
 
@@ -179,14 +170,14 @@ fn put_through<R: Files<File = File>>(
     path: &str,
     bytes: &[u8],
 ) -> io::Result<()> {
-    fs::create_dir(place.rt, aside)?;
     let part = format!(in place.alloc; "{aside}/part")?;
     let mut opened = create_file(place.rt, part.as_str())?;
     opened.write(0, bytes)?;
     opened.file.sync_all()?;
     drop(opened);
+    // The system refuses it where a folder stands under the name.
     fs::rename(place.rt, part.as_str(), path)?;
     fs::remove_dir(place.rt, aside)?;
     // Last, so that both the name and the end of what stood aside are durable.
-    open_folder(place.rt, place.path()?)?.sync_all()
+    File::open(place.rt, place.path()?)?.sync_all()
 }
