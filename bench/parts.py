@@ -1,8 +1,8 @@
 #!/usr/bin/env python3
-"""What appends to the repository of contents cost, measured by the program `bench_parts` with few live claims and many.
+"""What parts of the store cost, measured by the program `bench_parts` with less and with more of what each works on.
 
-It prints both times, the second as a ratio to the first, and the peak of memory. How many claims are live should
-change nothing.
+It prints both times, the second as a ratio to the first, and the peaks of memory. How many claims are live should
+change nothing; twice the entries or files should take twice the time.
 
 Figures depend on the machine: this is no test, and isn't run by one.
 """
@@ -25,6 +25,9 @@ CRATE = ROOT / "crates" / "bench_parts"
 # The word, what it measures, the two counts, and the ratio of their times that is wanted.
 PARTS = [
     ("appends", "1,000 contents appended, by live claims", 10, 60_000, 1),
+    ("loads", "a log loaded, by its entries", 50_000, 100_000, 2),
+    ("reads", "a snapshot read, by its files", 100_000, 200_000, 2),
+    ("writes", "a snapshot written, by its files", 100_000, 200_000, 2),
 ]
 
 
@@ -66,8 +69,8 @@ def main():
         for word, text, once, more, wanted in PARTS:
             one, one_peak = least(program, folder, word, once, given.times)
             two, two_peak = least(program, folder, word, more, given.times)
-            print(f"{text}: {once:,} {one * 1e6:.0f} microseconds, {one_peak / 1e6:.1f} MB; "
-                  f"{more:,} {two * 1e6:.0f} microseconds, {two_peak / 1e6:.1f} MB; "
+            print(f"{text}: {once:,} {one * 1e6:,.0f} microseconds, {one_peak / 1e6:.1f} MB; "
+                  f"{more:,} {two * 1e6:,.0f} microseconds, {two_peak / 1e6:.1f} MB; "
                   f"ratio {two / one:.2f}, about {wanted} is wanted", flush=True)
 
 

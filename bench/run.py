@@ -31,10 +31,10 @@ SYNCS = "fsync,fdatasync,sync,syncfs,sync_file_range,msync"
 
 # For each further file: one for the content and two for the entry that takes it, two for the outbox, two for the entry
 # that lets it go.
-SYNCS_OF_A_FILE = 7
+SYNCS_OF_A_FILE = 9
 
 # Each further file may ask the system so many times.
-CALLS_OF_A_FILE = 30
+CALLS_OF_A_FILE = 36
 
 # Of these sizes all contents of a run go into one claim.
 SMALL = 64

@@ -44,6 +44,8 @@ def held(folder):
     """The state of the store's files."""
     state = store_format.state_of(store_format.files_in(folder / "store"))
     need(not isinstance(state, store_format.Damage), f"the store is damaged: {state}")
+    untold = store_format.untold(state)
+    need(not untold, f"the events don't tell of the files {untold[:5]}")
     return state
 
 
@@ -91,7 +93,8 @@ class Rounds:
             need(names(folder / "in") == [], f"in holds {names(folder / 'in')[:5]}")
             need(names(folder / "out") == sorted(files), "out holds other names than were sent, or leftovers")
             need(read_files(folder / "out") == files, "a file of out has other bytes than were sent")
-            need(names(folder / "store") == ["lock", "log-1", "snapshot-1"], f"store holds {names(folder / 'store')}")
+            need(names(folder / "store") == ["events-0", "lock", "log-1", "snapshot-1"],
+                 f"store holds {names(folder / 'store')}")
             need(not held(folder).files, "a file still waits")
         self.rounds += 1
 

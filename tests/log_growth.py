@@ -10,7 +10,7 @@ make the time grow fourfold.
 import hashlib
 
 import store_format
-from store_format import GET, PUT, Content, FlowFile, Session
+from store_format import GET, PUT, Content, Event, FlowFile, Session
 from support import DONE, Report, find_program, names, need, need_status, new_folder, options, run
 
 CONTENT = bytes(200)
@@ -19,6 +19,8 @@ DIGEST = hashlib.sha256(CONTENT).digest()
 # Twice the entries may take so many times as long, and so many times the memory.
 LEAST_TIME, MOST_TIME = 1.5, 2.7
 MOST_MEMORY = 2.6
+# By how many bytes the peak may differ between two stores whose size it doesn't depend on.
+MOST_BESIDE = 300_000
 
 # How often each store is opened.
 LEAST_TRIES, MOST_TRIES = 3, 20
@@ -31,6 +33,7 @@ class Store:
         self.state = store_format.new_state(1)
         self.frames = [store_format.frame(store_format.Begin(1))]
         self.first = store_format.snapshot(self.state)
+        self.events = []
         self.next = 1
 
     def made(self):
@@ -48,7 +51,8 @@ class Store:
         self.session(PUT, numbers, ())
 
     def files(self):
-        return {"log-1": b"".join([*self.frames, store_format.CLOSED]), "snapshot-1": self.first, "claim-0": CONTENT}
+        return {"log-1": b"".join([*self.frames, store_format.CLOSED]), "snapshot-1": self.first, "claim-0": CONTENT,
+                **store_format.events_files(self.events)}
 
 
 def empty(entries):
@@ -103,6 +107,16 @@ def in_snapshot(entries):
     return store
 
 
+def events_alone(entries):
+    """Four times as many events, and nothing else."""
+    store = Store()
+    store.events = [Event(number, store_format.ROUTE, 1000, "put", 1, (), (), f"relationship-{number:07}", len(CONTENT),
+                          DIGEST) for number in range(1, 4 * entries + 1)]
+    store.state.last_event = len(store.events)
+    store.first = store_format.snapshot(store.state)
+    return store
+
+
 def none_wait():
     return []
 
@@ -118,6 +132,7 @@ SHAPES = {
     "they come and go in turn": (in_turn, none_wait),
     "in turn, and one file waits all the time": (never_empty, first_waits),
     "all are in the snapshot, and one entry lets them go": (in_snapshot, none_wait),
+    "events, four for each entry": (events_alone, none_wait),
 }
 
 
@@ -168,7 +183,10 @@ def grows(program, parent, entries, shape):
             f"ratio of time {time_ratio:.2f}, of memory {memory_ratio:.2f}, fastest of {tries}")
     need(LEAST_TIME <= time_ratio <= MOST_TIME,
          f"the time's ratio isn't between {LEAST_TIME} and {MOST_TIME}: {note}")
-    need(memory_ratio <= MOST_MEMORY, f"the memory's ratio is above {MOST_MEMORY}: {note}")
+    if made is events_alone:
+        need(two.peak - one.peak <= MOST_BESIDE, f"the memory grows with the events: {note}")
+    else:
+        need(memory_ratio <= MOST_MEMORY, f"the memory's ratio is above {MOST_MEMORY}: {note}")
     return note
 
 

@@ -10,8 +10,8 @@ import re
 import struct
 
 import store_format
-from store_format import (CLOSED, OPEN, PUT, SWAP_IN, Batch, Begin, Content, Damage, Expire, Session, SwapOut, Writer,
-                          block, frame, log, snapshot, state_of)
+from store_format import (CLOSED, EVENT, GET, OPEN, PUT, SWAP_IN, Batch, Begin, Content, Damage, Expire, Session,
+                          SwapOut, Writer, block, event_payload, events_files, frame, log, snapshot, state_of)
 from support import (DAMAGED, DONE, ROOT, Report, find_program, names, need, need_status, new_folder, options, photo,
                      read_files, run, write_files)
 
@@ -32,15 +32,16 @@ def three():
 THREE = three()
 BEGIN = frame(Begin(1))
 A, B, C = map(frame, THREE.entries)
-DROP = frame(Session(PUT, 1000, (1,), (), 4, 4))
+DROP = frame(Session(PUT, 1000, (1,), (), 4, 4, 3))
 EMPTY = snapshot(Writer().state)
 WHOLE = BEGIN + A + B + C + CLOSED
+EVENTS = events_files(THREE.state.events)["events-0"]
 
 
 def store(log=WHOLE, snapshot=EMPTY, claims=None, number=1, **others):
-    """The files of a store with this log and snapshot; the claims are those of the three files."""
+    """The files of a store with this log and snapshot; the claims and the events are those of the three files."""
     claims = THREE.claims.files() if claims is None else claims
-    return {f"log-{number}": log, f"snapshot-{number}": snapshot, **claims,
+    return {f"log-{number}": log, f"snapshot-{number}": snapshot, **claims, "events-0": EVENTS,
             **{name.replace("_", "-"): data for name, data in others.items()}}
 
 
@@ -79,7 +80,7 @@ def one_entry():
     writer = Writer().get("a", b"one")
     del writer.state.files[1]
     placed = writer.made("b", b"two")
-    writer.entries.append(Session(1, 5, (1,), (placed,), 3, 3, 0, 1, 7))
+    writer.entries.append(Session(1, 5, (1,), (placed,), 3, 3, 1, 1, 7))
     return writer.files()
 
 
@@ -96,6 +97,54 @@ def named(*names):
             last = writer.state.next_number - 1
             writer.state.files[last] = writer.state.files[last]._replace(attributes=())
     return writer.start().files()
+
+
+def expired():
+    """The first of three files has expired, and an event tells of it."""
+    writer = three()
+    file = writer.state.files.pop(1)
+    writer.tell(store_format.EXPIRED, GET, file, "")
+    writer.state.events[-1] = writer.state.events[-1]._replace(component="c1")
+    writer.entries.append(Expire(0, 1000, (1,), writer.state.last_event))
+    return writer.files()
+
+
+def without_events():
+    """A store of sessions that no event tells of, as were written before events were kept."""
+    entries = [entry._replace(last_event=0) for entry in THREE.entries]
+    return store(log(1, *entries), events_0=b"")
+
+
+def every_kind():
+    """Events of each kind, with parents, children and details, stand in front of the only file's."""
+    writer = Writer()
+    file = writer.made("a", ABC["a"])
+    for kind in range(store_format.CREATE, store_format.REPLAY + 1):
+        writer.tell(kind, PUT, file, "")
+        writer.state.events[-1] = writer.state.events[-1]._replace(
+            parents=(1, 2**62 - 1) * (kind % 3), children=(7,) * (kind % 2), detail="größe" * kind,
+            moment=2**64 - kind)
+    return writer.start().files()
+
+
+def crowded(count):
+    """A store whose snapshot has a file and so many events."""
+    writer = Writer()
+    file = writer.made("a", ABC["a"])
+    for _ in range(count):
+        writer.tell(store_format.ROUTE, PUT, file, "x")
+    return writer.start()
+
+
+def in_two_files():
+    """The events of the second file's entry stand in a second file of events."""
+    return crowded(store_format.EVENTS_PER_FILE).get("b", ABC["b"]).files()
+
+
+def numbered_anew():
+    writer = crowded(store_format.EVENTS_PER_FILE).get("b", ABC["b"])
+    last = writer.state.events[-1]._replace(number=1)
+    return writer.files() | {"events-1": block(EVENT, event_payload(last))}
 
 
 NONE = {}
@@ -120,7 +169,11 @@ SOUND = {
     "an entry that lets a file go and places one": (one_entry(), {"b": b"two"}),
     "files under no name or a bad one are dropped": (
         named(None, "", ".", "..", "a/b", "nul\0", "n" * 256, "good"), {"good": b"x"}),
-    "an expiry of no file": (store(of(1, [A, B, frame(Expire(0, 7, (), 0))])), first("a", "b")),
+    "an expiry of no file": (store(of(1, [A, B, frame(Expire(0, 7, (), 2))])), first("a", "b")),
+    "an expiry of a file, with its event": (expired(), first("b", "größe")),
+    "entries that no event tells of": (without_events(), ABC),
+    "events of each kind, in front of all entries": (every_kind(), first("a")),
+    "the last events stand in a second file": (in_two_files(), first("a", "b")),
     "the last gate is missing": (store(WHOLE[:-1]), ABC),
     "the last gate is open, and the last byte": (store(WHOLE[:-1] + OPEN), ABC),
     "the last gate is torn": (store(WHOLE[:-1] + b"\x42"), ABC),
@@ -138,7 +191,9 @@ SOUND = {
         store(of(7, [A, B]), number=7, log_1=b"\x5a\xff", log_6=OPEN * 99, snapshot_1=b"x", snapshot_8=EMPTY),
         first("a", "b")),
     "other claims, batches and events don't matter": (
-        store(claim_3=b"x", claim_70000=b"y", swap_1=b"z", events_0=b"w"), ABC),
+        store(claim_3=b"x", claim_70000=b"y", swap_1=b"z", events_1=b"w", events_70000=b"v"), ABC),
+    "bytes behind the last event": (store(events_0=EVENTS + b"\xff" * 9), ABC),
+    "a whole event behind the last one": (store(BEGIN + A + CLOSED), first("a")),
 }
 
 
@@ -187,6 +242,14 @@ def file_blocks(*files):
 ATS = [0, len(BEGIN), len(BEGIN + A), len(BEGIN + A + B), len(BEGIN + A + B + C)]
 SECOND = HEAD_SIZE + len(file_blocks(FILES[0])[0])
 BATCH = block(store_format.BATCH, store_format.batch_payload(Batch(0, 1, 2, 3, 4)))
+
+
+
+def event_blocks(*numbers):
+    return b"".join(block(EVENT, event_payload(THREE.state.events[number - 1])) for number in numbers)
+
+
+EVENT_ATS = [len(event_blocks(*range(1, number))) for number in (1, 2, 3)]
 
 # The files of a store that stand for nothing, and the first damage.
 DAMAGE = {
@@ -278,15 +341,30 @@ DAMAGE = {
     "one bit of a content": (store(claims={"claim-0": b"onedrej"}), ended(0, 3, "Digest", "claim")),
     "a content in another claim": (
         changed(0, content=Content(5, 0, 3, FILES[0].content.digest)), ended(5, 0, "Short", "claim")),
-    "a last event past 0": (head(last_event=1), ended(0, 0, "Short", "events")),
-    "a last event past 0 in an entry": (changed(2, last_event=1), ended(0, 0, "Short", "events")),
+    "no events": (store(events_0=b""), ended(0, 0, "Short", "events")),
+    "a last event that no file has": (changed(2, last_event=4), ended(0, len(EVENTS), "Short", "events")),
+    "a last event in a file that isn't there": (in_two_files() | {"events-1": b""}, ended(1, 0, "Short", "events")),
+    "an event cut short": (store(events_0=EVENTS[:-1]), ended(0, EVENT_ATS[2], "Short", "events")),
+    "one bit of an event": (store(events_0=flipped(EVENTS, EVENT_ATS[1] + 9)),
+                            ended(0, EVENT_ATS[1], "Digest", "events")),
+    "an event twice": (store(events_0=event_blocks(1, 1, 3)), ended(0, EVENT_ATS[1], kind="events")),
+    "events that begin at 2": (store(events_0=event_blocks(2, 3)), ended(0, kind="events")),
+    "an event in a block of another kind": (
+        store(events_0=block(11, event_payload(THREE.state.events[0]))), ended(0, kind="events")),
+    "an event with a byte left over": (
+        store(events_0=block(EVENT, event_payload(THREE.state.events[0]) + b"\0")), ended(0, kind="events")),
+    "an event of a kind that there isn't": (
+        store(events_0=block(EVENT, event_payload(THREE.state.events[0]._replace(kind=13)))), ended(0, kind="events")),
+    "an event of no file": (
+        store(events_0=block(EVENT, event_payload(THREE.state.events[0]._replace(file=0)))), ended(0, kind="events")),
+    "the numbers begin anew in a second file": (numbered_anew(), ended(1, kind="events")),
     # Which of two is the first.
     "log before snapshot": (store(flipped(WHOLE, 20), snapshot=b""), ended(cause="Digest")),
     "snapshot before fit": (store(of(1, [DROP]), snapshot=b""), ended(kind="snapshot", cause="Short")),
     "batches before fit": (store(of(1, [DROP, frame(SwapOut(0, 4, ())), frame(SwapOut(0, 2, ()))])),
                            ended(2, kind="swap", cause="Short")),
     "fit before contents": (store(of(1, [A, A]), claims={}), ended(at=ATS[2])),
-    "contents before events": (changed(2, last_event=1) | {"claim-0": b""}, ended(0, 0, "Short", "claim")),
+    "contents before events": (store(events_0=b"", claims={}), ended(0, 0, "Short", "claim")),
     # No log is current.
     "no log, and a claim": ({"claim-3": b"x", "claim-2": b"x"}, ended(2, kind="claim")),
     "a closed first gate, and a claim": (store(CLOSED + WHOLE[1:]), ended(0, kind="claim")),
@@ -311,8 +389,10 @@ def is_at_rest(folder):
     need(state.log is not None and not state.files, "the store isn't an empty one")
     log = files[f"log-{state.log}"]
     need(log[state.end:] == CLOSED, "the log isn't at rest")
-    need(names(folder / "store") == sorted(["lock", f"log-{state.log}", f"snapshot-{state.log}"]),
+    events = events_files(state.events)
+    need(names(folder / "store") == sorted(["lock", f"log-{state.log}", f"snapshot-{state.log}", *events]),
          f"store holds {names(folder / 'store')}")
+    need({name: files[name] for name in events} == events, "something stands behind the last event")
     return state
 
 
@@ -328,6 +408,7 @@ def sound(program, parent, case):
         after = is_at_rest(folder)
         need((after.log, after.counts, after.next_number) == (state.log or 1, state.counts, state.next_number),
              "it keeps something else")
+        need(after.events[:len(state.events)] == state.events, "it keeps other events")
         write_files(folder / "in", {"later": b"more"})
         need_status(run(program, folder), DONE)
         need(read_files(folder / "out") == {**delivered, "later": b"more"}, "a later file isn't delivered")
@@ -363,7 +444,7 @@ def dumps():
 def example(program, parent):
     """The worked example of the docs is what the format says, and what the program writes but for id and moments."""
     writer = Writer(EXAMPLE_STORE, EXAMPLE_MOMENT).get("a.txt", b"hi").put()
-    need(dumps() == [writer.files()["snapshot-1"], writer.log()], "it isn't what the format says")
+    need(dumps() == [writer.first, writer.log(), writer.files()["events-0"]], "it isn't what the format says")
     with new_folder(parent) as folder:
         write_files(folder / "in", {"a.txt": b"hi"})
         need_status(run(program, folder), DONE)
@@ -373,7 +454,8 @@ def example(program, parent):
     again = Writer(state.store, got.moment).get("a.txt", b"hi")
     again.moment = put.moment
     again.put()
-    need(files == {"log-1": again.log(), "snapshot-1": again.first}, "it isn't what the program writes")
+    need(files == {"log-1": again.log(), "snapshot-1": again.first, **events_files(again.state.events)},
+         "it isn't what the program writes")
     need(0 < got.moment <= put.moment, f"moments {got.moment} and {put.moment}")
 
 

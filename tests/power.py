@@ -249,9 +249,10 @@ def lay(folder, path, done):
 # The trial.
 
 def is_empty(files):
-    """Whether a store's files stand for no file, and no claim is left."""
+    """Whether a store's files stand for no file, its events tell of each that there was, and no claim is left."""
     state = store_format.state_of(files)
-    return not isinstance(state, store_format.Damage) and not state.files and not store_format.claims_in(files)
+    return (not isinstance(state, store_format.Damage) and not state.files and not store_format.claims_in(files)
+            and not store_format.untold(state))
 
 
 def recovers(program, parent, top, what):
@@ -333,7 +334,7 @@ def unmended():
     log, claim = files["log-1"], files["claim-0"]
     return {**files, "log-1": log[:-1] + b"\x42" + log[1:], "claim-0": claim + b"more", "claim-5": b"other",
             "log-0": log, "log-3": store_format.CLOSED + log[1:], "snapshot-3": files["snapshot-1"], "swap-1": b"x",
-            "events-0": b"x"}
+            "events-0": files["events-0"] + b"more", "events-3": b"x"}
 
 
 def after_a_refused_sync(program, parent, picks, mark):
@@ -367,8 +368,8 @@ def is_sync_of(call, kind):
         return False
     path = call[1]
     return {"log": path == b"store/log-1", "snapshot": path == b"store/snapshot-1",
-            "claim": path.startswith(b"store/claim-"), "store": path == b"store", "out": path == b"out",
-            "part": path.startswith(b"out/.flow-aside-")}[kind]
+            "claim": path.startswith(b"store/claim-"), "events": path.startswith(b"store/events-"),
+            "store": path == b"store", "out": path == b"out", "part": path.startswith(b"out/.flow-aside-")}[kind]
 
 
 def a_loss_is_found(program, parent, picks, kind):
@@ -402,7 +403,8 @@ def main():
     report.case("without the mark of a refused sync a loss is found", a_loss_is_found_without_it, program,
                 given.folder, min(max(given.picks, 4), 20))
     for kind, text in (("log", "the log"), ("snapshot", "the snapshot"), ("claim", "the contents"),
-                       ("store", "the store's folder"), ("part", "the file put aside"), ("out", "the outbox's folder")):
+                       ("events", "the events"), ("store", "the store's folder"), ("part", "the file put aside"),
+                       ("out", "the outbox's folder")):
         report.case(f"without the syncs of {text} a loss is found", a_loss_is_found, program, given.folder,
                     min(max(given.picks, 4), 20), kind)
     report.end()

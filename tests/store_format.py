@@ -1,12 +1,12 @@
 """A store's files, read and written from their format alone (docs/STORE.md), without the program.
 
 A store's files are a map from names, as `log-1`, to bytes; a file that isn't there is an empty one. `state_of` says
-for which state they stand, or names their first damage. `log`, `snapshot` and `Claims` write them.
+for which state they stand, or names their first damage. `log`, `snapshot`, `Claims` and `events_files` write them.
 
-No store writes events or swaps batches out yet. Where a last event stands past 0, or a batch matters, the file that
-is wanted counts as absent.
+No store swaps batches out yet. Where a batch matters, the file that is wanted counts as absent.
 """
 
+import collections
 import dataclasses
 import hashlib
 import pathlib
@@ -22,6 +22,11 @@ OVERHEAD = HEADER + DIGEST
 
 BEGIN, SESSION, EXPIRE, SWAP_OUT, SWAP_IN = 1, 2, 3, 4, 5
 HEAD, FILE, BATCH, END = 10, 11, 12, 13
+EVENT = 20
+
+# The kinds of events.
+CREATE, RECEIVE, FORK, JOIN, CLONE, CONTENT_MODIFIED = range(1, 7)
+ATTRIBUTES_MODIFIED, ROUTE, SEND, DROP, EXPIRED, REPLAY = range(7, 13)
 
 KINDS = ("log", "snapshot", "swap", "claim", "events")
 
@@ -39,9 +44,12 @@ LIVE_FILES_MAX = 1_048_576
 LIVE_BYTES_MAX = 2**30
 # A claim takes appends while it is shorter.
 CLAIM_OPEN = 1_048_576
+# How many events a file of them has, at most.
+EVENTS_PER_FILE = 10_000
 
-# The places of the processors in the flow of today.
+# The places of the processors in the flow of today, and their ids.
 GET, PUT = 0, 1
+IDS = ("get", "put")
 
 
 # ---- what a store keeps
@@ -114,6 +122,19 @@ class Batch(typing.NamedTuple):
     encoded: int
 
 
+class Event(typing.NamedTuple):
+    number: int
+    kind: int
+    moment: int
+    component: str
+    file: int
+    parents: tuple
+    children: tuple
+    detail: str
+    size: int
+    digest: bytes
+
+
 class Flow(typing.NamedTuple):
     """What a store keeps of its flow: its text's digest, its connections' ids, and how many processors it has."""
     digest: bytes
@@ -127,8 +148,8 @@ THE_FLOW = Flow(hashlib.sha256(b"").digest(), ("c1",), 2)
 
 @dataclasses.dataclass
 class State:
-    """What files stand for. `contents` has the bytes of each file by its number; `log` is the current log's number,
-    and None where a store isn't made yet; `end` is the offset of its last gate."""
+    """What files stand for. `contents` has the bytes of each file by its number; `events` are those up to the last one;
+    `log` is the current log's number, and None where a store isn't made yet; `end` is the offset of its last gate."""
     store: int
     flow: bytes
     connections: tuple
@@ -140,6 +161,7 @@ class State:
     files: dict = dataclasses.field(default_factory=dict)
     batches: dict = dataclasses.field(default_factory=dict)
     contents: dict = dataclasses.field(default_factory=dict)
+    events: list = dataclasses.field(default_factory=list)
     log: int | None = None
     entries: tuple = ()
     end: int | None = None
@@ -264,6 +286,19 @@ def snapshot(state):
     return b"".join(blocks) + block(END, uint(len(blocks), 8))
 
 
+def event_payload(event):
+    return b"".join([
+        uint(event.number, 8), uint(event.kind, 1), uint(event.moment, 8), text(event.component), uint(event.file, 8),
+        numbers(event.parents), numbers(event.children), text(event.detail, 4), uint(event.size, 8), event.digest])
+
+
+def events_files(events):
+    """The files of these events, which are numbered from 1 on."""
+    return {f"events-{first // EVENTS_PER_FILE}":
+            b"".join(block(EVENT, event_payload(event)) for event in events[first:first + EVENTS_PER_FILE])
+            for first in range(0, len(events), EVENTS_PER_FILE)}
+
+
 class Claims:
     """Contents, put where the store puts them: at the end of the lowest claim that is shorter than CLAIM_OPEN."""
 
@@ -307,20 +342,32 @@ class Writer:
         self.first = snapshot(self.state)
         return self
 
+    def tell(self, kind, processor, file, detail):
+        """One event more of a file."""
+        events = self.state.events
+        events.append(Event(len(events) + 1, kind, self.moment, IDS[processor], file.number, (), (), detail,
+                            file.content.size, file.content.digest))
+        self.state.last_event = len(events)
+
     def session(self, processor, gone, placed):
         self.entries.append(Session(processor, self.moment, tuple(gone), tuple(placed), self.state.next_number,
-                                    self.state.next_arrival))
+                                    self.state.next_arrival, self.state.last_event))
 
     def get(self, name, content):
         """The source took a file."""
-        self.session(GET, (), (self.made(name, content),))
+        file = self.made(name, content)
+        self.tell(RECEIVE, GET, file, name)
+        self.session(GET, (), (file,))
         return self
 
     def put(self, number=None):
         """The sink let a file go, the one that came first where no other is named."""
         files = self.state.files
         number = number or min(files, key=lambda known: files[known].arrival)
-        del files[number]
+        file = files.pop(number)
+        if is_name(file.name):
+            self.tell(SEND, PUT, file, file.name)
+        self.tell(DROP, PUT, file, "success" if is_name(file.name) else "failure")
         self.session(PUT, (number,), ())
         return self
 
@@ -328,7 +375,7 @@ class Writer:
         return log(1, *self.entries)
 
     def files(self):
-        return {"log-1": self.log(), "snapshot-1": self.first, **self.claims.files()}
+        return {"log-1": self.log(), "snapshot-1": self.first, **self.claims.files(), **events_files(self.state.events)}
 
 
 # ---- reading fields
@@ -428,6 +475,13 @@ class Fields:
             raise Unreadable
         return State(store, self.raw(DIGEST), self.listed(self.text), self.numbers(), self.number(), self.number(),
                      self.number(), self.number())
+
+    def event(self):
+        number, kind = self.number(1), self.uint(1)
+        if not CREATE <= kind <= REPLAY:
+            raise Unreadable
+        return Event(number, kind, self.uint(8), self.text(), self.number(1), self.numbers(), self.numbers(),
+                     self.text(4), self.uint(8), self.raw(DIGEST))
 
     def batch(self):
         return Batch(self.uint(2), self.number(), self.number(), self.uint(8), self.uint(8))
@@ -664,6 +718,27 @@ def read_contents(state, claims):
         state.contents[number] = content
 
 
+def read_events(last, files):
+    """The events up to the last one, by number. What stands behind them doesn't matter."""
+    events, at = [], 0
+    while len(events) < last:
+        file, place = divmod(len(events), EVENTS_PER_FILE)
+        if place == 0:
+            at = 0
+
+        def damaged(cause, file=file, at=at):
+            return Damaged("events", file, at, cause)
+        kind, payload, at = block_at(files.get(file, b""), at, damaged)
+        try:
+            event = whole(payload, Fields.event)
+        except Unreadable:
+            raise damaged("Form") from None
+        if kind != EVENT or event.number != len(events) + 1:
+            raise damaged("Form")
+        events.append(event)
+    return events
+
+
 def read_state(files, flow, lot):
     logs = by_number(files, "log")
     current = max((number for number, data in logs.items() if not is_passed_over(data)), default=None)
@@ -682,8 +757,7 @@ def read_state(files, flow, lot):
         if not replay.apply(entry):
             raise Damaged("log", current, at, "Form")
     read_contents(state, by_number(files, "claim"))
-    if state.last_event != 0:
-        raise Damaged("events", 0, 0, "Short")
+    state.events = read_events(state.last_event, by_number(files, "events"))
     state.log, state.entries, state.end = current, tuple(entry for _, entry in entries), end
     return state
 
@@ -694,6 +768,15 @@ def state_of(files, flow=THE_FLOW, lot=0):
         return read_state(files, flow, lot)
     except Damaged as error:
         return error.damage
+
+
+def untold(state):
+    """The numbers of the files that the events of the flow of today tell nothing of, or too much. Of each file one
+    event tells that it came, and once it isn't live any more one that it went."""
+    came = collections.Counter(event.file for event in state.events if event.kind == RECEIVE)
+    went = collections.Counter(event.file for event in state.events if event.kind == DROP)
+    return [number for number in range(1, state.next_number)
+            if came[number] != 1 or went[number] != (number not in state.files)]
 
 
 def files_in(folder):

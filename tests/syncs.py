@@ -21,6 +21,7 @@ FOLDERS = [("fsync", ".")] * 3
 LOG = ("fdatasync", "store/log-1")
 SNAPSHOT = ("fdatasync", "store/snapshot-1")
 CLAIM = ("fdatasync", "store/claim-0")
+EVENTS = ("fdatasync", "store/events-0")
 STORE = ("fsync", "store")
 
 # What is asked for before the first file: main's three folders, what stands in the store, and where there is none the
@@ -28,14 +29,15 @@ STORE = ("fsync", "store")
 OPENING_NEW = [*FOLDERS, STORE, SNAPSHOT, STORE, LOG, STORE, LOG, LOG]
 OPENING = [*FOLDERS, LOG, SNAPSHOT, STORE]
 
-# An entry is added behind a closed gate, and the gate is opened.
-ENTRY = [LOG, LOG]
+# An entry is added behind a closed gate, with its events at the first of its syncs, and the gate is opened.
+ENTRY = [LOG, EVENTS, LOG]
 
 # A file is taken by an entry, with its content at the first of its syncs; it is put; an entry lets it go.
 PUT = [("fsync", "out/.flow-aside-0/part"), ("fsync", "out")]
-FILE = [LOG, CLAIM, LOG, *PUT, *ENTRY]
-# The first content of a claim makes it, which the store's folder has to keep; an empty content has no bytes.
-FILE_FIRST = [LOG, CLAIM, STORE, LOG, *PUT, *ENTRY]
+FILE = [LOG, CLAIM, EVENTS, LOG, *PUT, *ENTRY]
+# The first content of a claim makes it, as the first event its file, which the store's folder has to keep; an empty
+# content has no bytes.
+FILE_FIRST = [LOG, CLAIM, EVENTS, STORE, LOG, *PUT, *ENTRY]
 FILE_EMPTY = [*ENTRY, *PUT, *ENTRY]
 
 # At the end the claims go.
@@ -109,7 +111,8 @@ def has_delivered(folder):
     need(read_files(folder / "out") == FILES, "a file of out has other bytes")
     need(names(folder / "in") == [], f"in holds {names(folder / 'in')}")
     need(mark(folder) == b"\0", f"the lock holds {mark(folder)}")
-    need(names(folder / "store") == ["lock", "log-1", "snapshot-1"], f"store holds {names(folder / 'store')}")
+    need(names(folder / "store") == ["events-0", "lock", "log-1", "snapshot-1"],
+         f"store holds {names(folder / 'store')}")
 
 
 class Cases:
@@ -146,7 +149,7 @@ class Cases:
             need(status == DONE and syncs == [*OPENING_NEW, *ALL], f"status {status}, {syncs}")
 
     def of_a_queue(self):
-        """What waits is put and let go: two syncs of the outbox and two of the log for each file."""
+        """What waits is put and let go: two syncs of the outbox for each file, two of the log, one of the events."""
         writer = store_format.Writer()
         for name, content in FILES.items():
             writer.get(name, content)
@@ -154,7 +157,7 @@ class Cases:
             write_files(folder / "store", writer.files())
             status, syncs = traced(self.program, folder)
             need(status == DONE, f"status {status}")
-            wanted = [*FOLDERS, LOG, SNAPSHOT, CLAIM, STORE, *[*PUT, *ENTRY] * len(FILES), *CLOSING]
+            wanted = [*FOLDERS, LOG, SNAPSHOT, CLAIM, EVENTS, STORE, *[*PUT, *ENTRY] * len(FILES), *CLOSING]
             need(in_any_order(syncs) == in_any_order(wanted), f"{syncs}")
 
     def of_a_mended_store(self):
@@ -163,14 +166,14 @@ class Cases:
         files = store_format.Writer().get("a", b"one").files()
         log, claim = files["log-1"], files["claim-0"]
         files |= {"log-1": log[:-1] + b"\x42tail", "claim-0": claim + b"more", "log-3": b"\0" + log[1:],
-                  "claim-9": b"x"}
+                  "events-0": files["events-0"] + b"more", "claim-9": b"x"}
         with self.folder() as folder:
             write_files(folder / "store", files)
             status, syncs = traced(self.program, folder)
             need(status == DONE, f"status {status}")
             standing = [("fdatasync", f"store/{name}") for name in files]
-            wanted = [*FOLDERS, *standing, STORE, LOG, LOG, ("fdatasync", "store/log-3"), *PUT, LOG, CLAIM, STORE, LOG,
-                      *CLOSING]
+            wanted = [*FOLDERS, *standing, STORE, LOG, LOG, ("fdatasync", "store/log-3"), *PUT, LOG, CLAIM, EVENTS,
+                      STORE, LOG, *CLOSING]
             need(in_any_order(syncs) == in_any_order(wanted), f"{syncs}")
 
     def of_what_is_not_opened(self):
@@ -240,7 +243,8 @@ class Cases:
         write_files(folder / "in", FILES)
         status = refused(self.program, folder, [*OPENING_NEW, *ALL], len(OPENING_NEW) + FILE_FIRST.index(STORE) + 1)
         need(status == DISK and mark(folder) == b"\1", f"status {status}, and the lock holds {mark(folder)}")
-        need(names(folder / "store") == ["claim-0", "lock", "log-1", "snapshot-1"], f"{names(folder / 'store')}")
+        need(names(folder / "store") == ["claim-0", "events-0", "lock", "log-1", "snapshot-1"],
+             f"{names(folder / 'store')}")
 
     # What a mark has the next run do.
 
@@ -255,9 +259,9 @@ class Cases:
             before = inodes(folder)
             status, syncs = traced(self.program, folder)
             need(status == DONE, f"status {status}")
-            need(syncs[3:9] == [*[COPY] * 5, STORE], f"the opening asks for {syncs[:10]}")
+            need(syncs[3:10] == [*[COPY] * 6, STORE], f"the opening asks for {syncs[:11]}")
             after = inodes(folder)
-            need(sorted(after) == sorted([*others, "log-1", "snapshot-1"]), f"store holds {sorted(after)}")
+            need(sorted(after) == sorted([*others, "events-0", "log-1", "snapshot-1"]), f"store holds {sorted(after)}")
             for name in after:
                 need((after[name] != before[name]) == (name not in others), f"{name} has inode {after[name]}")
             need(read_files(folder / "out") == FILES, "a file of out has other bytes")
@@ -309,7 +313,7 @@ def main():
     cases = Cases(find_program(given.program), given.folder)
     report = Report()
     for text, body in (
-            ("the syncs of a run in a new folder: the opening's, seven for each further file, and the end's",
+            ("the syncs of a run in a new folder: the opening's, nine for each further file, and the end's",
              cases.of_a_new_store),
             ("the syncs of a run over a store that stands", cases.of_a_store),
             ("the syncs of an empty file, and of the first content of a claim", cases.of_all_kinds),

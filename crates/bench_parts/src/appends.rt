@@ -23,7 +23,7 @@ pub fn measure<R: Clock>(rt: &R, alloc: Global, live: u32) -> Result<Measured> {
         bail!("there are 1 to {SLOTS} claims");
     }
     let references = references(alloc, live)?;
-    let mut disk = BenchDisk::of_claims(sizes(alloc, references.as_slice())?);
+    let mut disk = BenchDisk::of_claims(alloc, sizes(alloc, references.as_slice())?);
     let mut content = Content::load(alloc, &mut disk, references.as_slice())?;
     let start = Instant::now(rt)?;
     append_all(&mut content, &mut disk)?;

@@ -5,25 +5,43 @@ ghost use Rattle.disk_trait.specs.Faults.{CountsFaults};
 ghost use Rattle.disk_trait.specs.Images.{next_moment};
 ghost use Rattle.bench_parts.specs.Untold.{told_by_none, left_by_none};
 
-mod claims;
+mod kept;
 
-use claims::Claims;
 use disk_trait::{Disk, DiskError, Failed, FileKind, FileName};
+use kept::Kept;
+use std::alloc::Global;
 
-/// Claims whose sizes alone are kept. It tells nothing of them, and no call fails but one that asks for what isn't kept,
-/// for want of memory, or after the last moment.
+/// Claims whose sizes alone are kept, and one file that is read. It tells nothing of them, and no call fails but one that
+/// asks for what isn't kept, for want of memory, or after the last moment.
 #[derive(Drop)]
 pub struct BenchDisk {
-    claims: Claims,
+    kept: Kept,
     moment: u64,
     faults: u64,
 }
 
 impl BenchDisk {
     /// Claims of these sizes, by their numbers.
-    pub fn of_claims(sizes: Vec<u64>) -> BenchDisk {
+    pub fn of_claims(alloc: Global, sizes: Vec<u64>) -> BenchDisk {
+        let none = FileName {
+            kind: FileKind::Events,
+            number: 0,
+        };
+        BenchDisk::of(sizes, none, Vec::new(alloc))
+    }
+
+    /// One file.
+    pub fn of_file(alloc: Global, file: FileName, bytes: Vec<u8>) -> BenchDisk {
+        BenchDisk::of(Vec::new(alloc), file, bytes)
+    }
+
+    fn of(claims: Vec<u64>, file: FileName, bytes: Vec<u8>) -> BenchDisk {
         BenchDisk {
-            claims: Claims { sizes },
+            kept: Kept {
+                claims,
+                file,
+                bytes,
+            },
             moment: 0,
             faults: 0,
         }
@@ -83,7 +101,7 @@ impl Disk for BenchDisk {
     ghost images_end = { λ _ _ _ _. left_by_none };
 
     fn files(&mut self, kind: FileKind, list: &mut Vec<u64>) -> Result<(), DiskError> {
-        match self.claims.list(kind, list) {
+        match self.kept.list(kind, list) {
             Ok(()) => Ok(()),
             Err(_) => {
                 list.clear();
@@ -93,23 +111,24 @@ impl Disk for BenchDisk {
     }
 
     fn size(&mut self, file: FileName) -> Result<u64, Failed> {
-        Ok(self.claims.size(file))
+        Ok(self.kept.size(file))
     }
 
-    fn read(&mut self, _file: FileName, _at: u64, _into: &mut [u8]) -> Result<(), Failed> {
-        Err(self.fault())
+    fn read(&mut self, file: FileName, at: u64, into: &mut [u8]) -> Result<(), Failed> {
+        let answer = self.kept.read(file, at, into);
+        self.answer(answer)
     }
 
     fn write(&mut self, file: FileName, at: u64, bytes: &[u8]) -> Result<(), Failed> {
         self.begin()?;
-        let answer = self.claims.write(file, at, bytes);
+        let answer = self.kept.write(file, at, bytes);
         self.answer(answer)
     }
 
     fn cut(&mut self, file: FileName, size: u64) -> Result<(), Failed> {
         self.begin()?;
-        let answer = self.claims.put(file, size);
-        self.answer(answer)
+        self.kept.put(file, size);
+        Ok(())
     }
 
     fn sync(&mut self) -> Result<(), Failed> {

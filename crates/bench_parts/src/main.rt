@@ -1,47 +1,65 @@
-//! Measures appends to a repository of contents: behind the word `appends` stands how many claims are live.
+//! Measures parts of the store: behind a word that says which part stands how much of it there is.
 #![tactic(auto)]
 
 mod appends;
 mod disk;
+mod logs;
 mod measured;
+mod records;
+mod snapshots;
 
 use anyhow::{Result, bail};
+use measured::Measured;
+use std::alloc::Global;
 use std::env;
+use std::time::Clock;
 
-/// How many claims are live where the word is `check`.
+/// The parts that are measured.
+const PARTS: [&str; 4] = ["appends", "loads", "reads", "writes"];
+
+/// How much there is of each where the word is `check`.
 const FEW: u32 = 5;
 
 fn main(rt: HostRuntime) -> Result<()> {
     let alloc = rt.alloc();
     let words: Vec<String> = env::args(&rt)?.skip(1).collect(alloc)?;
     let Some(word) = words.first() else {
-        bail!("the words are `check`, or `appends` and a count");
+        bail!("the words are `check`, or a part and a count");
     };
     if word.as_str() == "check" {
-        let measured = appends::measure(&rt, alloc, FEW)?;
-        println!(rt; "appends {FEW}: {}", measured.count)?;
+        for part in PARTS {
+            let measured = measure(&rt, alloc, part, FEW)?;
+            println!(rt; "{part} {FEW}: {}", measured.count)?;
+        }
         return Ok(());
     }
-    let live = read_live(word.as_str(), words.get(1))?;
-    let measured = appends::measure(&rt, alloc, live)?;
+    let much = read_count(word.as_str(), words.get(1))?;
+    let measured = measure(&rt, alloc, word.as_str(), much)?;
     let microseconds = measured.took.as_micros();
     println!(rt;
-        "appends {live}: {} in {microseconds} microseconds",
+        "{word} {much}: {} in {microseconds} microseconds",
         measured.count
     )?;
     Ok(())
 }
 
-// How many claims are live, of these words.
-fn read_live(word: &str, count: Option<&String>) -> Result<u32> {
-    if word != "appends" {
-        bail!("`{word}` measures nothing");
+fn measure<R: Clock>(rt: &R, alloc: Global, part: &str, much: u32) -> Result<Measured> {
+    match part {
+        "appends" => appends::measure(rt, alloc, much),
+        "loads" => logs::measure(rt, alloc, much),
+        "reads" => snapshots::measure_reading(rt, alloc, much),
+        "writes" => snapshots::measure_writing(rt, alloc, much),
+        _ => bail!("`{part}` measures nothing"),
     }
+}
+
+// How much there is of a part, of these words.
+fn read_count(part: &str, count: Option<&String>) -> Result<u32> {
     let Some(count) = count else {
-        bail!("`{word}` needs a count");
+        bail!("`{part}` needs a count");
     };
-    let Ok(live) = count.parse::<u32>() else {
+    let Ok(much) = count.parse::<u32>() else {
         bail!("`{count}` is no count");
     };
-    Ok(live)
+    Ok(much)
 }

@@ -4,9 +4,8 @@ use Rattle.disk_trait.specs.Files.{Files}
 use Rattle.disk_trait.specs.declared.damage.Damage.{Damage}
 use Rattle.flowfile_record.specs.declared.limits.TheConstants.{DIGEST_SIZE}
 use Rattle.record_codec.specs.Block.{Reading, Whole, reading_of}
-use Rattle.record_codec.specs.Head.{IsWholeHead}
 use Rattle.record_codec.specs.declared.block.Block.{Block}
-use Rattle.record_codec.specs.declared.block.TheConstants.{HEADER_SIZE, PAYLOAD_MAX}
+use Rattle.record_codec.specs.declared.block.TheConstants.{HEADER_SIZE, PAYLOAD_MAX, BLOCK_OVERHEAD}
 use Rattle.block_file.specs.Damage.{damage_in}
 use Rattle.block_file.specs.declared.error.BlockError.{BlockError}
 use Rattle.block_file.specs.declared.error.BlockError.TheVariants.{Memory, Damaged}
@@ -41,12 +40,23 @@ pub record IsBlockAt (tells : Bool) (files : Files) (address : BlockAddress) (bu
   pub read : IsTrue tells → reading_at files address ≡ Whole block.kind (slice_range buffer block.start block.end)
   pub lies : LiesIn address buffer block
 
--- Why no block is read into a buffer of this capacity. What is damaged is told as it is. Memory is taken only for a
--- block that its header lets stand there whole, and that the buffer has no room for: a buffer with room for the rest of
--- the file takes none, whatever the disk tells.
+-- a whole block of so many bytes
+abbrev pub IsBlockOfSize : ℕ → Reading → Type 0
+IsBlockOfSize n reading = (kind : ℕ) × ((payload : List ℕ) × ((reading ≡ Whole kind payload) × (n ≡ length payload + BLOCK_OVERHEAD)))
+
+-- a whole block stands there, which is longer than this
+pub record HasBlockPast (files : Files) (address : BlockAddress) (capacity : ℕ) : Type 0 where
+  pub kind : ℕ
+  pub payload : List ℕ
+  pub whole : reading_at files address ≡ Whole kind payload
+  pub long : capacity < length payload + BLOCK_OVERHEAD
+
+-- Why no block is read into a buffer of this capacity. What is damaged is told as it is, whether or not there is memory:
+-- that is taken only for a whole block that the buffer has no room for. A buffer with room for the rest of the file takes
+-- none, whatever the disk tells.
 pub record IsBlockRefusal (tells : Bool) (files : Files) (address : BlockAddress) (capacity : ℕ) (error : BlockError)
     : Type 0 where
   pub damaged : (damage : Damage) → error ≡ Damaged damage → IsTrue tells
       → damage_in address.file address.at (reading_at files address) ≡ Some damage
-  pub memory : error ≡ Memory → IsTrue tells → (n : ℕ) × IsWholeHead n (bytes_at files address) × (capacity < n)
+  pub memory : error ≡ Memory → IsTrue tells → HasBlockPast files address capacity
   pub room : error ≡ Memory → address.offset + capacity < address.size

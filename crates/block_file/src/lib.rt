@@ -5,7 +5,9 @@
 #![tactic(auto)]
 
 mod error;
+mod pieces;
 mod read;
 
 pub use error::BlockError;
+pub use pieces::digest_at;
 pub use read::{BlockAddress, read_block_at};

@@ -4,11 +4,13 @@ ghost use Rattle.disk_trait.specs.Images.{Stays};
 ghost use Rattle.disk_trait.specs.Faults.{CountsFaults};
 ghost use Rattle.disk_trait.specs.declared.damage.Damage.{Damage as TheDamage};
 ghost use Rattle.record_codec.specs.Head.{IsWholeHead};
-ghost use Rattle.block_file.specs.Address.{bytes_at, reading_at, IsAddress, IsBlockAt, IsBlockRefusal};
+ghost use Rattle.block_file.specs.Address.{bytes_at, reading_at, IsAddress, IsBlockAt, IsBlockOfSize, IsBlockRefusal};
 ghost use Rattle.block_file.specs.Damage.{damage_by, damage_in};
 
 use crate::BlockError;
+use crate::pieces::digest_at;
 use disk_trait::{Damage, Disk, FileName};
+use flowfile_record::DIGEST_SIZE;
 use record_codec::{
     BLOCK_OVERHEAD, Block, BlockEnd, HEADER_SIZE, PAYLOAD_MAX, read_block, size_by_header,
 };
@@ -75,24 +77,63 @@ fn size_at<D: Disk>(disk: &mut D, address: BlockAddress) -> Result<u64, BlockErr
     }
 }
 
-// So many bytes from there on.
+// The bytes of the block there, which has this size by its header. Where there is no memory for them, the block's digest
+// is compared all the same: damage is told as damage.
 fn read_bytes<D: Disk>(
     disk: &mut D,
     address: BlockAddress,
     size: u64,
     buffer: &mut Vec<u8>,
 ) -> Result<(), BlockError>
-    requires { IsTrue D.tells → address.offset + size ≤ length (D.held disk.old address.file) }
+    requires head { IsTrue D.tells → IsWholeHead size (bytes_at (D.held disk.old) address) }
+    requires fits { (BLOCK_OVERHEAD ≤ size) × (address.offset + size ≤ address.size) }
+    requires size { IsTrue D.tells → address.size ≡ length (D.held disk.old address.file) }
     ensures bytes { OnOk result (IsTrue D.tells → buffer.new.items ≡ take size (bytes_at (D.held disk.old) address)) }
     ensures len { OnOk result (length buffer.new.items ≡ size) }
-    ensures kinds { (damage : TheDamage) → IsErrOf result (BlockError.Damaged damage) → ⊥ }
-    ensures memory { IsErrOf result BlockError.Memory → vec_capacity buffer.old < size }
+    ensures refusal { IfErr result
+        (IsBlockRefusal D.tells (D.held disk.old) address (vec_capacity buffer.old)) }
     ensures capacity { vec_capacity buffer.old ≤ vec_capacity buffer.new }
     ensures stays { Stays D.held D.moment D.images disk.old disk.new }
     ensures cause { CountsFaults (D.faults disk.old) (D.faults disk.new) (IsErrOf result BlockError.Disk) }
 {
-    buffer.resize(size as usize, 0)?;
+    if buffer.resize(size as usize, 0).is_err() {
+        compare_digests(disk, address, size)?;
+        return Err(BlockError::Memory);
+    }
     disk.read(address.file, address.offset, buffer.as_mut_slice())?;
+    Ok(())
+}
+
+// Compares the digest of the block there, which has this size by its header, with the one that is stored. It takes no
+// memory.
+fn compare_digests<D: Disk>(
+    disk: &mut D,
+    address: BlockAddress,
+    size: u64,
+) -> Result<(), BlockError>
+    requires head { IsTrue D.tells → IsWholeHead size (bytes_at (D.held disk.old) address) }
+    requires fits { (BLOCK_OVERHEAD ≤ size) × (address.offset + size ≤ address.size) }
+    requires size { IsTrue D.tells → address.size ≡ length (D.held disk.old address.file) }
+    ensures whole { OnOk result (IsTrue D.tells → IsBlockOfSize size (reading_at (D.held disk.old) address)) }
+    ensures damaged { (damage : TheDamage) → IsErrOf result (BlockError.Damaged damage) → IsTrue D.tells
+        → damage_in address.file address.at (reading_at (D.held disk.old) address) ≡ Some damage }
+    ensures kinds { IsErrOf result BlockError.Memory → ⊥ }
+    ensures stays { Stays D.held D.moment D.images disk.old disk.new }
+    ensures cause { CountsFaults (D.faults disk.old) (D.faults disk.new) (IsErrOf result BlockError.Disk) }
+{
+    let kind_at = address.offset + (HEADER_SIZE - 1);
+    let digest_offset = address.offset + (size - DIGEST_SIZE as u64);
+    let found = digest_at(disk, address.file, kind_at, digest_offset - kind_at)?;
+    let mut stored = [0u8; DIGEST_SIZE];
+    disk.read(address.file, digest_offset, &mut stored)?;
+    if stored != found {
+        return Err(BlockError::Damaged(Damage::Digest {
+            file: address.file,
+            at: address.at,
+            stored,
+            found,
+        }));
+    }
     Ok(())
 }
 

@@ -1,4 +1,5 @@
 //! Cases of encodings: what is read, and what is written.
+use crate::events;
 use crate::json::{item, member, number, text, word};
 use anyhow::{Context, Result, bail};
 use flowfile_record::CodecError;
@@ -59,6 +60,7 @@ fn rewritten(alloc: Global, form: &str, given: &[u8]) -> Result<Result<Vec<u8>, 
         "end" => end_rewritten(alloc, given),
         "head" => head_rewritten(alloc, given),
         "entry" => entry_rewritten(alloc, given),
+        "event" => events::rewritten(alloc, given),
         _ => bail!("no form of a record"),
     }
 }
@@ -133,7 +135,8 @@ fn kind(value: &Value) -> Result<u8> {
     }
 }
 
-fn bytes(alloc: Global, value: &Value) -> Result<Vec<u8>> {
+/// The bytes of a case, which has them in hexadecimal.
+pub fn bytes(alloc: Global, value: &Value) -> Result<Vec<u8>> {
     let digits = text(alloc, value)?;
     match hex::decode(alloc, digits.as_str()) {
         Ok(bytes) => Ok(bytes),

@@ -4,6 +4,7 @@
 
 mod disks;
 mod encodings;
+mod events;
 mod expressions;
 mod json;
 mod orders;
@@ -63,6 +64,9 @@ fn answer_of_records(alloc: Global, case: &Value) -> Result<String> {
     }
     if let Some(form) = case.get("record") {
         return encodings::record(alloc, form, case);
+    }
+    if let Some(bytes) = case.get("kin") {
+        return events::kin_told(alloc, bytes);
     }
     if let Some(failing) = case.get("disk") {
         return disks::stopped(alloc, failing, case);

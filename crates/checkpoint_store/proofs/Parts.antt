@@ -1,5 +1,10 @@
 -- What a block that has no place says.
-use Rattle.std.proofs.Common.{◌≡◌, ◌≢◌, ◌==◌, ℕ, false, List, Result, Ok, Err, None, refl, sym, ap, ◌∙◌, arith}
+use Rattle.std.proofs.Common.{◌≡◌, ◌≢◌, ◌==◌, ◌+◌, ℕ, suc, true, false, List, [], ◌∷◌, ◌++◌, length, drop, Result, Ok, Err, None, Some, refl, sym, ap, ◌∙◌, arith}
+use Rattle.disk_trait.specs.declared.damage.Damage.{Damage}
+use Rattle.disk_trait.specs.declared.file_name.FileName.{FileName}
+use Rattle.flowfile_record.specs.declared.stored.ActiveFile.{ActiveFile}
+use Rattle.flowfile_record.specs.declared.stored.SwapBatch.{SwapBatch}
+use Rattle.record_codec.specs.Block.{Reading, Whole, reading_of}
 use Rattle.std.proofs.lemmas.Bool.Decides.{nat_tests}
 use Rattle.flowfile_record.specs.Reading.{answer}
 use Rattle.flowfile_record.specs.Stored.{Kept}
@@ -7,7 +12,7 @@ use Rattle.flowfile_record.specs.declared.error.CodecError.{CodecError}
 use Rattle.record_codec.specs.Snapshot.{kind_code}
 use Rattle.record_codec.specs.declared.snapshot.SnapshotKind.{SnapshotKind}
 use Rattle.record_codec.specs.declared.snapshot.SnapshotKind.TheVariants as kinds
-use Rattle.checkpoint_store.specs.Reading.{first_in, next_in, end_next}
+use Rattle.checkpoint_store.specs.Reading.{Next, More, said, behind_block, blocks_from, may_join, may_follow, first_in, next_in, file_next, batch_next, end_next, snapshot_of}
 use Rattle.checkpoint_store.specs.Snapshot.{blocks_in}
 
 abbrev done : {A : Type 0} → A → Result A CodecError
@@ -39,3 +44,23 @@ module _ (kind : ℕ) (none : (holds : SnapshotKind) → kind_code holds ≡ kin
       let batch : (kind == 12) ≡ false = grind (arith, nat_tests, apart_batch) in
       let end : (kind == 13) ≡ false = grind (arith, nat_tests, apart_end) in
       rw (file, batch, end) refl
+
+-- ---- a part that is wanted joins
+
+pub batch_follows : (k : Kept) (b : SwapBatch) (size : ℕ) (read : Result SwapBatch ℕ) → done b ≡ answer size read → may_follow k b ≡ true → (x : Next) × (batch_next k read ≡ Some x)
+batch_follows k b size read e follows = (More (record k { batches = k.batches ++ b ∷ [] }), ap (batch_next k) (read_ok size b read e) ∙ rw follows refl)
+
+pub file_follows : (k : Kept) (a : ActiveFile) (size : ℕ) (read : Result ActiveFile ℕ) → done a ≡ answer size read → may_join k a ≡ true → (x : Next) × (file_next k read ≡ Some x)
+file_follows k a size read e joins = (More (record k { files = k.files ++ a ∷ [] }), ap (file_next k) (read_ok size a read e) ∙ rw joins refl)
+
+-- ---- the first block
+
+-- what follows a block
+abbrev following : FileName → List ℕ → Kept → ℕ → Result Kept Damage
+following file bytes k size = blocks_from (suc (length bytes)) file size k (drop size bytes)
+
+pub behind_first : (file : FileName) (bytes : List ℕ) (kind : ℕ) (payload : List ℕ) (k : Kept) (next : ℕ) → reading_of bytes ≡ Whole kind payload → first_in kind payload ≡ Some k
+    → next ≡ length payload + 37 → snapshot_of file bytes ≡ blocks_from (suc (length bytes)) file next k (drop next bytes)
+behind_first file bytes kind payload k next read first size =
+    ap (λ (r : Reading). behind_block file 0 first_in r (following file bytes)) read
+    ∙ ap (said file 0 (length payload + 37) (following file bytes)) first ∙ ap (following file bytes k) (sym size)

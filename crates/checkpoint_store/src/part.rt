@@ -1,11 +1,13 @@
 //! What a block of a snapshot says.
-ghost use Rattle.std.specs.Prelude.{◌≡◌, ◌≤◌, true, false, length, IsTrue, IfOk, OnOk, IsErrOf, Some, None};
+ghost use Rattle.std.specs.Prelude.{◌≡◌, ◌≤◌, ◌⊎◌, true, false, length, is_ok, IsTrue, IfOk, OnOk, IsErrOf, Some, None};
 ghost use Rattle.flowfile_record.specs.Reading.{whole};
 ghost use Rattle.flowfile_record.specs.Stored.{kept_of};
-ghost use Rattle.record_codec.specs.ActiveFile.{active_file_at};
+ghost use Rattle.record_codec.specs.ActiveFile.{active_file_at, active_front_at};
+ghost use Rattle.record_codec.specs.Snapshot.{kind_code};
+ghost use Rattle.record_codec.specs.declared.snapshot.SnapshotKind.TheVariants as kinds;
 ghost use Rattle.record_codec.specs.SnapshotReading.{batch_at, ending_at};
-ghost use Rattle.record_codec.specs.StoreHeadReading.{head_at};
-ghost use Rattle.checkpoint_store.specs.Reading.{More, Last, are_distinct, has_counters, head_next, file_next, batch_next, end_next, first_in, next_in};
+ghost use Rattle.record_codec.specs.StoreHeadReading.{head_at, head_takes_memory};
+ghost use Rattle.checkpoint_store.specs.Reading.{Next, More, Last, PartTakes, are_distinct, has_counters, head_next, file_next, batch_next, end_next, first_in, next_in};
 ghost use Rattle.checkpoint_store.specs.SoFar.{IsSoFar, next_is};
 
 use crate::so_far::{SoFar, Unfit};
@@ -22,6 +24,8 @@ pub fn first_part(alloc: Global, kind: u8, payload: &[u8]) -> Result<SoFar, Unfi
     ensures found { IfOk result (λ so_far. first_in kind payload.now ≡ Some (kept_of so_far.state)) }
     ensures so_far { IfOk result IsSoFar }
     ensures unfit { IsErrOf result Unfit.Form → first_in kind payload.now ≡ None }
+    ensures memory { IsErrOf result Unfit.Memory
+        → (kind ≡ kind_code kinds.Head) × IsTrue (head_takes_memory payload.now) }
 {
     match SnapshotKind::from_code(kind) {
         Some(SnapshotKind::Head) => take_head(alloc, payload),
@@ -37,6 +41,7 @@ fn take_head(alloc: Global, payload: &[u8]) -> Result<SoFar, Unfit>
     ensures found { IfOk result (λ so_far. head_next (whole head_at payload.now) ≡ Some (kept_of so_far.state)) }
     ensures so_far { IfOk result IsSoFar }
     ensures unfit { IsErrOf result Unfit.Form → head_next (whole head_at payload.now) ≡ None }
+    ensures memory { IsErrOf result Unfit.Memory → IsTrue (head_takes_memory payload.now) }
 {
     let head = read_head(alloc, payload)?;
     if !are_distinct(head.connections.as_slice()) || !has_counters(&head) {
@@ -75,6 +80,7 @@ impl SoFar {
         ensures ended { IfOk result (λ ended. IsTrue ended → kept_of self.new.state ≡ kept_of self.old.state) }
         ensures so_far { OnOk result (IsSoFar self.new) }
         ensures unfit { IsErrOf result Unfit.Form → next_in (kept_of self.old.state) kind payload.now ≡ None }
+        ensures memory { IsErrOf result Unfit.Memory → PartTakes (kept_of self.old.state) kind payload.now }
     {
         match SnapshotKind::from_code(kind) {
             Some(SnapshotKind::File) => self.take_file(alloc, payload),
@@ -93,6 +99,8 @@ impl SoFar {
         ensures so_far { OnOk result (IsSoFar self.new) }
         ensures unfit { IsErrOf result Unfit.Form
             → file_next (kept_of self.old.state) (whole active_file_at payload.now) ≡ None }
+        ensures memory { IsErrOf result Unfit.Memory → IsTrue (is_ok (active_front_at payload.now))
+            ⊎ ((next : Next) × (file_next (kept_of self.old.state) (whole active_file_at payload.now) ≡ Some next)) }
     {
         let active = read_active_file(alloc, payload)?;
         self.add_file(active)?;
@@ -107,6 +115,8 @@ impl SoFar {
         ensures so_far { OnOk result (IsSoFar self.new) }
         ensures unfit { IsErrOf result Unfit.Form
             → batch_next (kept_of self.old.state) (whole batch_at payload.now) ≡ None }
+        ensures memory { IsErrOf result Unfit.Memory
+            → (next : Next) × (batch_next (kept_of self.old.state) (whole batch_at payload.now) ≡ Some next) }
     {
         let batch = read_swap_batch(payload)?;
         self.add_batch(batch)?;
@@ -119,6 +129,7 @@ impl SoFar {
             × (end_next (kept_of self.now.state) (whole ending_at payload.now) ≡ Some Last)) }
         ensures unfit { IsErrOf result Unfit.Form
             → end_next (kept_of self.now.state) (whole ending_at payload.now) ≡ None }
+        ensures kinds { IsErrOf result Unfit.Memory → ⊥ }
     {
         let blocks = read_snapshot_end(payload)?;
         if blocks != self.blocks() {

@@ -1,13 +1,13 @@
 //! Reading a snapshot.
-ghost use Rattle.std.specs.Prelude.{◌≡◌, ℕ, suc, ◌<◌, ◌≤◌, List, [], ◌++◌, length, IsTrue, IfOk, OnOk, IsErrOf, Ok, Err, Some, MatchOption};
+ghost use Rattle.std.specs.Prelude.{◌≡◌, ℕ, suc, ◌<◌, ◌≤◌, List, [], ◌++◌, length, vec_capacity, IsTrue, IfOk, OnOk, IsErrOf, Ok, Err, Some, MatchOption};
 ghost use Rattle.disk_trait.specs.Images.{Stays};
 ghost use Rattle.disk_trait.specs.Faults.{CountsFaults};
 ghost use Rattle.disk_trait.specs.declared.damage.Damage.{Damage as TheDamage};
 ghost use Rattle.disk_trait.specs.declared.file_name.FileName.{FileName as TheName};
 ghost use Rattle.flowfile_record.specs.Stored.{Kept, kept_of};
-ghost use Rattle.block_file.specs.Address.{reading_at, IsAddress, IsBlockAt};
+ghost use Rattle.block_file.specs.Address.{reading_at, HasBlockPast, IsAddress, IsBlockAt};
 ghost use Rattle.block_file.specs.Damage.{damage_in};
-ghost use Rattle.checkpoint_store.specs.Reading.{address_of, blocks_in_file, snapshot_of, snapshot_in};
+ghost use Rattle.checkpoint_store.specs.Reading.{BlockTakes, HasFirstBlock, address_of, blocks_in_file, snapshot_of, snapshot_in};
 ghost use Rattle.checkpoint_store.specs.Snapshot.{snapshot, snapshot_file};
 ghost use Rattle.checkpoint_store.specs.Consistent.{IsConsistent};
 ghost use Rattle.checkpoint_store.specs.SoFar.{IsSoFar};
@@ -37,6 +37,9 @@ pub fn read<D: Disk>(alloc: Global, disk: &mut D, number: u64) -> Result<Stored,
     // The first damage is told, where there is one.
     ensures damaged { (damage : TheDamage) → IsErrOf result (CheckError.Damaged damage) → IsTrue D.tells
         → snapshot_in (D.held disk.old) (snapshot_file number) ≡ Err damage }
+    // Memory is taken only behind the first block, whose damage is told without.
+    ensures memory { IsErrOf result CheckError.Memory → IsTrue D.tells
+        → HasFirstBlock (D.held disk.old) (snapshot_file number) }
     ensures stays { Stays D.held D.moment D.images disk.old disk.new }
     ensures cause { CountsFaults (D.faults disk.old) (D.faults disk.new) (IsErrOf result CheckError.Disk) }
 {
@@ -69,6 +72,9 @@ fn read_first<D: Disk>(
     ensures within { IfOk result (λ first. first.1 ≤ source.size) }
     ensures damaged { (damage : TheDamage) → IsErrOf result (CheckError.Damaged damage) → IsTrue D.tells
         → snapshot_in (D.held disk.old) source.file ≡ Err damage }
+    ensures whole { OnOk result (IsTrue D.tells → HasFirstBlock (D.held disk.old) source.file) }
+    ensures memory { IsErrOf result CheckError.Memory → IsTrue D.tells
+        → HasFirstBlock (D.held disk.old) source.file }
     ensures stays { Stays D.held D.moment D.images disk.old disk.new }
     ensures cause { CountsFaults (D.faults disk.old) (D.faults disk.new) (IsErrOf result CheckError.Disk) }
 {
@@ -106,6 +112,9 @@ fn read_next<D: Disk>(
     ensures damaged { (damage : TheDamage) → IsErrOf result (CheckError.Damaged damage) → IsTrue D.tells
         → (most : ℕ) → blocks_in_file (suc most) (D.held disk.old) source.file at (kept_of so_far.old.state)
         ≡ Err damage }
+    ensures memory { IsErrOf result CheckError.Memory → IsTrue D.tells
+        → BlockTakes (vec_capacity buffer.old) (kept_of so_far.old.state)
+        (reading_at (D.held disk.old) (address_of source.file source.size at)) }
     ensures stays { Stays D.held D.moment D.images disk.old disk.new }
     ensures cause { CountsFaults (D.faults disk.old) (D.faults disk.new) (IsErrOf result CheckError.Disk) }
 {
@@ -134,6 +143,8 @@ fn read_block<D: Disk>(
     ensures damaged { (damage : TheDamage) → IsErrOf result (CheckError.Damaged damage) → IsTrue D.tells
         → damage_in source.file at (reading_at (D.held disk.old) (address_of source.file source.size at))
         ≡ Some damage }
+    ensures memory { IsErrOf result CheckError.Memory → IsTrue D.tells
+        → HasBlockPast (D.held disk.old) (address_of source.file source.size at) (vec_capacity buffer.old) }
     ensures stays { Stays D.held D.moment D.images disk.old disk.new }
     ensures cause { CountsFaults (D.faults disk.old) (D.faults disk.new) (IsErrOf result CheckError.Disk) }
 {

@@ -1,5 +1,5 @@
 //! A snapshot that is read as far as some block.
-ghost use Rattle.std.specs.Prelude.{◌≡◌, ℕ, ◌∷◌, ◌++◌, ◌==◌, ◌||◌, not, [], IfOk, OnOk, IsErrOf, true, false};
+ghost use Rattle.std.specs.Prelude.{◌≡◌, ℕ, ◌∷◌, ◌++◌, ◌==◌, ◌||◌, not, [], IfOk, OnOk, IsErr, IsErrOf, true, false};
 ghost use Rattle.std.specs.Ordering.{nat_cmp};
 ghost use Rattle.std.specs.BTreeSet.{contains, IsOrdered};
 ghost use Rattle.flowfile_record.specs.Stored.{kept_of};
@@ -98,6 +98,7 @@ impl SoFar {
             ≡ record (kept_of self.old.state) { files = (kept_of self.old.state).files ++ active ∷ [] })) }
         ensures so_far { OnOk result (IsSoFar self.new) }
         ensures unfit { IsErrOf result Unfit.Form → may_join (kept_of self.old.state) active ≡ false }
+        ensures memory { IsErrOf result Unfit.Memory → may_join (kept_of self.old.state) active ≡ true }
     {
         let number = active.file.number;
         let arrival = active.file.arrival;
@@ -105,10 +106,10 @@ impl SoFar {
         if !self.has_place(&active) || self.bytes + size > LIVE_BYTES_MAX {
             return Err(Unfit::Form);
         }
-        self.state.files.reserve(1)?;
         if !add_arrival(&mut self.arrivals, arrival)? {
             return Err(Unfit::Form);
         }
+        self.state.files.reserve(1)?;
         self.state.files.put(active);
         self.last_file = number;
         self.bytes += size;
@@ -139,6 +140,7 @@ impl SoFar {
             ≡ record (kept_of self.old.state) { batches = (kept_of self.old.state).batches ++ batch ∷ [] })) }
         ensures so_far { OnOk result (IsSoFar self.new) }
         ensures unfit { IsErrOf result Unfit.Form → may_follow (kept_of self.old.state) batch ≡ false }
+        ensures memory { IsErrOf result Unfit.Memory → may_follow (kept_of self.old.state) batch ≡ true }
     {
         if self.last_batch >= batch.batch {
             return Err(Unfit::Form);
@@ -162,6 +164,7 @@ impl SoFar {
 fn add_arrival(arrivals: &mut BTreeSet<u64>, arrival: u64) -> Result<bool, AllocError>
     requires { IsOrdered nat_cmp arrivals.old }
     ensures added { IfOk result (λ added. added ≡ not (contains nat_cmp arrivals.old arrival)) }
+    ensures absent { IsErr result → contains nat_cmp arrivals.old arrival ≡ false }
     ensures now { OnOk result ((n : ℕ) → contains nat_cmp arrivals.new n
         ≡ (contains nat_cmp arrivals.old n || (arrival == n))) }
     ensures ordered { OnOk result (IsOrdered nat_cmp arrivals.new) }

@@ -75,6 +75,11 @@ IsDamage at bytes (Short file offset need have) =
     × (need ≡ end_of at) × (have ≡ length bytes)
 IsDamage at bytes (Form file offset) = ⊥
 
+-- a content stands where its reference says, with its digest
+pub record IsWhole (files : Files) (at : ContentRef) : Type 0 where
+  pub covered : IsCovered files at
+  pub digest : sha256 (content_in files at) ≡ at.digest
+
 -- the bytes of a content: they have its size and its digest, and where the disk tells they stand in its claim
 pub record IsRead (tells : Bool) (files : Files) (at : ContentRef) (bytes : List ℕ) : Type 0 where
   pub size : length bytes ≡ at.size
@@ -82,8 +87,10 @@ pub record IsRead (tells : Bool) (files : Files) (at : ContentRef) (bytes : List
   pub whole : IsTrue tells → IsCovered files at
   pub content : IsTrue tells → bytes ≡ content_in files at
 
--- why a content isn't read: what is damaged is told as it is, and memory is taken only for bytes that are there
+-- Why a content isn't read. What is damaged is told as it is, whether or not there is memory: that is taken only for a
+-- content that stands there whole and right, and has bytes.
 pub record IsReadRefusal (tells : Bool) (files : Files) (at : ContentRef) (error : ContentError) : Type 0 where
   pub damaged : (damage : Damage) → error ≡ Damaged damage → IsTrue tells → IsDamage at (files (claim at.slot)) damage
-  pub memory : error ≡ Memory → IsTrue tells → IsCovered files at
+  pub memory : error ≡ Memory → IsTrue tells → IsWhole files at
+  pub some : error ≡ Memory → 0 < at.size
   pub not_full : error ≢ SlotsFull

@@ -1,7 +1,7 @@
 //! Why a call gave no answer.
 ghost use Rattle.std.specs.Prelude.{◌≡◌};
 ghost use Rattle.content_repo.specs.Errors.{error_of};
-ghost use Rattle.content_repo.specs.declared.error.ContentError.TheVariants.{Disk, Memory};
+ghost use Rattle.content_repo.specs.declared.error.ContentError.TheVariants.{Disk, Memory, Damaged};
 
 use disk_trait::{Damage, DiskError, Failed};
 use std::alloc::AllocError;
@@ -35,6 +35,14 @@ impl From<AllocError> for ContentError {
 
     fn from(_: AllocError) -> ContentError {
         ContentError::Memory
+    }
+}
+
+impl From<Damage> for ContentError {
+    ghost from_gives = { λ damage error. error ≡ Damaged damage };
+
+    fn from(damage: Damage) -> ContentError {
+        ContentError::Damaged(damage)
     }
 }
 

@@ -1,15 +1,16 @@
 //! A content is read, and its digest compared.
-ghost use Rattle.std.specs.Prelude.{◌≡◌, ◌+◌, ◌^◌, ◌<◌, ◌≤◌, length, take, drop, IsTrue, IfOk, IfErr, IsErrOf};
+ghost use Rattle.std.specs.Prelude.{◌≡◌, ◌≢◌, ◌+◌, ◌^◌, ◌<◌, ◌≤◌, length, IsTrue, IfOk, OnOk, IfErr, IsErrOf};
 ghost use Rattle.disk_trait.specs.Images.{Stays};
 ghost use Rattle.disk_trait.specs.Faults.{CountsFaults};
-ghost use Rattle.content_repo.specs.Claims.{IsRead, IsReadRefusal};
-ghost use Rattle.content_repo.specs.Errors.{IsDiskOrMemory};
+ghost use Rattle.disk_trait.specs.declared.damage.Damage.{Damage as TheDamage};
+ghost use Rattle.content_repo.specs.Claims.{claim, content_in, IsCovered, IsRead, IsReadRefusal};
 ghost use Rattle.content_repo.specs.Slots.{count_of, size_of, end_of};
 
 use crate::append::claim_file;
 use crate::{Content, ContentError};
-use disk_trait::{Damage, Disk, FileName};
-use flowfile_record::ContentRef;
+use block_file::digest_at;
+use disk_trait::{Damage, Disk};
+use flowfile_record::{ContentRef, DIGEST_SIZE};
 use sha2::{Digest, Sha256};
 use std::alloc::Global;
 
@@ -57,36 +58,50 @@ pub fn read_content<D: Disk>(
             have,
         }));
     }
-    let bytes = read_bytes(alloc, disk, file, at.offset, at.size)?;
-    let found = Sha256::digest(bytes.as_slice());
-    if found != at.digest {
-        return Err(ContentError::Damaged(Damage::Digest {
-            file,
-            at: at.offset,
-            stored: at.digest,
-            found,
-        }));
-    }
+    let bytes = read_bytes(alloc, disk, at)?;
+    compare_digest(at, Sha256::digest(bytes.as_slice()))?;
     Ok(bytes)
 }
 
-// So many bytes of a file from an offset on.
+// The bytes of a content that lies in its claim. Where there is no memory for them, its digest is compared all the same:
+// damage is told as damage.
 fn read_bytes<D: Disk>(
     alloc: Global,
     disk: &mut D,
-    file: FileName,
-    offset: u64,
-    size: u64,
+    at: &ContentRef,
 ) -> Result<Vec<u8>, ContentError>
-    requires { IsTrue D.tells → offset + size ≤ length (D.held disk.old file) }
-    ensures bytes { IfOk result (λ bytes. IsTrue D.tells
-        → bytes.items ≡ take size (drop offset (D.held disk.old file))) }
-    ensures len { IfOk result (λ bytes. length bytes.items ≡ size) }
-    ensures refusal { IfErr result IsDiskOrMemory }
+    requires end { end_of at.now < 2 ^ 64 }
+    requires covered { IsTrue D.tells → IsCovered (D.held disk.old) at.now }
+    ensures bytes { IfOk result (λ bytes. IsTrue D.tells → bytes.items ≡ content_in (D.held disk.old) at.now) }
+    ensures len { IfOk result (λ bytes. length bytes.items ≡ at.now.size) }
+    ensures refusal { IfErr result (IsReadRefusal D.tells (D.held disk.old) at.now) }
     ensures stays { Stays D.held D.moment D.images disk.old disk.new }
     ensures cause { CountsFaults (D.faults disk.old) (D.faults disk.new) (IsErrOf result ContentError.Disk) }
 {
-    let mut bytes = vec![in alloc; 0u8; size as usize]?;
-    disk.read(file, offset, bytes.as_mut_slice())?;
+    let file = claim_file(at.slot);
+    let mut bytes = Vec::new(alloc);
+    if bytes.resize(at.size as usize, 0).is_err() {
+        let found = digest_at(disk, file, at.offset, at.size)?;
+        compare_digest(at, found)?;
+        return Err(ContentError::Memory);
+    }
+    disk.read(file, at.offset, bytes.as_mut_slice())?;
     Ok(bytes)
+}
+
+// A content whose bytes have another digest is damaged.
+fn compare_digest(at: &ContentRef, found: [u8; DIGEST_SIZE]) -> Result<(), Damage>
+    ensures same { OnOk result (found ≡ at.now.digest) }
+    ensures other { IfErr result (λ damage. (found ≢ at.now.digest) × (damage
+        ≡ TheDamage.Digest (claim at.now.slot) at.now.offset at.now.digest found)) }
+{
+    if found != at.digest {
+        return Err(Damage::Digest {
+            file: claim_file(at.slot),
+            at: at.offset,
+            stored: at.digest,
+            found,
+        });
+    }
+    Ok(())
 }

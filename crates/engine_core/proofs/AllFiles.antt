@@ -5,6 +5,7 @@ use Rattle.std.specs.List.{enumerate_from, flat_map}
 use Rattle.flowfile_record.specs.Stored.{Kept}
 use Rattle.flowfile_record.specs.declared.change.Settled.{Settled}
 use Rattle.flowfile_record.specs.declared.content.ContentRef.{ContentRef}
+use Rattle.flowfile_record.specs.declared.event.Event.{Event}
 use Rattle.flowfile_record.specs.declared.stored.ActiveFile.{ActiveFile}
 use Rattle.flowfile_record.specs.declared.stored.Placed.{Placed}
 use Rattle.kept_state.specs.Applied.{left_after}
@@ -53,10 +54,10 @@ pub record StandSomewhere (k : Kept) (s : Settled) : Type 0 where
   pub left : All (λ a. a.connection < length k.connections) (left_after s.gone k.files)
   pub placed : All (λ p. p.connection < length k.connections) s.placed
 
-pub all_files : (contents : ContentRef → List ℕ) (k : Kept) (s : Settled) (w : QueuedFile → ℕ) → StandSomewhere k s
-    → tally w (files_of_all (state_after contents (state_with contents [] k) s))
+pub all_files : (contents : ContentRef → List ℕ) (events : List Event) (k : Kept) (s : Settled) (w : QueuedFile → ℕ) → StandSomewhere k s
+    → tally w (files_of_all (state_after contents (state_with contents events k) s))
     ≡ tally (λ a. w (queued contents a)) (left_after s.gone k.files) + tally (λ p. w (placed_file contents p)) s.placed
-all_files contents k s w stand =
+all_files contents events k s w stand =
     let left = left_after s.gone k.files in
     omega (
       arith,

@@ -1,6 +1,6 @@
 -- The settled session of what a store keeps, and that it is one of the state which this stands for.
-use Rattle.std.proofs.Common.{◌≡◌, ℕ, ◌<◌, ◌==◌, List, [], ◌∷◌, length, zero, suc, refl, sym, ap, subst, ◌∙◌, arith}
-use Rattle.std.specs.Prelude.{Contains, Some, slice_get, unwrap_or}
+use Rattle.std.proofs.Common.{◌≡◌, ℕ, ◌^◌, ◌<◌, ◌≤◌, ◌==◌, List, [], ◌∷◌, length, zero, suc, refl, sym, ap, subst, ◌∙◌, arith}
+use Rattle.std.specs.Prelude.{All, Contains, Some, slice_get, unwrap_or}
 use Rattle.std.specs.List.{flat_map}
 use Rattle.std.proofs.lemmas.List.{length-map}
 use Rattle.std.proofs.lemmas.List.Elements.{All-map, All-weaker, Contains-append_left, Contains-append_right}
@@ -8,7 +8,9 @@ use Rattle.flowfile_record.specs.Outcome.{AreInTurn}
 use Rattle.flowfile_record.specs.Stored.{Kept}
 use Rattle.flowfile_record.specs.declared.change.Settled.{Settled}
 use Rattle.flowfile_record.specs.declared.content.ContentRef.{ContentRef}
+use Rattle.flowfile_record.specs.declared.event.Event.{Event}
 use Rattle.flowfile_record.specs.declared.flow_file.FlowFile.{FlowFile}
+use Rattle.flowfile_record.specs.declared.name.TheConstants.{NAME_MAX}
 use Rattle.record_codec.specs.ActiveFile.{active}
 use Rattle.record_codec.specs.declared.entry.SessionEntry.{SessionEntry}
 use Rattle.checkpoint_store.specs.Consistent.{IsConsistent}
@@ -35,8 +37,10 @@ use Rattle.settlement.specs.declared.handed.Ended.{Ended}
 use Rattle.store_core.specs.Flow as store
 use Rattle.store_core.specs.Flow.{flow_in}
 use Rattle.store_core.specs.State.{queued, state_with}
-use Rattle.engine_core.specs.Committing.{MayCommit, identity_of}
-use Rattle.store_core.proofs.Validity.{kept_is_valid, live_is_queued}
+use Rattle.store_core.specs.Valid.{KeptIsValid, LiveFilesAreQueued}
+use Rattle.engine_core.specs.Committing.{AreEventsUpTo, HasTexts, MayCommit, identity_of}
+use Rattle.engine_core.proofs.Past.{past, past_is}
+use Rattle.engine_core.proofs.Told.{IsShortlySent}
 
 abbrev pub counters_of : Kept → Counters
 counters_of k = record { store = k.store; next_number = k.next_number; next_arrival = k.next_arrival; last_event = k.last_event }
@@ -49,28 +53,30 @@ pub record Case : Type 0 where
   pub ended : Ended
   pub settled : Settled
 
--- the session may be committed, and this is its settlement
+-- The session may be committed, and this is its settlement, whose texts are UTF-8. What is kept is a state of the machine.
 pub record IsSettled (c : Case) : Type 0 where
   pub sound : IsSound c.flow
   pub identity : flow_in c.k ≡ identity_of c.flow
   pub may : MayCommit c.flow c.given c.k c.ended
   pub consistent : IsConsistent c.k
   pub batches : c.k.batches ≡ []
-  pub last_event : c.k.last_event ≡ 0
   pub settles : Settles c.flow c.given (counters_of c.k) c.ended c.settled
   pub tells : TellsOf c.given c.ended c.settled
   pub records : RecordsAll c.flow c.given (counters_of c.k) c.ended c.settled
+  pub moment : c.given.moment < 2 ^ 64
+  pub received : length (unwrap_or c.given.file []) ≤ NAME_MAX
+  pub sent : IsShortlySent c.ended.outcome.sent
+  pub texts : All HasTexts c.settled.events
+  pub valid : KeptIsValid
+  pub queued : LiveFilesAreQueued
 
--- the settlement without events, and its entry
-abbrev pub quiet : Settled → Settled
-quiet settled = record settled { events = [] }
-
+-- its entry
 abbrev pub entry_in : Case → SessionEntry
-entry_in c = session_entry c.k (quiet c.settled)
+entry_in c = session_entry c.k c.settled
 
--- the state that is kept, where references stand for these contents
+-- a state that is kept, where references stand for these contents
 abbrev pub state_of : Case → (ContentRef → List ℕ) → State
-state_of c contents = state_with contents [] c.k
+state_of c contents = state_with contents (past c.k.last_event) c.k
 
 abbrev pub session_in : Case → Processor → (ContentRef → List ℕ) → EndedSession
 session_in c processor contents = session_of c.flow c.given c.ended processor contents (state_of c contents)
@@ -100,40 +106,58 @@ may_settle flow given k ended sound may consistent = record {
   last_event = consistent.encoded.last_event;
 }
 
+-- what the types say of a session and of its settlement
+pub record IsTyped (c : Case) : Type 0 where
+  pub moment : c.given.moment < 2 ^ 64
+  pub received : length (unwrap_or c.given.file []) ≤ NAME_MAX
+  pub sent : IsShortlySent c.ended.outcome.sent
+  pub texts : All HasTexts c.settled.events
+
 -- what is settled over the counters of what is stored, which is what is kept
-pub settled_over : (flow : Flow) (given : Given) (stored k : Kept) (ended : Ended) (settled : Settled) → stored ≡ k
-    → IsSound flow → flow_in k ≡ identity_of flow → MayCommit flow given k ended → IsConsistent k → k.batches ≡ [] → k.last_event ≡ 0
-    → Settles flow given (counters_of stored) ended settled → TellsOf given ended settled → RecordsAll flow given (counters_of stored) ended settled
-    → IsSettled (record { flow = flow; given = given; k = k; ended = ended; settled = settled })
-settled_over flow given stored k ended settled same sound identity may consistent batches last_event settles tells records = record {
+pub settled_over : (c : Case) (stored : Kept) → stored ≡ c.k → IsSound c.flow → flow_in c.k ≡ identity_of c.flow → MayCommit c.flow c.given c.k c.ended → IsConsistent c.k → c.k.batches ≡ []
+    → Settles c.flow c.given (counters_of stored) c.ended c.settled → TellsOf c.given c.ended c.settled → RecordsAll c.flow c.given (counters_of stored) c.ended c.settled
+    → IsTyped c → KeptIsValid → LiveFilesAreQueued → IsSettled c
+settled_over c stored same sound identity may consistent batches settles tells records typed valid queued = record {
   sound = sound;
   identity = identity;
   may = may;
   consistent = consistent;
   batches = batches;
-  last_event = last_event;
-  settles = subst (λ (l : Kept). Settles flow given (counters_of l) ended settled) same settles;
+  settles = subst (λ (l : Kept). Settles c.flow c.given (counters_of l) c.ended c.settled) same settles;
   tells = tells;
-  records = subst (λ (l : Kept). RecordsAll flow given (counters_of l) ended settled) same records;
+  records = subst (λ (l : Kept). RecordsAll c.flow c.given (counters_of l) c.ended c.settled) same records;
+  moment = typed.moment;
+  received = typed.received;
+  sent = typed.sent;
+  texts = typed.texts;
+  valid = valid;
+  queued = queued;
 }
 
 -- ---- the session is one of that state
 
-pub handed : (c : Case) → IsSettled c → (processor : Processor) → slice_get c.flow.processors c.ended.processor ≡ Some processor → (contents : ContentRef → List ℕ)
-    → AreRead contents c.ended.taken c.ended.sources → IsHanded c.flow (counters_of c.k) c.ended processor contents (state_of c contents)
-handed c is processor at contents read = record {
+pub handed_over : (c : Case) → IsSettled c → (processor : Processor) → slice_get c.flow.processors c.ended.processor ≡ Some processor → (contents : ContentRef → List ℕ)
+    → AreRead contents c.ended.taken c.ended.sources → (events : List Event) → AreEventsUpTo c.k.last_event events
+    → IsHanded c.flow (counters_of c.k) c.ended processor contents (state_with contents events c.k)
+handed_over c is processor at contents read events up_to = record {
   found = at;
-  valid = kept_is_valid contents c.k c.flow is.consistent (connections_same c is) (counts_same c is);
+  valid = is.valid c.flow contents events c.k is.consistent is.batches up_to.1 (connections_same c is) (counts_same c is);
   store = refl;
   next_number = refl;
   next_arrival = refl;
-  last_event = sym is.last_event;
+  last_event = up_to.0;
   read = read;
-  there = All-map (Contains (queue_at (state_of c contents) c.ended.connection)) (λ (file : FlowFile). queued contents (active c.ended.connection file)) c.ended.taken
-      (All-weaker (λ file. Contains c.k.files (active c.ended.connection file)) (λ file. Contains (queue_at (state_of c contents) c.ended.connection) (queued contents (active c.ended.connection file)))
-      (λ file has. live_is_queued contents c.k (active c.ended.connection file) is.consistent has) c.ended.taken is.may.there);
+  there =
+      let state = state_with contents events c.k in
+      All-map (Contains (queue_at state c.ended.connection)) (λ (file : FlowFile). queued contents (active c.ended.connection file)) c.ended.taken
+      (All-weaker (λ file. Contains c.k.files (active c.ended.connection file)) (λ file. Contains (queue_at state c.ended.connection) (queued contents (active c.ended.connection file)))
+      (λ file has. is.queued contents events c.k (active c.ended.connection file) is.consistent has) c.ended.taken is.may.there);
   differ = is.may.differ;
 }
+
+pub handed : (c : Case) → IsSettled c → (processor : Processor) → slice_get c.flow.processors c.ended.processor ≡ Some processor → (contents : ContentRef → List ℕ)
+    → AreRead contents c.ended.taken c.ended.sources → IsHanded c.flow (counters_of c.k) c.ended processor contents (state_of c contents)
+handed c is processor at contents read = handed_over c is processor at contents read (past c.k.last_event) (past_is c.k.last_event)
 
 in_some_queue : (queues : List (List QueuedFile)) (place : ℕ) (file : QueuedFile) → Contains (unwrap_or (slice_get queues place) []) file → Contains (flat_map (λ queue. queue) queues) file
 in_some_queue [] place file h = h

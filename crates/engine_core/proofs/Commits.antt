@@ -1,34 +1,26 @@
 -- A settled session may be handed to the store, and makes of its state what the machine makes.
-use Rattle.std.proofs.Common.{◌≡◌, Bool, true, false, ◌||◌, ℕ, List, [], get_or, length, map, refl, sym, ap, subst, ◌∙◌, arith}
-use Rattle.std.specs.Prelude.{All, Contains, MatchOption, Option, None, Some, slice_get}
-use Rattle.std.specs.FinSet.{contains, contains-from_list, contains-union, from_list, same_set, union}
-use Rattle.flowfile_record.specs.Kin.{kin_of_all}
+use Rattle.std.proofs.Common.{◌≡◌, ℕ, List, get_or, length, map, sym, subst, arith}
+use Rattle.std.specs.Prelude.{All, Contains, MatchOption, Option, None, Some}
 use Rattle.flowfile_record.specs.Stored.{Kept}
-use Rattle.flowfile_record.specs.declared.change.Settled.{Settled}
 use Rattle.flowfile_record.specs.declared.content.ContentRef.{ContentRef}
 use Rattle.flowfile_record.specs.declared.flow_file.FlowFile.{FlowFile}
 use Rattle.flowfile_record.specs.declared.stored.ActiveFile.{ActiveFile}
 use Rattle.record_codec.specs.ActiveFile.{active}
-use Rattle.record_codec.specs.EntryEncoding.{IsMoment}
-use Rattle.machine_model.specs.declared.flow.Processor.{Processor}
-use Rattle.machine_model.specs.Changing.{state_after, without_events}
-use Rattle.machine_model.specs.State.{Kin}
 use Rattle.sha2.specs.Sha256.{sha256}
-use Rattle.machine_model.proofs.KinSets.{kin_cmp-IsAntisymmetric, kin_cmp-total}
 use Rattle.machine_model.proofs.Among.{Among, all_among, among_contained, contains_among, is_made, makes}
-use Rattle.settlement.specs.Handed.{AreRead}
 use Rattle.store_core.specs.Change.{HasLiveContents, MayChange}
 use Rattle.store_core.specs.State.{state_with}
 use Rattle.store_core.specs.Store.{StoreState, kept_by}
-use Rattle.engine_core.specs.Committing.{session_state}
-use Rattle.engine_core.proofs.Cases.{Case, IsSettled, handed, quiet, state_of}
+use Rattle.engine_core.specs.Committing.{LeavesState}
+use Rattle.engine_core.proofs.Cases.{Case, IsSettled, handed_over}
 use Rattle.engine_core.proofs.Encoded.{all_fresh, encoded}
+use Rattle.engine_core.proofs.Events.{event_count, events_have_blocks, events_numbered}
 use Rattle.engine_core.proofs.Payload.{payload}
 use Rattle.engine_core.proofs.Recorded.{digests, few_taken, records}
 use Rattle.engine_core.proofs.Suits.{suits}
 
-pub may_change : (c : Case) → IsSettled c → IsMoment c.given.moment → MayChange c.k (quiet c.settled)
-may_change c is moment =
+pub may_change : (c : Case) → IsSettled c → MayChange c.k c.settled
+may_change c is =
     let all = records c is in
     let few = all.few in
     let taken = few_taken c is in
@@ -37,11 +29,12 @@ may_change c is moment =
         suits = suits c is;
         gone = omega (arith, taken);
         placed = omega (arith, few);
-        events = omega arith;
-        encoded = encoded c is moment;
-        payload = payload c.k (quiet c.settled) (digests c is) taken few all.attributes;
+        events = event_count c is;
+        encoded = encoded c is;
+        payload = payload c.k c.settled (digests c is) taken few all.attributes;
       };
-      no_events = refl;
+      numbered = events_numbered c is;
+      events = events_have_blocks c is;
       fresh = all_fresh c is;
     }
 
@@ -62,7 +55,7 @@ live_by : (c : Case) → IsSettled c → (content : ContentRef) (fresh : Option 
 live_by c is content None has none = live_content c.k.files c.ended.connection c.ended.taken content is.may.there has
 live_by c is content (Some bytes) has none = absurd cc
 
-pub live_contents : (c : Case) → IsSettled c → (s : StoreState) → kept_by s ≡ c.k → HasLiveContents s (quiet c.settled)
+pub live_contents : (c : Case) → IsSettled c → (s : StoreState) → kept_by s ≡ c.k → HasLiveContents s c.settled
 live_contents c is s same =
     λ i d lt none.
     let p = get_or c.settled.placed i d in
@@ -71,26 +64,6 @@ live_contents c is s same =
 
 -- ---- the state behind it
 
-abbrev no_kin : Kin
-no_kin = from_list (kin_of_all [])
-
-or_none : (b : Bool) → b ≡ false → (b || b) ≡ b
-or_none true is = refl
-or_none false is = refl
-
-same_kin : no_kin ≡ union no_kin no_kin
-same_kin =
-    same_set kin_cmp-total kin_cmp-IsAntisymmetric no_kin (union no_kin no_kin)
-    (λ q. sym (contains-union kin_cmp-total no_kin no_kin q ∙ or_none (contains no_kin q) (contains-from_list kin_cmp-total [] q)))
-
--- without its events a settlement makes the same state, but for events and kin
-quiet_state : (contents : ContentRef → List ℕ) (k : Kept) (s : Settled) → state_after contents (state_with contents [] k) (quiet s) ≡ without_events (state_after contents (state_with contents [] k) s)
-quiet_state contents k s =
-    let after = state_after contents (state_with contents [] k) s in
-    ap (λ (kin : Kin). record after { events = []; kin = kin }) (sym same_kin)
-
-pub state_behind : (c : Case) → IsSettled c → (processor : Processor) → slice_get c.flow.processors c.ended.processor ≡ Some processor → (contents : ContentRef → List ℕ)
-    → AreRead contents c.ended.taken c.ended.sources
-    → state_after contents (state_of c contents) (quiet c.settled) ≡ session_state c.flow c.given c.ended processor contents (state_of c contents)
-state_behind c is processor at contents read =
-    quiet_state contents c.k c.settled ∙ ap without_events (is.settles processor contents (state_of c contents) (handed c is processor at contents read))
+pub state_behind : (c : Case) → IsSettled c → LeavesState c.flow c.given c.ended c.k c.settled
+state_behind c is processor at contents read events up_to =
+    is.settles processor contents (state_with contents events c.k) (handed_over c is processor at contents read events up_to)

@@ -1,5 +1,5 @@
 -- The entry of a settled session has an encoding unless a number passes its limit, and its contents are as its files say.
-use Rattle.std.proofs.Common.{◌≡◌, inl, inr, ℕ, ◌^◌, ◌<◌, ◌≤◌, List, length, map, refl, sym, ap, subst, ◌∙◌, arith}
+use Rattle.std.proofs.Common.{◌≡◌, inl, inr, ℕ, ◌+◌, ◌^◌, ◌<◌, ◌≤◌, List, length, map, refl, sym, ap, subst, ◌∙◌, arith}
 use Rattle.std.specs.Prelude.{All, Contains, IfSome, MatchOption, Option, None, Some, nat_lt}
 use Rattle.std.specs.Option.{option_or}
 use Rattle.std.proofs.lemmas.Bool.{cases_Bool, ltb-false}
@@ -43,15 +43,21 @@ both_none : (a b : Option Limit) → option_or a b ≡ None → (a ≡ None) × 
 both_none None b none = (refl, none)
 both_none (Some x) b none = absurd cc
 
-record AreNumbersBelow (c : Case) : Type 0 where
-  number : c.settled.next_number ≤ NUMBER_MAX
-  arrival : c.settled.next_arrival ≤ NUMBER_MAX
+pub record AreNumbersBelow (c : Case) : Type 0 where
+  pub number : c.settled.next_number ≤ NUMBER_MAX
+  pub arrival : c.settled.next_arrival ≤ NUMBER_MAX
+  pub event : c.k.last_event + length c.settled.events ≤ NUMBER_MAX
 
-numbers_below : (c : Case) → numbers_limit (session_applied c.k (entry_in c)) ≡ None → AreNumbersBelow c
+pub numbers_below : (c : Case) → numbers_limit (session_applied c.k (entry_in c)) ≡ None → AreNumbersBelow c
 numbers_below c none =
     let first = both_none (passed Numbers NUMBER_MAX c.settled.next_number) _ none in
     let second = both_none (passed Numbers NUMBER_MAX c.settled.next_arrival) _ first.1 in
-    record { number = not_passed NUMBER_MAX c.settled.next_number first.0; arrival = not_passed NUMBER_MAX c.settled.next_arrival second.0 }
+    let third = both_none (passed Numbers NUMBER_MAX (c.k.last_event + length c.settled.events)) _ second.1 in
+    record {
+      number = not_passed NUMBER_MAX c.settled.next_number first.0;
+      arrival = not_passed NUMBER_MAX c.settled.next_arrival second.0;
+      event = not_passed NUMBER_MAX (c.k.last_event + length c.settled.events) third.0;
+    }
 
 -- ---- placed files
 
@@ -125,17 +131,17 @@ generated : (kind : Kind) (place index : ℕ) → place < 256 → IsNumber index
 generated (GenerateFlowFile count text) place index lt is = (omega arith, is)
 generated _ place index lt is = tt
 
-pub encoded : (c : Case) → IsSettled c → IsMoment c.given.moment → numbers_limit (session_applied c.k (entry_in c)) ≡ None → IsEntry (Session (entry_in c))
-encoded c is moment none =
+pub encoded : (c : Case) → IsSettled c → numbers_limit (session_applied c.k (entry_in c)) ≡ None → IsEntry (Session (entry_in c))
+encoded c is none =
     let below = numbers_below c none in
     let all = records c is in
     let number_below = below.number in
     let arrival_below = below.arrival in
     let processor = is.may.processor in
-    let last = is.last_event in
+    let event_below = below.event in
     record {
       processor = omega (arith, processor, is.tells.processor, is.sound.processor_count);
-      moment = subst IsMoment (sym is.tells.moment) moment;
+      moment = subst IsMoment (sym is.tells.moment) is.moment;
       gone = (
         let few = few_taken c is in omega (arith, few),
         All-same IsNumber c.settled.gone (map (λ (file : FlowFile). file.number) c.ended.taken) is.tells.gone
@@ -145,7 +151,7 @@ encoded c is moment none =
       placed = (let few = all.few in omega (arith, few, length-map c.settled.placed record_of), all_active c is below);
       next_number = omega (arith, number_below);
       next_arrival = omega (arith, arrival_below);
-      last_event = omega (arith, last);
+      last_event = omega (arith, event_below);
       generator = subst IsGenerator (sym all.count) (generated _ c.ended.processor c.given.index (omega (arith, processor, is.sound.processor_count)) is.may.index);
     }
 

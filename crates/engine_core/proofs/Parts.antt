@@ -16,6 +16,7 @@ use Rattle.machine_model.proofs.Tally.{bit, many, tally, tally-map, tally-same}
 use Rattle.store_core.specs.State.{queued}
 use Rattle.engine_core.proofs.AllFiles.{all_files}
 use Rattle.engine_core.proofs.Cases.{Case, IsSettled, numbered_after, state_of}
+use Rattle.engine_core.proofs.Past.{past}
 use Rattle.engine_core.proofs.Recorded.{stand_somewhere, the_processor}
 
 -- whatever its content, a placed file's record has its number and its arrival
@@ -74,7 +75,7 @@ new_part c is part key contents next of numbers =
     all = counted key next files numbers
 
     whole : (n : ℕ) → many key n files ≡ tally (λ (a : ActiveFile). bit (key (queued contents a) == n)) left + tally (λ (p : Placed). bit (key (placed_file contents p) == n)) placed
-    whole n = all_files contents c.k c.settled (λ (f : QueuedFile). bit (key f == n)) (stand_somewhere c is)
+    whole n = all_files contents (past c.k.last_event) c.k c.settled (λ (f : QueuedFile). bit (key f == n)) (stand_somewhere c is)
 
     mapped : (n : ℕ) → many key n (map (placed_file contents) placed) ≡ tally (λ (p : Placed). bit (key (placed_file contents p) == n)) placed
     mapped n = tally-map (λ (f : QueuedFile). bit (key f == n)) (placed_file contents) placed

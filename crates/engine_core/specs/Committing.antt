@@ -1,18 +1,20 @@
 -- What a session asks of a store that it becomes part of, and what it makes of the store's state.
-use Rattle.std.specs.Prelude.{◌≡◌, ◌≢◌, ℕ, ◌<◌, List, [], length, map, All, Contains, Some, slice_get}
+use Rattle.std.specs.Prelude.{◌≡◌, ◌≢◌, ℕ, ◌<◌, List, length, map, All, Contains, Some, slice_get}
 use Rattle.std.specs.List.{AllPairs}
+use Rattle.std.specs.Str.{IsUtf8}
 use Rattle.flowfile_record.specs.Outcome.{IsOutcome}
 use Rattle.flowfile_record.specs.Stored.{Kept}
 use Rattle.flowfile_record.specs.declared.change.Settled.{Settled}
 use Rattle.flowfile_record.specs.declared.content.ContentRef.{ContentRef}
+use Rattle.flowfile_record.specs.declared.event.Event.{Event}
 use Rattle.flowfile_record.specs.declared.limits.TheConstants.{NUMBER_LIMIT}
 use Rattle.record_codec.specs.ActiveFile.{active}
 use Rattle.machine_model.specs.declared.flow.Flow.{Flow}
 use Rattle.machine_model.specs.declared.flow.Processor.{Processor}
 use Rattle.machine_model.specs.declared.given.Given.{Given}
-use Rattle.machine_model.specs.Changing.{state_after, without_events}
+use Rattle.machine_model.specs.Changing.{state_after}
 use Rattle.machine_model.specs.Settling.{settle}
-use Rattle.machine_model.specs.State.{State}
+use Rattle.prov_store.specs.State.{AreNumberedFrom}
 use Rattle.settlement.specs.Contents.{IsBodyWithin}
 use Rattle.settlement.specs.Handed.{AreRead, session_of, sizes_of}
 use Rattle.settlement.specs.declared.handed.Ended.{Ended}
@@ -28,9 +30,9 @@ identity_of flow = record {
   processors = length flow.processors;
 }
 
--- The session took files of one connection that are kept, each another one, and its outcome is one over these files, whose
--- parts are of contents that were read. There are bytes that the references of these files stand for, and those that were
--- read are these.
+-- The session took files of one connection that are kept, each another one, and its outcome is one over these files,
+-- whose parts are of contents that were read. There are bytes that the references of these files stand for, and those
+-- that were read are these.
 pub record MayCommit (flow : Flow) (given : Given) (k : Kept) (ended : Ended) : Type 0 where
   pub processor : ended.processor < length flow.processors
   pub index : given.index < NUMBER_LIMIT
@@ -42,16 +44,23 @@ pub record MayCommit (flow : Flow) (given : Given) (k : Kept) (ended : Ended) : 
   pub bytes : ContentRef → List ℕ
   pub read : AreRead bytes ended.taken ended.sources
 
--- the state behind a session, which keeps no event
-abbrev pub session_state : Flow → Given → Ended → Processor → (ContentRef → List ℕ) → State → State
-session_state flow given ended processor contents state =
-    without_events (settle (session_of flow given ended processor contents state) ended.outcome)
+-- the events up to a last one, numbered in a row
+abbrev pub AreEventsUpTo : (last : ℕ) → List Event → Type 0
+AreEventsUpTo last events = (length events ≡ last) × AreNumberedFrom 1 events
 
--- Whatever bytes references stand for, where those that were read are these: behind what is kept the settled session leaves
--- the state that the machine does.
+-- Whatever bytes references stand for, where those that were read are these, and whatever the events so far tell: behind
+-- what is kept the settled session leaves the state that the machine does.
 abbrev pub LeavesState : Flow → Given → Ended → Kept → Settled → Type 0
 LeavesState flow given ended k settled =
     (processor : Processor) → slice_get flow.processors ended.processor ≡ Some processor
     → (contents : ContentRef → List ℕ) → AreRead contents ended.taken ended.sources
-    → state_after contents (state_with contents [] k) settled
-    ≡ session_state flow given ended processor contents (state_with contents [] k)
+    → (events : List Event) → AreEventsUpTo k.last_event events
+    → state_after contents (state_with contents events k) settled
+    ≡ settle (session_of flow given ended processor contents (state_with contents events k)) ended.outcome
+
+-- ---- of each event that is settled
+
+-- its texts are UTF-8
+pub record HasTexts (e : Event) : Type 0 where
+  pub component : IsUtf8 e.component
+  pub detail : IsUtf8 e.detail

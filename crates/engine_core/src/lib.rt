@@ -1,4 +1,5 @@
-//! What ties the work of processors to the store: what a session that has ended changes of it is what the machine settles.
+//! What ties the work of processors to the store: what a session that has ended changes of it is what the machine
+//! settles.
 #![tactic(auto)]
 
 mod identity;

@@ -11,7 +11,6 @@ use Rattle.machine_model.specs.declared.kind.Kind.TheVariants.{PutFile}
 use Rattle.machine_model.specs.declared.kind.TakeRule.TheVariants.{One}
 use Rattle.machine_model.specs.Acting as acting
 use Rattle.machine_model.specs.Acting.{name_in, passed_on}
-use Rattle.machine_model.specs.Changing.{without_events}
 use Rattle.machine_model.specs.Files.{is_active, active_files, file_numbered, queue_at, are_active, view_of}
 use Rattle.machine_model.specs.Placing.{EndedSession, Drops, SettledFile, settled_file}
 use Rattle.machine_model.specs.Settling.{settle, staying}
@@ -20,7 +19,6 @@ use Rattle.machine_model.specs.Stepping.{admits, after_session, as_taken, given_
 use Rattle.machine_model.specs.Valid.{IsValid}
 use Rattle.machine_model.proofs.Among.{among_contained, keeps}
 use Rattle.machine_model.proofs.Numbered.{find-some, found-itself, own-numbers}
-use Rattle.machine_model.proofs.WithoutPast.{settle-without_past}
 use Rattle.fixed_flow.specs.Flow.{fixed_flow, put, queue}
 use Rattle.fixed_flow.specs.Sessions.{FilesGoOut, GoingSettles, HasGone, gone_out, session, waiting}
 use Rattle.fixed_flow.proofs.Queues.{first-queue, drops}
@@ -130,6 +128,4 @@ going-settles m after moment file outcome valid there active steps acts =
     let name = name_in file.attributes in
     let same : made m.state file at_hand name ≡ outcome = some-same _ _ acts in
     let ends : gone m moment file at_hand name ≡ after = is-after (may_be_taken queue moment (view_of file)) _ _ (sym (goes-out m moment file valid there active) ∙ steps) in
-    ap (λ o. without_events (settle (session 1 (without_events m.state) (file ∷ []) (given_of moment at_hand)) o)) (sym same)
-    ∙ settle-without_past (session_out m moment file at_hand) (made m.state file at_hand name)
-    ∙ ap (λ (a : Machine). without_events a.state) ends
+    ap (settle (session 1 m.state (file ∷ []) (given_of moment at_hand))) (sym same) ∙ ap (λ (a : Machine). a.state) ends

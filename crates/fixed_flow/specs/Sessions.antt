@@ -7,7 +7,6 @@ use Rattle.machine_model.specs.declared.given.Given.{Given}
 use Rattle.machine_model.specs.declared.journal.Step.{Step}
 use Rattle.machine_model.specs.declared.journal.Step.TheVariants.{Session}
 use Rattle.machine_model.specs.Acting.{act, name_in}
-use Rattle.machine_model.specs.Changing.{without_events}
 use Rattle.machine_model.specs.Files.{queue_at}
 use Rattle.machine_model.specs.Kinds.{is_among}
 use Rattle.machine_model.specs.Placing.{EndedSession}
@@ -65,9 +64,8 @@ ComingSettles = (m after : Machine) (moment : ℕ) (name bytes : List ℕ) (left
     → step fixed_flow m (got moment name) ≡ Some after
     → bytes_of m.world.inbox name ≡ Some bytes
     → act get.kind [] (record { moment = moment; index = 0; there = false; file = Some name; bytes = Some bytes }) ≡ Some outcome
-    → without_events (settle (session 0 (without_events m.state) []
-    (record { moment = moment; index = 0; there = false; file = Some name; bytes = left })) outcome)
-    ≡ without_events after.state
+    → settle (session 0 m.state [] (record { moment = moment; index = 0; there = false; file = Some name; bytes = left })) outcome
+    ≡ after.state
 
 -- ---- a file goes out
 
@@ -92,9 +90,9 @@ GoingSettles = (m after : Machine) (moment : ℕ) (file : QueuedFile) (outcome :
     → step fixed_flow m (gone_out moment file.number (is_there m.world (file ∷ []))) ≡ Some after
     → act put.kind (as_taken m.state file ∷ [])
     (record { moment = moment; index = 0; there = is_there m.world (file ∷ []); file = None; bytes = None }) ≡ Some outcome
-    → without_events (settle (session 1 (without_events m.state) (file ∷ [])
-    (record { moment = moment; index = 0; there = is_there m.world (file ∷ []); file = None; bytes = None })) outcome)
-    ≡ without_events after.state
+    → settle (session 1 m.state (file ∷ [])
+    (record { moment = moment; index = 0; there = is_there m.world (file ∷ []); file = None; bytes = None })) outcome
+    ≡ after.state
 
 -- ---- quiet
 

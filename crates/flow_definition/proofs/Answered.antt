@@ -1,5 +1,5 @@
 -- What an answer owes: its cause, and that the builder's count rose where a pattern is too big.
-use Rattle.std.proofs.Common.{◌≡◌, ◌≢◌, ℕ, ◌<◌, ◌≤◌, Bool, true, false, cond, nat_lt, List, [], ◌∷◌, length, Option, Some, None, option_map, option_and_then, map, Result, Ok, Err, MatchBool, MatchOption, refl, sym, ap, ◌∙◌, subst, rules, tests, arith}
+use Rattle.std.proofs.Common.{◌≡◌, ◌≢◌, ℕ, Bool, true, false, cond, nat_lt, List, [], ◌∷◌, length, Option, Some, None, option_map, option_and_then, map, Result, Ok, Err, MatchBool, MatchOption, refl, sym, ap, ◌∙◌, subst, rules, arith}
 use Rattle.std.specs.Option.{option_or}
 use Rattle.std.specs.List.{filter_map}
 use Rattle.std.specs.Str.{IsUtf8, is_utf8}
@@ -14,7 +14,7 @@ use Rattle.flow_definition.specs.declared.field.Field.TheVariants.{Processors, C
 use Rattle.flow_definition.specs.declared.limits.TheConstants.{TEXT_MAX}
 use Rattle.flow_definition.specs.declared.made.Made.{Made}
 use Rattle.flow_definition.specs.declared.rule.Rule.{Rule}
-use Rattle.flow_definition.specs.declared.rule.Rule.TheVariants.{NotJson, UnknownType, BadPattern, BadExpression, TooMany, PatternTooBig}
+use Rattle.flow_definition.specs.declared.rule.Rule.TheVariants.{UnknownType, BadPattern, BadExpression, TooMany, PatternTooBig}
 use Rattle.machine_model.specs.declared.flow.Flow.{Flow}
 use Rattle.flow_definition.specs.Made.{AreMade, AreAllMade, first_refused, processor_in}
 use Rattle.flow_definition.specs.Looks.{items_at}
@@ -23,6 +23,7 @@ use Rattle.sha2.specs.Sha256.{sha256}
 use Rattle.flow_definition.specs.Rules.{Path}
 use Rattle.flow_definition.specs.Verdict.{object_only, object_in, refused, first_behind, IsError, Refuses, Accepts, IsAnswerBehind, IsAnswerOf, IsAnswerTo, IsAnswer, IsPatternTooBig}
 use Rattle.flow_definition.specs.Walk.{first_place, first_of, first_rules, last_rules}
+use Rattle.flow_definition.proofs.Passed.{none_or, none_map}
 use Rattle.flow_definition.proofs.Verdicts.{all_made, processors_made, risen}
 
 -- ---- the text
@@ -136,22 +137,15 @@ big_rises R top ds ms b each e big =
 
 -- ---- no rule is broken
 
-none_or : (o rest : Option (Rule × Path)) → option_or o rest ≡ None → (o ≡ None) × (rest ≡ None)
-none_or None rest e = (refl, e)
-none_or (Some x) rest e = absurd (none-some x (sym e))
-
-none_within : (rule : Rule) (o : Option Path) → option_map {U = Rule × Path} (λ path. (rule, path)) o ≡ None → o ≡ None
-none_within rule None e = refl
-none_within rule (Some path) e = absurd (none-some (rule, path) (sym e))
-
 pub none_behind : (top : Data) (ms : List Made) → first_behind top ms ≡ None → AreAllMade ms
 none_behind top ms e =
     let typed = none_or (refused UnknownType ms) _ e in
     let read = none_or (refused BadPattern ms) _ typed.1 in
     let expressed = none_or (refused BadExpression ms) _ read.1 in
     let last = none_or (first_of last_rules top) _ expressed.1 in
-    all_made ms 0 (none_within UnknownType _ typed.0) (none_within BadPattern _ read.0)
-    (none_within BadExpression _ expressed.0) (none_within PatternTooBig _ last.1)
+    let none : (rule : Rule) → refused rule ms ≡ None → first_refused rule 0 ms ≡ None =
+    λ rule. none_map {Y = Rule × Path} (λ path. (rule, path)) (first_refused rule 0 ms) in
+    all_made ms 0 (none UnknownType typed.0) (none BadPattern read.0) (none BadExpression expressed.0) (none PatternTooBig last.1)
 
 -- ---- answers
 

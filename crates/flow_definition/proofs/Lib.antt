@@ -1,5 +1,12 @@
 pub mod Answered
 pub mod Digits
+pub mod Ends
+pub mod Given
+pub mod Linked
 pub mod Lists
+pub mod Names
+pub mod Parts
+pub mod Passed
+pub mod Soundness
 pub mod Verdicts
 pub mod Walks

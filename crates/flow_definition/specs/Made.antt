@@ -1,5 +1,5 @@
 -- What becomes of a processor of the text: it is made, or why it isn't, and where.
-use Rattle.std.specs.Prelude.{◌≡◌, ℕ, suc, ◌==◌, List, [], ◌∷◌, Bool, true, false, Option, Some, None, option_map, Contains, if◌then◌else◌}
+use Rattle.std.specs.Prelude.{◌≡◌, ℕ, suc, ◌==◌, List, [], ◌∷◌, Option, Some, None, option_map, Contains, if◌then◌else◌}
 use Rattle.std.specs.Option.{option_or}
 use Rattle.expr_lang.specs.Grammar.{IsText}
 use Rattle.expr_lang.specs.Tree.{Tree}

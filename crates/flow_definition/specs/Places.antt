@@ -1,12 +1,11 @@
 -- The paths of places, and how they are written.
-use Rattle.std.specs.Prelude.{ℕ, List, [], ◌∷◌, ◌++◌, Option, Some, None}
+use Rattle.std.specs.Prelude.{ℕ, [], Option, Some, None}
 use Rattle.flow_definition.specs.declared.field.Field.{Field}
 use Rattle.flow_definition.specs.declared.place.Part.{Part}
 use Rattle.flow_definition.specs.declared.place.Part.TheVariants as part
 use Rattle.flow_definition.specs.declared.place.Broken.{Broken}
 use Rattle.flow_definition.specs.declared.place.Place.{Place}
 use Rattle.flow_definition.specs.declared.rule.Rule.{Rule}
-use Rattle.flow_definition.specs.Fields.{name_of}
 use Rattle.flow_definition.specs.Rules.{Path, in_field, in_item, in_property, in_unknown}
 use Rattle.flow_definition.specs.Walk.{in_list_item}
 

@@ -1,5 +1,5 @@
 -- The flow that a text stands for. A part that an accepted text can't have is read as what a missing one stands for.
-use Rattle.std.specs.Prelude.{◌≡◌, ℕ, Bool, true, false, List, [], ◌∷◌, length, map, nat_lt, Option, Some, None, IsSomeAnd, option_and_then, unwrap_or, position, if◌then◌else◌}
+use Rattle.std.specs.Prelude.{◌≡◌, ℕ, List, [], ◌∷◌, map, nat_lt, Option, Some, None, IsSomeAnd, option_and_then, unwrap_or, position, if◌then◌else◌}
 use Rattle.std.specs.Option.{option_map_or}
 use Rattle.std.specs.List.{filter_map}
 use Rattle.sha2.specs.Sha256.{sha256}
@@ -20,15 +20,11 @@ use Rattle.flow_definition.specs.declared.field.Field.TheVariants.{Processors, C
 use Rattle.flow_definition.specs.declared.field.Shape.{Shape}
 use Rattle.flow_definition.specs.declared.field.Shape.TheVariants as shape
 use Rattle.machine_model.specs.declared.limits.TheConstants.{GENERATED_MAX, PROCESSORS_MAX}
-use Rattle.flow_definition.specs.declared.processor_type.Form.{Form}
-use Rattle.flow_definition.specs.declared.processor_type.Form.TheVariants as form
 use Rattle.flow_definition.specs.declared.processor_type.ProcessorType.TheVariants as type
-use Rattle.flow_definition.specs.declared.processor_type.Property.{Property}
 use Rattle.flow_definition.specs.declared.processor_type.Property.TheVariants.{FileFilter, Count, CustomText, ConflictResolution}
 use Rattle.flow_definition.specs.Fields.{shape_of}
 use Rattle.flow_definition.specs.Looks.{value_at, text_at, has_text, items_at, names_at, type_of, property_text}
 use Rattle.flow_definition.specs.Shapes.{conflict_named, number_in, prioritizer_named}
-use Rattle.flow_definition.specs.Types.{form_of}
 
 -- the number, where it is within the range
 abbrev pub number_or : (default least most : ℕ) → Option ℕ → ℕ

@@ -1,6 +1,6 @@
 -- The rules, one for each way to be wrong. Each says where in an object it is broken first, as a path from the object on.
-use Rattle.std.specs.Prelude.{ℕ, suc, ◌&&◌, ◌||◌, ◌==◌, Bool, true, false, not, List, [], ◌∷◌, ◌++◌, length, nat_lt, Option, Some, None, option_map, option_and_then, is_some, is_none, bytes_eq, find, count_by, if◌then◌else◌}
-use Rattle.std.specs.Option.{option_map_or, option_or}
+use Rattle.std.specs.Prelude.{ℕ, ◌&&◌, ◌||◌, Bool, true, false, not, List, [], ◌∷◌, ◌++◌, length, nat_lt, Option, Some, None, option_map, option_and_then, is_some, is_none, bytes_eq, find, count_by, if◌then◌else◌}
+use Rattle.std.specs.Option.{option_map_or}
 use Rattle.std.specs.List.{list_any}
 use Rattle.serde_json.specs.Data.{Data}
 use Rattle.serde_json.specs.Find.{as_str, as_number}
@@ -8,7 +8,6 @@ use Rattle.machine_model.specs.Kinds.{is_among}
 use Rattle.flow_definition.specs.declared.field.Field.{Field}
 use Rattle.flow_definition.specs.declared.field.Field.TheVariants.{Processors, Connections, Id, TypeName, Properties, Terminated, From, To, Relationships}
 use Rattle.flow_definition.specs.declared.field.Level.{Level}
-use Rattle.flow_definition.specs.declared.field.Level.TheVariants as level
 use Rattle.flow_definition.specs.declared.processor_type.Property.{Property}
 use Rattle.machine_model.specs.declared.limits.TheConstants.{PROCESSORS_MAX, CONNECTIONS_MAX, FAN_OUT_MAX}
 use Rattle.flow_definition.specs.Fields.{name_of, fields_of, shape_of, is_required}

@@ -1,11 +1,11 @@
 -- Which values a field and a property may have: of which kind, and within which range.
-use Rattle.std.specs.Prelude.{ℕ, ◌&&◌, Bool, true, false, not, List, [], ◌∷◌, length, nat_le, Option, Some, None, option_and_then, is_some, bytes_eq, find, codes, if◌then◌else◌}
+use Rattle.std.specs.Prelude.{ℕ, ◌&&◌, Bool, true, false, List, [], ◌∷◌, length, nat_le, Option, Some, None, option_and_then, is_some, bytes_eq, find, codes, if◌then◌else◌}
 use Rattle.std.specs.Char.{is_ascii_digit}
 use Rattle.std.specs.Option.{option_map_or}
 use Rattle.std.specs.List.{list_all}
 use Rattle.std.specs.Str.Parse.{digits_value}
 use Rattle.serde_json.specs.Data.{Data}
-use Rattle.serde_json.specs.Find.{as_str, as_array, as_object, as_number, as_u64}
+use Rattle.serde_json.specs.Find.{as_str, as_array, as_number, as_u64}
 use Rattle.machine_model.specs.Sound.{is_id, within, are_distinct_texts}
 use Rattle.machine_model.specs.declared.kind.Conflict.{Conflict}
 use Rattle.machine_model.specs.declared.kind.Conflict.TheVariants.{Replace, Ignore, Fail}

@@ -1,14 +1,14 @@
 -- The walk through a text: the fields of its object, its processors and its connections in their order. In each a rule
 -- says where it is broken first, and the first such place is the rule's.
-use Rattle.std.specs.Prelude.{ℕ, List, [], ◌∷◌, ◌++◌, length, Option, Some, None, option_map, if◌then◌else◌}
-use Rattle.std.specs.Option.{option_map_or, option_or}
+use Rattle.std.specs.Prelude.{ℕ, List, [], ◌∷◌, ◌++◌, length, Option, None, option_map, if◌then◌else◌}
+use Rattle.std.specs.Option.{option_or}
 use Rattle.serde_json.specs.Data.{Data}
 use Rattle.flow_definition.specs.declared.field.Field.{Field}
 use Rattle.flow_definition.specs.declared.field.Field.TheVariants.{Processors, Connections}
 use Rattle.flow_definition.specs.declared.field.Level.{Level}
 use Rattle.flow_definition.specs.declared.field.Level.TheVariants as level
 use Rattle.flow_definition.specs.declared.rule.Rule.{Rule}
-use Rattle.flow_definition.specs.declared.rule.Rule.TheVariants.{NotJson, MissingField, UnknownType, DoubleId, UnknownEnd, RelationshipUnconnected, BadProperty, BadPattern, BadExpression, TooMany, UnknownField, BadNumber, PatternTooBig}
+use Rattle.flow_definition.specs.declared.rule.Rule.TheVariants.{MissingField, UnknownType, DoubleId, UnknownEnd, RelationshipUnconnected, BadProperty, TooMany, UnknownField, BadNumber}
 use Rattle.flow_definition.specs.Fields.{name_of}
 use Rattle.flow_definition.specs.Looks.{items_at, is_object}
 use Rattle.flow_definition.specs.Rules.{Path, member, item, missing_field, missing_property, unknown_type, doubled_id, unknown_end, unconnected, not_of_source, misshapen_field, bad_property, too_many, unknown_field, bad_number, bad_number_property}

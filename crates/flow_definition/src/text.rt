@@ -2,6 +2,7 @@
 ghost use Rattle.std.specs.Prelude.{◌≡◌, [], IfOk, option_map};
 ghost use Rattle.std.specs.Option.{option_or};
 ghost use Rattle.disk_trait.specs.Faults.{CountsFaults};
+ghost use Rattle.machine_model.specs.Sound.{IsSound};
 ghost use Rattle.serde_json.specs.View.{view};
 ghost use Rattle.sha2.specs.Sha256.{sha256};
 ghost use Rattle.flow_definition.specs.Patterns.{HasRisen};
@@ -26,14 +27,15 @@ use serde_json::Value;
 use sha2::{Digest, Sha256};
 use std::alloc::{AllocError, Global};
 
-/// The flow that a text stands for, or the lowest rule that it breaks and its first place. A pattern is too big only
-/// where the builder's count of such refusals rose.
+/// The flow that a text stands for, which is sound, or the lowest rule that it breaks and its first place. A pattern is
+/// too big only where the builder's count of such refusals rose.
 pub fn read_flow<P: Patterns>(
     alloc: Global,
     bytes: &[u8],
     patterns: &mut P,
 ) -> Result<Flow, FlowError>
     ensures answer { IsAnswer (HasRisen (P.faults patterns.old) (P.faults patterns.new)) bytes.now result }
+    ensures sound { IfOk result IsSound }
     ensures count { CountsFaults (P.faults patterns.old) (P.faults patterns.new) (IsPatternTooBig result) }
 {
     if bytes.len() as u64 > TEXT_MAX {

@@ -1,10 +1,12 @@
 -- What the reading of a log finds.
-use Rattle.std.specs.Prelude.{◌≡◌, ◌≢◌, ◌⊎◌, ℕ, ◌+◌, ◌<◌, ◌≤◌, true, List, ◌∷◌, length, drop, slice_index, Option, None, Some, Result, Ok, Err}
+use Rattle.std.specs.Prelude.{◌≡◌, ◌≢◌, ◌⊎◌, ℕ, ◌+◌, ◌<◌, ◌≤◌, true, IsTrue, List, ◌∷◌, length, drop, slice_index, Option, None, Some, Result, Ok, Err}
 use Rattle.disk_trait.specs.Files.{Files}
 use Rattle.disk_trait.specs.declared.damage.Damage.{Damage}
 use Rattle.disk_trait.specs.declared.file_name.FileName.{FileName}
-use Rattle.record_codec.specs.Block.{reading_of}
+use Rattle.record_codec.specs.Block.{Reading, Whole, Cut, Long, Differs, reading_of}
+use Rattle.record_codec.specs.EntryReading.{takes_memory}
 use Rattle.record_codec.specs.LogEntries.{Cause, after, entry_in, log_from, log_of}
+use Rattle.record_codec.specs.declared.block.TheConstants.{BLOCK_OVERHEAD}
 use Rattle.record_codec.specs.declared.entry.LogEntry.{LogEntry}
 use Rattle.record_codec.specs.declared.entry.LogEntry.TheVariants.{Begin}
 use Rattle.record_codec.specs.declared.log.TheConstants.{OPEN_GATE}
@@ -56,3 +58,18 @@ IsNextWithin at size (Some found) = at + 1 + found.1 ≤ size
 pub record IsReadTo (number end : ℕ) (entries : List (ℕ × LogEntry)) (bytes : List ℕ) : Type 0 where
   pub begun : begins number (first_in bytes) ≡ true
   pub reads : log_of bytes ≡ after ((0, Begin number) ∷ entries) (log_from 0 end (drop end bytes))
+
+-- ---- where memory is taken
+
+-- A block is read into a buffer of this capacity: it is whole, and the buffer too small or its entry takes memory.
+abbrev pub EntryTakes : ℕ → Reading → Type 0
+EntryTakes capacity (Whole kind payload) = (capacity < length payload + BLOCK_OVERHEAD) ⊎ IsTrue (takes_memory kind payload)
+EntryTakes capacity (Cut need have) = ⊥
+EntryTakes capacity (Long size) = ⊥
+EntryTakes capacity (Differs stored found) = ⊥
+
+-- the first block of a log stands there whole
+pub record HasFirstBlock (bytes : List ℕ) : Type 0 where
+  pub kind : ℕ
+  pub payload : List ℕ
+  pub whole : reading_of (drop 1 bytes) ≡ Whole kind payload

@@ -1,5 +1,5 @@
 //! Reading a log, block by block.
-ghost use Rattle.std.specs.Prelude.{◌≡◌, ℕ, ◌+◌, ◌<◌, ◌≤◌, true, [], length, drop, slice_range, IsTrue, IfOk, IfSome, IsErrOf, Ok, Err};
+ghost use Rattle.std.specs.Prelude.{◌≡◌, ℕ, ◌+◌, ◌<◌, ◌≤◌, true, [], length, drop, slice_range, vec_capacity, IsTrue, IfOk, OnOk, IfSome, IsErrOf, Ok, Err};
 ghost use Rattle.disk_trait.specs.Images.{Stays};
 ghost use Rattle.disk_trait.specs.Faults.{CountsFaults};
 ghost use Rattle.disk_trait.specs.declared.damage.Damage.{Damage as TheDamage};
@@ -10,7 +10,7 @@ ghost use Rattle.record_codec.specs.EntryReading.{entry_at, takes_memory};
 ghost use Rattle.record_codec.specs.LogEntries.{entry_in};
 ghost use Rattle.flowfile_wal.specs.Calls.{HaveEncodings};
 ghost use Rattle.flowfile_wal.specs.Current.{log_bytes, counts, is_begin, log_in};
-ghost use Rattle.flowfile_wal.specs.Reads.{named_at, IsDamagedAt, IsNextAt, IsNextWithin, IsReadTo};
+ghost use Rattle.flowfile_wal.specs.Reads.{named_at, EntryTakes, HasFirstBlock, IsDamagedAt, IsNextAt, IsNextWithin, IsReadTo};
 
 use crate::LogError;
 use crate::current::read_gate;
@@ -37,6 +37,8 @@ fn read_entry_at<D: Disk>(
     ensures within { IfOk result (λ found. at + 1 + found.1 ≤ size) }
     ensures damaged { (damage : TheDamage) → IsErrOf result (LogError.Damaged damage) → IsTrue D.tells
         → named_at file at (entry_in (reading_of (drop (at + 1) (D.held disk.old file)))) ≡ Err damage }
+    ensures memory { IsErrOf result LogError.Memory → IsTrue D.tells
+        → EntryTakes (vec_capacity buffer.old) (reading_of (drop (at + 1) (D.held disk.old file))) }
     ensures stays { Stays D.held D.moment D.images disk.old disk.new }
     ensures cause { CountsFaults (D.faults disk.old) (D.faults disk.new) (IsErrOf result LogError.Disk) }
 {
@@ -98,6 +100,8 @@ fn next_entry<D: Disk>(
     ensures within { IfOk result (λ next. IsNextWithin at size next) }
     ensures damaged { (damage : TheDamage) → IsErrOf result (LogError.Damaged damage) → IsTrue D.tells
         → IsDamagedAt file at (D.held disk.old file) damage }
+    ensures memory { IsErrOf result LogError.Memory → IsTrue D.tells
+        → EntryTakes (vec_capacity buffer.old) (reading_of (drop (at + 1) (D.held disk.old file))) }
     ensures stays { Stays D.held D.moment D.images disk.old disk.new }
     ensures cause { CountsFaults (D.faults disk.old) (D.faults disk.new) (IsErrOf result LogError.Disk) }
 {
@@ -126,6 +130,10 @@ fn read_begin<D: Disk>(
     ensures within { IfOk result (λ end. end ≤ size) }
     ensures damaged { (damage : TheDamage) → IsErrOf result (LogError.Damaged damage) → IsTrue D.tells
         → log_in number (log_bytes (D.held disk.old) number) ≡ Err damage }
+    ensures whole { OnOk result (IsTrue D.tells → HasFirstBlock (log_bytes (D.held disk.old) number)) }
+    // What is damaged there is told without memory.
+    ensures memory { IsErrOf result LogError.Memory → IsTrue D.tells
+        → HasFirstBlock (log_bytes (D.held disk.old) number) }
     ensures stays { Stays D.held D.moment D.images disk.old disk.new }
     ensures cause { CountsFaults (D.faults disk.old) (D.faults disk.new) (IsErrOf result LogError.Disk) }
 {
@@ -167,6 +175,8 @@ pub fn read_log<D: Disk>(
     ensures encoded { IfOk result (λ read. HaveEncodings read.0.items) }
     ensures damaged { (damage : TheDamage) → IsErrOf result (LogError.Damaged damage) → IsTrue D.tells
         → log_in number (log_bytes (D.held disk.old) number) ≡ Err damage }
+    ensures memory { IsErrOf result LogError.Memory → IsTrue D.tells
+        → HasFirstBlock (log_bytes (D.held disk.old) number) }
     ensures stays { Stays D.held D.moment D.images disk.old disk.new }
     ensures cause { CountsFaults (D.faults disk.old) (D.faults disk.new) (IsErrOf result LogError.Disk) }
 {

@@ -1,5 +1,5 @@
 -- How a run begins, and what its store's close leaves.
-use Rattle.std.proofs.Common.{◌≡◌, ◌⊎◌, inl, inr, ℕ, ◌+◌, ◌==◌, Bool, true, false, cond, bytes_eq, List, [], ◌∷◌, map, refl, sym, ◌∙◌, ap, subst, arith}
+use Rattle.std.proofs.Common.{◌≡◌, ◌⊎◌, inl, inr, ℕ, ◌+◌, ◌==◌, Bool, true, false, cond, bytes_eq, List, [], ◌∷◌, length, map, refl, sym, ◌∙◌, ap, subst, arith}
 use Rattle.std.proofs.lemmas.Bool.{cond-true, eq-eqb}
 use Rattle.std.proofs.lemmas.Slice.Eq.{bytes_eq-Decides}
 use Rattle.std.specs.Prelude.{Option, None, Some, Ok, Result, IsSome, IsNone, filter, ◌||◌, Contains}
@@ -16,7 +16,6 @@ use Rattle.flowfile_record.specs.declared.stored.ActiveFile.{ActiveFile}
 use Rattle.content_repo.specs.Claims.{content_in}
 use Rattle.flowfile_wal.specs.Calls.{InEach}
 use Rattle.kept_state.specs.declared.limit.Limit.{Limit}
-use Rattle.machine_model.specs.Changing.{without_events}
 use Rattle.machine_model.specs.Kinds.{is_among}
 use Rattle.machine_model.specs.State.{Machine, QueuedFile, State}
 use Rattle.machine_model.specs.Valid.{IsValid}
@@ -25,16 +24,17 @@ use Rattle.world_io.specs.Inbox.{IsAscending}
 use Rattle.store_core.specs.Calls.{SinceSync}
 use Rattle.store_core.specs.Flow.{Flow, flow_in}
 use Rattle.store_core.specs.Opened.{SameMeaning}
-use Rattle.store_core.specs.State.{events_in, queued, stands_for, state_with}
+use Rattle.prov_store.specs.Events.{events_in}
+use Rattle.prov_store.specs.State.{AreNumberedFrom}
+use Rattle.store_core.specs.State.{queued, stands_for, state_with}
 use Rattle.store_core.specs.Store.{StoreState, kept_by, EachStandsFor, Holds}
 use Rattle.store_core.specs.Valid.{HeldFilesStandForKept, QueuedFilesAreLive}
-use Rattle.store_core.proofs.Agreeing.{keeps_of, sound_of}
-use Rattle.engine_core.specs.Committing.{identity_of}
+use Rattle.engine_core.specs.Committing.{AreEventsUpTo, identity_of}
 use Rattle.fixed_flow.specs.Flow.{fixed_flow}
 use Rattle.fixed_flow.specs.Sessions.{waiting}
 use Rattle.run_top.specs.Run.{HasRun, IsPrefix, Replays, machine_at}
 use Rattle.run_top.specs.Running.{IsQueuedAmong, IsRunning}
-use Rattle.run_top.specs.Sessions.{IsAtWork, IsSpared, StandsFor}
+use Rattle.run_top.specs.Sessions.{IsAtWork, IsSpared, IsStateOf, StandsFor}
 use Rattle.run_top.specs.Status.{status_of}
 use Rattle.run_top.specs.declared.status.RunError.{RunError}
 use Rattle.run_top.proofs.Journals.{whole_prefix}
@@ -51,8 +51,8 @@ pub spares : (tells : Bool) {D : Type 0} (held : D → Files) (moment : D → �
     → ((state : State) → EachStandsFor (flow_in (kept_by s)) s.lot state (images old (moment old)) → Since moment images old new (λ c. stands_for (flow_in (kept_by s)) s.lot c ≡ Ok state))
     → (m : Machine) → InEach (images old (moment old)) (StandsFor s.lot m) → IsSpared moment images s.lot m old new
 spares tells held moment images s old new work states m stands =
-    subst (λ (f : Flow). Since moment images old new (λ c. stands_for f s.lot c ≡ Ok (without_events m.state))) work.flow
-    (states (without_events m.state) (λ c left. ap (λ (f : Flow). stands_for f s.lot c) work.flow ∙ stands c left))
+    subst (λ (f : Flow). Since moment images old new (λ c. stands_for f s.lot c ≡ Ok m.state)) work.flow
+    (states m.state (λ c left. ap (λ (f : Flow). stands_for f s.lot c) work.flow ∙ stands c left))
 
 -- ---- the files of the inbox at first
 
@@ -79,24 +79,6 @@ all_left left = all_among (map (λ f. f.name) left) left (λ name is. is)
 
 -- ---- the state at first
 
-no_events_by : (last : ℕ) (files : Files) (events : List Event) → events_in files last ≡ Ok events → events ≡ []
-no_events_by last files events is = by (last == 0) is
-  where
-    by : (b : Bool) → ◌≡◌ {A = Result (List Event) Damage} (cond b (Ok []) (events_in files 1)) (Ok events) → events ≡ []
-    by true e = sym (ok_is e)
-    by false e = absurd cc
-
--- a state that files stand for has no events
-pub has_no_events : (flow : Flow) (lot : ℕ) (files : Files) (state : State) → stands_for flow lot files ≡ Ok state → state ≡ without_events state
-has_no_events flow lot files state stands =
-    let keeps = keeps_of flow lot files state stands in
-    let sound = sound_of files keeps.kept state keeps.state in
-    let none = no_events_by keeps.kept.last_event files sound.events sound.events_are in
-    let is : state ≡ state_with (content_in files) [] keeps.kept = sound.is ∙ ap (λ (events : List Event). state_with (content_in files) events keeps.kept) none in
-    subst (λ (s : State). s ≡ without_events s) (sym is) refl
-
--- ---- the files that wait at first
-
 has_number : (a : ActiveFile) (files : List ActiveFile) → Among a files → list_any (λ n. a.file.number == n) (map (λ active. active.file.number) files) ≡ true
 has_number a [] among = absurd among
 has_number a (file ∷ files) (inl same) =
@@ -109,9 +91,9 @@ has_number a (file ∷ files) (inr there) = later (a.file.number == file.file.nu
     later false is = is
 
 -- the files that wait have the numbers of the live ones
-pub queued_live : QueuedFilesAreLive → (contents : ContentRef → List ℕ) (k : Kept) (m : Machine) → m.state ≡ state_with contents [] k → IsQueuedAmong (map (λ active. active.file.number) k.files) m
-queued_live law contents k m is = queued_among (map (λ active. active.file.number) k.files) m (λ file waits.
-    let live = law contents k 0 file (subst (λ (s : State). Contains (waiting (record m { state = s })) file) is waits) in
+pub queued_live : QueuedFilesAreLive → (contents : ContentRef → List ℕ) (events : List Event) (k : Kept) (m : Machine) → m.state ≡ state_with contents events k → IsQueuedAmong (map (λ active. active.file.number) k.files) m
+queued_live law contents events k m is = queued_among (map (λ active. active.file.number) k.files) m (λ file waits.
+    let live = law contents events k 0 file (subst (λ (s : State). Contains (waiting (record m { state = s })) file) is waits) in
     subst (λ (f : QueuedFile). list_any (λ n. f.number == n) (map (λ active. active.file.number) k.files) ≡ true) live.is
     (has_number live.active k.files (among_contained live.active k.files live.there)))
 
@@ -127,7 +109,7 @@ module _ {D : Type 0} (moment : D → ℕ) (images : D → ℕ → Files → Typ
   first_machine = machine_at state left standing
 
   still : (c : Files) → SameMeaning (identity_of fixed_flow) lot files c → StandsFor lot first_machine c
-  still c same = same.state ∙ stands ∙ ap Ok (has_no_events (identity_of fixed_flow) lot files state stands)
+  still c same = same.state ∙ stands
 
   begun : Replays moment images lot first_machine [] first_machine old new
   begun = record {
@@ -171,7 +153,25 @@ module _ {D : Type 0} (moment : D → ℕ) (images : D → ℕ → Files → Typ
   }
 
 -- what the store has in memory is the state that the files stand for
-pub state_is_kept : (law : HeldFilesStandForKept) (s : StoreState) (lot : ℕ) (files : Files) (state : State) → flow_in (kept_by s) ≡ identity_of fixed_flow → s.lot ≡ lot → (kept_by s).last_event ≡ 0 → Holds s files
-    → stands_for (identity_of fixed_flow) lot files ≡ Ok state → state ≡ state_with (content_in files) [] (kept_by s)
-state_is_kept law s lot files state flow is none holds stands =
-    ok_is (sym stands ∙ ap (λ (l : ℕ). stands_for (identity_of fixed_flow) l files) (sym is) ∙ ap (λ (f : Flow). stands_for f s.lot files) (sym flow) ∙ law s files none holds)
+pub state_is_kept : (law : HeldFilesStandForKept) (s : StoreState) (lot : ℕ) (files : Files) (state : State) (events : List Event) → flow_in (kept_by s) ≡ identity_of fixed_flow → s.lot ≡ lot → events_in files (kept_by s).last_event ≡ Ok events → Holds s files
+    → stands_for (identity_of fixed_flow) lot files ≡ Ok state → state ≡ state_with (content_in files) events (kept_by s)
+state_is_kept law s lot files state events flow is told holds stands =
+    ok_is (sym stands ∙ ap (λ (l : ℕ). stands_for (identity_of fixed_flow) l files) (sym is) ∙ ap (λ (f : Flow). stands_for f s.lot files) (sym flow) ∙ law s files events holds told)
+
+-- the law of events that files have up to a last one
+abbrev pub Rows : Type 0
+Rows = (files : Files) (last : ℕ) (events : List Event) → events_in files last ≡ Ok events → AreNumberedFrom 1 events × (length events ≡ last)
+
+-- .. so it is the machine's
+pub is_state_of : HeldFilesStandForKept → Rows → (s : StoreState) (lot : ℕ) (files : Files) (m : Machine) → flow_in (kept_by s) ≡ identity_of fixed_flow → s.lot ≡ lot → (kept_by s).last_event ≡ s.events.end → Holds s files
+    → StandsFor lot m files → IsStateOf m (content_in files) (kept_by s)
+is_state_of law rows s lot files m flow is last holds stands =
+    let events : List Event = holds.events.events in
+    let told : events_in files (kept_by s).last_event ≡ Ok events = ap (events_in files) last ∙ holds.events.says in
+    let kept : m.state ≡ state_with (content_in files) events (kept_by s) = state_is_kept law s lot files m.state events flow is told holds stands in
+    let same : m.state.events ≡ events = ap (λ (t : State). t.events) kept in
+    let row = rows files (kept_by s).last_event events told in
+    record {
+      is = ap (λ (l : List Event). state_with (content_in files) l (kept_by s)) same ∙ sym kept;
+      events = subst (λ (l : List Event). AreEventsUpTo (kept_by s).last_event l) (sym same) (row.1, row.0);
+    }

@@ -9,15 +9,15 @@ use Rattle.flowfile_record.specs.declared.content.ContentRef.{ContentRef}
 use Rattle.content_repo.specs.Claims.{content_in}
 use Rattle.flowfile_wal.specs.Calls.{InEach}
 use Rattle.kept_state.specs.declared.limit.Limit.{Limit}
-use Rattle.machine_model.specs.Changing.{state_after, without_events}
+use Rattle.machine_model.specs.Changing.{state_after}
 use Rattle.machine_model.specs.State.{Machine, State}
 use Rattle.store_core.specs.Change.{IsLimitOf}
 use Rattle.store_core.specs.Flow.{flow_in}
-use Rattle.store_core.specs.State.{stands_for, state_with}
+use Rattle.store_core.specs.State.{stands_for}
 use Rattle.store_core.specs.Store.{StoreState, kept_by, EachStandsFor}
 use Rattle.engine_core.specs.Committing.{identity_of}
 use Rattle.fixed_flow.specs.Flow.{fixed_flow}
-use Rattle.run_top.specs.Sessions.{Changes, IsBetween, IsLeftUnder, IsSpared, IsStepped, PassesLimit, StandsFor}
+use Rattle.run_top.specs.Sessions.{Changes, IsBetween, IsStateOf, IsLeftUnder, IsSpared, IsStepped, PassesLimit, StandsFor}
 use Rattle.run_top.proofs.Ties.{roomy, stands_as, stands_back}
 
 -- the files of an outbox
@@ -31,7 +31,7 @@ left_by_put None old new left = inl left
 left_by_put (Some name) old new left = inr (name, refl, left)
 
 -- a store with other room passes the same limits
-same_limit : (s t : StoreState) (room : ℕ) (settled : Settled) (limit : Limit) → t ≡ roomy s room → IsLimitOf s settled limit → IsLimitOf t settled limit
+pub same_limit : (s t : StoreState) (room : ℕ) (settled : Settled) (limit : Limit) → t ≡ roomy s room → IsLimitOf s settled limit → IsLimitOf t settled limit
 same_limit s t room settled limit is passes = subst (λ (u : StoreState). IsLimitOf u settled limit) (sym is) passes
 
 same_changes : (s t : StoreState) (room : ℕ) (contents : ContentRef → List ℕ) (settled : Settled) (before after : Machine) → t ≡ roomy s room → Changes s contents settled before after → Changes t contents settled before after
@@ -57,7 +57,7 @@ module _ {D : Type 0} (held : D → Files) (moment : D → ℕ) (images : D → 
       (is : t ≡ roomy s room) (flow : flow_in (kept_by s) ≡ identity_of fixed_flow) (same : prepared ≡ settled)
       (stays : Stays held moment images old mid) (stands : InEach (images old (moment old)) (StandsFor s.lot before))
       (changes : Changes s (content_in (held old)) settled before after)
-      (tied : state_with (content_in (held old)) [] (kept_by s) ≡ without_events before.state) where
+      (tied : IsStateOf before (content_in (held old)) (kept_by s)) where
     flow_then : flow_in (kept_by t) ≡ identity_of fixed_flow
     flow_then = ap (λ (u : StoreState). flow_in (kept_by u)) is ∙ flow
 
@@ -67,14 +67,13 @@ module _ {D : Type 0} (held : D → Files) (moment : D → ℕ) (images : D → 
     stands_then : (c : Files) → images mid (moment mid) c → StandsFor s.lot before c
     stands_then c left = stands c (subst (λ (k : ℕ). images old k c) stays.time (stays.past (moment mid) c left))
 
-    each_then : EachStandsFor (flow_in (kept_by t)) t.lot (without_events before.state) (images mid (moment mid))
+    each_then : EachStandsFor (flow_in (kept_by t)) t.lot before.state (images mid (moment mid))
     each_then c left = stands_as t s.lot before c flow_then lot_then (stands_then c left)
 
-    ends_as : state_after (content_in (held mid)) (without_events before.state) prepared ≡ without_events after.state
+    ends_as : state_after (content_in (held mid)) before.state prepared ≡ after.state
     ends_as =
-        ap (λ (f : Files). state_after (content_in f) (without_events before.state) prepared) stays.files
-        ∙ ap (state_after (content_in (held old)) (without_events before.state)) same
-        ∙ ap (λ (b : State). state_after (content_in (held old)) b settled) (sym tied)
+        ap (λ (f : Files). state_after (content_in f) before.state prepared) stays.files
+        ∙ ap (state_after (content_in (held old)) before.state) same
         ∙ changes tied
 
     -- within the commit
@@ -85,15 +84,15 @@ module _ {D : Type 0} (held : D → Files) (moment : D → ℕ) (images : D → 
         → IsBetween moment images s.lot before after old new
     between new states =
         one_after_another moment images old mid new (images old (moment old))
-        (λ c. (stands_for (flow_in (kept_by t)) t.lot c ≡ Ok (without_events before.state))
-        ⊎ (stands_for (flow_in (kept_by t)) t.lot c ≡ Ok (state_after (content_in (held mid)) (without_events before.state) prepared)))
+        (λ c. (stands_for (flow_in (kept_by t)) t.lot c ≡ Ok before.state)
+        ⊎ (stands_for (flow_in (kept_by t)) t.lot c ≡ Ok (state_after (content_in (held mid)) before.state prepared)))
         (λ c. StandsFor s.lot before c ⊎ StandsFor s.lot after c)
         (only_read moment images held old mid stays)
-        (states (without_events before.state) each_then)
+        (states before.state each_then)
         (λ c left. inl (stands c left))
         (λ c either. ⊎_elim
-        (λ (e : stands_for (flow_in (kept_by t)) t.lot c ≡ Ok (without_events before.state)). inl (stands_back t s.lot before (without_events before.state) c flow_then lot_then refl e))
-        (λ (e : stands_for (flow_in (kept_by t)) t.lot c ≡ Ok (state_after (content_in (held mid)) (without_events before.state) prepared)). inr (stands_back t s.lot after _ c flow_then lot_then ends_as e))
+        (λ (e : stands_for (flow_in (kept_by t)) t.lot c ≡ Ok before.state). inl (stands_back t s.lot before before.state c flow_then lot_then refl e))
+        (λ (e : stands_for (flow_in (kept_by t)) t.lot c ≡ Ok (state_after (content_in (held mid)) before.state prepared)). inr (stands_back t s.lot after _ c flow_then lot_then ends_as e))
         either)
 
     -- and behind it
@@ -106,5 +105,5 @@ module _ {D : Type 0} (held : D → Files) (moment : D → ℕ) (images : D → 
         → IsStepped moment images s.lot before after old new
     stepped new states acknowledged = record {
       since = between new states;
-      done = λ c left. stands_back t s.lot after _ c flow_then lot_then ends_as (acknowledged (without_events before.state) each_then c left);
+      done = λ c left. stands_back t s.lot after _ c flow_then lot_then ends_as (acknowledged before.state each_then c left);
     }

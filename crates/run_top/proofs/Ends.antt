@@ -2,7 +2,7 @@
 use Rattle.std.proofs.Common.{◌≡◌, ◌⊎◌, inl, inr, ⊎_elim, ℕ, ◌+◌, ◌<◌, Bool, true, false, bytes_eq, List, [], ◌∷◌, length, refl, sym, ◌∙◌, ap, subst, arith}
 use Rattle.std.proofs.lemmas.Bool.{cond-true, cond-false}
 use Rattle.std.proofs.lemmas.Slice.Eq.{bytes_eq-Decides}
-use Rattle.std.specs.Prelude.{⊤, Option, None, Some, Ok, Err, Result, IsSome, IfSome, IfErr, filter}
+use Rattle.std.specs.Prelude.{⊤, Option, None, Some, Ok, Err, Result, IsSome, IsTrue, IfSome, IfErr, OnOk, filter}
 use Rattle.disk_trait.specs.Files.{Files}
 use Rattle.flowfile_record.specs.NamedFile.{NamedFile, bytes_of}
 use Rattle.flowfile_record.specs.declared.TheConstants.{CONTENT_MAX}
@@ -15,7 +15,7 @@ use Rattle.machine_model.specs.State.{Machine}
 use Rattle.fixed_flow.specs.Flow.{fixed_flow}
 use Rattle.fixed_flow.specs.Sessions.{QuietWithNothing}
 use Rattle.run_top.specs.Journal.{files_left, names_got}
-use Rattle.run_top.specs.Run.{HasRun, Replays, status_at}
+use Rattle.run_top.specs.Run.{HasRun, IsTidied, Replays, status_at}
 use Rattle.run_top.specs.Running.{IsLeftBut, IsLimited, IsQueuedAmong, IsRunning, Stops}
 use Rattle.run_top.specs.Sessions.{IsSpared, StandsFor}
 use Rattle.run_top.specs.Status.{inbox_error_of, is_limit, status_of}
@@ -73,8 +73,9 @@ disk_is_no_limit error is limit other = absurd cc
 module _ (law : ReplayOfOneMore) (stays : StepsStayValid) (quiets : QuietWithNothing) (tells : Bool) {D : Type 0} (held : D → Files) (moment : D → ℕ) (images : D → ℕ → Files → Type 0) (lot : ℕ) (opened : Machine)
     (first old new : D) (left : List NamedFile) (standing : List ℕ → Option (List ℕ)) where
   -- a run that was done
-  ends : (run : IsRunning moment images lot opened first new left standing [] []) → IsLeftBut [] left → images new (moment new) (held new) → HasRun DONE tells held moment images lot opened first new left standing
-  ends run but is_left = record {
+  ends : (run : IsRunning moment images lot opened first new left standing [] []) → IsLeftBut [] left → images new (moment new) (held new) → IsTidied lot (held new)
+      → HasRun DONE tells held moment images lot opened first new left standing
+  ends run but is_left tidied = record {
     journal = run.journal;
     reached = run.reached;
     ran = run.ran;
@@ -83,15 +84,15 @@ module _ (law : ReplayOfOneMore) (stays : StepsStayValid) (quiets : QuietWithNot
     gone = run.gone;
     inbox = inl run.lies;
     outbox = inl run.stands;
-    done = λ is. record { disk = run.holds (held new) is_left; quiet = is_quiet quiets run.reached left run.queued run.lies but };
+    done = λ is. record { disk = run.holds (held new) is_left; tidied = tidied; quiet = is_quiet quiets run.reached left run.queued run.lies but };
     limited = λ is. absurd (omega (arith, is));
   }
 
   -- it is closed, which ends well or by a fault of the disk
   pub closes : IsRunning moment images lot opened first old left standing [] [] → IsLeftBut [] left → ((m : Machine) → InEach (images old (moment old)) (StandsFor lot m) → IsSpared moment images lot m old new) → images new (moment new) (held new)
-      → (result : Result ⊤ RunError) → IfErr result (λ error. error ≡ RunError.Disk) → HasRun (status_at result) tells held moment images lot opened first new left standing
-  closes run but spares is_left (Ok done) disk = ends (runs_on law stays tells held moment images lot opened first old new left standing [] [] run (spares run.reached run.holds)) but is_left
-  closes run but spares is_left (Err error) disk =
+      → (result : Result ⊤ RunError) → OnOk result (IsTidied lot (held new)) → IfErr result (λ error. error ≡ RunError.Disk) → HasRun (status_at result) tells held moment images lot opened first new left standing
+  closes run but spares is_left (Ok done) tidied disk = ends (runs_on law stays tells held moment images lot opened first old new left standing [] [] run (spares run.reached run.holds)) but is_left tidied
+  closes run but spares is_left (Err error) tidied disk =
       stops_between tells held moment images lot opened first new left standing [] []
       (runs_on law stays tells held moment images lot opened first old new left standing [] [] run (spares run.reached run.holds)) error (disk_is_no_limit error disk)
 
@@ -102,8 +103,8 @@ module _ (law : ReplayOfOneMore) (stays : StepsStayValid) (quiets : QuietWithNot
     still_ran : Replays moment images lot opened limited.run.journal limited.run.reached first new
     still_ran = step_none law moment images lot first old new opened limited.run.reached limited.run.reached limited.run.journal limited.run.ran limited.run.all spared
 
-    limit_stops : images new (moment new) (held new) → HasRun LIMIT tells held moment images lot opened first new left standing
-    limit_stops is_left = record {
+    limit_stops : images new (moment new) (held new) → IsTidied lot (held new) → HasRun LIMIT tells held moment images lot opened first new left standing
+    limit_stops is_left tidied = record {
       journal = limited.run.journal;
       reached = limited.run.reached;
       ran = still_ran;
@@ -113,7 +114,7 @@ module _ (law : ReplayOfOneMore) (stays : StepsStayValid) (quiets : QuietWithNot
       inbox = inl limited.run.lies;
       outbox = inl limited.run.stands;
       done = λ is. absurd (omega (arith, is));
-      limited = λ is. record { disk = spared.each (moment new) (held new) spared.later (omega arith) is_left; at = old; met = limited.met };
+      limited = λ is. record { disk = spared.each (moment new) (held new) spared.later (omega arith) is_left; tidied = tidied; at = old; met = limited.met };
     }
 
     -- the close failed
@@ -122,15 +123,15 @@ module _ (law : ReplayOfOneMore) (stays : StepsStayValid) (quiets : QuietWithNot
 
   -- what a limit stopped is closed
   pub limit_closed : (error : RunError) → is_limit error ≡ true → Stops error tells held moment images lot opened first old left standing
-      → ((m : Machine) → InEach (images old (moment old)) (StandsFor lot m) → IsSpared moment images lot m old new) → images new (moment new) (held new)
+      → ((m : Machine) → InEach (images old (moment old)) (StandsFor lot m) → IsSpared moment images lot m old new) → images new (moment new) (held new) → IsTidied lot (held new)
       → HasRun (status_of error) tells held moment images lot opened first new left standing
-  limit_closed (RunError.Limit limit) is stops spares is_left = limit_stops stops (spares stops.run.reached stops.run.holds) is_left
-  limit_closed (RunError.Damaged damage) is stops spares is_left = absurd cc
-  limit_closed RunError.OtherFlow is stops spares is_left = absurd cc
-  limit_closed RunError.Disk is stops spares is_left = absurd cc
-  limit_closed RunError.Inbox is stops spares is_left = absurd cc
-  limit_closed RunError.Outbox is stops spares is_left = absurd cc
-  limit_closed RunError.Memory is stops spares is_left = absurd cc
+  limit_closed (RunError.Limit limit) is stops spares is_left tidied = limit_stops stops (spares stops.run.reached stops.run.holds) is_left tidied
+  limit_closed (RunError.Damaged damage) is stops spares is_left tidied = absurd cc
+  limit_closed RunError.OtherFlow is stops spares is_left tidied = absurd cc
+  limit_closed RunError.Disk is stops spares is_left tidied = absurd cc
+  limit_closed RunError.Inbox is stops spares is_left tidied = absurd cc
+  limit_closed RunError.Outbox is stops spares is_left tidied = absurd cc
+  limit_closed RunError.Memory is stops spares is_left tidied = absurd cc
 
   pub limit_unclosed : (error other : RunError) → is_limit error ≡ true → Stops error tells held moment images lot opened first old left standing
       → ((m : Machine) → InEach (images old (moment old)) (StandsFor lot m) → IsSpared moment images lot m old new) → other ≡ RunError.Disk
@@ -180,3 +181,19 @@ memory_no_limit limit is = absurd cc
 
 pub disk_of : (result : Result ⊤ RunError) (error : RunError) → result ≡ Err error → IfErr result (λ e. e ≡ RunError.Disk) → error ≡ RunError.Disk
 disk_of result error is disk = subst (λ (r : Result ⊤ RunError). IfErr r (λ e. e ≡ RunError.Disk)) is disk
+
+-- what a close that ended well says, of the same lot
+pub tidied_by : {D : Type 0} (tells : Bool) (held : D → Files) (new : D) (lot other : ℕ) (result : Result ⊤ RunError) → other ≡ lot → IsTrue tells → OnOk result (IsTrue tells → IsTidied other (held new))
+    → OnOk result (IsTidied lot (held new))
+tidied_by tells held new lot other (Ok done) same told tidied = subst (λ (l : ℕ). IsTidied l (held new)) same (tidied told)
+tidied_by tells held new lot other (Err error) same told tidied = tt
+
+-- the limit of an error that is one
+pub limit_in : (error : RunError) → is_limit error ≡ true → (limit : Limit) × (error ≡ RunError.Limit limit)
+limit_in (RunError.Limit limit) is = (limit, refl)
+limit_in (RunError.Damaged damage) is = absurd cc
+limit_in RunError.OtherFlow is = absurd cc
+limit_in RunError.Disk is = absurd cc
+limit_in RunError.Inbox is = absurd cc
+limit_in RunError.Outbox is = absurd cc
+limit_in RunError.Memory is = absurd cc

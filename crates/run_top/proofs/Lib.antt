@@ -15,3 +15,4 @@ pub mod Steps
 pub mod Stopping
 pub mod Ties
 pub mod Waiting
+pub mod Writing

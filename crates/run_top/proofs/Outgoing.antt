@@ -17,7 +17,7 @@ use Rattle.machine_model.specs.declared.kind.Conflict.TheVariants.{Replace}
 use Rattle.machine_model.specs.declared.kind.Kind.TheVariants.{PutFile}
 use Rattle.machine_model.specs.Acting as acting
 use Rattle.machine_model.specs.Acting.{TakenFile, alone, name_in, passed_on}
-use Rattle.machine_model.specs.Changing.{queued_file, state_after, without_events}
+use Rattle.machine_model.specs.Changing.{queued_file, state_after}
 use Rattle.machine_model.specs.Placing.{uuid_text}
 use Rattle.machine_model.specs.Settling.{settle}
 use Rattle.machine_model.specs.State.{Machine, State}
@@ -33,7 +33,7 @@ use Rattle.store_core.specs.State.{state_with}
 use Rattle.engine_core.specs.Committing.{LeavesState, MayCommit}
 use Rattle.fixed_flow.specs.Flow.{fixed_flow, put}
 use Rattle.fixed_flow.specs.Sessions.{GoingSettles, gone_out, session, waiting}
-use Rattle.run_top.specs.Sessions.{Sends, SplitsOff}
+use Rattle.run_top.specs.Sessions.{IsStateOf, Sends, SplitsOff}
 use Rattle.run_top.specs.declared.going.Sending.{Sending}
 
 -- ---- the outcome
@@ -133,8 +133,8 @@ pub goes_so : (flow : Flow) (given : Given) (k : Kept) (settled : Settled) (file
     → contents file.content ≡ bytes → IsValid fixed_flow before.state → Contains (waiting before) (queued_file contents file)
     → there ≡ is_there before.world (queued_file contents file ∷ [])
     → step fixed_flow before (gone_out moment file.number there) ≡ Some after
-    → state_with contents [] k ≡ without_events before.state
-    → state_after contents (state_with contents [] k) settled ≡ without_events after.state
+    → IsStateOf before contents k
+    → state_after contents before.state settled ≡ after.state
 goes_so flow given k settled file uuid bytes taken sources outcome moment there before after contents law is_flow is_given size digest is_taken is_sources is_outcome leaves holds valid waits is_there_so steps stands =
     let queued = queued_file contents file in
     let at_hand = is_there before.world (queued ∷ []) in
@@ -142,7 +142,7 @@ goes_so flow given k settled file uuid bytes taken sources outcome moment there 
     let stepped : step fixed_flow before (gone_out moment file.number at_hand) ≡ Some after
     = subst (λ (b : Bool). step fixed_flow before (gone_out moment file.number b) ≡ Some after) is_there_so steps in
     let one : TakenFile = record { attributes = file.attributes; uuid = uuid_text before.state.store file.number; bytes = contents file.content } in
-    let settles : without_events (settle (session 1 (without_events before.state) (queued ∷ []) (given_of moment at_hand None)) out) ≡ without_events after.state
+    let settles : settle (session 1 before.state (queued ∷ []) (given_of moment at_hand None)) out ≡ after.state
     = law before after moment queued out valid waits refl stepped (ap Some (put_is at_hand one (name_in file.attributes))) in
     let known : LeavesState fixed_flow (given_of moment at_hand given.bytes) (out_ended (file ∷ []) (source_as file uuid None ∷ []) out) k settled
     = subst (λ (f : Flow). LeavesState f (given_of moment at_hand given.bytes) (out_ended (file ∷ []) (source_as file uuid None ∷ []) out) k settled) is_flow
@@ -150,6 +150,7 @@ goes_so flow given k settled file uuid bytes taken sources outcome moment there 
     (subst (λ (t : List FlowFile). LeavesState flow given (out_ended t (source_as file uuid None ∷ []) out) k settled) is_taken
     (subst (λ (s : List Source). LeavesState flow given (out_ended taken s out) k settled) is_sources
     (subst (λ (o : Outcome). LeavesState flow given (out_ended taken sources o) k settled) is_outcome leaves)))) in
-    known put refl contents (record { size = sym size ∙ ap length (sym holds); digest = sym digest ∙ ap sha256 (sym holds); read = tt }, tt)
-    ∙ ap (λ (s : State). without_events (settle (session 1 s (queued ∷ []) (given_of moment at_hand None)) out)) stands
+    ap (λ (s : State). state_after contents s settled) (sym stands.is)
+    ∙ known put refl contents (record { size = sym size ∙ ap length (sym holds); digest = sym digest ∙ ap sha256 (sym holds); read = tt }, tt) before.state.events stands.events
+    ∙ ap (λ (s : State). settle (session 1 s (queued ∷ []) (given_of moment at_hand None)) out) stands.is
     ∙ settles

@@ -10,7 +10,7 @@ use Rattle.flowfile_record.specs.declared.flow_file.FlowFile.{FlowFile}
 use Rattle.flowfile_record.specs.declared.stored.ActiveFile.{ActiveFile}
 use Rattle.record_codec.specs.ActiveFile.{active}
 use Rattle.checkpoint_store.specs.Consistent.{IsConsistent, IsFileIn}
-use Rattle.machine_model.specs.Changing.{queued_file, without_events}
+use Rattle.machine_model.specs.Changing.{queued_file}
 use Rattle.machine_model.specs.Files.{queue_at}
 use Rattle.machine_model.specs.State.{Machine, QueuedFile, State}
 use Rattle.machine_model.proofs.Among.{Among, all_among, among_contained, contains_among}
@@ -20,7 +20,7 @@ use Rattle.store_core.specs.Valid.{IsLive, LiveFilesAreQueued, QueuedFilesAreLiv
 use Rattle.engine_core.specs.Committing.{identity_of}
 use Rattle.fixed_flow.specs.Flow.{fixed_flow}
 use Rattle.fixed_flow.specs.Sessions.{waiting}
-use Rattle.run_top.specs.Sessions.{with_sent}
+use Rattle.run_top.specs.Sessions.{IsStateOf, with_sent}
 
 abbrev number_of : ActiveFile → ℕ
 number_of a = a.file.number
@@ -56,24 +56,24 @@ one_connection k a consistent flow among =
     let one : length k.connections ≡ 1 = ap (λ (f : Flow). length f.connections) flow in
     omega (arith, within, one)
 
-module _ (contents : ContentRef → List ℕ) (k : Kept) (m : Machine) (tied : state_with contents [] k ≡ without_events m.state) where
-  same_queue : queue_at (state_with contents [] k) 0 ≡ waiting m
-  same_queue = ap (λ (s : State). queue_at s 0) tied
+module _ (contents : ContentRef → List ℕ) (k : Kept) (m : Machine) (tied : IsStateOf m contents k) where
+  same_queue : queue_at (state_with contents m.state.events k) 0 ≡ waiting m
+  same_queue = ap (λ (s : State). queue_at s 0) tied.is
 
   module _ (number : ℕ) (a : ActiveFile) (file : FlowFile) (consistent : IsConsistent k) (flow : flow_in k ≡ identity_of fixed_flow) (found : item_of number_of number k.files ≡ Some a) (same : file ≡ a.file) where
     -- it waits
     pub waits_here : LiveFilesAreQueued → Contains (waiting m) (queued_file contents file)
     waits_here law =
         let among = (found_among number k.files a found).0 in
-        let there = law contents k a consistent (contains_among a k.files among) in
+        let there = law contents m.state.events k a consistent (contains_among a k.files among) in
         subst (λ (q : List QueuedFile). Contains q (queued_file contents file)) same_queue
-        (subst (λ (n : ℕ). Contains (queue_at (state_with contents [] k) n) (queued_file contents file)) (one_connection k a consistent flow among)
-        (subst (λ (f : FlowFile). Contains (queue_at (state_with contents [] k) a.connection) (queued_file contents f)) (sym same) there))
+        (subst (λ (n : ℕ). Contains (queue_at (state_with contents m.state.events k) n) (queued_file contents file)) (one_connection k a consistent flow among)
+        (subst (λ (f : FlowFile). Contains (queue_at (state_with contents m.state.events k) a.connection) (queued_file contents f)) (sym same) there))
 
   -- no file that waits has the number
   pub waits_not : QueuedFilesAreLive → (number : ℕ) → item_of number_of number k.files ≡ None → (file : QueuedFile) → Contains (waiting m) file → file.number ≢ number
   waits_not law number none file there =
-      let live : IsLive contents k 0 file = law contents k 0 file (subst (λ (q : List QueuedFile). Contains q file) (sym same_queue) there) in
+      let live : IsLive contents k 0 file = law contents m.state.events k 0 file (subst (λ (q : List QueuedFile). Contains q file) (sym same_queue) there) in
       λ numbered. missing_among number k.files none live.active (among_contained live.active k.files live.there) (ap (λ (f : QueuedFile). f.number) live.is ∙ numbered)
 
 -- the kept file, with its connection

@@ -13,7 +13,7 @@ use Rattle.flowfile_record.specs.declared.worked.Worked.{Worked}
 use Rattle.machine_model.specs.declared.flow.Flow.{Flow}
 use Rattle.machine_model.specs.declared.given.Given.{Given}
 use Rattle.machine_model.specs.Acting.{act, alone, made_file, received_attributes}
-use Rattle.machine_model.specs.Changing.{without_events}
+use Rattle.machine_model.specs.Changing.{state_after}
 use Rattle.machine_model.specs.Settling.{settle}
 use Rattle.machine_model.specs.State.{Machine, State}
 use Rattle.machine_model.specs.Stepping.{step}
@@ -71,8 +71,9 @@ comes_as settles s flow after_given taken sources outcome settled moment name by
     (subst (λ (t : List FlowFile). LeavesState fixed_flow (given_of moment name after_given.bytes) (record { processor = 0; connection = 0; taken = t; sources = sources; outcome = outcome }) (kept_by s) settled) none
     (subst (λ (g : Given). LeavesState fixed_flow g (record { processor = 0; connection = 0; taken = taken; sources = sources; outcome = outcome }) (kept_by s) settled) keeps.but_bytes
     (subst (λ (f : Flow). LeavesState f after_given (record { processor = 0; connection = 0; taken = taken; sources = sources; outcome = outcome }) (kept_by s) settled) is_flow leaves))) in
-    left get refl contents tt
-    ∙ ap (λ (t : State). without_events (settle (session 0 t [] (given_of moment name after_given.bytes)) outcome)) same
+    ap (λ (t : State). state_after contents t settled) (sym same.is)
+    ∙ left get refl contents tt before.state.events same.events
+    ∙ ap (λ (t : State). settle (session 0 t [] (given_of moment name after_given.bytes)) outcome) same.is
     ∙ settles before after moment name bytes after_given.bytes outcome goes found acts
 
 -- what an answer's Ok has

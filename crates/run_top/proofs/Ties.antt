@@ -7,10 +7,10 @@ use Rattle.disk_trait.proofs.Moments.{wider}
 use Rattle.flowfile_record.specs.declared.change.Settled.{Settled}
 use Rattle.content_repo.specs.Claims.{content_in}
 use Rattle.flowfile_wal.specs.Calls.{InEach}
-use Rattle.machine_model.specs.Changing.{state_after, without_events}
+use Rattle.machine_model.specs.Changing.{state_after}
 use Rattle.machine_model.specs.State.{Machine, State}
 use Rattle.store_core.specs.Flow.{flow_in}
-use Rattle.store_core.specs.State.{stands_for, state_with}
+use Rattle.store_core.specs.State.{stands_for}
 use Rattle.store_core.specs.Store.{StoreState, kept_by, EachStandsFor, IsKeptOn}
 use Rattle.engine_core.specs.Committing.{identity_of}
 use Rattle.fixed_flow.specs.Flow.{fixed_flow}
@@ -18,7 +18,7 @@ use Rattle.kept_state.specs.declared.limit.Limit.{Limit}
 use Rattle.store_core.specs.declared.error.StoreError.{StoreError}
 use Rattle.run_top.specs.Status.{error_of}
 use Rattle.run_top.specs.declared.status.RunError.{RunError}
-use Rattle.run_top.specs.Sessions.{Changes, IsAtWork, IsBetween, StandsFor}
+use Rattle.run_top.specs.Sessions.{Changes, IsAtWork, IsBetween, IsStateOf, StandsFor}
 
 ok_is : {A E : Type 0} {a b : A} → ◌≡◌ {A = Result A E} (Ok a) (Ok b) → a ≡ b
 ok_is is = cc
@@ -30,9 +30,10 @@ roomy s room = record s { memory = record { kept = kept_by s; room = room } }
 module _ (tells : Bool) {D : Type 0} (held : D → Files) (moment : D → ℕ) (images : D → ℕ → Files → Type 0) where
   pub kept_roomy : (s t : StoreState) (room : ℕ) (disk : D) → t ≡ roomy s room → IsKeptOn tells held moment images s disk → IsKeptOn tells held moment images t disk
   kept_roomy s t room disk is kept = subst (λ (u : StoreState). IsKeptOn tells held moment images u disk) (sym is) (record {
-    holds = λ works c now. let h = kept.holds works c now in record { kept = h.kept; contents = h.contents };
+    holds = λ works c now. let h = kept.holds works c now in record { kept = h.kept; contents = h.contents; events = h.events };
     log = λ works c now. let l = kept.log works c now in record { ready = l.ready; entries = l.entries };
     sizes = kept.sizes;
+    trimmed = kept.trimmed;
   })
 
   pub work_roomy : (s t : StoreState) (room : ℕ) (disk : D) → t ≡ roomy s room → IsAtWork tells held moment images s disk → IsAtWork tells held moment images t disk
@@ -43,23 +44,23 @@ module _ (tells : Bool) {D : Type 0} (held : D → Files) (moment : D → ℕ) (
   }
 
 -- the store's own words for the same
-pub stands_as : (s : StoreState) (lot : ℕ) (m : Machine) (c : Files) → flow_in (kept_by s) ≡ identity_of fixed_flow → s.lot ≡ lot → StandsFor lot m c → stands_for (flow_in (kept_by s)) s.lot c ≡ Ok (without_events m.state)
+pub stands_as : (s : StoreState) (lot : ℕ) (m : Machine) (c : Files) → flow_in (kept_by s) ≡ identity_of fixed_flow → s.lot ≡ lot → StandsFor lot m c → stands_for (flow_in (kept_by s)) s.lot c ≡ Ok m.state
 stands_as s lot m c flow is stands = (λ i. stands_for (flow i) (is i) c) ∙ stands
 
-pub stands_back : (s : StoreState) (lot : ℕ) (m : Machine) (state : State) (c : Files) → flow_in (kept_by s) ≡ identity_of fixed_flow → s.lot ≡ lot → state ≡ without_events m.state → stands_for (flow_in (kept_by s)) s.lot c ≡ Ok state → StandsFor lot m c
+pub stands_back : (s : StoreState) (lot : ℕ) (m : Machine) (state : State) (c : Files) → flow_in (kept_by s) ≡ identity_of fixed_flow → s.lot ≡ lot → state ≡ m.state → stands_for (flow_in (kept_by s)) s.lot c ≡ Ok state → StandsFor lot m c
 stands_back s lot m state c flow is same stands = sym (λ i. stands_for (flow i) (is i) c) ∙ stands ∙ ap Ok same
 
 -- ---- a commit, over the store as it was before the preparation
 
 module _ {D : Type 0} (held : D → Files) (moment : D → ℕ) (images : D → ℕ → Files → Type 0) (s t : StoreState) (room : ℕ) (settled change : Settled) (old new : D) (before after : Machine)
     (same : t ≡ roomy s room) (prepared : change ≡ settled) (flow : flow_in (kept_by s) ≡ identity_of fixed_flow)
-    (tied : state_with (content_in (held old)) [] (kept_by s) ≡ without_events before.state) (changes : Changes s (content_in (held old)) settled before after) where
-  leaves : state_after (content_in (held old)) (without_events before.state) change ≡ without_events after.state
+    (tied : IsStateOf before (content_in (held old)) (kept_by s)) (changes : Changes s (content_in (held old)) settled before after) where
+  leaves : state_after (content_in (held old)) before.state change ≡ after.state
   leaves =
-      ap (state_after (content_in (held old)) (without_events before.state)) prepared
-      ∙ subst (λ (u : State). state_after (content_in (held old)) u settled ≡ without_events after.state) tied (changes tied)
+      ap (state_after (content_in (held old)) before.state) prepared
+      ∙ changes tied
 
-  begins_with : InEach (images old (moment old)) (StandsFor s.lot before) → EachStandsFor (flow_in (kept_by s)) s.lot (without_events before.state) (images old (moment old))
+  begins_with : InEach (images old (moment old)) (StandsFor s.lot before) → EachStandsFor (flow_in (kept_by s)) s.lot before.state (images old (moment old))
   begins_with each c now = stands_as s s.lot before c flow refl (each c now)
 
   pub committed_between : (t.failed ≡ false → (state : State) → EachStandsFor (flow_in (kept_by t)) t.lot state (images old (moment old))
@@ -68,12 +69,12 @@ module _ {D : Type 0} (held : D → Files) (moment : D → ℕ) (images : D → 
   committed_between committed works each =
       let since = subst (λ (u : StoreState). u.failed ≡ false → (state : State) → EachStandsFor (flow_in (kept_by u)) u.lot state (images old (moment old))
       → Since moment images old new (λ c. (stands_for (flow_in (kept_by u)) u.lot c ≡ Ok state) ⊎ (stands_for (flow_in (kept_by u)) u.lot c ≡ Ok (state_after (content_in (held old)) state change)))) same committed works
-      (without_events before.state) (begins_with each) in
+      before.state (begins_with each) in
       wider moment images old new _ (λ c. StandsFor s.lot before c ⊎ StandsFor s.lot after c) since
       (λ c either. ⊎_elim
-      (λ (was : stands_for (flow_in (kept_by s)) s.lot c ≡ Ok (without_events before.state)). inl (stands_back s s.lot before (without_events before.state) c flow refl refl was))
-      (λ (is : stands_for (flow_in (kept_by s)) s.lot c ≡ Ok (state_after (content_in (held old)) (without_events before.state) change)).
-      inr (stands_back s s.lot after (state_after (content_in (held old)) (without_events before.state) change) c flow refl leaves is))
+      (λ (was : stands_for (flow_in (kept_by s)) s.lot c ≡ Ok before.state). inl (stands_back s s.lot before before.state c flow refl refl was))
+      (λ (is : stands_for (flow_in (kept_by s)) s.lot c ≡ Ok (state_after (content_in (held old)) before.state change)).
+      inr (stands_back s s.lot after (state_after (content_in (held old)) before.state change) c flow refl leaves is))
       either)
 
   pub committed_done : ((state : State) → EachStandsFor (flow_in (kept_by t)) t.lot state (images old (moment old))
@@ -82,8 +83,8 @@ module _ {D : Type 0} (held : D → Files) (moment : D → ℕ) (images : D → 
   committed_done acknowledged each c now =
       let stands = subst (λ (u : StoreState). (state : State) → EachStandsFor (flow_in (kept_by u)) u.lot state (images old (moment old))
       → EachStandsFor (flow_in (kept_by u)) u.lot (state_after (content_in (held old)) state change) (images new (moment new))) same acknowledged
-      (without_events before.state) (begins_with each) c now in
-      stands_back s s.lot after (state_after (content_in (held old)) (without_events before.state) change) c flow refl leaves stands
+      before.state (begins_with each) c now in
+      stands_back s s.lot after (state_after (content_in (held old)) before.state change) c flow refl leaves stands
 
 -- which error of the store a run's limit is
 pub limit_of : (e : StoreError) (limit : Limit) → error_of e ≡ RunError.Limit limit → e ≡ StoreError.Limit limit

@@ -2,11 +2,14 @@
 use Rattle.std.specs.Prelude.{◌≡◌, ◌≢◌, ◌⊎◌, ⊤, ℕ, ◌+◌, ◌≤◌, Bool, true, false, List, [], ◌∷◌, ◌++◌, length, map, Contains}
 use Rattle.std.specs.Prelude.{Option, Some, Result, Ok, Err, IsSome, IsNone, IsTrue, IsErrOf}
 use Rattle.disk_trait.specs.Files.{Files}
-use Rattle.disk_trait.specs.Images.{SinceMoment, Since}
+use Rattle.disk_trait.specs.Images.{After, SinceMoment, Since}
+use Rattle.disk_trait.specs.declared.file_name.FileKind.TheVariants.{Claim, Events}
+use Rattle.disk_trait.specs.declared.file_name.FileName.{FileName}
 use Rattle.disk_trait.specs.Faults.{CountsFaults}
 use Rattle.disk_trait.specs.declared.damage.Damage.{Damage}
 use Rattle.flowfile_record.specs.NamedFile.{NamedFile, bytes_of}
 use Rattle.flowfile_record.specs.Stored.{Kept}
+use Rattle.flowfile_wal.specs.Current.{current_number}
 use Rattle.kept_state.specs.declared.limit.Limit.{Limit}
 use Rattle.machine_model.specs.declared.journal.Entry.{Entry}
 use Rattle.machine_model.specs.declared.journal.Step.{Step}
@@ -19,13 +22,14 @@ use Rattle.store_core.specs.Calls.{SinceSync, IsUnwritten}
 use Rattle.store_core.specs.Kept.{kept_in}
 use Rattle.store_core.specs.Opened.{IsOfOther, SameMeaning}
 use Rattle.store_core.specs.State.{stands_for}
-use Rattle.store_core.specs.Store.{StoreState, IsKeptOn}
+use Rattle.store_core.specs.Store.{StoreState, live_in, IsKeptOn, IsTidy}
+use Rattle.store_core.specs.Touched.{IsOfLog, OnlyShortens, Frees}
 use Rattle.world_io.specs.Inbox.{IsAscending}
 use Rattle.engine_core.specs.Committing.{identity_of}
 use Rattle.fixed_flow.specs.Flow.{fixed_flow}
 use Rattle.fixed_flow.specs.Sessions.{got, waiting}
 use Rattle.run_top.specs.Journal.{files_left, names_got, WasGot}
-use Rattle.run_top.specs.Sessions.{StandsFor, PassesLimit}
+use Rattle.run_top.specs.Sessions.{StandsFor, PassesLimit, IsReadDamaged, IsRefused}
 use Rattle.run_top.specs.Status.{status_of}
 use Rattle.run_top.specs.declared.status.RunError.{RunError}
 use Rattle.run_top.specs.declared.status.RunError.TheVariants.{Disk, Memory}
@@ -50,8 +54,8 @@ pub record IsOfFlow (lot : ℕ) (files : Files) (state : State) : Type 0 where
 
 -- ---- the journal
 
--- These files stand for the state after a prefix of the journal, and each entry that was acknowledged by the moment is in
--- it.
+-- These files stand for the state after a prefix of the journal, and each entry that was acknowledged by the moment is
+-- in it.
 pub record IsPrefix (lot : ℕ) (opened : Machine) (journal : List Entry) (k : ℕ) (c : Files) : Type 0 where
   pub front : List Entry
   pub back : List Entry
@@ -61,8 +65,8 @@ pub record IsPrefix (lot : ℕ) (opened : Machine) (journal : List Entry) (k : �
   pub replays : replay fixed_flow opened (steps front) ≡ Some reached
   pub stands : StandsFor lot reached c
 
--- The journal leads from the opened state to this one, its moments are in order, and from behind the opening's first sync
--- on, whatever a stop may leave is a prefix. What a stop before that could leave is as it was.
+-- The journal leads from the opened state to this one, its moments are in order, and from behind the opening's first
+-- sync on, whatever a stop may leave is a prefix. What a stop before that could leave is as it was.
 pub record Replays {D : Type 0} (moment : D → ℕ) (images : D → ℕ → Files → Type 0) (lot : ℕ) (opened : Machine)
     (journal : List Entry) (reached : Machine) (old new : D) : Type 0 where
   pub replays : replay fixed_flow opened (steps journal) ≡ Some reached
@@ -106,13 +110,21 @@ pub record IsStoppedAtPut (status : ℕ) (reached : Machine) (standing : List �
 
 -- ---- how a run ends
 
--- At the end of a run that was done: what the disk holds is that of the whole journal, and the flow is quiet.
+-- each claim that isn't empty has the content of a file that is kept
+pub record IsTidied (lot : ℕ) (held : Files) : Type 0 where
+  pub kept : Kept
+  pub keeps : kept_in (identity_of fixed_flow) lot held ≡ Ok kept
+  pub tidy : IsTidy kept held
+
+-- At the end of a run that was done: what the disk holds is that of the whole journal, no claim holds more than contents
+-- of queued files, and the flow is quiet.
 pub record IsDone (lot : ℕ) (reached : Machine) (held : Files) : Type 0 where
   pub disk : StandsFor lot reached held
+  pub tidied : IsTidied lot held
   pub quiet : (time : ℕ) → quiet fixed_flow reached.state reached.world time ≡ true
 
--- A limit was met on a disk as it was then, whose files stand for the state behind the whole journal: one step more would
--- have passed it.
+-- A limit was met on a disk as it was then, whose files stand for the state behind the whole journal: one step more
+-- would have passed it.
 pub record IsAtLimit {D : Type 0} (tells : Bool) (held : D → Files) (moment : D → ℕ) (images : D → ℕ → Files → Type 0)
     (lot : ℕ) (reached : Machine) (at : D) : Type 0 where
   pub next : Step
@@ -125,15 +137,17 @@ pub record IsAtLimit {D : Type 0} (tells : Bool) (held : D → Files) (moment : 
   pub limit : Limit
   pub passes : PassesLimit held store limit reached after at
 
--- At the end of a run that a limit stopped: what the disk holds is that of the whole journal.
-pub record IsStoppedByLimit {D : Type 0} (tells : Bool) (held : D → Files) (moment : D → ℕ) (images : D → ℕ → Files → Type 0)
-    (lot : ℕ) (reached : Machine) (new : D) : Type 0 where
+-- At the end of a run that a limit stopped: what the disk holds is that of the whole journal, and no claim holds more
+-- than contents of queued files.
+pub record IsStoppedByLimit {D : Type 0} (tells : Bool) (held : D → Files) (moment : D → ℕ)
+    (images : D → ℕ → Files → Type 0) (lot : ℕ) (reached : Machine) (new : D) : Type 0 where
   pub disk : StandsFor lot reached (held new)
+  pub tidied : IsTidied lot (held new)
   pub at : D
   pub met : IsAtLimit tells held moment images lot reached at
 
--- Whatever its status: a journal tells what the run did to disk, inbox and outbox. Files are taken in the order of their
--- names. Inbox and outbox are those of the whole journal, but for the one file at which a device failed.
+-- Whatever its status: a journal tells what the run did to disk, inbox and outbox. Files are taken in the order of
+-- their names. Inbox and outbox are those of the whole journal, but for the one file at which a device failed.
 pub record HasRun {D : Type 0} (status : ℕ) (tells : Bool) (held : D → Files) (moment : D → ℕ)
     (images : D → ℕ → Files → Type 0) (lot : ℕ) (opened : Machine) (old new : D) (left : List NamedFile)
     (standing : List ℕ → Option (List ℕ)) : Type 0 where
@@ -175,8 +189,8 @@ pub record IsLeftShut {D I O : Type 0} (status : ℕ) (held : D → Files) (mome
   pub inbox : inbox_new ≡ inbox_old
   pub outbox : outbox_new ≡ outbox_old
 
--- Damage or another flow was told: on a disk that tells, the files are so. On any disk they are as before, and of the calls
--- that change something there was one sync.
+-- Damage or another flow was told: on a disk that tells, the files are so. On any disk they are as before, and of the
+-- calls that change something there was one sync.
 pub record IsToldBy {D : Type 0} (status : ℕ) (tells : Bool) (held : D → Files) (moment : D → ℕ) (lot : ℕ)
     (old new : D) : Type 0 where
   pub found : IsTrue tells → IsShutStatus lot (held old) status
@@ -188,9 +202,39 @@ pub record IsToldShut {D I O : Type 0} (status : ℕ) (tells : Bool) (held : D �
   pub inbox : inbox_new ≡ inbox_old
   pub outbox : outbox_new ≡ outbox_old
 
+-- ---- behind the opening, on any disk
+
+-- What a run writes: files of claims and of events, and the log that is current at the start. Where none is, the first
+-- log and its snapshot, which are made.
+abbrev pub MayWrite : Files → FileName → Type 0
+MayWrite files f = (f.kind ≡ Claim) ⊎ (f.kind ≡ Events) ⊎ IsOfLog (current_number files) f
+
+-- from behind the opening's first sync on, whatever a stop may leave has each other file as it was at the start or shorter
+abbrev pub WritesAlone : {D : Type 0} → (D → ℕ) → (D → ℕ → Files → Type 0) → Files → (old new : D) → Type 0
+WritesAlone moment images files old new = SinceSync moment images old new (OnlyShortens (MayWrite files) files)
+
+-- a live content was read behind the opening's first sync, and that told damage
+pub record IsToldByRead {D : Type 0} (tells : Bool) (held : D → Files) (moment : D → ℕ)
+    (images : D → ℕ → Files → Type 0) (lot : ℕ) (old new : D) : Type 0 where
+  pub opened : moment old + 1 ≤ moment new
+  pub read : IsReadDamaged tells held moment images lot new
+
+-- a store refused a session by a limit, from this moment on, and then it was closed: by that only claims without a live
+-- content changed
+pub record IsEndedByLimit {D : Type 0} (tells : Bool) (held : D → Files) (moment : D → ℕ)
+    (images : D → ℕ → Files → Type 0) (lot start : ℕ) (new : D) : Type 0 where
+  pub at : D
+  pub from : start ≤ moment at
+  pub store : StoreState
+  pub lot_is : store.lot ≡ lot
+  pub limit : Limit
+  pub refused : IsRefused tells held moment images limit store at
+  pub closed : Since moment images at new (After (Frees (live_in store)) (images at (moment at)))
+
 -- ---- the opening
 
--- its first sync failed, which is told, or memory was wanting before it: whatever is left is one of the images of before
+-- Its first sync failed, which is told, or memory was wanting before it: whatever is left is one of the images of
+-- before.
 pub record IsUnopened {D A : Type 0} (moment : D → ℕ) (images : D → ℕ → Files → Type 0) (old new : D)
     (result : Result A RunError) : Type 0 where
   pub told : IsErrOf result Disk ⊎ (IsErrOf result Memory × (new ≡ old))

@@ -59,7 +59,8 @@ pub record IsLeftBut (names : List (List ℕ)) (left : List NamedFile) : Type 0 
 
 -- A limit stopped the run between two steps.
 pub record IsLimited {D : Type 0} (tells : Bool) (held : D → Files) (moment : D → ℕ) (images : D → ℕ → Files → Type 0)
-    (lot : ℕ) (opened : Machine) (old now : D) (left : List NamedFile) (standing : List ℕ → Option (List ℕ)) : Type 0 where
+    (lot : ℕ) (opened : Machine) (old now : D) (left : List NamedFile) (standing : List ℕ → Option (List ℕ))
+    : Type 0 where
   pub coming : List (List ℕ)
   pub numbers : List ℕ
   pub run : IsRunning moment images lot opened old now left standing coming numbers

@@ -14,7 +14,7 @@ ghost use Rattle.store_core.specs.Store.{kept_by};
 ghost use Rattle.engine_core.specs.Committing.{identity_of};
 ghost use Rattle.fixed_flow.specs.Flow.{fixed_flow};
 ghost use Rattle.fixed_flow.specs.Sessions.{got};
-ghost use Rattle.run_top.specs.Sessions.{Changes, IsAtWork, IsBetween, IsSpared, IsStepped, PassesLimit, StandsFor};
+ghost use Rattle.run_top.specs.Sessions.{Changes, IsAtWork, IsBetween, IsRefused, IsSpared, IsStepped, PassesLimit, StandsFor, WritesLog};
 ghost use Rattle.run_top.specs.declared.status.RunError.{RunError as TheError};
 
 use crate::RunError;
@@ -45,7 +45,8 @@ pub fn get<D: Disk>(
     requires flow { flow.now ≡ fixed_flow }
     requires work { IsAtWork D.tells D.held D.moment D.images store.old disk.old }
     requires size { length bytes.items ≤ CONTENT_MAX }
-    ensures steps { OnOk result (IsTrue D.tells → (before after : Machine) → step fixed_flow before (got moment name.now) ≡ Some after
+    ensures steps { OnOk result (IsTrue D.tells
+        → (before after : Machine) → step fixed_flow before (got moment name.now) ≡ Some after
         → bytes_of before.world.inbox name.now ≡ Some bytes.items
         → InEach (D.images disk.old (D.moment disk.old)) (StandsFor store.old.lot before)
         → IsStepped D.moment D.images store.old.lot before after disk.old disk.new) }
@@ -60,7 +61,11 @@ pub fn get<D: Disk>(
         → bytes_of before.world.inbox name.now ≡ Some bytes.items
         → PassesLimit D.held store.old limit before after disk.old }
     ensures lot { store.new.lot ≡ store.old.lot }
+    ensures log { store.new.log.number ≡ store.old.log.number }
+    ensures alone { WritesLog D.moment D.images store.old.log.number disk.old disk.new }
     ensures work { OnOk result (IsAtWork D.tells D.held D.moment D.images store.new disk.new) }
+    ensures refused { (limit : TheLimit) → IsErrOf result (RunError.Limit limit)
+        → IsRefused D.tells D.held D.moment D.images limit store.new disk.new }
     ensures unchanged { (limit : TheLimit) → IsErrOf result (RunError.Limit limit)
         → (disk.new ≡ disk.old) × IsAtWork D.tells D.held D.moment D.images store.new disk.new }
     ensures kinds { IfErr result (λ error. (error ≡ RunError.Disk) ⊎ (error ≡ RunError.Memory)
@@ -89,7 +94,8 @@ fn received(
     requires size { length bytes.items ≤ CONTENT_MAX }
     ensures may { IfOk result (MayChange (kept_by store.now)) }
     ensures live { IfOk result (HasLiveContents store.now) }
-    ensures comes { IfOk result (λ settled. (before after : Machine) → step fixed_flow before (got moment name.now) ≡ Some after
+    ensures comes { IfOk result (λ settled. (before after : Machine)
+        → step fixed_flow before (got moment name.now) ≡ Some after
         → bytes_of before.world.inbox name.now ≡ Some bytes.items
         → (contents : TheRef → List ℕ) → Changes store.now contents settled before after) }
 {

@@ -22,7 +22,7 @@ ghost use Rattle.store_core.specs.Store.{kept_by, live_in};
 ghost use Rattle.engine_core.specs.Committing.{identity_of};
 ghost use Rattle.fixed_flow.specs.Flow.{fixed_flow};
 ghost use Rattle.fixed_flow.specs.Sessions.{gone_out, waiting};
-ghost use Rattle.run_top.specs.Sessions.{Changes, IsAtWork, IsBetween, IsLeftByPut, IsSpared, IsStepped, PassesLimit, Sends, SplitsOff, IsLeftUnder, StandsFor, with_sent};
+ghost use Rattle.run_top.specs.Sessions.{Changes, IsAtWork, IsBetween, IsLeftByPut, IsLeftUnder, IsReadDamaged, IsRefused, IsSpared, IsStepped, PassesLimit, Sends, SplitsOff, StandsFor, WritesLog, with_sent};
 ghost use Rattle.run_top.specs.declared.status.RunError.{RunError as TheError};
 
 use crate::RunError;
@@ -56,7 +56,8 @@ pub fn put<D: Disk, O: Outbox>(
     requires work { IsAtWork D.tells D.held D.moment D.images store.old disk.old }
     requires waits { Contains (kept_by store.old).files (active 0 file) }
     // The step that the machine makes, where the outbox is its world's.
-    ensures steps { OnOk result (IsTrue D.tells → IsTrue O.tells → (before after : Machine) → IsValid fixed_flow before.state
+    ensures steps { OnOk result (IsTrue D.tells → IsTrue O.tells
+        → (before after : Machine) → IsValid fixed_flow before.state
         → before.world.outbox ≡ O.standing outbox.old
         → Contains (waiting before) (queued_file (content_in (D.held disk.old)) file)
         → step fixed_flow before (gone_out moment file.number
@@ -84,12 +85,17 @@ pub fn put<D: Disk, O: Outbox>(
         → step fixed_flow before (gone_out moment file.number
         (is_there before.world (queued_file (content_in (D.held disk.old)) file ∷ []))) ≡ Some after
         → PassesLimit D.held store.new limit before after disk.new }
+    ensures refused { (limit : TheLimit) → IsErrOf result (RunError.Limit limit)
+        → IsRefused D.tells D.held D.moment D.images limit store.new disk.new }
     ensures unchanged { (limit : TheLimit) → IsErrOf result (RunError.Limit limit)
         → IsAtWork D.tells D.held D.moment D.images store.new disk.new
         × (O.standing outbox.new ≡ O.standing outbox.old) }
     ensures lot { store.new.lot ≡ store.old.lot }
+    ensures log { store.new.log.number ≡ store.old.log.number }
+    ensures alone { WritesLog D.moment D.images store.old.log.number disk.old disk.new }
     ensures work { OnOk result (IsAtWork D.tells D.held D.moment D.images store.new disk.new) }
-    ensures undamaged { (damage : TheDamage) → IsErrOf result (RunError.Damaged damage) → IsTrue D.tells → ⊥ }
+    ensures damaged { (damage : TheDamage) → IsErrOf result (RunError.Damaged damage)
+        → IsReadDamaged D.tells D.held D.moment D.images store.old.lot disk.new }
     ensures kinds { IfErr result (λ error. (error ≡ RunError.Inbox → ⊥) × (error ≡ RunError.OtherFlow → ⊥)) }
     ensures disk_cause { CountsFaults (D.faults disk.old) (D.faults disk.new) (IsErrOf result RunError.Disk) }
     ensures outbox_cause { CountsFaults (O.faults outbox.old) (O.faults outbox.new) (IsErrOf result RunError.Outbox) }
@@ -115,7 +121,7 @@ fn read_content<D: Disk>(
     ensures read { IfOk result (λ bytes. IsRead D.tells (D.held disk.old) at.now bytes.items) }
     ensures undamaged { (damage : TheDamage) → IsErrOf result (RunError.Damaged damage) → IsTrue D.tells → ⊥ }
     ensures same { OnOk result (store.new ≡ store.old) }
-    ensures lot { store.new.lot ≡ store.old.lot }
+    ensures lot { (store.new.lot ≡ store.old.lot) × (store.new.log.number ≡ store.old.log.number) }
     ensures stays { Stays D.held D.moment D.images disk.old disk.new }
     ensures kinds { IfErr result (λ error. (error ≡ RunError.Disk) ⊎ (error ≡ RunError.Memory)
         ⊎ ((damage : TheDamage) × (error ≡ RunError.Damaged damage))) }
@@ -125,10 +131,9 @@ fn read_content<D: Disk>(
         Ok(bytes) => Ok(bytes),
         Err(StoreError::Disk | StoreError::MustReopen) => Err(RunError::Disk),
         Err(StoreError::Damaged(damage)) => Err(RunError::Damaged(damage)),
+        Err(StoreError::Memory) => Err(RunError::Memory),
         // Reading passes no limit, and asks for no flow.
-        Err(StoreError::Memory | StoreError::Limit(_) | StoreError::OtherFlow { .. }) => {
-            Err(RunError::Memory)
-        }
+        Err(StoreError::Limit(_) | StoreError::OtherFlow { .. }) => unreachable!(),
     }
 }
 

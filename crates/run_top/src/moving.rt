@@ -1,4 +1,5 @@
-//! What a run does: it puts what is queued into the outbox, then takes one file of the inbox after another, and puts each.
+//! What a run does: it puts what is queued into the outbox, then takes one file of the inbox after another, and puts
+//! each.
 ghost use Rattle.std.specs.Prelude.{◌≡◌, ◌⊎◌, ℕ, ◌≤◌, ◌∷◌, [], List, Option, map, Contains, Some, IsTrue, IsSome, IfOk, OnOk, IfErr, IsErrOf, All};
 ghost use Rattle.disk_trait.specs.Faults.{CountsFaults};
 ghost use Rattle.disk_trait.specs.declared.damage.Damage.{Damage as TheDamage};
@@ -9,7 +10,7 @@ ghost use Rattle.store_core.specs.Store.{kept_by};
 ghost use Rattle.world_io.specs.Inbox.{IsAscending};
 ghost use Rattle.fixed_flow.specs.Flow.{fixed_flow};
 ghost use Rattle.run_top.specs.Running.{IsRunning, IsLeftBut, Stops, TakesOrLeaves};
-ghost use Rattle.run_top.specs.Sessions.{IsAtWork};
+ghost use Rattle.run_top.specs.Sessions.{IsAtWork, IsReadDamaged, IsRefused, WritesLog};
 ghost use Rattle.run_top.specs.declared.status.RunError.{RunError as TheError};
 
 use crate::RunError;
@@ -23,7 +24,8 @@ use std::alloc::{AllocError, Global};
 use store_core::{Store, what_is_kept_is_a_state};
 use world_io::{CONTENT_MAX, Clock, Inbox, Name, Outbox};
 
-// Takes a file of the inbox into the store, unless it is larger than a content may be, and removes it. Nothing is queued before.
+// Takes a file of the inbox into the store, unless it is larger than a content may be, and removes it. Nothing is queued
+// before.
 fn take<D: Disk, I: Inbox, C: Clock>(
     alloc: Global,
     flow: &Flow,
@@ -38,19 +40,23 @@ fn take<D: Disk, I: Inbox, C: Clock>(
     requires left { IsTrue I.tells → IsSome (bytes_of (I.left inbox.old) name.now) }
     ensures goes_on { OnOk result (IsTrue D.tells → IsTrue I.tells → (opened : Machine) (first : D)
         (standing : List ℕ → Option (List ℕ)) (coming : List (List ℕ))
-        → IsRunning D.moment D.images store.old.lot opened first disk.old (I.left inbox.old) standing (name.now ∷ coming) []
+        → IsRunning D.moment D.images store.old.lot opened first disk.old (I.left inbox.old) standing
+        (name.now ∷ coming) []
         → IsRunning D.moment D.images store.old.lot opened first disk.new (I.left inbox.new) standing coming
         ((kept_by store.old).next_number ∷ [])) }
-    ensures stopped { (error : TheError) → IsErrOf result error → IsTrue D.tells → IsTrue I.tells → (opened : Machine) (first : D)
-        (standing : List ℕ → Option (List ℕ)) (coming : List (List ℕ))
-        → IsRunning D.moment D.images store.old.lot opened first disk.old (I.left inbox.old) standing (name.now ∷ coming) []
+    ensures stopped { (error : TheError) → IsErrOf result error → IsTrue D.tells → IsTrue I.tells
+        → (opened : Machine) (first : D) (standing : List ℕ → Option (List ℕ)) (coming : List (List ℕ))
+        → IsRunning D.moment D.images store.old.lot opened first disk.old (I.left inbox.old) standing
+        (name.now ∷ coming) []
         → Stops error D.tells D.held D.moment D.images store.old.lot opened first disk.new (I.left inbox.new) standing }
     ensures left { OnOk result (IsTrue I.tells → TakesOrLeaves name.now (I.left inbox.old) (I.left inbox.new)) }
     ensures lot { store.new.lot ≡ store.old.lot }
+    ensures log { store.new.log.number ≡ store.old.log.number }
+    ensures alone { WritesLog D.moment D.images store.old.log.number disk.old disk.new }
     ensures work { OnOk result (IsAtWork D.tells D.held D.moment D.images store.new disk.new) }
-    ensures limited { (limit : TheLimit) → IsErrOf result (RunError.Limit limit)
-        → IsAtWork D.tells D.held D.moment D.images store.new disk.new }
-    ensures undamaged { (damage : TheDamage) → IsErrOf result (RunError.Damaged damage) → IsTrue D.tells → ⊥ }
+    ensures refused { (limit : TheLimit) → IsErrOf result (RunError.Limit limit)
+        → IsRefused D.tells D.held D.moment D.images limit store.new disk.new }
+    ensures undamaged { (damage : TheDamage) → IsErrOf result (RunError.Damaged damage) → ⊥ }
     ensures kinds { IfErr result (λ error. (error ≡ RunError.Outbox → ⊥) × (error ≡ RunError.OtherFlow → ⊥)) }
     ensures disk_cause { CountsFaults (D.faults disk.old) (D.faults disk.new) (IsErrOf result RunError.Disk) }
     ensures inbox_cause { CountsFaults (I.faults inbox.old) (I.faults inbox.new) (IsErrOf result RunError.Inbox) }
@@ -88,19 +94,25 @@ fn put_numbered<D: Disk, O: Outbox, C: Clock>(
 ) -> Result<(), RunError>
     requires flow { flow.now ≡ fixed_flow }
     requires work { IsAtWork D.tells D.held D.moment D.images store.old disk.old }
-    ensures goes_on { OnOk result (IsTrue D.tells → IsTrue O.tells → (opened : Machine) (first : D) (left : List NamedFile)
-        (coming : List (List ℕ)) (numbers : List ℕ)
-        → IsRunning D.moment D.images store.old.lot opened first disk.old left (O.standing outbox.old) coming (number ∷ numbers)
-        → IsRunning D.moment D.images store.old.lot opened first disk.new left (O.standing outbox.new) coming numbers) }
-    ensures stopped { (error : TheError) → IsErrOf result error → IsTrue D.tells → IsTrue O.tells → (opened : Machine) (first : D)
+    ensures goes_on { OnOk result (IsTrue D.tells → IsTrue O.tells → (opened : Machine) (first : D)
         (left : List NamedFile) (coming : List (List ℕ)) (numbers : List ℕ)
-        → IsRunning D.moment D.images store.old.lot opened first disk.old left (O.standing outbox.old) coming (number ∷ numbers)
-        → Stops error D.tells D.held D.moment D.images store.old.lot opened first disk.new left (O.standing outbox.new) }
+        → IsRunning D.moment D.images store.old.lot opened first disk.old left (O.standing outbox.old) coming
+        (number ∷ numbers)
+        → IsRunning D.moment D.images store.old.lot opened first disk.new left (O.standing outbox.new) coming numbers) }
+    ensures stopped { (error : TheError) → IsErrOf result error → IsTrue D.tells → IsTrue O.tells
+        → (opened : Machine) (first : D) (left : List NamedFile) (coming : List (List ℕ)) (numbers : List ℕ)
+        → IsRunning D.moment D.images store.old.lot opened first disk.old left (O.standing outbox.old) coming
+        (number ∷ numbers)
+        → Stops error D.tells D.held D.moment D.images store.old.lot opened first disk.new left
+        (O.standing outbox.new) }
     ensures lot { store.new.lot ≡ store.old.lot }
+    ensures log { store.new.log.number ≡ store.old.log.number }
+    ensures alone { WritesLog D.moment D.images store.old.log.number disk.old disk.new }
     ensures work { OnOk result (IsAtWork D.tells D.held D.moment D.images store.new disk.new) }
-    ensures limited { (limit : TheLimit) → IsErrOf result (RunError.Limit limit)
-        → IsAtWork D.tells D.held D.moment D.images store.new disk.new }
-    ensures undamaged { (damage : TheDamage) → IsErrOf result (RunError.Damaged damage) → IsTrue D.tells → ⊥ }
+    ensures refused { (limit : TheLimit) → IsErrOf result (RunError.Limit limit)
+        → IsRefused D.tells D.held D.moment D.images limit store.new disk.new }
+    ensures damaged { (damage : TheDamage) → IsErrOf result (RunError.Damaged damage)
+        → IsReadDamaged D.tells D.held D.moment D.images store.old.lot disk.new }
     ensures kinds { IfErr result (λ error. (error ≡ RunError.Inbox → ⊥) × (error ≡ RunError.OtherFlow → ⊥)) }
     ensures disk_cause { CountsFaults (D.faults disk.old) (D.faults disk.new) (IsErrOf result RunError.Disk) }
     ensures outbox_cause { CountsFaults (O.faults outbox.old) (O.faults outbox.new) (IsErrOf result RunError.Outbox) }
@@ -142,19 +154,25 @@ fn put_all<D: Disk, O: Outbox, C: Clock>(
 ) -> Result<(), RunError>
     requires flow { flow.now ≡ fixed_flow }
     requires work { IsAtWork D.tells D.held D.moment D.images store.old disk.old }
-    ensures goes_on { OnOk result (IsTrue D.tells → IsTrue O.tells → (opened : Machine) (first : D) (left : List NamedFile)
-        (coming : List (List ℕ))
-        → IsRunning D.moment D.images store.old.lot opened first disk.old left (O.standing outbox.old) coming numbers.now
-        → IsRunning D.moment D.images store.old.lot opened first disk.new left (O.standing outbox.new) coming []) }
-    ensures stopped { (error : TheError) → IsErrOf result error → IsTrue D.tells → IsTrue O.tells → (opened : Machine) (first : D)
+    ensures goes_on { OnOk result (IsTrue D.tells → IsTrue O.tells → (opened : Machine) (first : D)
         (left : List NamedFile) (coming : List (List ℕ))
-        → IsRunning D.moment D.images store.old.lot opened first disk.old left (O.standing outbox.old) coming numbers.now
-        → Stops error D.tells D.held D.moment D.images store.old.lot opened first disk.new left (O.standing outbox.new) }
+        → IsRunning D.moment D.images store.old.lot opened first disk.old left (O.standing outbox.old) coming
+        numbers.now
+        → IsRunning D.moment D.images store.old.lot opened first disk.new left (O.standing outbox.new) coming []) }
+    ensures stopped { (error : TheError) → IsErrOf result error → IsTrue D.tells → IsTrue O.tells
+        → (opened : Machine) (first : D) (left : List NamedFile) (coming : List (List ℕ))
+        → IsRunning D.moment D.images store.old.lot opened first disk.old left (O.standing outbox.old) coming
+        numbers.now
+        → Stops error D.tells D.held D.moment D.images store.old.lot opened first disk.new left
+        (O.standing outbox.new) }
     ensures lot { store.new.lot ≡ store.old.lot }
+    ensures log { store.new.log.number ≡ store.old.log.number }
+    ensures alone { WritesLog D.moment D.images store.old.log.number disk.old disk.new }
     ensures work { OnOk result (IsAtWork D.tells D.held D.moment D.images store.new disk.new) }
-    ensures limited { (limit : TheLimit) → IsErrOf result (RunError.Limit limit)
-        → IsAtWork D.tells D.held D.moment D.images store.new disk.new }
-    ensures undamaged { (damage : TheDamage) → IsErrOf result (RunError.Damaged damage) → IsTrue D.tells → ⊥ }
+    ensures refused { (limit : TheLimit) → IsErrOf result (RunError.Limit limit)
+        → IsRefused D.tells D.held D.moment D.images limit store.new disk.new }
+    ensures damaged { (damage : TheDamage) → IsErrOf result (RunError.Damaged damage)
+        → IsReadDamaged D.tells D.held D.moment D.images store.old.lot disk.new }
     ensures kinds { IfErr result (λ error. (error ≡ RunError.Inbox → ⊥) × (error ≡ RunError.OtherFlow → ⊥)) }
     ensures disk_cause { CountsFaults (D.faults disk.old) (D.faults disk.new) (IsErrOf result RunError.Disk) }
     ensures outbox_cause { CountsFaults (O.faults outbox.old) (O.faults outbox.new) (IsErrOf result RunError.Outbox) }
@@ -201,10 +219,13 @@ fn pass_on<D: Disk, I: Inbox, O: Outbox, C: Clock>(
         (I.left inbox.new) (O.standing outbox.new) }
     ensures left { OnOk result (IsTrue I.tells → TakesOrLeaves name.now (I.left inbox.old) (I.left inbox.new)) }
     ensures lot { store.new.lot ≡ store.old.lot }
+    ensures log { store.new.log.number ≡ store.old.log.number }
+    ensures alone { WritesLog D.moment D.images store.old.log.number disk.old disk.new }
     ensures work { OnOk result (IsAtWork D.tells D.held D.moment D.images store.new disk.new) }
-    ensures limited { (limit : TheLimit) → IsErrOf result (RunError.Limit limit)
-        → IsAtWork D.tells D.held D.moment D.images store.new disk.new }
-    ensures undamaged { (damage : TheDamage) → IsErrOf result (RunError.Damaged damage) → IsTrue D.tells → ⊥ }
+    ensures refused { (limit : TheLimit) → IsErrOf result (RunError.Limit limit)
+        → IsRefused D.tells D.held D.moment D.images limit store.new disk.new }
+    ensures damaged { (damage : TheDamage) → IsErrOf result (RunError.Damaged damage)
+        → IsReadDamaged D.tells D.held D.moment D.images store.old.lot disk.new }
     ensures kinds { IfErr result (λ error. (error ≡ RunError.OtherFlow → ⊥)) }
     ensures disk_cause { CountsFaults (D.faults disk.old) (D.faults disk.new) (IsErrOf result RunError.Disk) }
     ensures inbox_cause { CountsFaults (I.faults inbox.old) (I.faults inbox.new) (IsErrOf result RunError.Inbox) }
@@ -215,8 +236,8 @@ fn pass_on<D: Disk, I: Inbox, O: Outbox, C: Clock>(
     put_numbered(alloc, flow, store, disk, outbox, clock, number)
 }
 
-/// Puts the queued files of these numbers, which are all, into the outbox; then takes one file after another of those that
-/// are left, and puts each at once.
+/// Puts the queued files of these numbers, which are all, into the outbox; then takes one file after another of those
+/// that are left, and puts each at once.
 pub fn move_all<D: Disk, I: Inbox, O: Outbox, C: Clock>(
     alloc: Global,
     flow: &Flow,
@@ -245,10 +266,13 @@ pub fn move_all<D: Disk, I: Inbox, O: Outbox, C: Clock>(
         (I.left inbox.new) (O.standing outbox.new) }
     ensures none_to_take { OnOk result (IsTrue I.tells → IsLeftBut [] (I.left inbox.new)) }
     ensures lot { store.new.lot ≡ store.old.lot }
+    ensures log { store.new.log.number ≡ store.old.log.number }
+    ensures alone { WritesLog D.moment D.images store.old.log.number disk.old disk.new }
     ensures work { OnOk result (IsAtWork D.tells D.held D.moment D.images store.new disk.new) }
-    ensures limited { (limit : TheLimit) → IsErrOf result (RunError.Limit limit)
-        → IsAtWork D.tells D.held D.moment D.images store.new disk.new }
-    ensures undamaged { (damage : TheDamage) → IsErrOf result (RunError.Damaged damage) → IsTrue D.tells → ⊥ }
+    ensures refused { (limit : TheLimit) → IsErrOf result (RunError.Limit limit)
+        → IsRefused D.tells D.held D.moment D.images limit store.new disk.new }
+    ensures damaged { (damage : TheDamage) → IsErrOf result (RunError.Damaged damage)
+        → IsReadDamaged D.tells D.held D.moment D.images store.old.lot disk.new }
     ensures kinds { IfErr result (λ error. (error ≡ RunError.OtherFlow → ⊥)) }
     ensures disk_cause { CountsFaults (D.faults disk.old) (D.faults disk.new) (IsErrOf result RunError.Disk) }
     ensures inbox_cause { CountsFaults (I.faults inbox.old) (I.faults inbox.new) (IsErrOf result RunError.Inbox) }

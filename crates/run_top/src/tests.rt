@@ -15,8 +15,8 @@ enum World {
     InTheOutbox,
 }
 
-// The moment at which the file's session is acknowledged: 10 calls make the store, one writes the content, and 4 add the
-// session to the log.
+// The moment at which the file's session is acknowledged: 10 calls make the store, one writes the content, and 4 add
+// the session to the log.
 const ACKNOWLEDGED: u64 = 15;
 
 // Whether a run that is stopped at the moment may leave the world so.

@@ -17,7 +17,10 @@ use Rattle.machine_model.specs.State.{QueuedFile, State}
 use Rattle.store_core.specs.Flow.{Flow}
 use Rattle.store_core.specs.Kept.{snapshot_for, batches_in, behind_log, behind_snapshot, with_entries, kept_in}
 use Rattle.machine_model.specs.Changing.{with_arrival}
-use Rattle.store_core.specs.State.{digest_damage, content_damage, first_damage, contents_damage, live_contents, events_in, queued, queue_of, state_with, state_by, state_of, behind_kept, stands_for}
+use Rattle.prov_store.specs.Events.{events_in}
+use Rattle.prov_store.specs.State.{SameEvents}
+use Rattle.store_core.specs.State.{digest_damage, content_damage, first_damage, contents_damage, live_contents, queued, queue_of, state_with, state_by, state_of, behind_kept, stands_for}
+use Rattle.store_core.proofs.EventsStay.{says_still}
 use Rattle.store_core.specs.Agreement.{Needs, Agrees, SameContent, IsNeeded}
 use Rattle.kept_state.specs.Applied.{batches_that_matter}
 
@@ -211,10 +214,6 @@ pub stands_by_kept : (flow : Flow) (lot : ℕ) (files : Files) (k : Kept) → ke
 unfolding stands_for
 stands_by_kept flow lot files k is = ap (behind_kept files) is
 
--- the events of a state are read alike, whatever the files
-events_alike : (old new : Files) (last : ℕ) → events_in new last ≡ events_in old last
-events_alike old new last = refl
-
 pub agreeing_state : (flow : Flow) (lot : ℕ) (needs : Needs) (old new : Files) (s : State) → IsNeeded flow lot old needs → Agrees needs old new
     → stands_for flow lot old ≡ of_state s → stands_for flow lot new ≡ of_state s
 agreeing_state flow lot needs old new s needed agrees stands =
@@ -223,6 +222,7 @@ agreeing_state flow lot needs old new s needed agrees stands =
     let was = sound_of old k s keeps.state in
     let kept : kept_in flow lot new ≡ Ok k = agreeing_kept flow lot needs old new needed agrees ∙ keeps.is in
     let same : All (SameContent old new) (live_contents k) = subst (λ (cs : List ContentRef). All (SameContent old new) cs) (needed.contents k keeps.is) agrees.contents in
+    let covers : SameEvents k.last_event old new = subst (λ (last : ℕ). SameEvents last old new) (needed.last_event k keeps.is) agrees.events in
     stands_by_kept flow lot new k kept
-    ∙ state_of_sound new k was.events (contents_sound old new (live_contents k) same was.contents) (events_alike old new k.last_event ∙ was.events_are)
+    ∙ state_of_sound new k was.events (contents_sound old new (live_contents k) same was.contents) (says_still k.last_event old new was.events covers was.events_are)
     ∙ ap of_state (same_state (content_in new) (content_in old) was.events k (λ i d lt. (same i d lt).bytes) ∙ sym was.is)

@@ -12,11 +12,13 @@ use Rattle.content_repo.specs.Claims.{IdleShortened}
 use Rattle.content_repo.specs.Slots.{IsReclaimed}
 use Rattle.content_repo.specs.declared.reclaim.Reclaimed.{Reclaimed}
 use Rattle.machine_model.specs.State.{State}
+use Rattle.prov_store.specs.State.{IsTrimmed}
 use Rattle.store_core.specs.Flow.{flow_in}
 use Rattle.store_core.specs.State.{stands_for}
 use Rattle.store_core.specs.Store.{EachStandsFor, kept_by}
 use Rattle.store_core.proofs.Agreeing.{of_state}
-use Rattle.store_core.proofs.ClaimsAlone.{current_stays, snapshot_stays}
+use Rattle.store_core.proofs.ClaimsAlone.{current_stays, snapshot_stays, events_stay}
+use Rattle.store_core.proofs.EventsStay.{same_covered}
 use Rattle.store_core.proofs.Following.{Follows, state_following}
 use Rattle.store_core.proofs.Reclaiming.{live_stay, since_reclaimed, kept_reclaimed, sound_reclaimed}
 
@@ -40,9 +42,10 @@ working_let_go s slots works counts held sizes = record {
 pub kept_let_go : {D : Type 0} (tells : Bool) (held : D → Files) (moment : D → ℕ) (images : D → ℕ → Files → Type 0) (s : StoreState) (slots : List Slot) (disk : D) → ((k : ℕ) → size_of slots k ≡ size_of s.slots k)
     → IsKeptOn tells held moment images s disk → IsKeptOn tells held moment images (let_go s slots) disk
 kept_let_go tells held moment images s slots disk sizes kept = record {
-  holds = λ f c left. let h = kept.holds f c left in record { kept = h.kept; contents = h.contents };
+  holds = λ f c left. let h = kept.holds f c left in record { kept = h.kept; contents = h.contents; events = h.events };
   log = λ f c left. let h = kept.log f c left in record { ready = h.ready; entries = h.entries };
   sizes = λ f told k. kept.sizes f told k ∙ sym (sizes k);
+  trimmed = kept.trimmed;
 }
 
 -- ---- the claims are emptied, and the disk is synced
@@ -70,23 +73,24 @@ module _ {D : Type 0} (tells : Bool) (held : D → Files) (moment : D → ℕ) (
   since_closed =
       wider moment images old mid (Holds (let_go s slots)) (Holds s)
       (since_reclaimed moment images (let_go s slots) old mid (works_on s slots has) (kept_on.holds has.unfailed) (kept_on.log has.unfailed) since)
-      (λ c h. record { kept = h.kept; contents = h.contents })
+      (λ c h. record { kept = h.kept; contents = h.contents; events = h.events })
 
   follows_emptied : (before c : Files) → IdleShortened slots before c → Follows s before c
   follows_emptied before c step = record {
     current = current_stays before c step.others;
     snapshot = snapshot_stays before c step.others;
     contents = live_stay (let_go s slots) before c (works_on s slots has) step;
+    events = same_covered s.events.end before c (events_stay before c step.others);
   }
 
   -- whatever a stop leaves stands for the same state
   pub states_closed : (state : State) → EachStandsFor (flow_in (kept_by s)) s.lot state (images old (moment old)) → Since moment images old mid (λ c. stands_for (flow_in (kept_by s)) s.lot c ≡ of_state state)
   states_closed state stands =
       wider moment images old mid (After (IdleShortened slots) (images old (moment old))) (λ c. stands_for (flow_in (kept_by s)) s.lot c ≡ of_state state) since
-      (λ c after. state_following s state after.0 c (kept.log has.unfailed after.0 after.1) (follows_emptied after.0 c after.2) (kept.holds has.unfailed after.0 after.1) (stands after.0 after.1))
+      (λ c after. state_following s state after.0 c has.works (kept.log has.unfailed after.0 after.1) (follows_emptied after.0 c after.2) (kept.holds has.unfailed after.0 after.1) (stands after.0 after.1))
 
-  pub kept_closed : (emptied : List Slot) → (IsTrue tells → HasSizes emptied (held mid)) → IsKeptOn tells held moment images (closed s emptied) mid
-  kept_closed emptied sizes = kept_reclaimed moment images (let_go s slots) old mid tells held emptied (works_on s slots has) has.unfailed kept_on since sizes
+  pub kept_closed : (emptied : List Slot) → (IsTrue tells → IdleShortened slots (held old) (held mid)) → (IsTrue tells → HasSizes emptied (held mid)) → IsKeptOn tells held moment images (closed s emptied) mid
+  kept_closed emptied shortened sizes = kept_reclaimed moment images (let_go s slots) old mid tells held emptied (works_on s slots has) has.unfailed kept_on since shortened sizes
 
 -- a sync leaves it so
 pub kept_synced : {D : Type 0} (tells : Bool) (held : D → Files) (moment : D → ℕ) (images : D → ℕ → Files → Type 0) (s : StoreState) (mid end : D) → IsKeptOn tells held moment images s mid
@@ -95,6 +99,7 @@ kept_synced tells held moment images s mid end kept since same = record {
   holds = λ f c left. kept.holds f c (at_the_end moment images mid end (images mid (moment mid)) since c left);
   log = λ f c left. kept.log f c (at_the_end moment images mid end (images mid (moment mid)) since c left);
   sizes = λ f told. subst (HasSizes s.slots) (sym same) (kept.sizes f told);
+  trimmed = λ f told. subst (IsTrimmed s.events.end) (sym same) (kept.trimmed f told);
 }
 
 pub sound_closed : (s : StoreState) (slots emptied : List Slot) (answer : Reclaimed) → IsSound s → HasLetGo s slots → IsReclaimed slots emptied answer → IsSound (closed s emptied)

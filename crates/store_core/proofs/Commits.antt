@@ -7,7 +7,7 @@ use Rattle.std.proofs.lemmas.List.{length-map}
 use Rattle.std.proofs.lemmas.List.Elements.{All-nil, All-cons, All-head, All-tail}
 use Rattle.sha2.specs.Sha256.{sha256}
 use Rattle.disk_trait.specs.Files.{Files, named}
-use Rattle.disk_trait.specs.declared.file_name.FileKind.TheVariants.{Log, Claim}
+use Rattle.disk_trait.specs.declared.file_name.FileKind.TheVariants.{Log, Claim, Events}
 use Rattle.disk_trait.specs.declared.file_name.FileName.{FileName}
 use Rattle.flowfile_record.specs.Stored.{Kept}
 use Rattle.flowfile_record.specs.declared.change.Settled.{Settled}
@@ -34,6 +34,9 @@ use Rattle.kept_state.specs.Limits.{live_limit}
 use Rattle.kept_state.proofs.Going.{active_from_one}
 use Rattle.kept_state.proofs.Keeping.{within_limits, session_parts, distinct_of_suits, active_of_suits, length-with_files}
 use Rattle.kept_state.proofs.Placing.{placeless_fits}
+use Rattle.prov_store.specs.Events.{events_file}
+use Rattle.prov_store.specs.State.{HasEvents}
+use Rattle.store_core.specs.Agreement.{SameEventFiles}
 use Rattle.store_core.specs.Change.{IsFresh, IsOldLive, HasLiveContents}
 use Rattle.store_core.specs.Committed.{PreparedChange, IsPrepared}
 use Rattle.store_core.specs.Flow.{Flow, flow_in}
@@ -43,6 +46,7 @@ use Rattle.store_core.specs.State.{contents_damage, live_contents}
 use Rattle.store_core.specs.Store.{StoreState, IsWorking, kept_by, live_in, Holds, HasLog}
 use Rattle.store_core.proofs.Committing.{kept_with_entry}
 use Rattle.store_core.proofs.Counting.{references_left, references_applied, length_applied}
+use Rattle.store_core.proofs.EventsStay.{has_same}
 use Rattle.store_core.proofs.Reclaiming.{counted}
 use Rattle.store_core.proofs.Sound.{IsSoundIn, content_of, each_sound, all_sound, one_sound, all_applied}
 
@@ -127,7 +131,7 @@ zip_all P R (p ∷ placed) [] to all = absurd all
 zip_all P R (p ∷ placed) (a ∷ files) to all = All-cons P (content_of a) (map content_of files) (to p a all.0) (zip_all P R placed files to all.1)
 
 pub working_after : (s : StoreState) (se : SessionEntry) (placed : List Placed) (placed_slots slots : List Slot) (tells : Bool) (files : Files) (new : StoreState) → IsWorking s → IsConsistent (kept_by s)
-    → session_suits no_files (kept_by s) se ≡ true → se.last_event ≡ 0
+    → session_suits no_files (kept_by s) se ≡ true → se.last_event ≡ new.events.end
     → ArePlaced tells placed_slots files placed se.placed → HoldsMore se.placed s.slots placed_slots
     → ((k : ℕ) → count_of slots k + references_to k (contents_of (kept_by s).files se.gone) ≡ count_of placed_slots k)
     → held_in slots + length (contents_of (kept_by s).files se.gone) ≡ held_in placed_slots
@@ -223,10 +227,14 @@ same_sound number e old new at added is =
       digest = ap (λ (bytes : List ℕ). sha256 (take at.size (drop at.offset bytes))) same ∙ is.digest;
     }
 
+pub events_beside_log : (number : ℕ) (e : LogEntry) (old new : Files) → Adds number e old new → SameEventFiles old new
+events_beside_log number e old new added k =
+    added.others (events_file k) (λ (x : events_file k ≡ named Log number). let kinds : Events ≡ Log = ap (λ (f : FileName). f.kind) x in absurd cc)
+
 -- files that held what is kept, and got the session's entry, hold what is kept after it
 pub holds_added : (s new : StoreState) (number : ℕ) (e : LogEntry) (se : SessionEntry) (old files : Files) → HasLog s old → Holds s old → s.log.number ≡ Some number → e ≡ Session se → fits no_files (kept_by s) e ≡ true
-    → Adds number e old files → All (IsSoundIn old) (map content_of se.placed) → kept_by new ≡ applied no_files (kept_by s) e → new.lot ≡ s.lot → Holds new files
-holds_added s new number e se old files has holds numbered is fit added placed kept lot =
+    → Adds number e old files → All (IsSoundIn old) (map content_of se.placed) → kept_by new ≡ applied no_files (kept_by s) e → new.lot ≡ s.lot → HasEvents new.events old → Holds new files
+holds_added s new number e se old files has holds numbered is fit added placed kept lot events =
     let k = kept_by s in
     let log = has.ready.log in
     let both : Some number ≡ Some log.number = sym numbered ∙ has.ready.number in
@@ -242,6 +250,7 @@ holds_added s new number e se old files has holds numbered is fit added placed k
           ∙ all_sound files (live_contents (session_applied k se))
           (λ i d lt. same_sound number e old files (get_or (live_contents (session_applied k se)) i d) added
           (all_applied (IsSoundIn old) k se (each_sound old (live_in s) holds.contents) placed i d lt));
+      events = has_same new.events old files (events_beside_log number e old files added) events;
     }
 
 -- ---- the entry of a prepared change, once its contents are placed
@@ -272,8 +281,8 @@ module _ (s : StoreState) (p : PreparedChange) (e : LogEntry) (prepared : IsPrep
   pub entry_suits : session_suits no_files (kept_by s) entry_is.session ≡ true
   entry_suits = (session_parts (kept_by s) entry_is.session (sym (ap (fits no_files (kept_by s)) entry_is.is) ∙ entry_fits)).0
 
-  pub entry_events : entry_is.session.last_event ≡ (kept_by s).last_event
-  entry_events = entry_is.last_event ∙ ap {B = ℕ} (λ (l : List _). (kept_by s).last_event + length l) prepared.may.no_events ∙ omega arith
+  pub entry_events : entry_is.session.last_event ≡ (kept_by s).last_event + length p.settled.events
+  entry_events = entry_is.last_event
 
 -- the placed files of the entry that was prepared
 pub recorded_first : (s : StoreState) (p : PreparedChange) → IsPrepared s p → placed_in p.entry ≡ map record_of p.settled.placed

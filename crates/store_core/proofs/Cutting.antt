@@ -20,6 +20,12 @@ shortened_in_turn n a b c first second = record {
   no_longer = omega (arith, first.no_longer, second.no_longer);
 }
 
+pub shortened_to_none : (n : ℕ) (a b : List ℕ) → Shortened n a b → Shortened 0 a b
+shortened_to_none n a b step = record { front = refl; no_shorter = omega arith; no_longer = step.no_longer }
+
+pub shortened_as : (n : ℕ) (a b : List ℕ) → b ≡ a → Shortened n a b
+shortened_as n a b same = subst (λ (bytes : List ℕ). Shortened n a bytes) (sym same) (shortened_same n a)
+
 -- a step on one file, as one on each
 pub each_file : (P : List ℕ → List ℕ → Type 0) (file : FileName) (old new : Files) → ((a : List ℕ) → P a a) → At file P old new → (f : FileName) → P (old f) (new f)
 each_file P file old new same at f = ⊎_elim

@@ -1,16 +1,16 @@
 -- Files that don't matter go: what stays of a log that is passed over, of the current log, and of a store that isn't made.
-use Rattle.std.proofs.Common.{◌≡◌, ◌≢◌, ℕ, ◌≤◌, ◌==◌, Bool, true, false, List, [], ◌∷◌, length, take, get_or, refl, sym, ap, subst, ◌∙◌, eq-eqb, arith}
+use Rattle.std.proofs.Common.{◌≡◌, ℕ, ◌≤◌, ◌==◌, Bool, true, false, List, [], ◌∷◌, length, take, get_or, refl, sym, ap, subst, ◌∙◌, eq-eqb, arith}
 use Rattle.std.specs.Prelude.{Option, Some, None, nat_lt, nat_le, ◌&&◌}
 use Rattle.std.proofs.lemmas.Bool.{false≢true, le-leb, lt-ltb, ltb-true, leb-true, eqb-true, false_from_ne_true}
 use Rattle.disk_trait.specs.Files.{Files, Shortened, named}
 use Rattle.disk_trait.specs.Images.{After, Since}
-use Rattle.disk_trait.specs.declared.file_name.FileKind.{FileKind}
-use Rattle.disk_trait.specs.declared.file_name.FileKind.TheVariants.{Log, Snapshot, Swap, Claim, Events}
+use Rattle.disk_trait.specs.declared.file_name.FileKind.TheVariants.{Log, Snapshot, Swap}
 use Rattle.disk_trait.proofs.Moments.{wider, step_after_step}
 use Rattle.record_codec.specs.declared.log.TheConstants.{OPEN_GATE}
 use Rattle.flowfile_wal.specs.Current.{counts}
 use Rattle.store_core.specs.declared.discard.Spared.TheVariants.{UpTo, Only}
 use Rattle.store_core.specs.Discard.{spares, CutsKind, IsAbove, Discards}
+use Rattle.store_core.proofs.Cutting.{shortened_same, shortened_in_turn, shortened_to_none}
 
 -- ---- logs that are passed over
 
@@ -65,18 +65,20 @@ unspared_other (Some m) n other = false_from_ne_true (m == n) (λ (is : (m == n)
 pub discards_nothing : (current : Option ℕ) (files : Files) → Discards current files files
 discards_nothing current files = record {
   claims = λ f is. refl;
+  events = λ f is. refl;
   log = λ n is. refl;
   snapshot = λ n is. refl;
-  shorter = λ f. omega arith;
+  shorter = λ f. shortened_same 0 (files f);
   passed = λ n above passed. passed;
 }
 
 pub discards_in_turn : (current : Option ℕ) (a b c : Files) → Discards current a b → Discards current b c → Discards current a c
 discards_in_turn current a b c first second = record {
   claims = λ f is. second.claims f is ∙ first.claims f is;
+  events = λ f is. second.events f is ∙ first.events f is;
   log = λ n is. second.log n is ∙ first.log n is;
   snapshot = λ n is. second.snapshot n is ∙ first.snapshot n is;
-  shorter = λ f. omega (arith, first.shorter f, second.shorter f);
+  shorter = λ f. shortened_in_turn 0 (a f) (b f) (c f) (first.shorter f) (second.shorter f);
   passed = λ n above passed. second.passed n above (first.passed n above passed);
 }
 
@@ -84,9 +86,10 @@ discards_in_turn current a b c first second = record {
 pub shortens : (current : Option ℕ) (old new : Files) → CutsKind Log (spares (UpTo current)) 1 old new → Discards current old new
 shortens current old new cut = record {
   claims = λ f is. cut.others f (λ (e : f.kind ≡ Log). absurd cc);
+  events = λ f is. cut.others f (λ (e : f.kind ≡ Log). absurd cc);
   log = λ n is. cut.stay n (spared_log current n is).0;
   snapshot = λ n is. cut.others (named Snapshot n) (λ (e : Snapshot ≡ Log). absurd cc);
-  shorter = λ f. (cut.each f).no_longer;
+  shorter = λ f. shortened_to_none 1 (old f) (new f) (cut.each f);
   passed = λ n above passed. passed_shortened (old (named Log n)) (new (named Log n)) (cut.each (named Log n)) passed;
 }
 
@@ -94,9 +97,10 @@ shortens current old new cut = record {
 pub empties_logs : (current : Option ℕ) (old new : Files) → ((n : ℕ) → IsAbove current n → length (old (named Log n)) ≤ 1) → CutsKind Log (spares (Only current)) 0 old new → Discards current old new
 empties_logs current old new short cut = record {
   claims = λ f is. cut.others f (λ (e : f.kind ≡ Log). absurd cc);
+  events = λ f is. cut.others f (λ (e : f.kind ≡ Log). absurd cc);
   log = λ n is. cut.stay n (spared_log current n is).1;
   snapshot = λ n is. cut.others (named Snapshot n) (λ (e : Snapshot ≡ Log). absurd cc);
-  shorter = λ f. (cut.each f).no_longer;
+  shorter = cut.each;
   passed = λ n above passed. passed_short (new (named Log n)) (omega (arith, short n above, (cut.each (named Log n)).no_longer));
 }
 
@@ -104,20 +108,22 @@ empties_logs current old new short cut = record {
 pub empties_snapshots : (current : Option ℕ) (old new : Files) → CutsKind Snapshot (spares (Only current)) 0 old new → Discards current old new
 empties_snapshots current old new cut = record {
   claims = λ f is. cut.others f (λ (e : f.kind ≡ Snapshot). absurd cc);
+  events = λ f is. cut.others f (λ (e : f.kind ≡ Snapshot). absurd cc);
   log = λ n is. cut.others (named Log n) (λ (e : Log ≡ Snapshot). absurd cc);
   snapshot = λ n is. cut.stay n (spared_log current n is).1;
-  shorter = λ f. (cut.each f).no_longer;
+  shorter = cut.each;
   passed = λ n above passed. ap counts (cut.others (named Log n) (λ (e : Log ≡ Snapshot). absurd cc)) ∙ passed;
 }
 
--- files of another kind
-pub empties_others : (current : Option ℕ) (kind : FileKind) (spared : ℕ → Bool) (old new : Files) → kind ≢ Claim → kind ≢ Log → kind ≢ Snapshot → CutsKind kind spared 0 old new → Discards current old new
-empties_others current kind spared old new claim log snapshot cut = record {
-  claims = λ f is. cut.others f (λ (e : f.kind ≡ kind). claim (sym e ∙ is));
-  log = λ n is. cut.others (named Log n) (λ (e : Log ≡ kind). log (sym e));
-  snapshot = λ n is. cut.others (named Snapshot n) (λ (e : Snapshot ≡ kind). snapshot (sym e));
-  shorter = λ f. (cut.each f).no_longer;
-  passed = λ n above passed. ap counts (cut.others (named Log n) (λ (e : Log ≡ kind). log (sym e))) ∙ passed;
+-- files of batches that are emptied
+pub empties_batches : (current : Option ℕ) (old new : Files) → CutsKind Swap (spares (Only None)) 0 old new → Discards current old new
+empties_batches current old new cut = record {
+  claims = λ f is. cut.others f (λ (e : f.kind ≡ Swap). absurd cc);
+  events = λ f is. cut.others f (λ (e : f.kind ≡ Swap). absurd cc);
+  log = λ n is. cut.others (named Log n) (λ (e : Log ≡ Swap). absurd cc);
+  snapshot = λ n is. cut.others (named Snapshot n) (λ (e : Snapshot ≡ Swap). absurd cc);
+  shorter = cut.each;
+  passed = λ n above passed. ap counts (cut.others (named Log n) (λ (e : Log ≡ Swap). absurd cc)) ∙ passed;
 }
 
 module _ {D : Type 0} (moment : D → ℕ) (images : D → ℕ → Files → Type 0) (current : Option ℕ) where
@@ -139,13 +145,7 @@ module _ {D : Type 0} (moment : D → ℕ) (images : D → ℕ → Files → Typ
   after_snapshots old mid new first second =
       since_discarded old mid new first (since_step mid new (CutsKind Snapshot (spares (Only current)) 0) second (λ d c left step. empties_snapshots current d c step))
 
-  pub after_others : (kind : FileKind) → kind ≢ Claim → kind ≢ Log → kind ≢ Snapshot → (old mid new : D) → Since moment images old mid (Discarding old)
-      → Since moment images mid new (After (CutsKind kind (spares (Only None)) 0) (images mid (moment mid))) → Since moment images old new (Discarding old)
-  after_others kind claim log snapshot old mid new first second =
-      since_discarded old mid new first (since_step mid new (CutsKind kind (spares (Only None)) 0) second (λ d c left step. empties_others current kind (spares (Only None)) d c claim log snapshot step))
-
-pub swap_apart : (Swap ≢ Claim) × (Swap ≢ Log) × (Swap ≢ Snapshot)
-swap_apart = ((λ (e : Swap ≡ Claim). absurd cc), (λ (e : Swap ≡ Log). absurd cc), (λ (e : Swap ≡ Snapshot). absurd cc))
-
-pub events_apart : (Events ≢ Claim) × (Events ≢ Log) × (Events ≢ Snapshot)
-events_apart = ((λ (e : Events ≡ Claim). absurd cc), (λ (e : Events ≡ Log). absurd cc), (λ (e : Events ≡ Snapshot). absurd cc))
+  pub after_batches : (old mid new : D) → Since moment images old mid (Discarding old)
+      → Since moment images mid new (After (CutsKind Swap (spares (Only None)) 0) (images mid (moment mid))) → Since moment images old new (Discarding old)
+  after_batches old mid new first second =
+      since_discarded old mid new first (since_step mid new (CutsKind Swap (spares (Only None)) 0) second (λ d c left step. empties_batches current d c step))

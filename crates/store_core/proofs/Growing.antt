@@ -11,8 +11,11 @@ use Rattle.content_repo.specs.Claims.{claim}
 use Rattle.content_repo.specs.Slots.{size_of, end_of, next_slot}
 use Rattle.content_repo.specs.declared.slot.Slot.{Slot}
 use Rattle.content_repo.proofs.ClaimFiles.{OnClaims-refl, OnClaims-one}
+use Rattle.prov_store.specs.Events.{covered}
+use Rattle.prov_store.specs.State.{EventsState, HasEvents, GrowsBehind as EventsGrow}
+use Rattle.prov_store.proofs.Keeping.{grows_keep}
 use Rattle.store_core.specs.Agreement.{SameContent}
-use Rattle.store_core.specs.Placing.{GrowsBehind}
+use Rattle.store_core.specs.Placing.{GrowsBehind, GrowsAhead}
 
 abbrev Grown : List Slot → ℕ → List ℕ → List ℕ → Type 0
 Grown slots k old new = (take (size_of slots k) new ≡ take (size_of slots k) old) × (length old ≤ length new)
@@ -49,6 +52,13 @@ same_grown slots old new at within grows = record {
   covered = λ h. omega (arith, h, (grows.claims at.slot).1);
 }
 
+-- files of events that only grow have the same bytes up to the last event
+pub covered_grown : (state : EventsState) (old new : Files) → HasEvents state old → EventsGrow state old new → (k : ℕ) → covered state.end k new ≡ covered state.end k old
+covered_grown state old new has grows = (grows_keep state old new has grows).events
+
+pub no_events_grow : (events : EventsState) (files : Files) → EventsGrow events files files
+no_events_grow events files = record { others = λ f other. refl; earlier = λ k lt. refl; front = refl; no_shorter = λ k. omega arith }
+
 module _ {D : Type 0} (moment : D → ℕ) (images : D → ℕ → Files → Type 0) where
   abbrev pub Growing : List Slot → D → Files → Type 0
   Growing slots disk = After (GrowsBehind slots) (images disk (moment disk))
@@ -67,3 +77,16 @@ module _ {D : Type 0} (moment : D → ℕ) (images : D → ℕ → Files → Typ
   since_grown slots mid_slots old mid new sizes first second =
       step_after_step moment images old mid new (GrowsBehind slots) (GrowsBehind mid_slots) (GrowsBehind slots) (images old (moment old)) first second
       (λ d c r. r) (λ d e c r s. grows_in_turn slots mid_slots d e c sizes r s)
+
+  -- claims grew, and then files of events
+  pub since_ahead : (slots : List Slot) (events : EventsState) (old mid new : D)
+      → Since moment images old mid (Growing slots old) → Since moment images mid new (After (EventsGrow events) (images mid (moment mid))) → Since moment images old new (After (GrowsAhead slots events) (images old (moment old)))
+  since_ahead slots events old mid new first second =
+      step_after_step moment images old mid new (GrowsBehind slots) (EventsGrow events) (GrowsAhead slots events) (images old (moment old)) first second
+      (λ d c r. record { mid = c; claims = r; events = no_events_grow events c })
+      (λ d e c r s. record { mid = e; claims = r; events = s })
+
+  pub since_claims : (slots : List Slot) (events : EventsState) (old new : D) → Since moment images old new (Growing slots old) → Since moment images old new (After (GrowsAhead slots events) (images old (moment old)))
+  since_claims slots events old new first =
+      wider moment images old new (Growing slots old) (After (GrowsAhead slots events) (images old (moment old))) first
+      (λ c after. (after.0, after.1, record { mid = c; claims = after.2; events = no_events_grow events c }))

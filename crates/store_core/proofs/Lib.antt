@@ -1,4 +1,5 @@
 pub mod Agreeing
+pub mod Ahead
 pub mod ByKey
 pub mod ClaimsAlone
 pub mod Closing
@@ -8,6 +9,8 @@ pub mod ContentsRead
 pub mod Counting
 pub mod Cutting
 pub mod Discarding
+pub mod EventsAlone
+pub mod EventsStay
 pub mod Finding
 pub mod Following
 pub mod Giving
@@ -33,5 +36,6 @@ pub mod Rooms
 pub mod Sound
 pub mod States
 pub mod Tidying
+pub mod Touching
 pub mod Validity
 pub mod Whole

@@ -1,12 +1,12 @@
 -- The machine's state that files stand for behind a session.
-use Rattle.std.proofs.Common.{◌≡◌, ℕ, ◌+◌, Bool, true, false, List, [], ◌∷◌, map, refl, sym, ap, ◌∙◌}
+use Rattle.std.proofs.Common.{◌≡◌, ℕ, ◌+◌, List, [], ◌∷◌, ◌++◌, map, refl, sym, ap, ◌∙◌}
 use Rattle.std.specs.Prelude.{fold, Option, None, Some}
 use Rattle.std.specs.List.{AllZip, enumerate_from}
-use Rattle.std.specs.FinSet.{union, from_list, contains, same_set, contains-union, contains-from_list}
-use Rattle.std.specs.Prelude.{◌||◌}
+use Rattle.std.specs.FinSet.{union, from_list}
+use Rattle.std.proofs.lemmas.Grind.{flat_map-append}
 use Rattle.machine_model.specs.State.{Kin}
-use Rattle.machine_model.proofs.KinSets.{kin_cmp-total, kin_cmp-IsAntisymmetric}
-use Rattle.flowfile_record.specs.Kin.{kin_of_all}
+use Rattle.machine_model.proofs.KinSets.{kin_joined}
+use Rattle.flowfile_record.specs.Kin.{kin_of, kin_of_all}
 use Rattle.flowfile_record.specs.Stored.{Kept}
 use Rattle.flowfile_record.specs.declared.change.Settled.{Settled}
 use Rattle.flowfile_record.specs.declared.content.ContentRef.{ContentRef}
@@ -49,29 +49,21 @@ same_counts : (generator : Option Counted) (counts : List ℕ) → with_count ge
 same_counts None counts = refl
 same_counts (Some g) counts = refl
 
-abbrev no_kin : Kin
-no_kin = from_list (kin_of_all [])
+-- the kin that all events tell of is that of the earlier ones and that of the later ones
+kin_of_both : (earlier later : List Event) → ◌≡◌ {A = Kin} (from_list (kin_of_all (earlier ++ later))) (union (from_list (kin_of_all earlier)) (from_list (kin_of_all later)))
+kin_of_both earlier later =
+    ap {B = Kin} from_list (flat_map-append kin_of earlier later) ∙ sym (kin_joined (kin_of_all earlier) (kin_of_all later))
 
-or_none : (b : Bool) → b ≡ false → (b || b) ≡ b
-or_none true is = refl
-or_none false is = refl
-
-same_kin : no_kin ≡ union no_kin no_kin
-same_kin =
-    same_set kin_cmp-total kin_cmp-IsAntisymmetric no_kin (union no_kin no_kin)
-    (λ q. sym (contains-union kin_cmp-total no_kin no_kin q ∙ or_none (contains no_kin q) (contains-from_list kin_cmp-total [] q)))
-
-pub state_behind : (new old : ContentRef → List ℕ) (k : Kept) (s : Settled) (se : SessionEntry) → IsSessionFor new old k s se → s.events ≡ []
-    → state_with new [] (session_applied k se) ≡ state_after old (state_with old [] k) s
-state_behind new old k s se is none =
+pub state_behind : (new old : ContentRef → List ℕ) (events : List Event) (k : Kept) (s : Settled) (se : SessionEntry) → IsSessionFor new old k s se
+    → state_with new (events ++ s.events) (session_applied k se) ≡ state_after old (state_with old events k) s
+state_behind new old events k s se is =
     let queues = same_queues new old k s se is 0 k.connections in
     let counts : with_count se.generator k.counts ≡ counts_after s.count k.counts = same_counts se.generator k.counts ∙ ap (λ (g : Option Counted). counts_after g k.counts) is.count in
-    let kin : no_kin ≡ union no_kin (from_list (kin_of_all s.events)) = same_kin ∙ ap (λ (events : List Event). union no_kin (from_list (kin_of_all events))) (sym none) in
-    let made : List (List QueuedFile) → List Event → Kin → ℕ → ℕ → List ℕ → State = λ qs es kn n a cs. record {
+    let made : List (List QueuedFile) → Kin → ℕ → ℕ → List ℕ → State = λ qs kin n a cs. record {
       store = k.store;
       queues = qs;
-      events = es;
-      kin = kn;
+      events = events ++ s.events;
+      kin = kin;
       next_number = n;
       next_arrival = a;
       next_batch = k.next_batch;
@@ -79,11 +71,11 @@ state_behind new old k s se is none =
     } in
     let k2 = session_applied k se in
     let before = map (λ c. queue_of old k.files c.0) (enumerate_from 0 k.connections) in
-    let qs1 = map (λ c. queue_of new k2.files c.0) (enumerate_from 0 k.connections) in
     let qs2 = map (queue_after old s) (enumerate_from 0 before) in
-    ap (λ (qs : List (List QueuedFile)). made qs [] no_kin se.next_number se.next_arrival (with_count se.generator k.counts)) queues
-    ∙ ap (λ (es : List Event). made qs2 es no_kin se.next_number se.next_arrival (with_count se.generator k.counts)) (sym none)
-    ∙ ap (λ (kn : Kin). made qs2 s.events kn se.next_number se.next_arrival (with_count se.generator k.counts)) kin
-    ∙ ap (λ (n : ℕ). made qs2 s.events (union no_kin (from_list (kin_of_all s.events))) n se.next_arrival (with_count se.generator k.counts)) is.number
-    ∙ ap (λ (a : ℕ). made qs2 s.events (union no_kin (from_list (kin_of_all s.events))) s.next_number a (with_count se.generator k.counts)) is.arrival
-    ∙ ap (λ (cs : List ℕ). made qs2 s.events (union no_kin (from_list (kin_of_all s.events))) s.next_number s.next_arrival cs) counts
+    let kin1 : Kin = from_list (kin_of_all (events ++ s.events)) in
+    let kin2 : Kin = union (from_list (kin_of_all events)) (from_list (kin_of_all s.events)) in
+    ap (λ (qs : List (List QueuedFile)). made qs kin1 se.next_number se.next_arrival (with_count se.generator k.counts)) queues
+    ∙ ap (λ (kin : Kin). made qs2 kin se.next_number se.next_arrival (with_count se.generator k.counts)) (kin_of_both events s.events)
+    ∙ ap (λ (n : ℕ). made qs2 kin2 n se.next_arrival (with_count se.generator k.counts)) is.number
+    ∙ ap (λ (a : ℕ). made qs2 kin2 s.next_number a (with_count se.generator k.counts)) is.arrival
+    ∙ ap (λ (cs : List ℕ). made qs2 kin2 s.next_number s.next_arrival cs) counts

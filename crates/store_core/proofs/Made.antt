@@ -26,6 +26,7 @@ use Rattle.store_core.specs.New.{kept_anew}
 use Rattle.store_core.specs.Opened.{IsMade, SameMeaning}
 use Rattle.store_core.proofs.Agreeing.{kept_by_log, same_state}
 use Rattle.store_core.specs.Discard.{Discards}
+use Rattle.store_core.proofs.EventsStay.{no_event}
 use Rattle.store_core.proofs.Making.{kept_unmade}
 use Rattle.store_core.proofs.Reviving.{unmade_discarded, unmade_snapshot}
 use Rattle.store_core.proofs.Opening.{stands_whole}
@@ -57,9 +58,9 @@ means_new flow lot old new was is =
     record {
       kept = is ∙ sym kept;
       state =
-          stands_whole flow lot new k is refl refl
+          stands_whole flow lot new k [] is refl (no_event new)
           ∙ ap Ok (same_state (content_in new) (content_in old) [] k (All-nil (λ (at : ContentRef). content_in new at ≡ content_in old at)))
-          ∙ sym (stands_whole flow lot old k kept refl refl);
+          ∙ sym (stands_whole flow lot old k [] kept refl (no_event old));
     }
 
 -- ---- while it is made

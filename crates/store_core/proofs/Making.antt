@@ -15,6 +15,7 @@ use Rattle.store_core.specs.New.{holds_from, first_from, or_else, first_stray, k
 use Rattle.store_core.specs.State.{stands_for}
 use Rattle.store_core.specs.Agreement.{IsUnmade}
 use Rattle.store_core.proofs.Agreeing.{stands_by_kept, state_of_sound}
+use Rattle.store_core.proofs.EventsStay.{no_event}
 
 pub no_log : (files : Files) → current_number files ≡ None → current_log files ≡ Ok None
 unfolding current_log
@@ -48,4 +49,4 @@ unfolding kept_in
 kept_unmade flow lot files unmade = ap (behind_log flow lot files) (no_log files unmade.log) ∙ ap (unless_stray flow lot) (no_stray files unmade)
 
 pub state_unmade : (flow : Flow) (lot : ℕ) (files : Files) → IsUnmade files → (s : State) × (stands_for flow lot files ≡ Ok s)
-state_unmade flow lot files unmade = (_, stands_by_kept flow lot files (kept_anew flow lot) (kept_unmade flow lot files unmade) ∙ state_of_sound files (kept_anew flow lot) [] refl refl)
+state_unmade flow lot files unmade = (_, stands_by_kept flow lot files (kept_anew flow lot) (kept_unmade flow lot files unmade) ∙ state_of_sound files (kept_anew flow lot) [] refl (no_event files))

@@ -8,11 +8,12 @@ use Rattle.std.specs.Cmp.Lexicographic.{pointwise, nat_list_eq_equiv}
 use Rattle.disk_trait.specs.Files.{Files, Shortened, named}
 use Rattle.disk_trait.specs.Images.{Since, Stays, IsOnly}
 use Rattle.disk_trait.specs.declared.damage.Damage.{Damage}
-use Rattle.disk_trait.specs.declared.file_name.FileKind.TheVariants.{Log, Snapshot, Claim}
+use Rattle.disk_trait.specs.declared.file_name.FileKind.TheVariants.{Log, Snapshot, Claim, Events}
 use Rattle.disk_trait.specs.declared.file_name.FileName.{FileName}
 use Rattle.disk_trait.proofs.Moments.{wider, only_read}
 use Rattle.flowfile_record.specs.Stored.{Kept}
 use Rattle.flowfile_record.specs.declared.content.ContentRef.{ContentRef}
+use Rattle.flowfile_record.specs.declared.event.Event.{Event}
 use Rattle.checkpoint_store.specs.Snapshot.{snapshot_file}
 use Rattle.content_repo.specs.Claims.{claim, content_in, OnClaims, ShortenedTo}
 use Rattle.content_repo.specs.Slots.{end_of, covered}
@@ -21,11 +22,12 @@ use Rattle.flowfile_wal.specs.Steps.{LogState, IsReadyIn, EndsClosed}
 use Rattle.flowfile_wal.proofs.Files.{same_number}
 use Rattle.kept_state.specs.Applied.{batches_that_matter}
 use Rattle.machine_model.specs.State.{State}
-use Rattle.store_core.specs.Agreement.{Needs, IsPlain, Agrees, SameContent, IsNeeded}
+use Rattle.store_core.specs.Agreement.{Needs, IsPlain, Agrees, SameContent, SameEventFiles, IsNeeded}
 use Rattle.store_core.specs.Flow.{Flow, flow_in, agrees_with}
 use Rattle.store_core.specs.Kept.{kept_in, with_least, least_of, unless_swapped, with_entries, behind_snapshot}
 use Rattle.store_core.specs.Opened.{SameMeaning}
-use Rattle.store_core.specs.State.{contents_damage, live_contents, events_in, state_by, state_of, state_with, behind_kept, stands_for}
+use Rattle.prov_store.specs.Events.{events_file, events_in}
+use Rattle.store_core.specs.State.{contents_damage, live_contents, state_by, state_of, state_with, behind_kept, stands_for}
 use Rattle.store_core.proofs.Agreeing.{stands_by_kept, state_of_sound, agreeing_kept, agreeing_state, kept_by_log}
 use Rattle.store_core.proofs.Reviving.{plain_agrees}
 
@@ -52,13 +54,9 @@ events_damaged flow lot files k damage is contents events =
     ∙ ap (λ (d : Option Damage). state_by files k d (events_in files k.last_event)) contents
     ∙ ap (state_by files k None) events
 
-no_events_in : (files : Files) (last : ℕ) → last ≡ 0 → events_in files last ≡ Ok []
-no_events_in files last none = ap (events_in files) none
-
-pub stands_whole : (flow : Flow) (lot : ℕ) (files : Files) (k : Kept) → kept_in flow lot files ≡ Ok k
-    → contents_damage files (live_contents k) ≡ None → k.last_event ≡ 0 → stands_for flow lot files ≡ Ok (state_with (content_in files) [] k)
-stands_whole flow lot files k is contents none =
-    stands_by_kept flow lot files k is ∙ state_of_sound files k [] contents (no_events_in files k.last_event none)
+pub stands_whole : (flow : Flow) (lot : ℕ) (files : Files) (k : Kept) (events : List Event) → kept_in flow lot files ≡ Ok k
+    → contents_damage files (live_contents k) ≡ None → events_in files k.last_event ≡ Ok events → stands_for flow lot files ≡ Ok (state_with (content_in files) events k)
+stands_whole flow lot files k events is contents says = stands_by_kept flow lot files k is ∙ state_of_sound files k events contents says
 
 same_bytes : (xs ys : List ℕ) → bytes_eq xs ys ≡ true → xs ≡ ys
 same_bytes [] [] is = refl
@@ -130,25 +128,24 @@ none_matters files log k whole is = no_least (batches_that_matter k log.entries)
 
 -- ---- what stays
 
--- what a state without batches and events needs of its files
+-- what a state without batches needs of its files
 abbrev pub plain_needs : ℕ → Kept → Needs
-plain_needs number k = record { log = number; batches = []; contents = live_contents k; last_event = 0 }
+plain_needs number k = record { log = number; batches = []; contents = live_contents k; last_event = k.last_event }
 
 pub plain : (number : ℕ) (k : Kept) → IsPlain (plain_needs number k) number
-plain number k = record { log = refl; batches = refl; events = refl }
+plain number k = record { log = refl; batches = refl }
 
 kept_alone : (flow : Flow) (lot : ℕ) (files : Files) (k other : Kept) → kept_in flow lot files ≡ Ok k → kept_in flow lot files ≡ Ok other → other ≡ k
 kept_alone flow lot files k other is also = let both : of_kept other ≡ of_kept k = sym also ∙ is in cc
 
-pub needed : (flow : Flow) (lot : ℕ) (files : Files) (log : CurrentLog) (k : Kept) → current_log files ≡ Ok (Some log) → kept_in flow lot files ≡ Ok k → k.last_event ≡ 0
-    → IsNeeded flow lot files (plain_needs log.number k)
-needed flow lot files log k current is none = record {
+pub needed : (flow : Flow) (lot : ℕ) (files : Files) (log : CurrentLog) (k : Kept) → current_log files ≡ Ok (Some log) → kept_in flow lot files ≡ Ok k → IsNeeded flow lot files (plain_needs log.number k)
+needed flow lot files log k current is = record {
   log = log;
   current = current;
   number = refl;
   batches = λ read says. sym (none_matters files log read k (ap (behind_snapshot files log) (sym says) ∙ sym (kept_by_log flow lot files log current) ∙ is));
   contents = λ other also. ap live_contents (sym (kept_alone flow lot files k other is also));
-  last_event = λ other also. sym none ∙ ap (λ (x : Kept). x.last_event) (sym (kept_alone flow lot files k other is also));
+  last_event = λ other also. ap (λ (x : Kept). x.last_event) (sym (kept_alone flow lot files k other is also));
 }
 
 -- files that agree with those that were read keep and stand for the same
@@ -208,12 +205,16 @@ snapshot_apart n f is kind = let kinds : Snapshot ≡ Claim = sym (ap (λ (g : F
 pub claims_log : (old new : Files) (step : ℕ → List ℕ → List ℕ → Type 0) → OnClaims step old new → current_log new ≡ current_log old
 claims_log old new step on = logs_stay old new (λ m. on.others (named Log m) (log_apart m (named Log m) refl))
 
+pub same_events_cut : (step : ℕ → List ℕ → List ℕ → Type 0) (old new : Files) → OnClaims step old new → SameEventFiles old new
+same_events_cut step old new on k = on.others (events_file k) (λ (kinds : Events ≡ Claim). absurd cc)
+
 -- claims that are cut to what the live contents cover
 pub cut_agrees : (needs : Needs) (number : ℕ) (refs : List ContentRef) (old new : Files) → IsPlain needs number → needs.contents ≡ refs → ShortenedTo (λ k. covered k refs) old new → Agrees needs old new
 cut_agrees needs number refs old new plain contents step =
     plain_agrees needs number old new plain (claims_log old new (λ k. Shortened (covered k refs)) step)
     (step.others (snapshot_file number) (snapshot_apart number (snapshot_file number) refl))
     (subst (λ (cs : List ContentRef). All (SameContent old new) cs) (sym contents) (cut_contents refs old new step))
+    (same_events_cut (λ k. Shortened (covered k refs)) old new step)
 
 pub claims_ready : (state : LogState) (old new : Files) (step : ℕ → List ℕ → List ℕ → Type 0) → IsReadyIn state old → OnClaims step old new → IsReadyIn state new
 claims_ready state old new step ready on = record {

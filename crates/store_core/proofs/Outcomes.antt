@@ -1,7 +1,9 @@
 -- What each exit of a commit leaves: of the contents that were placed, and of the entry that was logged behind them.
-use Rattle.std.proofs.Common.{◌≡◌, ℕ, ◌+◌, ◌-◌, ◌^◌, ◌≤◌, Bool, true, false, List, [], length, refl, sym, ap, subst, ◌∙◌, inl, inr, IsTrue}
-use Rattle.std.specs.Prelude.{Option, None, Some, is_some, ◌⊎◌, min}
+use Rattle.std.proofs.Common.{◌≡◌, ℕ, ◌+◌, ◌-◌, ◌^◌, ◌≤◌, Bool, true, false, List, [], ◌++◌, length, refl, sym, ap, subst, ◌∙◌, arith, inl, inr, IsTrue}
+use Rattle.std.specs.Prelude.{Option, None, Some, is_some, Result, Ok, ◌⊎◌, min}
 use Rattle.disk_trait.specs.Files.{Files}
+use Rattle.disk_trait.specs.declared.damage.Damage.{Damage}
+use Rattle.flowfile_record.specs.declared.event.Event.{Event}
 use Rattle.disk_trait.specs.Images.{After, Since}
 use Rattle.disk_trait.proofs.Moments.{wider, wider_where_left}
 use Rattle.record_codec.specs.Placeless.{placeless_entry}
@@ -18,17 +20,21 @@ use Rattle.kept_state.specs.Applied.{applied, session_applied}
 use Rattle.kept_state.specs.Changes.{no_files, placed_in, session_of}
 use Rattle.machine_model.specs.State.{State}
 use Rattle.machine_model.specs.Changing.{state_after}
+use Rattle.prov_store.specs.Events.{events_in}
+use Rattle.prov_store.specs.State.{EventsState, IsAppended}
 use Rattle.store_core.specs.Change.{HasLiveContents}
-use Rattle.store_core.specs.Committed.{PreparedChange, IsPrepared, HasChange, HoldsEither, MayTouch, TouchesOnly}
+use Rattle.store_core.specs.Committed.{PreparedChange, IsPrepared, HasChange, HoldsEither}
+use Rattle.store_core.specs.Touched.{MayTouch, TouchesOnly}
 use Rattle.store_core.specs.Flow.{flow_in}
-use Rattle.store_core.specs.Placing.{contents_of, GrowsBehind, ArePlaced, PlacesAll}
+use Rattle.store_core.specs.Placing.{contents_of, GrowsAhead, AddsEvents, ArePlaced, PlacesAll}
 use Rattle.store_core.specs.State.{stands_for}
 use Rattle.store_core.specs.Store.{StoreState, IsWorking, IsKeptOn, EachStandsFor, Holds, kept_by}
 use Rattle.store_core.proofs.Agreeing.{of_state}
-use Rattle.store_core.proofs.Commits.{entry_as, entry_is, entry_suits, entry_events, referred_gone, working_after}
-use Rattle.store_core.proofs.Following.{Follows, follows_grown, state_following}
+use Rattle.store_core.proofs.Commits.{entry_as, entry_is, entry_suits, entry_events, referred_gone, events_beside_log, working_after}
+use Rattle.store_core.proofs.EventsStay.{same_events}
+use Rattle.store_core.proofs.Following.{Follows, follows_ahead, state_following}
 use Rattle.store_core.proofs.States.{IsSame, state_added}
-use Rattle.store_core.proofs.Whole.{IsAdded, is_added, since_grown_holds, since_grown_touches, since_either, since_holds, since_touches, holds_new, kept_added}
+use Rattle.store_core.proofs.Whole.{IsAdded, is_added, since_ahead_holds, since_ahead_touches, since_either, since_holds, since_touches, holds_new, kept_added}
 
 -- ---- the contents
 
@@ -43,14 +49,14 @@ pub record HasPlaced {D : Type 0} (tells : Bool) (held : D → Files) (moment : 
   pub consistent : IsConsistent (kept_by s)
   pub batches : (kept_by s).batches ≡ []
   pub same : placeless_entry e ≡ placeless_entry p.entry
-  pub grows : Since moment images old mid (After (GrowsBehind s.slots) (images old (moment old)))
-  pub held_grows : IsTrue tells → GrowsBehind s.slots (held old) (held mid)
+  pub grows : Since moment images old mid (After (GrowsAhead s.slots s.events) (images old (moment old)))
+  pub held_grows : IsTrue tells → GrowsAhead s.slots s.events (held old) (held mid)
 
 -- the same store and the same change by what is inside of them
 pub has_placed : {D : Type 0} (tells : Bool) (held : D → Files) (moment : D → ℕ) (images : D → ℕ → Files → Type 0) (inside s : StoreState) (change p : PreparedChange) (e : LogEntry) (old mid : D)
     → inside ≡ s → change ≡ p → IsWorking inside → inside.failed ≡ false → IsConsistent (kept_by inside) → (kept_by inside).batches ≡ []
     → IsKeptOn tells held moment images s old → IsPrepared s p → HasLiveContents s p.settled → placeless_entry e ≡ placeless_entry change.entry
-    → Since moment images old mid (After (GrowsBehind inside.slots) (images old (moment old))) → (IsTrue tells → GrowsBehind inside.slots (held old) (held mid))
+    → Since moment images old mid (After (GrowsAhead inside.slots inside.events) (images old (moment old))) → (IsTrue tells → GrowsAhead inside.slots inside.events (held old) (held mid))
     → HasPlaced tells held moment images s p e old mid
 has_placed tells held moment images inside s change p e old mid view p_view works unfailed consistent batches kept prepared live same grows held_grows = record {
   works = subst IsWorking view works;
@@ -61,17 +67,19 @@ has_placed tells held moment images inside s change p e old mid view p_view work
   consistent = subst (λ (t : StoreState). IsConsistent (kept_by t)) view consistent;
   batches = subst (λ (t : StoreState). (kept_by t).batches ≡ []) view batches;
   same = same ∙ ap (λ (c : PreparedChange). placeless_entry c.entry) p_view;
-  grows = subst (λ (t : StoreState). Since moment images old mid (After (GrowsBehind t.slots) (images old (moment old)))) view grows;
-  held_grows = subst (λ (t : StoreState). IsTrue tells → GrowsBehind t.slots (held old) (held mid)) view held_grows;
+  grows = subst (λ (t : StoreState). Since moment images old mid (After (GrowsAhead t.slots t.events) (images old (moment old)))) view grows;
+  held_grows = subst (λ (t : StoreState). IsTrue tells → GrowsAhead t.slots t.events (held old) (held mid)) view held_grows;
 }
 
 -- what is kept has the change
 pub has_change : (inside s new : StoreState) (change p : PreparedChange) (e e2 : LogEntry) → inside ≡ s → change ≡ p → placeless_entry e ≡ placeless_entry change.entry → e2 ≡ e
-    → kept_by new ≡ applied no_files (kept_by inside) e2 → new.opened ≡ inside.opened → new.lot ≡ inside.lot → HasChange p s new
-has_change inside s new change p e e2 view p_view same is kept opened lot = record {
+    → kept_by new ≡ applied no_files (kept_by inside) e2 → new.opened ≡ inside.opened → new.lot ≡ inside.lot → new.log.number ≡ inside.log.number
+    → HasChange p s new
+has_change inside s new change p e e2 view p_view same is kept opened lot log = record {
   entry = e;
   same = same ∙ ap (λ (c : PreparedChange). placeless_entry c.entry) p_view;
   kept = kept ∙ ap (applied no_files (kept_by inside)) is ∙ ap (λ (t : StoreState). applied no_files (kept_by t) e) view;
+  log = log ∙ ap (λ (t : StoreState). t.log.number) view;
   opened = opened ∙ ap (λ (t : StoreState). t.opened) view;
   lot = lot ∙ ap (λ (t : StoreState). t.lot) view;
 }
@@ -80,19 +88,19 @@ module _ {D : Type 0} (tells : Bool) (held : D → Files) (moment : D → ℕ) (
   pub placed_images : (new : StoreState) → HasPlaced tells held moment images s p e old mid → Since moment images old mid (HoldsEither s new)
   placed_images new has =
       wider moment images old mid (Holds s) (HoldsEither s new)
-      (since_grown_holds moment images s old mid has.works (has.kept.log has.unfailed) (has.kept.holds has.unfailed) has.grows) (λ c h. inl h)
+      (since_ahead_holds moment images s old mid has.works (has.kept.log has.unfailed) (has.kept.holds has.unfailed) has.grows) (λ c h. inl h)
 
   pub placed_states : (Q : Files → Type 0) (state : State) → HasPlaced tells held moment images s p e old mid → EachStandsFor (flow_in (kept_by s)) s.lot state (images old (moment old))
       → Since moment images old mid (λ c. (stands_for (flow_in (kept_by s)) s.lot c ≡ of_state state) ⊎ Q c)
   placed_states Q state has stands =
-      wider moment images old mid (After (GrowsBehind s.slots) (images old (moment old))) (λ c. (stands_for (flow_in (kept_by s)) s.lot c ≡ of_state state) ⊎ Q c) has.grows
+      wider moment images old mid (After (GrowsAhead s.slots s.events) (images old (moment old))) (λ c. (stands_for (flow_in (kept_by s)) s.lot c ≡ of_state state) ⊎ Q c) has.grows
       (λ c after.
-      inl (state_following s state after.0 c (has.kept.log has.unfailed after.0 after.1) (follows_grown s after.0 c has.works after.2) (has.kept.holds has.unfailed after.0 after.1)
+      inl (state_following s state after.0 c has.works (has.kept.log has.unfailed after.0 after.1) (follows_ahead s after.0 c has.works (has.kept.holds has.unfailed after.0 after.1).events after.2) (has.kept.holds has.unfailed after.0 after.1)
       (stands after.0 after.1)))
 
-  pub placed_alone : (log : Option ℕ) (slots : List Slot) → Since moment images old mid (After (GrowsBehind slots) (images old (moment old)))
+  pub placed_alone : (log : Option ℕ) (slots : List Slot) (events : EventsState) → Since moment images old mid (After (GrowsAhead slots events) (images old (moment old)))
       → Since moment images old mid (After (TouchesOnly (MayTouch log)) (images old (moment old)))
-  placed_alone log slots grows = since_grown_touches moment images held log slots 0 e old mid mid grows
+  placed_alone log slots events grows = since_ahead_touches moment images held log slots events 0 e old mid mid grows
 
 -- ---- the entry
 
@@ -102,6 +110,7 @@ pub record HasLogged {D : Type 0} (tells : Bool) (held : D → Files) (moment : 
   pub numbered : s.log.number ≡ Some number
   pub placed : PlacesAll tells (held mid) p.settled.placed s.slots slots e
   pub sizes : IsTrue tells → HasSizes slots (held mid)
+  pub events : AddsEvents tells p.events.events s.events new.events (held old) (held mid)
   pub kept : kept_by new ≡ applied no_files (kept_by s) e
   pub lot : new.lot ≡ s.lot
   pub logged : Since moment images mid end (WithOrWithout number e (images mid (moment mid)) (held mid))
@@ -114,16 +123,19 @@ numbered_of None some = absurd cc
 
 pub has_logged : {D : Type 0} (tells : Bool) (held : D → Files) (moment : D → ℕ) (images : D → ℕ → Files → Type 0) (inside s new : StoreState) (change p : PreparedChange) (e e2 : LogEntry)
     (old mid end : D) (number : ℕ) (slots : List Slot)
-    → inside ≡ s → change ≡ p → inside.log.number ≡ Some number → PlacesAll tells (held mid) change.settled.placed inside.slots slots e → (IsTrue tells → HasSizes slots (held mid))
+    → inside ≡ s → change ≡ p → inside.log.number ≡ Some number → PlacesAll tells (held mid) change.settled.placed inside.slots slots e → (IsTrue tells → HasSizes slots (held mid)) → AddsEvents tells change.events.events inside.events new.events (held old) (held mid)
     → e2 ≡ e → kept_by new ≡ applied no_files (kept_by inside) e2 → new.lot ≡ inside.lot → Since moment images mid end (WithOrWithout number e (images mid (moment mid)) (held mid))
     → ((disk : D) (k : ℕ) (c : Files) → images disk k c → IsTrue tells) → ((disk : D) → IsTrue tells → images disk (moment disk) (held disk))
     → HasLogged tells held moment images s new p e old mid end number slots
-has_logged tells held moment images inside s new change p e e2 old mid end number slots view p_view numbered placed sizes is kept lot logged told left = record {
+has_logged tells held moment images inside s new change p e e2 old mid end number slots view p_view numbered placed sizes events is kept lot logged told left = record {
   numbered = subst (λ (t : StoreState). t.log.number ≡ Some number) view numbered;
   placed =
       subst (λ (c : PreparedChange). PlacesAll tells (held mid) c.settled.placed s.slots slots e) p_view
       (subst (λ (t : StoreState). PlacesAll tells (held mid) change.settled.placed t.slots slots e) view placed);
   sizes = sizes;
+  events =
+      subst (λ (c : PreparedChange). AddsEvents tells c.events.events s.events new.events (held old) (held mid)) p_view
+      (subst (λ (t : StoreState). AddsEvents tells change.events.events t.events new.events (held old) (held mid)) view events);
   kept = kept ∙ ap (applied no_files (kept_by inside)) is ∙ ap (λ (t : StoreState). applied no_files (kept_by t) e) view;
   lot = lot ∙ ap (λ (t : StoreState). t.lot) view;
   logged = logged;
@@ -131,13 +143,16 @@ has_logged tells held moment images inside s new change p e e2 old mid end numbe
   left = left;
 }
 
+abbrev events_are : List Event → Result (List Event) Damage
+events_are events = Ok events
+
 abbrev session_part : SessionEntry → LogEntry → SessionEntry
 session_part t (Session s) = s
 session_part t _ = t
 
-same_session : (s : StoreState) (p : PreparedChange) (e : LogEntry) (prepared : IsPrepared s p) (same : placeless_entry e ≡ placeless_entry p.entry) → IsWorking s
+same_session : (s : StoreState) (p : PreparedChange) (e : LogEntry) (prepared : IsPrepared s p) (same : placeless_entry e ≡ placeless_entry p.entry)
     → IsSame p.settled (entry_is s p e prepared same).session
-same_session s p e prepared same works =
+same_session s p e prepared same =
     let is = entry_is s p e prepared same in
     let t = session_of (kept_by s) p.settled in
     let both : placeless_entry (Session is.session) ≡ placeless_entry (Session t) = ap placeless_entry (sym is.is) ∙ entry_as s p e prepared same in
@@ -146,7 +161,6 @@ same_session s p e prepared same works =
       number = ap (λ (l : LogEntry). (session_part t l).next_number) both;
       arrival = ap (λ (l : LogEntry). (session_part t l).next_arrival) both;
       count = ap (λ (l : LogEntry). (session_part t l).generator) both;
-      last_event = entry_events s p e prepared same ∙ works.last_event;
     }
 
 module _ {D : Type 0} (tells : Bool) (held : D → Files) (moment : D → ℕ) (images : D → ℕ → Files → Type 0) (s new : StoreState) (p : PreparedChange) (e : LogEntry) (old mid end : D) (number : ℕ)
@@ -154,10 +168,21 @@ module _ {D : Type 0} (tells : Bool) (held : D → Files) (moment : D → ℕ) (
   really_placed : IsTrue tells → ArePlaced true slots (held mid) p.settled.placed (placed_in e)
   really_placed told = subst (λ (t : Bool). ArePlaced t slots (held mid) p.settled.placed (placed_in e)) told logged.placed.placed
 
+  -- the last event of the entry is the last one that is known now
+  last_known : (entry_is s p e has.prepared has.same).session.last_event ≡ new.events.end
+  last_known =
+      omega (
+        arith,
+        entry_events s p e has.prepared has.same,
+        has.works.last_event,
+        logged.events.appended.end,
+        ap {B = ℕ} (λ (l : List Event). length l) has.prepared.events,
+      )
+
   added_entry : IsTrue tells → IsAdded s new e (held mid)
   added_entry told =
       is_added moment images held s new p e old mid slots has.works (has.kept.log has.unfailed) (has.kept.holds has.unfailed) has.grows has.prepared has.same has.live
-      (logged.left mid told) (logged.sizes told) (really_placed told) logged.kept logged.lot
+      (logged.left mid told) (logged.sizes told) (really_placed told) logged.kept logged.lot (logged.events.ready told).has
 
   added_holds : (c : Files) → IsTrue tells → Adds number e (held mid) c → Holds new c
   added_holds c told added =
@@ -169,10 +194,18 @@ module _ {D : Type 0} (tells : Bool) (held : D → Files) (moment : D → ℕ) (
       (logged.left mid) added_entry logged.logged
 
   pub logged_alone : Since moment images old end (After (TouchesOnly (MayTouch s.log.number)) (images old (moment old)))
-  logged_alone = since_touches moment images held s.log.number s.slots number e old mid end logged.numbered has.grows logged.logged tells (logged.told end) (logged.left mid)
+  logged_alone = since_touches moment images held s.log.number s.slots s.events number e old mid end logged.numbered has.grows logged.logged tells (logged.told end) (logged.left mid)
 
   abbrev behind : State → State
   behind state = state_after (content_in (held old)) state p.settled
+
+  events_behind : (c : Files) → IsTrue tells → Adds number e (held mid) c → (events : List Event) → events_in (held old) (kept_by s).last_event ≡ Ok events
+      → events_in c (entry_is s p e has.prepared has.same).session.last_event ≡ Ok (events ++ p.settled.events)
+  events_behind c told added events are =
+      ap (events_in c) last_known
+      ∙ same_events new.events.end (held mid) c (events_beside_log number e (held mid) c added)
+      ∙ logged.events.added told events (ap (events_in (held old)) (sym has.works.last_event) ∙ are)
+      ∙ ap (λ (l : List Event). events_are (events ++ l)) has.prepared.events
 
   pub state_logged : (state : State) (c : Files) → EachStandsFor (flow_in (kept_by s)) s.lot state (images old (moment old)) → IsTrue tells → Adds number e (held mid) c
       → stands_for (flow_in (kept_by s)) s.lot c ≡ of_state (behind state)
@@ -182,21 +215,22 @@ module _ {D : Type 0} (tells : Bool) (held : D → Files) (moment : D → ℕ) (
       subst (λ (l : LogEntry). ArePlaced true slots (held mid) p.settled.placed (placed_in l)) is.is (really_placed told) in
       let before = logged.left old told in
       let kept : kept_by new ≡ session_applied (kept_by s) is.session = logged.kept ∙ ap (applied no_files (kept_by s)) is.is in
-      state_added s new p.settled is.session number e slots (held old) (held mid) c state has.works has.batches (entry_suits s p e has.prepared has.same)
-      (same_session s p e has.prepared has.same has.works) has.prepared.may.no_events (has.kept.holds has.unfailed (held old) before) (stands (held old) before)
-      (has.held_grows told) added placed has.live (added_holds c told added) kept logged.lot
+      let held_then = has.kept.holds has.unfailed (held old) before in
+      state_added s new p.settled is.session number e slots (held old) (held mid) c state has.batches (entry_suits s p e has.prepared has.same)
+      (same_session s p e has.prepared has.same) (events_behind c told added) held_then (stands (held old) before)
+      (follows_ahead s (held old) (held mid) has.works held_then.events (has.held_grows told)) added placed has.live (added_holds c told added) kept logged.lot
 
   pub logged_states : (state : State) → EachStandsFor (flow_in (kept_by s)) s.lot state (images old (moment old))
       → Since moment images old end (λ c. (stands_for (flow_in (kept_by s)) s.lot c ≡ of_state state) ⊎ (stands_for (flow_in (kept_by s)) s.lot c ≡ of_state (behind state)))
   logged_states state stands =
       wider_where_left moment images old end (λ c. After (Follows s) (images old (moment old)) c ⊎ Adds number e (held mid) c)
       (λ c. (stands_for (flow_in (kept_by s)) s.lot c ≡ of_state state) ⊎ (stands_for (flow_in (kept_by s)) s.lot c ≡ of_state (behind state)))
-      (since_either moment images held s new number e old mid end has.works has.grows logged.logged) by_end
+      (since_either moment images held s new number e old mid end has.works (has.kept.holds has.unfailed) has.grows logged.logged) by_end
     where
       by_end : (k : ℕ) (c : Files) → images end k c → After (Follows s) (images old (moment old)) c ⊎ Adds number e (held mid) c
           → (stands_for (flow_in (kept_by s)) s.lot c ≡ of_state state) ⊎ (stands_for (flow_in (kept_by s)) s.lot c ≡ of_state (behind state))
       by_end k c image (inl after) =
-          inl (state_following s state after.0 c (has.kept.log has.unfailed after.0 after.1) after.2 (has.kept.holds has.unfailed after.0 after.1) (stands after.0 after.1))
+          inl (state_following s state after.0 c has.works (has.kept.log has.unfailed after.0 after.1) after.2 (has.kept.holds has.unfailed after.0 after.1) (stands after.0 after.1))
       by_end k c image (inr added) = inr (state_logged state c stands (logged.told end k c image) added)
 
   -- once the log has answered
@@ -208,7 +242,7 @@ module _ {D : Type 0} (tells : Bool) (held : D → Files) (moment : D → ℕ) (
       → new.entries ≡ min (s.entries + 1) (2 ^ 64 - 1) → ((k : ℕ) → size_of new.slots k ≡ size_of slots k) → IsKeptOn tells held moment images new end
   acknowledged_kept added ready more sizes =
       kept_added tells moment images held s new number e old mid end slots has.works (has.kept.log has.unfailed) (has.kept.holds has.unfailed) has.grows logged.numbered
-      (λ c image. logged.told end (moment end) c image) (logged.left mid) (logged.left end) added_entry added ready more logged.sizes sizes
+      (λ c image. logged.told end (moment end) c image) (logged.left mid) (logged.left end) added_entry added ready more logged.sizes sizes (λ t. (logged.events.ready t).trimmed)
 
   pub acknowledged_works : (given : List Slot) → new.slots ≡ given
       → ((k : ℕ) → count_of given k + references_to k (contents_of (kept_by s).files p.settled.gone) ≡ count_of slots k)
@@ -220,10 +254,17 @@ module _ {D : Type 0} (tells : Bool) (held : D → Files) (moment : D → ℕ) (
       let kept : kept_by new ≡ session_applied (kept_by s) is.session = logged.kept ∙ ap (applied no_files (kept_by s)) is.is in
       let placed : PlacesAll tells (held mid) p.settled.placed s.slots slots (Session is.session) = subst (λ (l : LogEntry). PlacesAll tells (held mid) p.settled.placed s.slots slots l) is.is logged.placed in
       working_after s is.session p.settled.placed slots given tells (held mid) new has.works has.consistent (entry_suits s p e has.prepared has.same)
-      (entry_events s p e has.prepared has.same ∙ has.works.last_event) placed.placed placed.holds
+      last_known placed.placed placed.holds
       (λ k. ap (λ (n : List ℕ). count_of given k + references_to k (contents_of (kept_by s).files n)) gone ∙ counts k)
       (ap (λ (n : List ℕ). held_in given + length (contents_of (kept_by s).files n)) gone ∙ held_less)
       sizes kept log slots_are opened
+
+-- the events of the change are counted
+pub events_counted : (inside s : StoreState) (change p : PreparedChange) (known : EventsState) → inside ≡ s → change ≡ p → IsPrepared s p → IsAppended change.events.events inside.events known → IsAppended p.settled.events s.events known
+events_counted inside s change p known view p_view prepared appended =
+    subst (λ (l : List Event). IsAppended l s.events known) prepared.events
+    (subst (λ (c : PreparedChange). IsAppended c.events.events s.events known) p_view
+    (subst (λ (t : StoreState). IsAppended change.events.events t.events known) view appended))
 
 -- the contents of the files that go may be given up
 pub may_give_up : {D : Type 0} (tells : Bool) (held : D → Files) (moment : D → ℕ) (images : D → ℕ → Files → Type 0) (s : StoreState) (p : PreparedChange) (e : LogEntry) (old mid : D) (slots : List Slot)

@@ -17,7 +17,8 @@ use Rattle.content_repo.specs.Slots.{IsReclaimed}
 use Rattle.content_repo.specs.declared.reclaim.Reclaimed.{Reclaimed}
 use Rattle.flowfile_wal.specs.Calls.{InEach}
 use Rattle.store_core.specs.Store.{StoreState, IsWorking, IsSound, live_in, Holds, HasLog, IsKeptOn}
-use Rattle.store_core.proofs.ClaimsAlone.{has_log_still, holds_still}
+use Rattle.store_core.proofs.ClaimsAlone.{events_stay, has_log_still, holds_still}
+use Rattle.store_core.proofs.EventsStay.{trimmed_same}
 
 -- ---- references
 
@@ -102,7 +103,7 @@ same_claim old new at e = record {
   covered = λ h. subst (λ (bytes : List ℕ). end_of at ≤ length bytes) (sym e) h;
 }
 
-unmatched : (b : Bool) (P Q : Type 0) → b ≡ false → MatchBool b P Q → Q
+pub unmatched : (b : Bool) (P Q : Type 0) → b ≡ false → MatchBool b P Q → Q
 unmatched true P Q is m = absurd (false≢true (sym is))
 unmatched false P Q is m = m
 
@@ -132,11 +133,12 @@ module _ {D : Type 0} (moment : D → ℕ) (images : D → ℕ → Files → Typ
 
   pub kept_reclaimed : (tells : Bool) (held : D → Files) (slots : List Slot) → IsWorking s → s.failed ≡ false → IsKeptOn tells held moment images s old
       → Since moment images old new (After (IdleShortened s.slots) (images old (moment old)))
-      → (IsTrue tells → HasSizes slots (held new)) → IsKeptOn tells held moment images (record s { slots = slots }) new
-  kept_reclaimed tells held slots works works_on kept since sizes = record {
-    holds = λ f c left. let h = at_the_end moment images old new (Holds s) (since_reclaimed works (kept.holds works_on) (kept.log works_on) since) c left in record { kept = h.kept; contents = h.contents };
+      → (IsTrue tells → IdleShortened s.slots (held old) (held new)) → (IsTrue tells → HasSizes slots (held new)) → IsKeptOn tells held moment images (record s { slots = slots }) new
+  kept_reclaimed tells held slots works works_on kept since shortened sizes = record {
+    holds = λ f c left. let h = at_the_end moment images old new (Holds s) (since_reclaimed works (kept.holds works_on) (kept.log works_on) since) c left in record { kept = h.kept; contents = h.contents; events = h.events };
     log = λ f c left. let h = log_reclaimed (kept.log works_on) since c left in record { ready = h.ready; entries = h.entries };
     sizes = λ f told. sizes told;
+    trimmed = λ f told. trimmed_same s.events.end (held old) (held new) (events_stay (held old) (held new) (shortened told).others) (kept.trimmed works_on told);
   }
 
 pub sound_reclaimed : (s : StoreState) (slots : List Slot) (answer : Reclaimed) → IsSound s → s.failed ≡ false → IsReclaimed s.slots slots answer → IsSound (record s { slots = slots })

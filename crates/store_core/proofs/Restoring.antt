@@ -1,16 +1,23 @@
 -- What opening a store answers, by what was read of its files.
 use Rattle.std.proofs.Common.{◌≡◌, inl, inr, ℕ, List, sym, ap, subst, ◌∙◌}
-use Rattle.std.specs.Prelude.{Option, None, Result, Ok, Err}
+use Rattle.std.specs.Prelude.{Option, None, Some, Result, Ok, Err}
 use Rattle.disk_trait.specs.Files.{Files}
 use Rattle.disk_trait.specs.Images.{Stays}
 use Rattle.disk_trait.specs.declared.damage.Damage.{Damage}
 use Rattle.flowfile_record.specs.Stored.{Kept}
+use Rattle.flowfile_wal.specs.Current.{current_number}
 use Rattle.machine_model.specs.State.{State}
+use Rattle.prov_store.specs.declared.error.EventsError.{EventsError}
+use Rattle.store_core.specs.declared.error.StoreError.{StoreError}
+use Rattle.store_core.specs.Errors.{of_events}
 use Rattle.store_core.specs.Flow.{Flow, flow_in}
 use Rattle.store_core.specs.Kept.{kept_in}
 use Rattle.store_core.specs.Opened.{IsFound, IsOfOther, IsShut}
-use Rattle.store_core.specs.State.{stands_for, contents_damage, live_contents, events_in}
+use Rattle.prov_store.specs.Events.{events_in}
+use Rattle.prov_store.specs.State.{EventsState, HasEvents}
+use Rattle.store_core.specs.State.{stands_for, contents_damage, live_contents}
 use Rattle.store_core.specs.Store.{StoreState, kept_by}
+use Rattle.store_core.specs.Touched.{log_opened}
 use Rattle.flowfile_record.specs.declared.event.Event.{Event}
 use Rattle.store_core.proofs.Opening.{stands_whole, events_damaged}
 
@@ -23,27 +30,24 @@ of_kept k = Ok k
 abbrev of_damage : Damage → Result State Damage
 of_damage damage = Err damage
 
-abbrev of_no_events : Damage → Result (List Event) Damage
-of_no_events damage = Err damage
-
 one_kept : (flow : Flow) (lot : ℕ) (files : Files) (k other : Kept) → kept_in flow lot files ≡ Ok k → kept_in flow lot files ≡ Ok other → other ≡ k
 one_kept flow lot files k other is also = let both : of_kept other ≡ of_kept k = sym also ∙ is in cc
 
 -- files that keep something of this flow, all sound, may be opened
-pub not_shut : (flow : Flow) (lot : ℕ) (files : Files) (k : Kept) → kept_in flow lot files ≡ Ok k → contents_damage files (live_contents k) ≡ None
-    → k.last_event ≡ 0 → flow_in k ≡ flow → IsShut flow lot files → ⊥
-not_shut flow lot files k is contents none same (inl damaged) =
-    let both : of_state _ ≡ Err damaged.0 = sym (stands_whole flow lot files k is contents none) ∙ damaged.1 in absurd cc
-not_shut flow lot files k is contents none same (inr other) =
+pub not_shut : (flow : Flow) (lot : ℕ) (files : Files) (k : Kept) (events : List Event) → kept_in flow lot files ≡ Ok k → contents_damage files (live_contents k) ≡ None
+    → events_in files k.last_event ≡ Ok events → flow_in k ≡ flow → IsShut flow lot files → ⊥
+not_shut flow lot files k events is contents says same (inl damaged) =
+    let both : of_state _ ≡ Err damaged.0 = sym (stands_whole flow lot files k events is contents says) ∙ damaged.1 in absurd cc
+not_shut flow lot files k events is contents says same (inr other) =
     let o = other.1 in
     let kept : o.kept ≡ k = one_kept flow lot files k o.kept is o.keeps in
     o.other (sym o.is ∙ ap (λ (x : Kept). x.flow) kept ∙ ap (λ (f : Flow). f.digest) same)
 
-pub is_other : (flow : Flow) (lot : ℕ) (files : Files) (k : Kept) (digest : List ℕ) → kept_in flow lot files ≡ Ok k → contents_damage files (live_contents k) ≡ None
-    → k.last_event ≡ 0 → k.flow ≡ digest → (k.flow ≡ flow.digest → ⊥) → IsOfOther flow lot digest files
-is_other flow lot files k digest is contents none same other = record {
+pub is_other : (flow : Flow) (lot : ℕ) (files : Files) (k : Kept) (events : List Event) (digest : List ℕ) → kept_in flow lot files ≡ Ok k → contents_damage files (live_contents k) ≡ None
+    → events_in files k.last_event ≡ Ok events → k.flow ≡ digest → (k.flow ≡ flow.digest → ⊥) → IsOfOther flow lot digest files
+is_other flow lot files k events digest is contents says same other = record {
   state = _;
-  stands = stands_whole flow lot files k is contents none;
+  stands = stands_whole flow lot files k events is contents says;
   kept = k;
   keeps = is;
   is = same;
@@ -56,15 +60,26 @@ pub moved : (a b : Files) (k other : Kept) (told : Option Damage) → b ≡ a �
 moved a b k other told files kept is =
     ap (λ (f : Files). contents_damage f (live_contents k)) (sym files) ∙ ap (λ (x : Kept). contents_damage b (live_contents x)) (sym kept) ∙ is
 
-pub events_told : (flow : Flow) (lot : ℕ) (files : Files) (k other : Kept) (damage told : Damage) → kept_in flow lot files ≡ Ok k → contents_damage files (live_contents k) ≡ None
-    → other ≡ k → events_in files other.last_event ≡ Err told → told ≡ damage → stands_for flow lot files ≡ of_damage damage
-events_told flow lot files k other damage told is contents same events same_damage =
-    events_damaged flow lot files k damage is contents
-    (ap (λ (x : Kept). events_in files x.last_event) (sym same) ∙ events ∙ ap of_no_events same_damage)
+-- the events that were read are those up to the last one of what is kept
+pub events_told : (a b : Files) (k : Kept) (e : EventsState) (last : ℕ) → b ≡ a → e.end ≡ last → last ≡ k.last_event → (has : HasEvents e b) → events_in a k.last_event ≡ Ok has.events
+events_told a b k e last files end is has =
+    ap (λ (f : Files). events_in f k.last_event) (sym files) ∙ ap (events_in b) (sym (end ∙ is)) ∙ has.says
 
-pub is_found : (flow : Flow) (lot : ℕ) (files : Files) (k : Kept) (s : StoreState) → kept_in flow lot files ≡ Ok k → contents_damage files (live_contents k) ≡ None → k.last_event ≡ 0 → kept_by s ≡ k
-    → IsFound flow lot s files
-is_found flow lot files k s is contents none same = record { kept = is ∙ ap of_kept (sym same); state = _; stood = stands_whole flow lot files k is contents none }
+pub events_torn : (flow : Flow) (lot : ℕ) (a b : Files) (k : Kept) (last : ℕ) (damage : Damage) → kept_in flow lot a ≡ Ok k → contents_damage a (live_contents k) ≡ None
+    → b ≡ a → last ≡ k.last_event → events_in b last ≡ Err damage → stands_for flow lot a ≡ of_damage damage
+events_torn flow lot a b k last damage is contents files same torn =
+    events_damaged flow lot a k damage is contents
+    (ap (λ (f : Files). events_in f k.last_event) (sym files) ∙ ap (events_in b) (sym same) ∙ torn)
+
+pub of_events_damaged : (error : EventsError) (damage : Damage) → of_events error ≡ StoreError.Damaged damage → error ≡ EventsError.Damaged damage
+of_events_damaged EventsError.Disk damage is = absurd cc
+of_events_damaged EventsError.Memory damage is = absurd cc
+of_events_damaged (EventsError.Damaged other) damage is = let same : other ≡ damage = cc in ap (λ (d : Damage). EventsError.Damaged d) same
+
+pub is_found : (flow : Flow) (lot : ℕ) (files : Files) (k : Kept) (events : List Event) (s : StoreState) → kept_in flow lot files ≡ Ok k → contents_damage files (live_contents k) ≡ None
+    → events_in files k.last_event ≡ Ok events → kept_by s ≡ k
+    → s.log.number ≡ Some (log_opened (current_number files)) → IsFound flow lot s files
+is_found flow lot files k events s is contents says same log = record { log = log; kept = is ∙ ap of_kept (sym same); state = _; stood = stands_whole flow lot files k events is contents says }
 
 pub found_at : (flow : Flow) (lot : ℕ) (s : StoreState) (a b : Files) → a ≡ b → IsFound flow lot s a → IsFound flow lot s b
 found_at flow lot s a b same is = subst (λ (files : Files). IsFound flow lot s files) same is

@@ -1,6 +1,6 @@
 -- What stays of a store whose log is mended while other files go, and of one that is being made.
-use Rattle.std.proofs.Common.{◌≡◌, ◌≢◌, ⊎_elim, inl, inr, ℕ, ◌-◌, ◌*◌, ◌^◌, ◌<◌, ◌≤◌, ◌==◌, min, Bool, true, false, List, [], ◌++◌, length, take, drop, get_or, refl, sym, ap, subst, ◌∙◌, arith}
-use Rattle.std.specs.Prelude.{Some, None, All, nat_lt, ◌&&◌}
+use Rattle.std.proofs.Common.{◌≡◌, ◌≢◌, ⊎_elim, inl, inr, ℕ, ◌^◌, ◌<◌, ◌≤◌, ◌==◌, Bool, true, false, List, [], ◌++◌, length, take, drop, get_or, refl, sym, ap, subst, ◌∙◌, arith}
+use Rattle.std.specs.Prelude.{Option, Some, None, All, nat_lt, ◌&&◌}
 use Rattle.std.proofs.lemmas.Bool.{cases_eq, eqb-true}
 use Rattle.std.proofs.lemmas.List.{nil_from_length}
 use Rattle.std.proofs.lemmas.List.Elements.{All-nil}
@@ -20,11 +20,13 @@ use Rattle.content_repo.specs.Slots.{end_of}
 use Rattle.flowfile_wal.specs.Current.{counts, current_number, current_log, log_in, of_some, log_of_number}
 use Rattle.flowfile_wal.specs.Steps.{LogState, SameLog, IsReadyIn, EndsClosed}
 use Rattle.flowfile_wal.proofs.Files.{alike, current_is}
-use Rattle.store_core.specs.Agreement.{Needs, IsPlain, Agrees, SameContent, events_front, blocks_size, events_per_file, IsUnmade}
+use Rattle.prov_store.specs.Events.{events_file}
+use Rattle.store_core.specs.Agreement.{Needs, IsPlain, Agrees, SameContent, SameEventFiles, IsUnmade}
 use Rattle.store_core.specs.Discard.{Discards}
 use Rattle.store_core.specs.Opened.{IsMade}
 use Rattle.store_core.proofs.Agreeing.{agrees_in_turn}
 use Rattle.store_core.proofs.Discarding.{passed_short}
+use Rattle.store_core.proofs.EventsStay.{same_covered}
 
 -- ---- a current log
 
@@ -36,27 +38,35 @@ same_claims old new contents same = λ k d lt.
       covered = λ h. subst (λ (bytes : List ℕ). end_of at ≤ length bytes) (sym (same at.slot)) h;
     }
 
-pub no_events : (file : ℕ) (files : Files) → events_front 0 file files ≡ []
-no_events file files =
-    let bytes = files (named Events file) in
-    let none : min events_per_file (0 - events_per_file * file) ≡ 0 = omega arith in
-    ap (λ (n : ℕ). take (blocks_size n bytes) bytes) none
-
 pub plain_agrees : (needs : Needs) (number : ℕ) (old new : Files) → IsPlain needs number → current_log new ≡ current_log old
-    → new (snapshot_file number) ≡ old (snapshot_file number) → All (SameContent old new) needs.contents → Agrees needs old new
-plain_agrees needs number old new plain log snapshot contents = record {
+    → new (snapshot_file number) ≡ old (snapshot_file number) → All (SameContent old new) needs.contents → SameEventFiles old new → Agrees needs old new
+plain_agrees needs number old new plain log snapshot contents events = record {
   log = log;
   snapshot = subst (λ (n : ℕ). new (snapshot_file n) ≡ old (snapshot_file n)) (sym plain.log) snapshot;
   batches = subst (λ (bs : List ℕ). All (λ b. new (named Swap b) ≡ old (named Swap b)) bs) (sym plain.batches) (All-nil (λ b. new (named Swap b) ≡ old (named Swap b)));
   contents = contents;
-  events = λ file. subst (λ (last : ℕ). events_front last file new ≡ events_front last file old) (sym plain.events) (no_events file new ∙ sym (no_events file old));
+  events = same_covered needs.last_event old new events;
 }
+
+-- a step on a file of another kind
+pub same_events_at : (file : FileName) (step : List ℕ → List ℕ → Type 0) (old new : Files) → file.kind ≢ Events → At file step old new → SameEventFiles old new
+same_events_at file step old new other changed k = changed.others (events_file k) (λ (same : events_file k ≡ file). other (sym (ap (λ (f : FileName). f.kind) same)))
+
+pub same_events_logged : (number : ℕ) (step : List ℕ → List ℕ → Type 0) (old new : Files) → At (named Log number) step old new → SameEventFiles old new
+same_events_logged number step old new = same_events_at (named Log number) step old new (λ (kinds : Log ≡ Events). absurd cc)
+
+pub same_events_snapshot : (number : ℕ) (step : List ℕ → List ℕ → Type 0) (old new : Files) → At (snapshot_file number) step old new → SameEventFiles old new
+same_events_snapshot number step old new = same_events_at (snapshot_file number) step old new (λ (kinds : Snapshot ≡ Events). absurd cc)
+
+pub same_events_discarded : (current : Option ℕ) (old new : Files) → Discards current old new → SameEventFiles old new
+same_events_discarded current old new step k = step.events (events_file k) refl
 
 pub mended_agrees : (needs : Needs) (number : ℕ) (old new : Files) → IsPlain needs number → At (named Log number) (SameLog number) old new → Agrees needs old new
 mended_agrees needs number old new plain changed =
     plain_agrees needs number old new plain (alike number old new changed)
     (changed.others (snapshot_file number) (λ (same : snapshot_file number ≡ named Log number). let kinds : Snapshot ≡ Log = ap (λ (f : FileName). f.kind) same in absurd cc))
     (same_claims old new needs.contents (λ k. changed.others (claim k) (λ (same : claim k ≡ named Log number). let kinds : Claim ≡ Log = ap (λ (f : FileName). f.kind) same in absurd cc)))
+    (same_events_logged number (SameLog number) old new changed)
 
 pub discarded_number : (number : ℕ) (old new : Files) → current_number old ≡ Some number → Discards (Some number) old new → current_number new ≡ Some number
 unfolding current_number
@@ -75,7 +85,7 @@ discarded_log number old new is step =
 pub discarded_agrees : (needs : Needs) (number : ℕ) (old new : Files) → IsPlain needs number → current_number old ≡ Some number → Discards (Some number) old new → Agrees needs old new
 discarded_agrees needs number old new plain is step =
     plain_agrees needs number old new plain (discarded_log number old new is step) (step.snapshot number refl)
-    (same_claims old new needs.contents (λ k. step.claims (claim k) refl))
+    (same_claims old new needs.contents (λ k. step.claims (claim k) refl)) (same_events_discarded (Some number) old new step)
 
 pub ready_number : (state : LogState) (number : ℕ) (files : Files) → state.number ≡ Some number → IsReadyIn state files → current_number files ≡ Some number
 ready_number state number files is ready = (current_is files ready.log ready.ready.current).number ∙ sym ready.number ∙ is
@@ -107,6 +117,21 @@ module _ {D : Type 0} (moment : D → ℕ) (images : D → ℕ → Files → Typ
       → ((d c : Files) → images old (moment old) d → step d c → Agrees needs d c) → Since moment images old new (Agreeing old)
   since_agrees old new step since is = wider moment images old new (After step (images old (moment old))) (Agreeing old) since (λ c after. (after.0, after.1, is after.0 c after.1 after.2))
 
+-- ---- the files of events
+
+module _ {D : Type 0} (moment : D → ℕ) (images : D → ℕ → Files → Type 0) where
+  abbrev pub EventsStaying : D → Files → Type 0
+  EventsStaying disk = After SameEventFiles (images disk (moment disk))
+
+  pub since_events : (old new : D) (step : Files → Files → Type 0) → Since moment images old new (After step (images old (moment old)))
+      → ((d c : Files) → step d c → SameEventFiles d c) → Since moment images old new (EventsStaying old)
+  since_events old new step since is = wider moment images old new (After step (images old (moment old))) (EventsStaying old) since (λ c after. (after.0, after.1, is after.0 c after.2))
+
+  pub since_events_in_turn : (old mid new : D) → Since moment images old mid (EventsStaying old) → Since moment images mid new (EventsStaying mid) → Since moment images old new (EventsStaying old)
+  since_events_in_turn old mid new first second =
+      step_after_step moment images old mid new SameEventFiles SameEventFiles SameEventFiles (images old (moment old)) first second
+      (λ d c r. r) (λ d e c r s k. s k ∙ r k)
+
 -- ---- a store that is made
 
 pub passed_over : (bytes : List ℕ) → IsPassedOver bytes → counts bytes ≡ false
@@ -136,7 +161,7 @@ unmade_discarded old new was step = record {
 }
   where
     gone : (f : FileName) → old f ≡ [] → new f ≡ []
-    gone f empty = nil_from_length (new f) (omega (arith, step.shorter f, ap length empty))
+    gone f empty = nil_from_length (new f) (omega (arith, (step.shorter f).no_longer, ap length empty))
 
 -- a step on the first snapshot
 pub unmade_snapshot : (old new : Files) (P : List ℕ → List ℕ → Type 0) → IsUnmade old → At (snapshot_file 1) P old new → IsUnmade new
@@ -179,4 +204,5 @@ made_log k old new was greater snapshot step = record {
   };
   snapshot = (snapshot.0, step.others (snapshot_file 1) (λ (same : snapshot_file 1 ≡ log_file 1). let kinds : Snapshot ≡ Log = ap (λ (f : FileName). f.kind) same in absurd cc) ∙ snapshot.1);
   claims = λ n lt. step.others (named Claim n) (λ (same : named Claim n ≡ log_file 1). let kinds : Claim ≡ Log = ap (λ (f : FileName). f.kind) same in absurd cc) ∙ was.claims n lt;
+  events = λ n lt. step.others (named Events n) (λ (same : named Events n ≡ log_file 1). let kinds : Events ≡ Log = ap (λ (f : FileName). f.kind) same in absurd cc) ∙ was.events n lt;
 }

@@ -1,5 +1,5 @@
 -- The machine's state that files stand for once a session's entry was added.
-use Rattle.std.proofs.Common.{◌≡◌, ℕ, ◌==◌, Bool, true, false, cond, not, List, [], ◌∷◌, map, take, drop, get_or, refl, sym, ap, subst, ◌∙◌}
+use Rattle.std.proofs.Common.{◌≡◌, ℕ, ◌==◌, Bool, true, false, cond, not, List, [], ◌∷◌, ◌++◌, map, take, drop, get_or, refl, sym, ap, subst, ◌∙◌}
 use Rattle.std.specs.Prelude.{Option, None, Some, Ok, All, Contains, filter, unwrap_or}
 use Rattle.std.specs.List.{AllZip}
 use Rattle.std.proofs.lemmas.List.Elements.{All-head, All-tail, All-filter}
@@ -23,15 +23,16 @@ use Rattle.kept_state.specs.Fits.{session_suits}
 use Rattle.kept_state.proofs.Keeping.{suits_from}
 use Rattle.machine_model.specs.State.{State}
 use Rattle.machine_model.specs.Changing.{state_after}
+use Rattle.prov_store.specs.Events.{events_in}
 use Rattle.store_core.specs.Change.{IsOldLive}
 use Rattle.store_core.specs.Flow.{Flow, flow_in}
 use Rattle.store_core.specs.Kept.{kept_in}
-use Rattle.store_core.specs.Placing.{GrowsBehind, IsPlacedAs, ArePlaced}
-use Rattle.store_core.specs.State.{stands_for, state_with, contents_damage, events_in, live_contents, queued}
-use Rattle.store_core.specs.Store.{StoreState, IsWorking, kept_by, live_in, Holds}
+use Rattle.store_core.specs.Placing.{IsPlacedAs, ArePlaced}
+use Rattle.store_core.specs.State.{stands_for, contents_damage, live_contents, queued}
+use Rattle.store_core.specs.Store.{StoreState, kept_by, live_in, Holds}
 use Rattle.store_core.proofs.Agreeing.{of_state, sound_of, stands_by_kept, state_of_sound}
 use Rattle.store_core.proofs.Commits.{same_flow}
-use Rattle.store_core.proofs.Growing.{same_grown}
+use Rattle.store_core.proofs.Following.{Follows}
 use Rattle.store_core.proofs.Machine.{IsSessionFor, state_behind}
 use Rattle.store_core.proofs.Queues.{IsQueuedAs, line}
 use Rattle.store_core.proofs.Sound.{content_of, unmap}
@@ -93,41 +94,37 @@ all_queued new old slots files (p ∷ placed) (a ∷ recorded) are reads same = 
 
 -- ---- a state
 
-no_events : (files : Files) (last : ℕ) (events : List Event) → last ≡ 0 → events_in files last ≡ Ok events → events ≡ []
-no_events files last events is read = let none : events_in files 0 ≡ Ok events = ap (events_in files) (sym is) ∙ read in cc
-
 -- what is the same of a session and its entry
 pub record IsSame (s : Settled) (se : SessionEntry) : Type 0 where
   pub gone : se.gone ≡ s.gone
   pub number : se.next_number ≡ s.next_number
   pub arrival : se.next_arrival ≡ s.next_arrival
   pub count : se.generator ≡ s.count
-  pub last_event : se.last_event ≡ 0
 
 pub state_added : (s new : StoreState) (settled : Settled) (se : SessionEntry) (number : ℕ) (e : LogEntry) (slots : List Slot) (old mid files : Files) (state : State)
-    → IsWorking s → (kept_by s).batches ≡ [] → session_suits no_files (kept_by s) se ≡ true → IsSame settled se → settled.events ≡ []
-    → Holds s old → stands_for (flow_in (kept_by s)) s.lot old ≡ of_state state → GrowsBehind s.slots old mid → Adds number e mid files → ArePlaced true slots mid settled.placed se.placed → All (IsOldLive s) settled.placed
+    → (kept_by s).batches ≡ [] → session_suits no_files (kept_by s) se ≡ true → IsSame settled se
+    → ((events : List Event) → events_in old (kept_by s).last_event ≡ Ok events → events_in files se.last_event ≡ Ok (events ++ settled.events))
+    → Holds s old → stands_for (flow_in (kept_by s)) s.lot old ≡ of_state state → Follows s old mid → Adds number e mid files → ArePlaced true slots mid settled.placed se.placed → All (IsOldLive s) settled.placed
     → Holds new files → kept_by new ≡ session_applied (kept_by s) se → new.lot ≡ s.lot
     → stands_for (flow_in (kept_by s)) s.lot files ≡ of_state (state_after (content_in old) state settled)
-state_added s new settled se number e slots old mid files state works batches suits same none holds stands grows added are live now kept lot =
+state_added s new settled se number e slots old mid files state batches suits same behind holds stands follows added are live now kept lot =
     let k = kept_by s in
     let flow = flow_in k in
     let k2 = session_applied k se in
     let was = sound_of old k state (sym (stands_by_kept flow s.lot old k holds.kept) ∙ stands) in
-    let started : state ≡ state_with (content_in old) [] k = was.is ∙ ap (λ (events : List Event). state_with (content_in old) events k) (no_events old k.last_event was.events works.last_event was.events_are) in
     let flow_same : flow_in (kept_by new) ≡ flow = ap flow_in kept ∙ same_flow k se in
     let keeps : kept_in flow s.lot files ≡ Ok k2 =
     ap (λ (f : Flow). kept_in f s.lot files) (sym flow_same) ∙ ap (λ (l : ℕ). kept_in (flow_in (kept_by new)) l files) (sym lot) ∙ now.kept ∙ ap (λ (l : Kept). Ok l) kept in
     let sound2 : contents_damage files (live_contents k2) ≡ None = ap (λ (l : Kept). contents_damage files (live_contents l)) (sym kept) ∙ now.contents in
-    let events2 : events_in files k2.last_event ≡ Ok [] = ap (events_in files) same.last_event in
+    let events2 : events_in files k2.last_event ≡ Ok (was.events ++ settled.events) = behind was.events was.events_are in
     let reads : (at : ContentRef) → content_in files at ≡ content_in mid at = λ at. added_content number e mid files at added in
     let stay : All (λ (at : ContentRef). content_in files at ≡ content_in old at) (live_in s) =
-    λ i d lt. let at = get_or (live_in s) i d in reads at ∙ (same_grown s.slots old mid at (works.within i d lt) grows).bytes in
+    λ i d lt. let at = get_or (live_in s) i d in reads at ∙ (follows.contents i d lt).bytes in
     let placed : All (λ (p : Placed). p.fresh ≡ None → content_in mid p.file.content ≡ content_in old p.file.content) settled.placed =
     λ i d lt fresh.
     let at = (get_or settled.placed i d).file.content in
     let has : Contains (live_in s) at = live i d lt fresh in
-    subst (λ (r : ContentRef). content_in mid r ≡ content_in old r) has.2 (same_grown s.slots old mid (get_or (live_in s) has.0 at) (works.within has.0 at has.1) grows).bytes in
+    subst (λ (r : ContentRef). content_in mid r ≡ content_in old r) has.2 (follows.contents has.0 at has.1).bytes in
     let session : IsSessionFor (content_in files) (content_in old) k settled se = record {
       gone = same.gone;
       number = same.number;
@@ -141,5 +138,5 @@ state_added s new settled se number e slots old mid files state works batches su
           (unmap (λ at. content_in files at ≡ content_in old at) k.files stay));
     } in
     stands_by_kept flow s.lot files k2 keeps
-    ∙ state_of_sound files k2 [] sound2 events2
-    ∙ ap of_state (state_behind (content_in files) (content_in old) k settled se session none ∙ ap (λ (t : State). state_after (content_in old) t settled) (sym started))
+    ∙ state_of_sound files k2 (was.events ++ settled.events) sound2 events2
+    ∙ ap of_state (state_behind (content_in files) (content_in old) was.events k settled se session ∙ ap (λ (t : State). state_after (content_in old) t settled) (sym was.is))

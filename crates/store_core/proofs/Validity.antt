@@ -11,6 +11,7 @@ use Rattle.disk_trait.specs.Files.{Files}
 use Rattle.flowfile_record.specs.NumberedItems.{AscendsByNumber}
 use Rattle.flowfile_record.specs.Stored.{Kept}
 use Rattle.flowfile_record.specs.declared.content.ContentRef.{ContentRef}
+use Rattle.flowfile_record.specs.declared.event.Event.{Event}
 use Rattle.flowfile_record.specs.declared.stored.ActiveFile.{ActiveFile}
 use Rattle.checkpoint_store.specs.Consistent.{AreDistinctBy, IsConsistent, IsFileIn}
 use Rattle.content_repo.specs.Claims.{content_in}
@@ -24,7 +25,9 @@ use Rattle.machine_model.proofs.Keyed.{counted, differ_from_once, numbered}
 use Rattle.machine_model.proofs.Ordered.{pairs_nil}
 use Rattle.machine_model.proofs.Tally.{at_most, at_place, bit, many, tally, tally-flat_map, tally-le, tally-map, tally-none, tally-plus, tally-same}
 use Rattle.store_core.specs.Flow.{flow_in}
-use Rattle.store_core.specs.State.{events_in, queued, queue_of, state_with, stands_for}
+use Rattle.prov_store.specs.Events.{events_in}
+use Rattle.prov_store.specs.State.{AreNumberedFrom}
+use Rattle.store_core.specs.State.{queued, queue_of, state_with, stands_for}
 use Rattle.store_core.specs.Store.{StoreState, kept_by, Holds}
 use Rattle.store_core.specs.Valid.{IsLive}
 use Rattle.store_core.proofs.Agreeing.{stands_by_kept, state_of_sound}
@@ -82,8 +85,8 @@ module _ (contents : ContentRef → List ℕ) where
       omega (arith, parts, one, all)
 
   -- all queues together weigh no more than the live files
-  queues_within : (w : QueuedFile → ℕ) (k : Kept) → tally w (files_of_all (state_with contents [] k)) ≤ tally w (map (queued contents) k.files)
-  queues_within w k =
+  queues_within : (w : QueuedFile → ℕ) (events : List Event) (k : Kept) → tally w (files_of_all (state_with contents events k)) ≤ tally w (map (queued contents) k.files)
+  queues_within w events k =
       let places = enumerate_from 0 k.connections in
       let queues = map (λ (c : ℕ × List ℕ). queue_of contents k.files c.0) places in
       let flat = tally-flat_map w (λ (queue : List QueuedFile). queue) queues in
@@ -107,7 +110,7 @@ differ_mapped g key (x ∷ xs) distinct =
     (All-map (λ f. key (g x) ≢ key f) g xs distinct.0)
     (differ_mapped g key xs distinct.1)
 
-module _ (contents : ContentRef → List ℕ) (k : Kept) (is : IsConsistent k) where
+module _ (contents : ContentRef → List ℕ) (events : List Event) (k : Kept) (is : IsConsistent k) where
   numbers_of_live : AreNumbered (λ f. f.number) k.next_number (map (queued contents) k.files)
   numbers_of_live = record {
     first = is.counters.next_number;
@@ -125,11 +128,11 @@ module _ (contents : ContentRef → List ℕ) (k : Kept) (is : IsConsistent k) w
         (All-weaker (IsFileIn k) (λ a. (1 ≤ a.file.arrival) × (a.file.arrival < k.next_arrival)) (λ a known. (known.first_arrival, known.arrival)) k.files is.files);
   }
 
-  numbered_all : (key : QueuedFile → ℕ) (next : ℕ) → AreNumbered key next (map (queued contents) k.files) → AreNumbered key next (files_of_all (state_with contents [] k))
+  numbered_all : (key : QueuedFile → ℕ) (next : ℕ) → AreNumbered key next (map (queued contents) k.files) → AreNumbered key next (files_of_all (state_with contents events k))
   numbered_all key next of_live =
-      let all = files_of_all (state_with contents [] k) in
+      let all = files_of_all (state_with contents events k) in
       let live = counted key next (map (queued contents) k.files) of_live in
-      let within : (n : ℕ) → many key n all ≤ many key n (map (queued contents) k.files) = λ n. queues_within contents (λ f. bit (key f == n)) k in
+      let within : (n : ℕ) → many key n all ≤ many key n (map (queued contents) k.files) = λ n. queues_within contents (λ f. bit (key f == n)) events k in
       numbered key next all (record {
         first = live.first;
         once = λ n. omega (arith, within n, live.once n);
@@ -219,11 +222,11 @@ past queues from place [] le = refl
 past queues from zero (name ∷ names) le = absurd (omega (arith, le))
 past queues from (suc place) (name ∷ names) le = past queues (from + 1) place names (omega (arith, le))
 
-module _ (contents : ContentRef → List ℕ) (k : Kept) where
-  queue_there : (place : ℕ) → place < length k.connections → queue_at (state_with contents [] k) place ≡ queue_of contents k.files place
+module _ (contents : ContentRef → List ℕ) (events : List Event) (k : Kept) where
+  queue_there : (place : ℕ) → place < length k.connections → queue_at (state_with contents events k) place ≡ queue_of contents k.files place
   queue_there place lt = there (queue_of contents k.files) 0 place k.connections lt ∙ ap (queue_of contents k.files) (omega arith)
 
-  queue_past : (place : ℕ) → length k.connections ≤ place → queue_at (state_with contents [] k) place ≡ []
+  queue_past : (place : ℕ) → length k.connections ≤ place → queue_at (state_with contents events k) place ≡ []
   queue_past place le = past (queue_of contents k.files) 0 place k.connections le
 
   live_in_queue : (place : ℕ) (file : QueuedFile) → Among file (queue_of contents k.files place) → IsLive contents k place file
@@ -241,14 +244,14 @@ module _ (contents : ContentRef → List ℕ) (k : Kept) where
             }
       ]
 
-  pub queued_is_live : (place : ℕ) (file : QueuedFile) → Contains (queue_at (state_with contents [] k) place) file → IsLive contents k place file
+  pub queued_is_live : (place : ℕ) (file : QueuedFile) → Contains (queue_at (state_with contents events k) place) file → IsLive contents k place file
   queued_is_live place file has =
       elim (cases_lt place (length k.connections)) [
         | inl lt ↦ live_in_queue place file (among_contained file (queue_of contents k.files place) (subst (λ (queue : List QueuedFile). Contains queue file) (queue_there place lt) has))
         | inr le ↦ absurd (among_contained file [] (subst (λ (queue : List QueuedFile). Contains queue file) (queue_past place le) has))
       ]
 
-  pub live_is_queued : (a : ActiveFile) → IsConsistent k → Contains k.files a → Contains (queue_at (state_with contents [] k) a.connection) (queued contents a)
+  pub live_is_queued : (a : ActiveFile) → IsConsistent k → Contains k.files a → Contains (queue_at (state_with contents events k) a.connection) (queued contents a)
   live_is_queued a is has =
       let within = (All-contains (IsFileIn k) k.files a is.files has).connection in
       let passes = keeps (λ (b : ActiveFile). b.connection == a.connection) k.files a (among_contained a k.files has) (eq-eqb a.connection a.connection refl) in
@@ -270,15 +273,15 @@ module _ (contents : ContentRef → List ℕ) (k : Kept) where
       (subst (λ (batch : Option ℕ). IfSome batch (λ n. (1 ≤ n) × (n < next))) (sym (none_of f.batch (omega (arith, none)))) tt)
       (unswapped next files (omega (arith, none)))
 
-  no_batches : All (HasBatchBelow k.next_batch) (files_of_all (state_with contents [] k))
+  no_batches : All (HasBatchBelow k.next_batch) (files_of_all (state_with contents events k))
   no_batches =
-      let within = queues_within contents (λ f. bit (is_some f.batch)) k in
+      let within = queues_within contents (λ f. bit (is_some f.batch)) events k in
       let live = tally-map (λ (f : QueuedFile). bit (is_some f.batch)) (queued contents) k.files in
-      unswapped k.next_batch (files_of_all (state_with contents [] k)) (omega (arith, within, live, tally-none k.files))
+      unswapped k.next_batch (files_of_all (state_with contents events k)) (omega (arith, within, live, tally-none k.files))
 
-  no_batch : (place batch : ℕ) → HasBatch (queue_at (state_with contents [] k) place) batch → ⊥
+  no_batch : (place batch : ℕ) → HasBatch (queue_at (state_with contents events k) place) batch → ⊥
   no_batch place batch has =
-      let queue = queue_at (state_with contents [] k) place in
+      let queue = queue_at (state_with contents events k) place in
       let from = is_made (λ (f : QueuedFile). f.batch) queue (Some batch) (among_contained (Some batch) (map (λ f. f.batch) queue) has) in
       let live = queued_is_live place from.source (contains_among from.source queue from.there) in
       let never : None ≡ Some batch = ap (λ (f : QueuedFile). f.batch) live.is ∙ from.is in
@@ -286,28 +289,28 @@ module _ (contents : ContentRef → List ℕ) (k : Kept) where
 
   -- ---- the state
 
-  pub kept_is_valid : (flow : Flow) → IsConsistent k → length k.connections ≡ length flow.connections → length k.counts ≡ length flow.processors
-      → IsValid flow (state_with contents [] k)
-  kept_is_valid flow is connections counts = record {
+  pub kept_is_valid : (flow : Flow) → IsConsistent k → AreNumberedFrom 1 events → length k.connections ≡ length flow.connections → length k.counts ≡ length flow.processors
+      → IsValid flow (state_with contents events k)
+  kept_is_valid flow is in_row connections counts = record {
     queues = length-map (enumerate_from 0 k.connections) (λ (c : ℕ × List ℕ). queue_of contents k.files c.0) ∙ length-enumerate_from 0 k.connections ∙ connections;
     counts = counts;
     numbered = record {
-      numbers = numbered_all contents k is (λ f. f.number) k.next_number (numbers_of_live contents k is);
-      arrivals = numbered_all contents k is (λ f. f.arrival) k.next_arrival (arrivals_of_live contents k is);
+      numbers = numbered_all contents events k is (λ f. f.number) k.next_number (numbers_of_live contents events k is);
+      arrivals = numbered_all contents events k is (λ f. f.arrival) k.next_arrival (arrivals_of_live contents events k is);
       first_batch = is.counters.next_batch;
       batches = no_batches;
     };
     by_arrival = All-map AreByArrival (λ (c : ℕ × List ℕ). queue_of contents k.files c.0) (enumerate_from 0 k.connections)
-        (λ i d lt. ordered contents k is (get_or (enumerate_from 0 k.connections) i d).0);
+        (λ i d lt. ordered contents events k is (get_or (enumerate_from 0 k.connections) i d).0);
     batches = λ one other batch has _. absurd (no_batch one batch has);
-    events = refl;
+    events = in_row;
     kin = refl;
   }
 
 -- ---- files that hold it
 
-pub held_stands : (s : StoreState) (files : Files) → (kept_by s).last_event ≡ 0 → Holds s files
-    → stands_for (flow_in (kept_by s)) s.lot files ≡ Ok (state_with (content_in files) [] (kept_by s))
-held_stands s files none holds =
+pub held_stands : (s : StoreState) (files : Files) (events : List Event) → Holds s files → events_in files (kept_by s).last_event ≡ Ok events
+    → stands_for (flow_in (kept_by s)) s.lot files ≡ Ok (state_with (content_in files) events (kept_by s))
+held_stands s files events holds says =
     stands_by_kept (flow_in (kept_by s)) s.lot files (kept_by s) holds.kept
-    ∙ state_of_sound files (kept_by s) [] holds.contents (ap (events_in files) none)
+    ∙ state_of_sound files (kept_by s) events holds.contents says

@@ -3,7 +3,7 @@ use Rattle.std.proofs.Common.{◌≡◌, ℕ, ◌+◌, ◌-◌, ◌^◌, Bool, t
 use Rattle.std.specs.Prelude.{Option, Some, Result, Ok, All, ◌⊎◌, min}
 use Rattle.disk_trait.specs.Files.{Files, named}
 use Rattle.disk_trait.specs.Images.{After, Since}
-use Rattle.disk_trait.specs.declared.file_name.FileKind.TheVariants.{Log, Claim}
+use Rattle.disk_trait.specs.declared.file_name.FileKind.TheVariants.{Log, Claim, Events}
 use Rattle.disk_trait.specs.declared.file_name.FileName.{FileName}
 use Rattle.disk_trait.proofs.Moments.{wider, wider_where_left, at_the_end, one_after_another}
 use Rattle.record_codec.specs.declared.entry.LogEntry.{LogEntry}
@@ -18,39 +18,45 @@ use Rattle.flowfile_wal.proofs.Files.{with_one_more}
 use Rattle.kept_state.specs.Applied.{applied}
 use Rattle.kept_state.specs.Changes.{no_files}
 use Rattle.kept_state.specs.Fits.{fits}
-use Rattle.store_core.specs.Committed.{HoldsEither, MayTouch, TouchesOnly}
-use Rattle.store_core.specs.Placing.{GrowsBehind}
+use Rattle.prov_store.specs.State.{EventsState, HasEvents, IsTrimmed}
+use Rattle.store_core.specs.Committed.{HoldsEither}
+use Rattle.store_core.specs.Touched.{MayTouch, TouchesOnly}
+use Rattle.store_core.specs.Placing.{GrowsAhead}
 use Rattle.store_core.specs.Store.{StoreState, IsWorking, IsKeptOn, kept_by, Holds, HasLog}
 use Rattle.disk_trait.specs.declared.damage.Damage.{Damage}
 use Rattle.content_repo.specs.Slots.{size_of}
-use Rattle.store_core.proofs.ClaimsAlone.{has_log_still}
-use Rattle.store_core.proofs.Commits.{holds_added, placed_sound, entry_is, entry_fits}
+use Rattle.store_core.proofs.ClaimsAlone.{has_log_same}
+use Rattle.store_core.proofs.EventsStay.{trimmed_same}
+use Rattle.store_core.proofs.Commits.{holds_added, events_beside_log, placed_sound, entry_is, entry_fits}
 use Rattle.record_codec.specs.Placeless.{placeless_entry}
 use Rattle.content_repo.specs.Claims.{HasSizes}
 use Rattle.store_core.specs.Change.{HasLiveContents}
 use Rattle.store_core.specs.Committed.{PreparedChange, IsPrepared}
 use Rattle.store_core.specs.Placing.{ArePlaced}
 use Rattle.kept_state.specs.Changes.{placed_in}
-use Rattle.store_core.proofs.Following.{Follows, follows_grown, follows_kept_log, follows_in_turn, holds_following}
+use Rattle.store_core.proofs.Following.{Follows, follows_ahead, follows_kept_log, follows_in_turn, holds_following, logs_ahead}
 use Rattle.store_core.proofs.Sound.{IsSoundIn, content_of}
 
 -- ---- before the log
 
--- grown claims hold what is kept
-pub holds_grown : (s : StoreState) (old new : Files) → IsWorking s → HasLog s old → Holds s old → GrowsBehind s.slots old new → Holds s new
-holds_grown s old new works has holds grows = holds_following s old new has (follows_grown s old new works grows) holds
+-- files that grow ahead of the log hold what is kept
+pub holds_ahead : (s : StoreState) (old new : Files) → IsWorking s → HasLog s old → Holds s old → GrowsAhead s.slots s.events old new → Holds s new
+holds_ahead s old new works has holds grows = holds_following s old new has (follows_ahead s old new works holds.events grows) holds
 
 module _ {D : Type 0} (moment : D → ℕ) (images : D → ℕ → Files → Type 0) (s : StoreState) (old mid : D) where
-  pub ready_grown : InEach (images old (moment old)) (HasLog s) → Since moment images old mid (After (GrowsBehind s.slots) (images old (moment old))) → InEach (images mid (moment mid)) (HasLog s)
-  ready_grown has since c left =
-      let after = at_the_end moment images old mid (After (GrowsBehind s.slots) (images old (moment old))) since c left in
-      has_log_still s after.0 c after.2.others (has after.0 after.1)
+  -- each image is one of the start, grown ahead of the log
+  abbrev pub SinceAhead : Type 0
+  SinceAhead = Since moment images old mid (After (GrowsAhead s.slots s.events) (images old (moment old)))
 
-  pub since_grown_holds : IsWorking s → InEach (images old (moment old)) (HasLog s) → InEach (images old (moment old)) (Holds s)
-      → Since moment images old mid (After (GrowsBehind s.slots) (images old (moment old))) → Since moment images old mid (Holds s)
-  since_grown_holds works has holds since =
-      wider moment images old mid (After (GrowsBehind s.slots) (images old (moment old))) (Holds s) since
-      (λ c after. holds_grown s after.0 c works (has after.0 after.1) (holds after.0 after.1) after.2)
+  pub ready_ahead : InEach (images old (moment old)) (HasLog s) → SinceAhead → InEach (images mid (moment mid)) (HasLog s)
+  ready_ahead has since c left =
+      let after = at_the_end moment images old mid (After (GrowsAhead s.slots s.events) (images old (moment old))) since c left in
+      has_log_same s after.0 c (logs_ahead s after.0 c after.2) (has after.0 after.1)
+
+  pub since_ahead_holds : IsWorking s → InEach (images old (moment old)) (HasLog s) → InEach (images old (moment old)) (Holds s) → SinceAhead → Since moment images old mid (Holds s)
+  since_ahead_holds works has holds since =
+      wider moment images old mid (After (GrowsAhead s.slots s.events) (images old (moment old))) (Holds s) since
+      (λ c after. holds_ahead s after.0 c works (has after.0 after.1) (holds after.0 after.1) after.2)
 
 -- ---- the whole
 
@@ -62,39 +68,40 @@ pub record IsAdded (s new : StoreState) (e : LogEntry) (held : Files) : Type 0 w
   pub contents : All (IsSoundIn held) (map content_of session.placed)
   pub kept : kept_by new ≡ applied no_files (kept_by s) e
   pub lot : new.lot ≡ s.lot
+  pub events : HasEvents new.events held
 
 module _ {D : Type 0} (moment : D → ℕ) (images : D → ℕ → Files → Type 0) (held : D → Files) (s new : StoreState) (number : ℕ) (e : LogEntry) (old mid end : D) where
-  -- one of the start with grown claims and the same log, or what was held with the entry
+  -- one of the start grown ahead of the log, with the same log, or what was held with the entry
   abbrev pub Either : Files → Type 0
   Either c = After (Follows s) (images old (moment old)) c ⊎ Adds number e (held mid) c
 
-  pub since_either : IsWorking s → Since moment images old mid (After (GrowsBehind s.slots) (images old (moment old)))
+  pub since_either : IsWorking s → InEach (images old (moment old)) (Holds s) → Since moment images old mid (After (GrowsAhead s.slots s.events) (images old (moment old)))
       → Since moment images mid end (WithOrWithout number e (images mid (moment mid)) (held mid)) → Since moment images old end Either
-  since_either works first second =
-      one_after_another moment images old mid end (After (GrowsBehind s.slots) (images old (moment old))) (WithOrWithout number e (images mid (moment mid)) (held mid)) Either first second
-      (λ c after. inl (after.0, after.1, follows_grown s after.0 c works after.2))
+  since_either works holds first second =
+      one_after_another moment images old mid end (After (GrowsAhead s.slots s.events) (images old (moment old))) (WithOrWithout number e (images mid (moment mid)) (held mid)) Either first second
+      (λ c after. inl (after.0, after.1, follows_ahead s after.0 c works (holds after.0 after.1).events after.2))
       by_log
     where
       by_log : (c : Files) → WithOrWithout number e (images mid (moment mid)) (held mid) c → Either c
       by_log c (inl after) =
-          let before = at_the_end moment images old mid (After (GrowsBehind s.slots) (images old (moment old))) first after.0 after.1 in
-          inl (before.0, before.1, follows_in_turn s before.0 after.0 c (follows_grown s before.0 after.0 works before.2) (follows_kept_log s number after.0 c after.2))
+          let before = at_the_end moment images old mid (After (GrowsAhead s.slots s.events) (images old (moment old))) first after.0 after.1 in
+          inl (before.0, before.1, follows_in_turn s before.0 after.0 c (follows_ahead s before.0 after.0 works (holds before.0 before.1).events before.2) (follows_kept_log s number after.0 c after.2))
       by_log c (inr added) = inr added
 
   module _ (works : IsWorking s) (has : InEach (images old (moment old)) (HasLog s)) (holds : InEach (images old (moment old)) (Holds s))
-      (first : Since moment images old mid (After (GrowsBehind s.slots) (images old (moment old)))) (numbered : s.log.number ≡ Some number) where
+      (first : Since moment images old mid (After (GrowsAhead s.slots s.events) (images old (moment old)))) (numbered : s.log.number ≡ Some number) where
     -- what was held is one of the images
     pub holds_new : images mid (moment mid) (held mid) → IsAdded s new e (held mid) → (c : Files) → Adds number e (held mid) c → Holds new c
     holds_new left is c added =
-        let before = at_the_end moment images old mid (After (GrowsBehind s.slots) (images old (moment old))) first (held mid) left in
-        let has_mid = has_log_still s before.0 (held mid) before.2.others (has before.0 before.1) in
-        let holds_mid = holds_grown s before.0 (held mid) works (has before.0 before.1) (holds before.0 before.1) before.2 in
-        holds_added s new number e is.session (held mid) c has_mid holds_mid numbered is.is is.fit added is.contents is.kept is.lot
+        let before = at_the_end moment images old mid (After (GrowsAhead s.slots s.events) (images old (moment old))) first (held mid) left in
+        let has_mid = has_log_same s before.0 (held mid) (logs_ahead s before.0 (held mid) before.2) (has before.0 before.1) in
+        let holds_mid = holds_ahead s before.0 (held mid) works (has before.0 before.1) (holds before.0 before.1) before.2 in
+        holds_added s new number e is.session (held mid) c has_mid holds_mid numbered is.is is.fit added is.contents is.kept is.lot is.events
 
     pub since_holds : (tells : Bool) → ((k : ℕ) (c : Files) → images end k c → IsTrue tells) → (IsTrue tells → images mid (moment mid) (held mid)) → (IsTrue tells → IsAdded s new e (held mid))
         → Since moment images mid end (WithOrWithout number e (images mid (moment mid)) (held mid)) → Since moment images old end (HoldsEither s new)
     since_holds tells told left is second =
-        wider_where_left moment images old end Either (HoldsEither s new) (since_either works first second) by_end
+        wider_where_left moment images old end Either (HoldsEither s new) (since_either works holds first second) by_end
       where
         by_end : (k : ℕ) (c : Files) → images end k c → Either c → HoldsEither s new c
         by_end k c image (inl after) = inl (holds_following s after.0 c (has after.0 after.1) after.2 (holds after.0 after.1))
@@ -105,33 +112,36 @@ module _ {D : Type 0} (moment : D → ℕ) (images : D → ℕ → Files → Typ
 not_claim : (log : Option ℕ) (f : FileName) → (MayTouch log f → ⊥) → f.kind ≡ Claim → ⊥
 not_claim log f other is = other (inl is)
 
+not_events : (log : Option ℕ) (f : FileName) → (MayTouch log f → ⊥) → f.kind ≡ Events → ⊥
+not_events log f other is = other (inr (inl is))
+
 not_log : (log : Option ℕ) (number : ℕ) (f : FileName) → log ≡ Some number → (MayTouch log f → ⊥) → f ≡ named Log number → ⊥
-not_log log number f numbered other is = other (inr (number, numbered, is))
+not_log log number f numbered other is = other (inr (inr (number, numbered, is)))
 
-pub touches_grown : (log : Option ℕ) (slots : List Slot) (old new : Files) → GrowsBehind slots old new → TouchesOnly (MayTouch log) old new
-touches_grown log slots old new grows f other = grows.others f (not_claim log f other)
+pub touches_ahead : (log : Option ℕ) (slots : List Slot) (events : EventsState) (old new : Files) → GrowsAhead slots events old new → TouchesOnly (MayTouch log) old new
+touches_ahead log slots events old new grows f other = grows.events.others f (not_events log f other) ∙ grows.claims.others f (not_claim log f other)
 
-module _ {D : Type 0} (moment : D → ℕ) (images : D → ℕ → Files → Type 0) (held : D → Files) (log : Option ℕ) (slots : List Slot) (number : ℕ) (e : LogEntry) (old mid end : D) where
+module _ {D : Type 0} (moment : D → ℕ) (images : D → ℕ → Files → Type 0) (held : D → Files) (log : Option ℕ) (slots : List Slot) (events : EventsState) (number : ℕ) (e : LogEntry) (old mid end : D) where
   abbrev pub Touching : Files → Type 0
   Touching = After (TouchesOnly (MayTouch log)) (images old (moment old))
 
-  pub since_grown_touches : Since moment images old mid (After (GrowsBehind slots) (images old (moment old))) → Since moment images old mid Touching
-  since_grown_touches since =
-      wider moment images old mid (After (GrowsBehind slots) (images old (moment old))) Touching since (λ c after. (after.0, after.1, touches_grown log slots after.0 c after.2))
+  pub since_ahead_touches : Since moment images old mid (After (GrowsAhead slots events) (images old (moment old))) → Since moment images old mid Touching
+  since_ahead_touches since =
+      wider moment images old mid (After (GrowsAhead slots events) (images old (moment old))) Touching since (λ c after. (after.0, after.1, touches_ahead log slots events after.0 c after.2))
 
-  pub since_touches : log ≡ Some number → Since moment images old mid (After (GrowsBehind slots) (images old (moment old)))
+  pub since_touches : log ≡ Some number → Since moment images old mid (After (GrowsAhead slots events) (images old (moment old)))
       → Since moment images mid end (WithOrWithout number e (images mid (moment mid)) (held mid))
       → (tells : Bool) → ((k : ℕ) (c : Files) → images end k c → IsTrue tells) → (IsTrue tells → images mid (moment mid) (held mid)) → Since moment images old end Touching
   since_touches numbered first second tells told left =
       wider_where_left moment images old end (λ c. Touching c ⊎ Adds number e (held mid) c) Touching
-      (one_after_another moment images old mid end (After (GrowsBehind slots) (images old (moment old))) (WithOrWithout number e (images mid (moment mid)) (held mid)) (λ c. Touching c ⊎ Adds number e (held mid) c) first second
-      (λ c after. inl (after.0, after.1, touches_grown log slots after.0 c after.2)) by_log)
+      (one_after_another moment images old mid end (After (GrowsAhead slots events) (images old (moment old))) (WithOrWithout number e (images mid (moment mid)) (held mid)) (λ c. Touching c ⊎ Adds number e (held mid) c) first second
+      (λ c after. inl (after.0, after.1, touches_ahead log slots events after.0 c after.2)) by_log)
       by_end
     where
       from_mid : (d c : Files) → images mid (moment mid) d → ((f : FileName) → (f ≡ named Log number → ⊥) → c f ≡ d f) → Touching c
       from_mid d c image others =
-          let before = at_the_end moment images old mid (After (GrowsBehind slots) (images old (moment old))) first d image in
-          (before.0, before.1, λ f other. others f (not_log log number f numbered other) ∙ before.2.others f (not_claim log f other))
+          let before = at_the_end moment images old mid (After (GrowsAhead slots events) (images old (moment old))) first d image in
+          (before.0, before.1, λ f other. others f (not_log log number f numbered other) ∙ touches_ahead log slots events before.0 d before.2 f other)
 
       by_log : (c : Files) → WithOrWithout number e (images mid (moment mid)) (held mid) c → Touching c ⊎ Adds number e (held mid) c
       by_log c (inl after) = inl (from_mid after.0 c after.1 after.2.others)
@@ -145,14 +155,14 @@ module _ {D : Type 0} (moment : D → ℕ) (images : D → ℕ → Files → Typ
 
 module _ {D : Type 0} (moment : D → ℕ) (images : D → ℕ → Files → Type 0) (held : D → Files) (s new : StoreState) (p : PreparedChange) (e : LogEntry) (old mid : D) (slots : List Slot) where
   pub is_added : (works : IsWorking s) → InEach (images old (moment old)) (HasLog s) → InEach (images old (moment old)) (Holds s)
-      → Since moment images old mid (After (GrowsBehind s.slots) (images old (moment old)))
+      → Since moment images old mid (After (GrowsAhead s.slots s.events) (images old (moment old)))
       → (prepared : IsPrepared s p) → (same : placeless_entry e ≡ placeless_entry p.entry) → HasLiveContents s p.settled
       → images mid (moment mid) (held mid) → HasSizes slots (held mid) → ArePlaced true slots (held mid) p.settled.placed (placed_in e)
-      → kept_by new ≡ applied no_files (kept_by s) e → new.lot ≡ s.lot → IsAdded s new e (held mid)
-  is_added works has holds first prepared same live left sizes placed kept lot =
+      → kept_by new ≡ applied no_files (kept_by s) e → new.lot ≡ s.lot → HasEvents new.events (held mid) → IsAdded s new e (held mid)
+  is_added works has holds first prepared same live left sizes placed kept lot events =
       let is = entry_is s p e prepared same in
-      let before = at_the_end moment images old mid (After (GrowsBehind s.slots) (images old (moment old))) first (held mid) left in
-      let holds_mid = holds_grown s before.0 (held mid) works (has before.0 before.1) (holds before.0 before.1) before.2 in
+      let before = at_the_end moment images old mid (After (GrowsAhead s.slots s.events) (images old (moment old))) first (held mid) left in
+      let holds_mid = holds_ahead s before.0 (held mid) works (has before.0 before.1) (holds before.0 before.1) before.2 in
       record {
         session = is.session;
         is = is.is;
@@ -162,6 +172,7 @@ module _ {D : Type 0} (moment : D → ℕ) (images : D → ℕ → Files → Typ
             (subst (λ (l : LogEntry). ArePlaced true slots (held mid) p.settled.placed (placed_in l)) is.is placed);
         kept = kept;
         lot = lot;
+        events = events;
       }
 
 -- ---- behind the log's second sync
@@ -188,17 +199,18 @@ claims_added number e slots more old new added sizes same k =
 
 module _ {D : Type 0} (tells : Bool) (moment : D → ℕ) (images : D → ℕ → Files → Type 0) (held : D → Files) (s new : StoreState) (number : ℕ) (e : LogEntry) (old mid end : D) (slots : List Slot) where
   pub kept_added : (works : IsWorking s) → InEach (images old (moment old)) (HasLog s) → InEach (images old (moment old)) (Holds s)
-      → Since moment images old mid (After (GrowsBehind s.slots) (images old (moment old))) → s.log.number ≡ Some number
+      → Since moment images old mid (After (GrowsAhead s.slots s.events) (images old (moment old))) → s.log.number ≡ Some number
       → ((c : Files) → images end (moment end) c → IsTrue tells) → (IsTrue tells → images mid (moment mid) (held mid)) → (IsTrue tells → images end (moment end) (held end)) → (IsTrue tells → IsAdded s new e (held mid))
       → InEach (images end (moment end)) (Adds number e (held mid)) → InEach (images end (moment end)) (IsReadyIn new.log)
       → new.entries ≡ min (s.entries + 1) (2 ^ 64 - 1) → (IsTrue tells → HasSizes slots (held mid)) → ((k : ℕ) → size_of new.slots k ≡ size_of slots k)
-      → IsKeptOn tells held moment images new end
-  kept_added works has holds first numbered told left last is added ready more sizes same = record {
+      → (IsTrue tells → IsTrimmed new.events.end (held mid)) → IsKeptOn tells held moment images new end
+  kept_added works has holds first numbered told left last is added ready more sizes same trimmed = record {
     holds = λ f c image. let t = told c image in holds_new moment images held s new number e old mid end works has holds first numbered (left t) (is t) c (added c image);
     log = λ f c image.
         let t = told c image in
-        let before = at_the_end moment images old mid (After (GrowsBehind s.slots) (images old (moment old))) first (held mid) (left t) in
-        let has_mid = has_log_still s before.0 (held mid) before.2.others (has before.0 before.1) in
+        let before = at_the_end moment images old mid (After (GrowsAhead s.slots s.events) (images old (moment old))) first (held mid) (left t) in
+        let has_mid = has_log_same s before.0 (held mid) (logs_ahead s before.0 (held mid) before.2) (has before.0 before.1) in
         record { ready = ready c image; entries = entries_more s new e (held mid) c number has_mid numbered (added c image) more };
     sizes = λ f t. claims_added number e slots new.slots (held mid) (held end) (added (held end) (last t)) (sizes t) same;
+    trimmed = λ f t. trimmed_same new.events.end (held mid) (held end) (events_beside_log number e (held mid) (held end) (added (held end) (last t))) (trimmed t);
   }

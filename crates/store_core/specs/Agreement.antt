@@ -1,14 +1,14 @@
 -- When two sets of files agree on all that a state needs of them.
-use Rattle.std.specs.Prelude.{◌≡◌, ℕ, zero, suc, ◌+◌, ◌-◌, ◌*◌, ◌^◌, ◌<◌, min, List, [], length, take, drop, All, None, Some, Ok}
+use Rattle.std.specs.Prelude.{◌≡◌, ℕ, ◌^◌, ◌<◌, List, [], All, None, Some, Ok}
 use Rattle.disk_trait.specs.Files.{Files, named}
 use Rattle.disk_trait.specs.declared.file_name.FileKind.TheVariants.{Log, Snapshot, Swap, Claim, Events}
 use Rattle.flowfile_record.specs.Stored.{Kept}
 use Rattle.flowfile_record.specs.declared.content.ContentRef.{ContentRef}
-use Rattle.record_codec.specs.Block.{Reading, Whole, reading_of}
-use Rattle.record_codec.specs.declared.block.TheConstants.{BLOCK_OVERHEAD}
 use Rattle.checkpoint_store.specs.Snapshot.{snapshot_file}
 use Rattle.content_repo.specs.Claims.{content_in, IsCovered}
 use Rattle.flowfile_wal.specs.Current.{CurrentLog, current_log, current_number}
+use Rattle.prov_store.specs.Events.{events_file}
+use Rattle.prov_store.specs.State.{SameEvents}
 use Rattle.store_core.specs.Flow.{Flow}
 use Rattle.store_core.specs.Kept.{kept_in, snapshot_for}
 use Rattle.store_core.specs.State.{live_contents}
@@ -29,26 +29,6 @@ pub record SameContent (old new : Files) (at : ContentRef) : Type 0 where
   pub bytes : content_in new at ≡ content_in old at
   pub covered : IsCovered old at → IsCovered new at
 
--- how many events a file of events has, at most
-abbrev pub events_per_file : ℕ
-events_per_file = 10000
-
-abbrev pub behind_event : Reading → (ℕ → ℕ) → ℕ
-behind_event (Whole kind payload) following = following (length payload + BLOCK_OVERHEAD)
-behind_event _ following = 0
-
--- how many bytes the first so many blocks of a file have
-abbrev pub blocks_size : (count : ℕ) → List ℕ → ℕ
-blocks_size zero bytes = 0
-blocks_size (suc count) bytes =
-    behind_event (reading_of bytes) (λ size. size + blocks_size count (drop size bytes))
-
--- the bytes of the events of a file, up to the last one
-abbrev pub events_front : (last file : ℕ) → Files → List ℕ
-events_front last file files =
-    let bytes = files (named Events file) in
-    take (blocks_size (min events_per_file (last - events_per_file * file)) bytes) bytes
-
 -- All that a state needs is the same: the current log with its entries, the snapshot of its number, the swap files of
 -- the batches that matter, the bytes of the live contents, and those of the events up to the last one.
 pub record Agrees (needs : Needs) (old new : Files) : Type 0 where
@@ -56,7 +36,7 @@ pub record Agrees (needs : Needs) (old new : Files) : Type 0 where
   pub snapshot : new (snapshot_file needs.log) ≡ old (snapshot_file needs.log)
   pub batches : All (λ batch. new (named Swap batch) ≡ old (named Swap batch)) needs.batches
   pub contents : All (SameContent old new) needs.contents
-  pub events : (file : ℕ) → events_front needs.last_event file new ≡ events_front needs.last_event file old
+  pub events : SameEvents needs.last_event old new
 
 -- The current log of these files has this number, and these batches matter there; where the files keep a state, these
 -- are its contents and its last event.
@@ -69,11 +49,14 @@ pub record IsNeeded (flow : Flow) (lot : ℕ) (files : Files) (needs : Needs) : 
   pub contents : (k : Kept) → kept_in flow lot files ≡ Ok k → needs.contents ≡ live_contents k
   pub last_event : (k : Kept) → kept_in flow lot files ≡ Ok k → needs.last_event ≡ k.last_event
 
--- what a state without batches and events needs of a log of this number
+-- what a state without batches needs of a log of this number
 pub record IsPlain (needs : Needs) (number : ℕ) : Type 0 where
   pub log : needs.log ≡ number
   pub batches : needs.batches ≡ []
-  pub events : needs.last_event ≡ 0
+
+-- each file of events is as it was
+abbrev pub SameEventFiles : Files → Files → Type 0
+SameEventFiles old new = (k : ℕ) → new (events_file k) ≡ old (events_file k)
 
 -- ---- files without one
 

@@ -1,5 +1,5 @@
 -- What a settled session asks of a store.
-use Rattle.std.specs.Prelude.{◌≡◌, ◌⊎◌, ℕ, ◌+◌, ◌≤◌, List, [], length, map, All, Contains, None, Some}
+use Rattle.std.specs.Prelude.{◌≡◌, ◌⊎◌, ℕ, ◌+◌, ◌≤◌, List, length, map, All, Contains, None, Some}
 use Rattle.std.specs.List.{filter_map}
 use Rattle.sha2.specs.Sha256.{sha256}
 use Rattle.flowfile_record.specs.Stored.{Kept}
@@ -13,6 +13,7 @@ use Rattle.kept_state.specs.Changes.{session_of, MaySettle}
 use Rattle.kept_state.specs.Limits.{live_limit, numbers_limit}
 use Rattle.kept_state.specs.declared.limit.Limit.{Limit}
 use Rattle.kept_state.specs.declared.limit.Which.TheVariants.{Claims}
+use Rattle.prov_store.specs.State.{AreNumberedFrom, HasBlock}
 use Rattle.store_core.specs.Store.{StoreState, kept_by, live_in}
 
 -- ---- what may be handed in
@@ -35,11 +36,12 @@ abbrev pub IsFresh : Placed → Type 0
 IsFresh p = (bytes : List ℕ) → p.fresh ≡ Some bytes
     → (length bytes ≤ CONTENT_MAX) × (p.file.content.size ≡ length bytes) × (p.file.content.digest ≡ sha256 bytes)
 
--- a settled session without events, whose entry fits but that it may pass a limit, and whose new contents are as its
--- files say
+-- A settled session whose entry fits but that it may pass a limit, and whose new contents are as its files say. Its
+-- events are numbered behind the last one, and each has a block unless a number passes its limit.
 pub record MayChange (k : Kept) (s : Settled) : Type 0 where
   pub settles : MaySettle k s
-  pub no_events : s.events ≡ []
+  pub numbered : AreNumberedFrom (k.last_event + 1) s.events
+  pub events : numbers_limit (session_applied k (session_of k s)) ≡ None → All HasBlock s.events
   pub fresh : All IsFresh s.placed
 
 -- each placed file without a new content has that of a live file

@@ -1,21 +1,21 @@
 -- A change that is on its way into the store, and what its commit leaves.
-use Rattle.std.specs.Prelude.{◌≡◌, ◌⊎◌, ℕ, ◌≤◌, length, Some, Option}
-use Rattle.disk_trait.specs.Files.{Files, named}
-use Rattle.disk_trait.specs.declared.file_name.FileKind.TheVariants.{Claim, Log}
-use Rattle.disk_trait.specs.declared.file_name.FileName.{FileName}
+use Rattle.std.specs.Prelude.{◌≡◌, ◌⊎◌, ◌+◌, ◌≤◌, length, All}
+use Rattle.disk_trait.specs.Files.{Files}
 use Rattle.flowfile_record.specs.declared.change.Change.TheVariants as change
 use Rattle.flowfile_record.specs.declared.change.Settled.{Settled}
 use Rattle.record_codec.specs.Placeless.{placeless_entry}
 use Rattle.record_codec.specs.declared.entry.LogEntry.{LogEntry}
 use Rattle.kept_state.specs.Applied.{applied}
 use Rattle.kept_state.specs.Changes.{entry_of, no_files}
+use Rattle.prov_store.specs.State.{HasBlock, NumberedEvents}
 use Rattle.store_core.specs.Change.{MayChange, IsWithinLimits}
 use Rattle.store_core.specs.Store.{StoreState, kept_by, Holds}
 
--- a change with the entry that it makes, whose new contents have no place yet
+-- a change with the entry that it makes, whose new contents have no place yet, and its events
 pub record PreparedChange : Type 0 where
   pub entry : LogEntry
   pub settled : Settled
+  pub events : NumberedEvents
 
 -- It was prepared by this store, as it is: all that its commit takes is there.
 pub record IsPrepared (store : StoreState) (p : PreparedChange) : Type 0 where
@@ -23,24 +23,20 @@ pub record IsPrepared (store : StoreState) (p : PreparedChange) : Type 0 where
   pub within : IsWithinLimits store p.settled
   pub entry : p.entry ≡ entry_of (kept_by store) (change.Session p.settled)
   pub room : length p.settled.placed ≤ store.memory.room
+  pub first : p.events.first ≡ (kept_by store).last_event + 1
+  pub events : p.events.events ≡ p.settled.events
+  pub blocks : All HasBlock p.settled.events
 
--- What is kept has the change, its new contents standing somewhere. The store's lot and the contents of its opening
--- stay.
+-- What is kept has the change, its new contents standing somewhere. The number of the store's log, its lot and the
+-- contents of its opening stay.
 pub record HasChange (p : PreparedChange) (old new : StoreState) : Type 0 where
   pub entry : LogEntry
   pub same : placeless_entry entry ≡ placeless_entry p.entry
   pub kept : kept_by new ≡ applied no_files (kept_by old) entry
+  pub log : new.log.number ≡ old.log.number
   pub opened : new.opened ≡ old.opened
   pub lot : new.lot ≡ old.lot
 
 -- the files hold the state before the change, or that behind it
 abbrev pub HoldsEither : (old new : StoreState) → Files → Type 0
 HoldsEither old new files = Holds old files ⊎ Holds new files
-
--- files of claims change, and the log of this number
-abbrev pub MayTouch : Option ℕ → FileName → Type 0
-MayTouch log f = (f.kind ≡ Claim) ⊎ ((n : ℕ) × (log ≡ Some n) × (f ≡ named Log n))
-
--- each other file is as it was
-abbrev pub TouchesOnly : (FileName → Type 0) → Files → Files → Type 0
-TouchesOnly may old new = (f : FileName) → (may f → ⊥) → new f ≡ old f

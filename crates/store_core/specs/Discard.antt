@@ -2,7 +2,7 @@
 use Rattle.std.specs.Prelude.{◌≡◌, ◌≢◌, ℕ, ◌<◌, ◌≤◌, ◌==◌, nat_le, Bool, true, false, length, Option, None, Some}
 use Rattle.disk_trait.specs.Files.{Files, Shortened, named}
 use Rattle.disk_trait.specs.declared.file_name.FileKind.{FileKind}
-use Rattle.disk_trait.specs.declared.file_name.FileKind.TheVariants.{Log, Snapshot, Claim}
+use Rattle.disk_trait.specs.declared.file_name.FileKind.TheVariants.{Log, Snapshot, Claim, Events}
 use Rattle.disk_trait.specs.declared.file_name.FileName.{FileName}
 use Rattle.flowfile_wal.specs.Current.{counts}
 use Rattle.store_core.specs.declared.discard.Spared.{Spared}
@@ -31,11 +31,12 @@ abbrev pub IsAbove : Option ℕ → ℕ → Type 0
 IsAbove None n = Unit {0}
 IsAbove (Some current) n = current < n
 
--- Files that don't matter get shorter, or go: the current log, its snapshot and all claims stay, and a log above the
--- current one that is passed over is passed over still.
+-- Files that don't matter get shorter, or go: the current log, its snapshot, all claims and all files of events stay,
+-- and a log above the current one that is passed over is passed over still.
 pub record Discards (current : Option ℕ) (old new : Files) : Type 0 where
   pub claims : (f : FileName) → f.kind ≡ Claim → new f ≡ old f
+  pub events : (f : FileName) → f.kind ≡ Events → new f ≡ old f
   pub log : (n : ℕ) → current ≡ Some n → new (named Log n) ≡ old (named Log n)
   pub snapshot : (n : ℕ) → current ≡ Some n → new (named Snapshot n) ≡ old (named Snapshot n)
-  pub shorter : (f : FileName) → length (new f) ≤ length (old f)
+  pub shorter : (f : FileName) → Shortened 0 (old f) (new f)
   pub passed : (n : ℕ) → IsAbove current n → counts (old (named Log n)) ≡ false → counts (new (named Log n)) ≡ false

@@ -1,5 +1,5 @@
 -- What opening a store finds and leaves.
-use Rattle.std.specs.Prelude.{◌≡◌, ◌≢◌, ◌⊎◌, ℕ, ◌^◌, ◌<◌, Bool, false, IsTrue, List, [], ◌++◌, Ok, Err, None}
+use Rattle.std.specs.Prelude.{◌≡◌, ◌≢◌, ◌⊎◌, ℕ, ◌^◌, ◌<◌, Bool, false, IsTrue, List, [], ◌++◌, Ok, Err, None, Some}
 use Rattle.disk_trait.specs.declared.file_name.FileKind.TheVariants.{Claim}
 use Rattle.checkpoint_store.specs.Begun.{IsBegun}
 use Rattle.checkpoint_store.specs.Consistent.{IsConsistent}
@@ -7,13 +7,17 @@ use Rattle.checkpoint_store.specs.Snapshot.{snapshot, snapshot_file}
 use Rattle.disk_trait.specs.Files.{Files, named}
 use Rattle.disk_trait.specs.declared.damage.Damage.{Damage}
 use Rattle.flowfile_record.specs.Stored.{Kept}
+use Rattle.flowfile_wal.specs.Current.{current_number}
 use Rattle.machine_model.specs.State.{State}
+use Rattle.prov_store.specs.Events.{events_file}
+use Rattle.prov_store.specs.State.{EventsState, HasEvents, HasStale}
 use Rattle.store_core.specs.Flow.{Flow, flow_in}
 use Rattle.store_core.specs.Kept.{kept_in}
 use Rattle.store_core.specs.Found.{IsFoundIn}
 use Rattle.store_core.specs.New.{kept_anew}
 use Rattle.store_core.specs.State.{stands_for, contents_damage, live_contents}
 use Rattle.store_core.specs.Store.{StoreState, kept_by, live_in}
+use Rattle.store_core.specs.Touched.{log_opened}
 use Rattle.store_core.specs.declared.reading.Found.{Found}
 
 -- the store that was opened: it is of this flow, and works; the live contents are those of the opening
@@ -23,8 +27,9 @@ pub record IsOpenedFor (flow : Flow) (lot : ℕ) (s : StoreState) : Type 0 where
   pub works : s.failed ≡ false
   pub contents : s.opened ≡ live_in s
 
--- the files kept what the store has in memory, and stood for a state
+-- the files kept what the store has in memory, and stood for a state; its log is their current one, or the first
 pub record IsFound (flow : Flow) (lot : ℕ) (s : StoreState) (files : Files) : Type 0 where
+  pub log : s.log.number ≡ Some (log_opened (current_number files))
   pub kept : kept_in flow lot files ≡ Ok (kept_by s)
   pub state : State
   pub stood : stands_for flow lot files ≡ Ok state
@@ -50,19 +55,22 @@ pub record SameMeaning (flow : Flow) (lot : ℕ) (old new : Files) : Type 0 wher
   pub state : stands_for flow lot new ≡ stands_for flow lot old
 
 -- what was read is all that the files stand for: nothing of it is damaged
-pub record IsReadWhole (tells : Bool) (lot : ℕ) (files : Files) (found : Found) : Type 0 where
+pub record IsReadWhole (tells : Bool) (lot : ℕ) (files : Files) (found : Found) (known : EventsState) : Type 0 where
   pub consistent : IsConsistent found.state.kept
   pub no_batches : found.state.kept.batches ≡ []
-  pub no_events : found.state.kept.last_event ≡ 0
+  pub last_event : known.end ≡ found.state.kept.last_event
   pub anew : found.log.number ≡ None → found.state.kept ≡ kept_anew (flow_in found.state.kept) lot
   pub empty : found.log.number ≡ None → found.entries ≡ 0
   pub small : found.entries < 2 ^ 64
   pub works : found.log.failed ≡ false
   pub told : IsTrue tells → IsFoundIn (flow_in found.state.kept) lot files found
   pub contents : IsTrue tells → contents_damage files (live_contents found.state.kept) ≡ None
+  pub events : IsTrue tells → HasEvents known files
+  pub stale : IsTrue tells → HasStale known files
 
 -- the store has in memory what was read
 pub record IsRevived (lot : ℕ) (found : Found) (s : StoreState) : Type 0 where
+  pub log : s.log.number ≡ Some (log_opened found.log.number)
   pub kept : kept_by s ≡ found.state.kept
   pub lot_is : s.lot ≡ lot
   pub works : s.failed ≡ false
@@ -73,3 +81,4 @@ pub record IsMade (k : Kept) (files : Files) : Type 0 where
   pub log : IsBegun 1 files
   pub snapshot : (rest : List ℕ) × (files (snapshot_file 1) ≡ snapshot k ++ rest)
   pub claims : (n : ℕ) → n < 2 ^ 64 → files (named Claim n) ≡ []
+  pub events : (n : ℕ) → n < 2 ^ 64 → files (events_file n) ≡ []

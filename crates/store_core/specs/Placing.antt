@@ -1,9 +1,10 @@
--- The contents of a change, as they are placed and given up.
-use Rattle.std.specs.Prelude.{◌≡◌, ℕ, ◌+◌, ◌<◌, ◌≤◌, IsTrue, Bool, List, [], ◌∷◌, ◌++◌, length, take, map, All, None, Some, option_map}
+-- What a change has ahead of the log: its contents, as they are placed and given up, and its events.
+use Rattle.std.specs.Prelude.{◌≡◌, ℕ, ◌+◌, ◌<◌, ◌≤◌, IsTrue, Bool, List, [], ◌∷◌, ◌++◌, length, take, map, All, None, Some, Ok, option_map}
 use Rattle.std.specs.List.{filter_map}
 use Rattle.std.specs.List.{AllZip}
 use Rattle.disk_trait.specs.Files.{Files}
 use Rattle.flowfile_record.specs.declared.content.ContentRef.{ContentRef}
+use Rattle.flowfile_record.specs.declared.event.Event.{Event}
 use Rattle.flowfile_record.specs.declared.stored.ActiveFile.{ActiveFile}
 use Rattle.flowfile_record.specs.declared.stored.Placed.{Placed}
 use Rattle.record_codec.specs.ActiveFile.{active}
@@ -14,6 +15,8 @@ use Rattle.content_repo.specs.declared.content.TheConstants.{HELD_MAX}
 use Rattle.content_repo.specs.declared.slot.Slot.{Slot}
 use Rattle.kept_state.specs.Changes.{placed_in, record_of, at_content}
 use Rattle.kept_state.specs.Fits.{active_of}
+use Rattle.prov_store.specs.Events.{events_in}
+use Rattle.prov_store.specs.State.{EventsState, IsReady, IsAppended, GrowsBehind as EventsGrow}
 use Rattle.store_core.specs.Change.{IsFresh, fresh_sizes_of}
 
 -- the contents of the files of these numbers
@@ -30,6 +33,12 @@ pub record IsHeldIn (slots : List Slot) (at : ContentRef) : Type 0 where
 abbrev pub GrowsBehind : List Slot → Files → Files → Type 0
 GrowsBehind slots =
     OnClaims (λ k old new. (take (size_of slots k) new ≡ take (size_of slots k) old) × (length old ≤ length new))
+
+-- claims grow behind their ends, and then files of events behind the last event
+pub record GrowsAhead (slots : List Slot) (known : EventsState) (old new : Files) : Type 0 where
+  pub mid : Files
+  pub claims : GrowsBehind slots old mid
+  pub events : EventsGrow known mid new
 
 -- The placed file as it is recorded: a new content stands in its claim, an old one where it stood.
 pub record IsPlacedAs (tells : Bool) (slots : List Slot) (files : Files) (p : Placed) (a : ActiveFile) : Type 0 where
@@ -86,3 +95,10 @@ pub record PlacesAll (tells : Bool) (files : Files) (all : List Placed) (old new
     : Type 0 where
   pub placed : ArePlaced tells new files all (placed_in after)
   pub holds : HoldsMore (placed_in after) old new
+
+-- These events stand behind those of before, and nothing behind them.
+pub record AddsEvents (tells : Bool) (events : List Event) (old new : EventsState) (before after : Files) : Type 0 where
+  pub appended : IsAppended events old new
+  pub added : IsTrue tells → (earlier : List Event) → events_in before old.end ≡ Ok earlier
+      → events_in after new.end ≡ Ok (earlier ++ events)
+  pub ready : IsTrue tells → IsReady new after

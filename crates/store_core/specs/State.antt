@@ -3,10 +3,9 @@ use Rattle.std.specs.Prelude.{ℕ, ◌==◌, nat_lt, List, [], ◌∷◌, length
 use Rattle.std.specs.List.{enumerate_from}
 use Rattle.std.specs.FinSet.{from_list}
 use Rattle.sha2.specs.Sha256.{sha256}
-use Rattle.disk_trait.specs.Files.{Files, named}
+use Rattle.disk_trait.specs.Files.{Files}
 use Rattle.disk_trait.specs.declared.damage.Damage.{Damage}
 use Rattle.disk_trait.specs.declared.damage.Damage.TheVariants.{Digest, Short}
-use Rattle.disk_trait.specs.declared.file_name.FileKind.TheVariants.{Events}
 use Rattle.flowfile_record.specs.Kin.{kin_of_all}
 use Rattle.flowfile_record.specs.Stored.{Kept}
 use Rattle.flowfile_record.specs.declared.content.ContentRef.{ContentRef}
@@ -16,8 +15,9 @@ use Rattle.content_repo.specs.Claims.{claim, content_in}
 use Rattle.content_repo.specs.Slots.{end_of}
 use Rattle.machine_model.specs.Changing.{queued_file, with_arrival}
 use Rattle.machine_model.specs.State.{QueuedFile, State}
+use Rattle.prov_store.specs.Events.{events_in}
 use Rattle.store_core.specs.Flow.{Flow}
-use Rattle.store_core.specs.Kept.{absent, kept_in}
+use Rattle.store_core.specs.Kept.{kept_in}
 
 -- ---- contents
 
@@ -45,12 +45,6 @@ contents_damage files (at ∷ contents) = first_damage (content_damage files at)
 -- the contents of the live files, by the files' numbers
 abbrev pub live_contents : Kept → List ContentRef
 live_contents k = map (λ active. active.file.content) k.files
-
--- ---- events
-
--- The events up to the last one. No event is kept yet: where there is one, its file counts as absent.
-abbrev pub events_in : Files → (last : ℕ) → Result (List Event) Damage
-events_in files last = if last == 0 then Ok [] else Err (absent (named Events 0))
 
 -- ---- queues
 

@@ -11,31 +11,34 @@ use Rattle.flowfile_wal.specs.Calls.{InEach}
 use Rattle.flowfile_wal.specs.Current.{CurrentLog, current_log}
 use Rattle.flowfile_wal.specs.Steps.{LogState, IsReadyIn}
 use Rattle.kept_state.specs.Memory.{InMemory}
+use Rattle.prov_store.specs.State.{EventsState, HasEvents, IsTrimmed}
 use Rattle.machine_model.specs.State.{State}
 use Rattle.store_core.specs.Flow.{Flow, flow_in}
 use Rattle.store_core.specs.Kept.{kept_in}
 use Rattle.store_core.specs.State.{contents_damage, live_contents, stands_for}
 
 -- What is kept, with room for more files; the current log, and how many entries it has, counted up to 2^64 - 1; the
--- slots of the contents; those that were live when the store was opened; the lot that a new store was to be made of;
--- whether a call met a failure of the disk.
+-- slots of the contents; those that were live when the store was opened; what is known of the files of events; the lot
+-- that a new store was to be made of; whether a call met a failure of the disk.
 pub record StoreState : Type 0 where
   pub memory : InMemory
   pub log : LogState
   pub entries : ℕ
   pub slots : List Slot
   pub opened : List ContentRef
+  pub events : EventsState
   pub lot : ℕ
   pub failed : Bool
 
-abbrev pub state_in : InMemory → LogState → (entries : ℕ) → List Slot → (opened : List ContentRef) → (lot : ℕ)
-    → (failed : Bool) → StoreState
-state_in memory log entries slots opened lot failed = record {
+abbrev pub state_in : InMemory → LogState → (entries : ℕ) → List Slot → (opened : List ContentRef) → EventsState
+    → (lot : ℕ) → (failed : Bool) → StoreState
+state_in memory log entries slots opened events lot failed = record {
   memory = memory;
   log = log;
   entries = entries;
   slots = slots;
   opened = opened;
+  events = events;
   lot = lot;
   failed = failed;
 }
@@ -48,10 +51,10 @@ abbrev pub live_in : StoreState → List ContentRef
 live_in s = live_contents (kept_by s)
 
 -- Each live content is held once, and once more each of the opening's. The claims reach to the ends of the live ones.
--- No event is kept.
+-- The last event of what is kept is the last one that is known.
 pub record IsWorking (s : StoreState) : Type 0 where
   pub log : s.log.failed ≡ false
-  pub last_event : (kept_by s).last_event ≡ 0
+  pub last_event : (kept_by s).last_event ≡ s.events.end
   pub counts : (k : ℕ) → count_of s.slots k ≡ references_to k (live_in s) + references_to k s.opened
   pub held : held_in s.slots ≡ length (live_in s) + length s.opened
   pub named : All IsNamed (live_in s)
@@ -64,10 +67,11 @@ pub record IsSound (s : StoreState) : Type 0 where
   pub opened : length s.opened ≤ LIVE_FILES_MAX
   pub works : s.failed ≡ false → IsWorking s
 
--- the files keep what the store has in memory, with all live contents
+-- the files keep what the store has in memory, with all live contents and all events
 pub record Holds (s : StoreState) (files : Files) : Type 0 where
   pub kept : kept_in (flow_in (kept_by s)) s.lot files ≡ Ok (kept_by s)
   pub contents : contents_damage files (live_in s) ≡ None
+  pub events : HasEvents s.events files
 
 -- the current log of the files is the one in memory
 pub record HasLog (s : StoreState) (files : Files) : Type 0 where
@@ -75,13 +79,14 @@ pub record HasLog (s : StoreState) (files : Files) : Type 0 where
   pub entries : (log : CurrentLog) → current_log files ≡ Ok (Some log)
       → s.entries ≡ min (length log.entries) (2 ^ 64 - 1)
 
--- Unless a call met a failure of the disk: whatever a stop leaves now is what the store has in memory, and the claims
--- are as long as it knows.
+-- Unless a call met a failure of the disk: whatever a stop leaves now is what the store has in memory, the claims are
+-- as long as it knows, and nothing stands behind the last event.
 pub record IsKeptOn {D : Type 0} (tells : Bool) (held : D → Files) (moment : D → ℕ) (images : D → ℕ → Files → Type 0)
     (s : StoreState) (disk : D) : Type 0 where
   pub holds : s.failed ≡ false → InEach (images disk (moment disk)) (Holds s)
   pub log : s.failed ≡ false → InEach (images disk (moment disk)) (HasLog s)
   pub sizes : s.failed ≡ false → IsTrue tells → HasSizes s.slots (held disk)
+  pub trimmed : s.failed ≡ false → IsTrue tells → IsTrimmed s.events.end (held disk)
 
 -- one of these contents stands in the claim of this number
 abbrev pub StandsIn : ℕ → List ContentRef → Type 0

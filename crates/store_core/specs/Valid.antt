@@ -3,6 +3,7 @@ use Rattle.std.specs.Prelude.{◌≡◌, ℕ, List, [], length, Contains, Ok}
 use Rattle.disk_trait.specs.Files.{Files}
 use Rattle.flowfile_record.specs.Stored.{Kept}
 use Rattle.flowfile_record.specs.declared.content.ContentRef.{ContentRef}
+use Rattle.flowfile_record.specs.declared.event.Event.{Event}
 use Rattle.flowfile_record.specs.declared.stored.ActiveFile.{ActiveFile}
 use Rattle.checkpoint_store.specs.Consistent.{IsConsistent}
 use Rattle.content_repo.specs.Claims.{content_in}
@@ -10,22 +11,26 @@ use Rattle.machine_model.specs.declared.flow.Flow.{Flow}
 use Rattle.machine_model.specs.Files.{queue_at}
 use Rattle.machine_model.specs.State.{QueuedFile}
 use Rattle.machine_model.specs.Valid.{IsValid}
+use Rattle.prov_store.specs.Events.{events_in}
+use Rattle.prov_store.specs.State.{AreNumberedFrom}
 use Rattle.store_core.specs.Flow.{flow_in}
 use Rattle.store_core.specs.State.{queued, state_with, stands_for}
 use Rattle.store_core.specs.Store.{StoreState, kept_by, Holds}
 
--- what is kept without batches is a valid state of each flow with as many connections and processors
+-- what is kept without batches is, with events in a row, a valid state of each flow with as many connections and
+-- processors
 abbrev pub KeptIsValid : Type 0
 KeptIsValid =
-    (flow : Flow) (contents : ContentRef → List ℕ) (k : Kept) → IsConsistent k → k.batches ≡ []
+    (flow : Flow) (contents : ContentRef → List ℕ) (events : List Event) (k : Kept) → IsConsistent k → k.batches ≡ []
+    → AreNumberedFrom 1 events
     → length k.connections ≡ length flow.connections → length k.counts ≡ length flow.processors
-    → IsValid flow (state_with contents [] k)
+    → IsValid flow (state_with contents events k)
 
 -- each live file stands in the queue of its connection
 abbrev pub LiveFilesAreQueued : Type 0
 LiveFilesAreQueued =
-    (contents : ContentRef → List ℕ) (k : Kept) (a : ActiveFile) → IsConsistent k → Contains k.files a
-    → Contains (queue_at (state_with contents [] k) a.connection) (queued contents a)
+    (contents : ContentRef → List ℕ) (events : List Event) (k : Kept) (a : ActiveFile) → IsConsistent k
+    → Contains k.files a → Contains (queue_at (state_with contents events k) a.connection) (queued contents a)
 
 -- this file of a queue is a live one of its connection
 pub record IsLive (contents : ContentRef → List ℕ) (k : Kept) (place : ℕ) (file : QueuedFile) : Type 0 where
@@ -37,11 +42,12 @@ pub record IsLive (contents : ContentRef → List ℕ) (k : Kept) (place : ℕ) 
 -- and nothing else stands in a queue
 abbrev pub QueuedFilesAreLive : Type 0
 QueuedFilesAreLive =
-    (contents : ContentRef → List ℕ) (k : Kept) (place : ℕ) (file : QueuedFile)
-    → Contains (queue_at (state_with contents [] k) place) file → IsLive contents k place file
+    (contents : ContentRef → List ℕ) (events : List Event) (k : Kept) (place : ℕ) (file : QueuedFile)
+    → Contains (queue_at (state_with contents events k) place) file → IsLive contents k place file
 
--- files that hold what a store without events has in memory stand for it, with the contents that stand in them
+-- files that hold what a store has in memory stand for it, with the contents and the events that stand in them
 abbrev pub HeldFilesStandForKept : Type 0
 HeldFilesStandForKept =
-    (s : StoreState) (files : Files) → (kept_by s).last_event ≡ 0 → Holds s files
-    → stands_for (flow_in (kept_by s)) s.lot files ≡ Ok (state_with (content_in files) [] (kept_by s))
+    (s : StoreState) (files : Files) (events : List Event) → Holds s files
+    → events_in files (kept_by s).last_event ≡ Ok events
+    → stands_for (flow_in (kept_by s)) s.lot files ≡ Ok (state_with (content_in files) events (kept_by s))

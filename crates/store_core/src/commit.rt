@@ -1,19 +1,29 @@
-//! A change becomes part of the store: its contents first, then the log.
-ghost use Rattle.std.specs.Prelude.{◌≡◌, ℕ, ◌⊎◌, true, false, Ok, IfOk, OnOk, IfErr, IsErrOf, IsTrue};
+//! A change becomes part of the store: its contents and its events first, then the log.
+ghost use Rattle.std.specs.Prelude.{◌≡◌, ℕ, ◌+◌, ◌⊎◌, true, false, map, Ok, IfOk, OnOk, IfErr, IsErr, IsErrOf, IsTrue};
+ghost use Rattle.disk_trait.specs.Faults.{CountsFaults};
 ghost use Rattle.disk_trait.specs.Images.{After, Since};
+ghost use Rattle.record_codec.specs.Placeless.{placeless_entry};
 ghost use Rattle.machine_model.specs.Changing.{state_after};
 ghost use Rattle.machine_model.specs.State.{State};
-ghost use Rattle.content_repo.specs.Claims.{content_in};
+ghost use Rattle.content_repo.specs.Claims.{content_in, HasSizes};
+ghost use Rattle.kept_state.specs.Changes.{placed_in, record_of};
+ghost use Rattle.prov_store.specs.State.{IsAppended, IsReady};
 ghost use Rattle.store_core.specs.Calls.{RefusesOnFault, IsDiskOrReopen};
 ghost use Rattle.store_core.specs.Change.{HasLiveContents};
-ghost use Rattle.store_core.specs.Committed.{IsPrepared, HasChange, HoldsEither, MayTouch, TouchesOnly};
+ghost use Rattle.store_core.specs.Committed.{IsPrepared, HasChange, HoldsEither};
 ghost use Rattle.store_core.specs.Flow.{flow_in};
+ghost use Rattle.store_core.specs.Placing.{MayPlace, PlacesAll, AddsEvents, GrowsAhead};
 ghost use Rattle.store_core.specs.State.{stands_for};
 ghost use Rattle.store_core.specs.Store.{kept_by, IsKeptOn, EachStandsFor};
+ghost use Rattle.store_core.specs.Touched.{MayTouch, TouchesOnly};
 
 use crate::contents::{give_up, place_contents};
 use crate::{Prepared, Store, StoreError};
+use content_repo::Content;
 use disk_trait::Disk;
+use flowfile_record::Placed;
+use kept_state::PreparedEntry;
+use prov_store::{EventBlocks, Events};
 
 impl Store {
     /// Makes a prepared change. Answers the disk's moment at which it was acknowledged. Neither a commit nor a reclaim
@@ -32,6 +42,7 @@ impl Store {
         // The change is made in memory, and once it is acknowledged whatever a stop leaves has it: see `kept`.
         ensures changed { self.old.failed ≡ false → HasChange prepared.entry self.old self.new }
         ensures acknowledged { IfOk result (λ moment. moment ≡ D.moment disk.new) }
+        ensures events { OnOk result (IsAppended prepared.entry.settled.events self.old.events self.new.events) }
         ensures kept { IsKeptOn D.tells D.held D.moment D.images self.new disk.new }
         // Within the call whatever a stop leaves has all of the change or nothing of it.
         ensures images { self.old.failed ≡ false
@@ -58,12 +69,18 @@ impl Store {
         }
         // It says of what is kept that it is consistent.
         let _stored = self.state.stored();
-        let Prepared { mut entry, settled } = prepared;
-        let Ok(()) = place_contents(
+        let Prepared {
+            mut entry,
+            settled,
+            events,
+        } = prepared;
+        let Ok(()) = write_ahead(
             &mut self.contents,
+            &mut self.events,
             disk,
             &mut entry,
             settled.placed.as_slice(),
+            &events,
         ) else {
             let (entry, _) = entry.into_frame();
             self.state.apply(entry);
@@ -84,4 +101,34 @@ impl Store {
         self.entries = self.entries.saturating_add(1);
         Ok(moment)
     }
+}
+
+// Writes what the entry of a change speaks of, ahead of the log: its new contents, and then its events.
+fn write_ahead<D: Disk>(
+    contents: &mut Content,
+    events: &mut Events,
+    disk: &mut D,
+    entry: &mut PreparedEntry,
+    placed: &[Placed],
+    blocks: &EventBlocks<'_>,
+) -> Result<(), StoreError>
+    requires recorded { placed_in entry.old ≡ map record_of placed.now }
+    requires may { MayPlace contents.old placed.now }
+    requires sizes { IsTrue D.tells → HasSizes contents.old (D.held disk.old) }
+    requires next { blocks.now.first ≡ events.old.end + 1 }
+    requires ready { IsTrue D.tells → IsReady events.old (D.held disk.old) }
+    ensures placed { OnOk result (PlacesAll D.tells (D.held disk.new) placed.now contents.old contents.new entry.new) }
+    ensures same { placeless_entry entry.new ≡ placeless_entry entry.old }
+    ensures sizes { OnOk result (IsTrue D.tells → HasSizes contents.new (D.held disk.new)) }
+    ensures events { OnOk result
+        (AddsEvents D.tells blocks.now.events events.old events.new (D.held disk.old) (D.held disk.new)) }
+    ensures held { IsTrue D.tells → GrowsAhead contents.old events.old (D.held disk.old) (D.held disk.new) }
+    ensures images { Since D.moment D.images disk.old disk.new
+        (After (GrowsAhead contents.old events.old) (D.images disk.old (D.moment disk.old))) }
+    ensures refusal { IfErr result (λ error. error ≡ StoreError.Disk) }
+    ensures cause { CountsFaults (D.faults disk.old) (D.faults disk.new) (IsErr result) }
+{
+    place_contents(contents, disk, entry, placed)?;
+    events.append(disk, blocks)?;
+    Ok(())
 }

@@ -33,7 +33,8 @@ impl Spared {
     }
 }
 
-/// Cuts all that doesn't matter beside this current log, but for the claims. Where none is current, all but the claims.
+/// Cuts all that doesn't matter beside this current log, but for claims and events. Where none is current, all but
+/// these.
 pub fn discard<D: Disk>(alloc: Global, disk: &mut D, current: Option<u64>) -> Result<(), StoreError>
     ensures images { Since D.moment D.images disk.old disk.new
         (After (Discards current) (D.images disk.old (D.moment disk.old))) }
@@ -67,7 +68,7 @@ fn shorten_logs<D: Disk>(
     Ok(())
 }
 
-// Empties all logs and snapshots but those of this number, and all files of batches and of events.
+// Empties all logs and snapshots but those of this number, and all files of batches.
 fn empty_files<D: Disk>(alloc: Global, disk: &mut D, current: Option<u64>) -> Result<(), StoreError>
     requires synced { IsOnly (D.held disk.old) (D.images disk.old (D.moment disk.old)) }
     requires short { IsTrue D.tells → (n : ℕ) → IsAbove current n → length (D.held disk.old (named LogKind n)) ≤ 1 }
@@ -81,8 +82,7 @@ fn empty_files<D: Disk>(alloc: Global, disk: &mut D, current: Option<u64>) -> Re
 {
     cut_kind(alloc, disk, FileKind::Log, Spared::Only(current), 0)?;
     cut_kind(alloc, disk, FileKind::Snapshot, Spared::Only(current), 0)?;
-    cut_kind(alloc, disk, FileKind::Swap, Spared::Only(None), 0)?;
-    cut_kind(alloc, disk, FileKind::Events, Spared::Only(None), 0)
+    cut_kind(alloc, disk, FileKind::Swap, Spared::Only(None), 0)
 }
 
 // Cuts each file of a kind that isn't spared to a size, unless it is no longer.

@@ -1,6 +1,6 @@
 //! Why a call of a store gave no answer.
 ghost use Rattle.std.specs.Prelude.{◌≡◌};
-ghost use Rattle.store_core.specs.Errors.{of_disk, of_log, of_content, of_check};
+ghost use Rattle.store_core.specs.Errors.{of_disk, of_log, of_content, of_check, of_events};
 ghost use Rattle.store_core.specs.declared.error.StoreError.TheVariants.{Disk, Memory};
 
 use checkpoint_store::CheckError;
@@ -9,6 +9,7 @@ use disk_trait::{Damage, DiskError, Failed};
 use flowfile_record::DIGEST_SIZE;
 use flowfile_wal::LogError;
 use kept_state::{Limit, Which};
+use prov_store::EventsError;
 use std::alloc::AllocError;
 use thiserror::Error;
 
@@ -100,6 +101,18 @@ impl From<ContentError> for StoreError {
                 wanted: u64::from(SLOTS) + 1,
             }),
             ContentError::Damaged(damage) => StoreError::Damaged(damage),
+        }
+    }
+}
+
+impl From<EventsError> for StoreError {
+    ghost from_gives = { λ from error. error ≡ of_events from };
+
+    fn from(error: EventsError) -> StoreError {
+        match error {
+            EventsError::Disk => StoreError::Disk,
+            EventsError::Memory => StoreError::Memory,
+            EventsError::Damaged(damage) => StoreError::Damaged(damage),
         }
     }
 }

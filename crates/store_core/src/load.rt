@@ -5,21 +5,23 @@ ghost use Rattle.disk_trait.specs.Files.{Files};
 ghost use Rattle.disk_trait.specs.Images.{Since, Stays, IsOnly};
 ghost use Rattle.disk_trait.specs.declared.damage.Damage.{Damage as TheDamage};
 ghost use Rattle.flowfile_record.specs.Stored.{kept_of};
+ghost use Rattle.flowfile_wal.specs.Current.{current_number};
 ghost use Rattle.checkpoint_store.specs.Consistent.{IsConsistent};
 ghost use Rattle.kept_state.specs.declared.limit.Limit.{Limit as TheLimit};
 ghost use Rattle.store_core.specs.Calls.{SinceSync, IsUnsynced, IsUnwritten};
 ghost use Rattle.store_core.specs.Flow.{agrees_with, flow_in};
 ghost use Rattle.store_core.specs.New.{kept_anew};
 ghost use Rattle.store_core.specs.Opened.{IsOpenedFor, IsFound, IsOfOther, IsShut, SameMeaning};
-ghost use Rattle.store_core.specs.State.{stands_for, events_in};
+ghost use Rattle.store_core.specs.State.{stands_for};
 ghost use Rattle.store_core.specs.Store.{IsKeptOn};
+ghost use Rattle.store_core.specs.Touched.{Revives};
 
 use crate::reading::{read_contents, read_kept};
 use crate::revival::revive;
 use crate::{FlowIdentity, Store, StoreError};
-use disk_trait::{Damage, Disk, FileKind, FileName};
+use disk_trait::Disk;
 use flowfile_record::Stored;
-use record_codec::HEADER_SIZE;
+use prov_store::Events;
 use std::alloc::Global;
 
 impl Store {
@@ -41,6 +43,10 @@ impl Store {
         ensures kept { IfOk result (λ store. IsKeptOn D.tells D.held D.moment D.images store disk.new) }
         // From behind the first sync on, whatever a stop leaves keeps and stands for the same; or that sync failed.
         ensures images { SinceSync D.moment D.images disk.old disk.new (SameMeaning flow.now lot (D.held disk.old))
+            ⊎ IsUnsynced D.moment D.images disk.old disk.new result }
+        // The log alone is written; where a store is made, the first log and its snapshot. All else is only cut.
+        ensures alone { SinceSync D.moment D.images disk.old disk.new
+            (Revives (current_number (D.held disk.old)) (D.held disk.old))
             ⊎ IsUnsynced D.moment D.images disk.old disk.new result }
         // The first damage is told, and so is another flow; where the disk tells, nothing else is.
         ensures damaged { (damage : TheDamage) → IsErrOf result (StoreError.Damaged damage) → IsTrue D.tells
@@ -77,6 +83,8 @@ fn restore<D: Disk>(
     ensures found { IfOk result (λ store. IsTrue D.tells → IsFound flow.now lot store (D.held disk.old)) }
     ensures kept { IfOk result (λ store. IsKeptOn D.tells D.held D.moment D.images store disk.new) }
     ensures images { Since D.moment D.images disk.old disk.new (SameMeaning flow.now lot (D.held disk.old)) }
+    ensures alone { Since D.moment D.images disk.old disk.new
+        (Revives (current_number (D.held disk.old)) (D.held disk.old)) }
     ensures damaged { (damage : TheDamage) → IsErrOf result (StoreError.Damaged damage) → IsTrue D.tells
         → stands_for flow.now lot (D.held disk.old) ≡ Err damage }
     ensures other_flow { (digest other : List ℕ) → IsErrOf result (StoreError.OtherFlow digest other)
@@ -94,29 +102,9 @@ fn restore<D: Disk>(
     let found = read_kept(alloc, disk, flow, lot)?;
     let kept = found.state.stored();
     let opened = read_contents(alloc, disk, kept)?;
-    check_events(kept)?;
+    let events = Events::load(alloc, disk, kept.last_event)?;
     check_flow(kept, flow)?;
-    revive(alloc, disk, found, opened, lot)
-}
-
-// No event is kept yet: where there is one, its file counts as absent.
-fn check_events(stored: &Stored) -> Result<(), StoreError>
-    ensures none { OnOk result ((kept_of stored.now).last_event ≡ 0) }
-    ensures some { IfErr result (λ error. (damage : TheDamage) × (error ≡ StoreError.Damaged damage)
-        × ((files : Files) → events_in files (kept_of stored.now).last_event ≡ Err damage)) }
-{
-    if stored.last_event == 0 {
-        return Ok(());
-    }
-    Err(StoreError::Damaged(Damage::Short {
-        file: FileName {
-            kind: FileKind::Events,
-            number: 0,
-        },
-        at: 0,
-        need: HEADER_SIZE,
-        have: 0,
-    }))
+    revive(alloc, disk, found, opened, events, lot)
 }
 
 // What is kept is of this flow.

@@ -1,6 +1,7 @@
 //! A change that is ready to be committed.
 use flowfile_record::Settled;
 use kept_state::PreparedEntry;
+use prov_store::EventBlocks;
 use std::marker::Model;
 
 /// A settled session with the entry that it makes, and all memory that its commit takes. Its new contents stay where
@@ -9,6 +10,7 @@ use std::marker::Model;
 pub struct Prepared<'a> {
     pub(crate) entry: PreparedEntry,
     pub(crate) settled: &'a Settled,
+    pub(crate) events: EventBlocks<'a>,
 }
 
 impl<'a> Model for Prepared<'a> {
@@ -21,5 +23,9 @@ impl<'a> Model for Prepared<'a> {
 
     ghost coded = { Prim.hlevel (codes, attributes.the_row.coded) };
 
-    ghost view = { λ prepared. record { entry = prepared.entry; settled = prepared.settled.now } };
+    ghost view = { λ prepared. record {
+      entry = prepared.entry;
+      settled = prepared.settled.now;
+      events = prepared.events;
+    } };
 }

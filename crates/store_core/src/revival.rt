@@ -1,5 +1,5 @@
 //! What a stop left of a store's files is made whole again, or a store is made.
-ghost use Rattle.std.specs.Prelude.{◌≡◌, ◌⊎◌, ◌+◌, ◌<◌, ◌≤◌, ℕ, [], true, false, None, Some, Ok, Err, IfOk, OnOk, IfErr, IsErrOf, IsTrue, All, length, is_some};
+ghost use Rattle.std.specs.Prelude.{◌≡◌, ◌⊎◌, ◌+◌, ◌<◌, ◌≤◌, ℕ, [], true, false, None, Some, Ok, Err, IfOk, OnOk, IfErr, IsErrOf, IsTrue, All, length};
 ghost use Rattle.disk_trait.specs.Files.{Files};
 ghost use Rattle.disk_trait.specs.Faults.{CountsFaults};
 ghost use Rattle.disk_trait.specs.Images.{After, Since, IsOnly};
@@ -9,13 +9,14 @@ ghost use Rattle.content_repo.specs.Slots.{count_of, size_of, held_in, end_of, c
 ghost use Rattle.flowfile_wal.specs.Calls.{InEach};
 ghost use Rattle.flowfile_wal.specs.Steps.{IsReadyIn, IsCurrentIn};
 ghost use Rattle.checkpoint_store.specs.Consistent.{IsConsistent};
-ghost use Rattle.store_core.specs.Agreement.{Needs, IsPlain, Agrees, IsUnmade};
+ghost use Rattle.store_core.specs.Agreement.{Needs, IsPlain, Agrees, SameEventFiles, IsUnmade};
 ghost use Rattle.store_core.specs.Calls.{IsDiskOrMemory};
 ghost use Rattle.store_core.specs.Flow.{flow_in};
 ghost use Rattle.store_core.specs.New.{kept_anew};
 ghost use Rattle.store_core.specs.Opened.{IsReadWhole, IsRevived, SameMeaning, IsMade};
 ghost use Rattle.store_core.specs.State.{live_contents};
 ghost use Rattle.store_core.specs.Store.{IsKeptOn};
+ghost use Rattle.store_core.specs.Touched.{Revives, log_opened};
 
 use crate::discard::discard;
 use crate::reading::Found;
@@ -24,6 +25,7 @@ use content_repo::{Content, HELD_MAX};
 use disk_trait::Disk;
 use flowfile_record::{ContentRef, LIVE_FILES_MAX, Stored};
 use flowfile_wal::Log;
+use prov_store::Events;
 use std::alloc::Global;
 
 // The number of a new store's log and snapshot.
@@ -35,16 +37,18 @@ pub fn revive<D: Disk>(
     disk: &mut D,
     found: Found,
     opened: Vec<ContentRef>,
+    mut events: Events,
     lot: u64,
 ) -> Result<Store, StoreError>
     requires synced { IsOnly (D.held disk.old) (D.images disk.old (D.moment disk.old)) }
-    requires found { IsReadWhole D.tells lot (D.held disk.old) found }
+    requires found { IsReadWhole D.tells lot (D.held disk.old) found events }
     requires opened { opened.items ≡ live_contents found.state.kept }
     requires named { All IsNamed opened.items }
     ensures revived { IfOk result (IsRevived lot found) }
     ensures kept { IfOk result (λ store. IsKeptOn D.tells D.held D.moment D.images store disk.new) }
     ensures images { Since D.moment D.images disk.old disk.new
         (SameMeaning (flow_in found.state.kept) lot (D.held disk.old)) }
+    ensures alone { Since D.moment D.images disk.old disk.new (Revives found.log.number (D.held disk.old)) }
     ensures refusal { IfErr result IsDiskOrMemory }
     ensures cause { CountsFaults (D.faults disk.old) (D.faults disk.new) (IsErrOf result StoreError.Disk) }
 {
@@ -55,6 +59,7 @@ pub fn revive<D: Disk>(
     } = found;
     make_whole(alloc, disk, &mut log, state.stored())?;
     let contents = hold_opened(alloc, disk, opened.as_slice())?;
+    events.trim(disk)?;
     Ok(Store {
         alloc,
         state,
@@ -62,6 +67,7 @@ pub fn revive<D: Disk>(
         entries,
         contents,
         opened,
+        events,
         lot,
         has_failed: false,
     })
@@ -80,7 +86,8 @@ fn make_whole<D: Disk>(
         → IsCurrentIn log.old (D.held disk.old) }
     requires unmade { log.old.number ≡ None → IsTrue D.tells → IsUnmade (D.held disk.old) }
     requires consistent { IsConsistent (kept_of stored.now) }
-    ensures log { OnOk result (IsTrue (is_some log.new.number) × (log.new.mended ≡ true) × (log.new.failed ≡ false)) }
+    ensures log { OnOk result ((log.new.number ≡ Some (log_opened log.old.number)) × (log.new.mended ≡ true)
+        × (log.new.failed ≡ false)) }
     ensures ready { OnOk result (InEach (D.images disk.new (D.moment disk.new)) (IsReadyIn log.new)) }
     ensures mended { (number : ℕ) (needs : Needs) → log.old.number ≡ Some number → IsPlain needs number
         → Since D.moment D.images disk.old disk.new (After (Agrees needs) (D.images disk.old (D.moment disk.old))) }
@@ -88,6 +95,10 @@ fn make_whole<D: Disk>(
         → Since D.moment D.images disk.old disk.new (λ c. IsUnmade c ⊎ IsMade (kept_of stored.now) c) }
     ensures made { OnOk result (log.old.number ≡ None
         → InEach (D.images disk.new (D.moment disk.new)) (IsMade (kept_of stored.now))) }
+    ensures events { Since D.moment D.images disk.old disk.new
+        (After SameEventFiles (D.images disk.old (D.moment disk.old))) }
+    ensures alone { Since D.moment D.images disk.old disk.new
+        (After (Revives log.old.number) (D.images disk.old (D.moment disk.old))) }
     ensures refusal { IfErr result IsDiskOrMemory }
     ensures cause { CountsFaults (D.faults disk.old) (D.faults disk.new) (IsErrOf result StoreError.Disk) }
 {
@@ -97,7 +108,7 @@ fn make_whole<D: Disk>(
     }
 }
 
-// Mends the current log, and cuts all that doesn't matter beside it but the claims.
+// Mends the current log, and cuts all that doesn't matter beside it but claims and events.
 fn mend<D: Disk>(alloc: Global, disk: &mut D, log: &mut Log, number: u64) -> Result<(), StoreError>
     requires synced { IsOnly (D.held disk.old) (D.images disk.old (D.moment disk.old)) }
     requires works { log.old.failed ≡ false }
@@ -108,6 +119,10 @@ fn mend<D: Disk>(alloc: Global, disk: &mut D, log: &mut Log, number: u64) -> Res
     // What matters beside it stays, wherever a stop comes.
     ensures images { (needs : Needs) → IsPlain needs number
         → Since D.moment D.images disk.old disk.new (After (Agrees needs) (D.images disk.old (D.moment disk.old))) }
+    ensures events { Since D.moment D.images disk.old disk.new
+        (After SameEventFiles (D.images disk.old (D.moment disk.old))) }
+    ensures alone { Since D.moment D.images disk.old disk.new
+        (After (Revives (Some number)) (D.images disk.old (D.moment disk.old))) }
     ensures refusal { IfErr result IsDiskOrMemory }
     ensures cause { CountsFaults (D.faults disk.old) (D.faults disk.new) (IsErrOf result StoreError.Disk) }
 {
@@ -131,6 +146,10 @@ fn make<D: Disk>(
     // Wherever a stop comes, no store is made yet, or it is made.
     ensures images { Since D.moment D.images disk.old disk.new (λ c. IsUnmade c ⊎ IsMade (kept_of stored.now) c) }
     ensures made { OnOk result (InEach (D.images disk.new (D.moment disk.new)) (IsMade (kept_of stored.now))) }
+    ensures events { Since D.moment D.images disk.old disk.new
+        (After SameEventFiles (D.images disk.old (D.moment disk.old))) }
+    ensures alone { Since D.moment D.images disk.old disk.new
+        (After (Revives None) (D.images disk.old (D.moment disk.old))) }
     ensures refusal { IfErr result IsDiskOrMemory }
     ensures cause { CountsFaults (D.faults disk.old) (D.faults disk.new) (IsErrOf result StoreError.Disk) }
 {

@@ -9,20 +9,22 @@ ghost use Rattle.content_repo.specs.Claims.{IsRead, IdleShortened, claim};
 ghost use Rattle.content_repo.specs.Slots.{references_to};
 ghost use Rattle.kept_state.specs.declared.limit.Limit.{Limit as TheLimit};
 ghost use Rattle.machine_model.specs.State.{State};
-ghost use Rattle.store_core.specs.Calls.{RefusesOnFault, IsDiskOrReopen};
+ghost use Rattle.store_core.specs.Calls.{RefusesOnFault, IsDiskOrReopen, IsReadRefusal};
 ghost use Rattle.store_core.specs.Change.{MayChange, IsWithinLimits, IsLimitOf};
 ghost use Rattle.store_core.specs.Committed.{IsPrepared};
 ghost use Rattle.store_core.specs.Flow.{flow_in};
 ghost use Rattle.store_core.specs.State.{stands_for};
 ghost use Rattle.store_core.specs.Store.{kept_by, live_in, EachStandsFor, Holds, IsKeptOn, IsTidy};
+ghost use Rattle.store_core.specs.Touched.{Frees};
 
 use crate::contents::{fresh_sizes, let_go};
 use crate::{Prepared, StoreError};
 use content_repo::{Content, ContentError, Reclaimed};
 use disk_trait::Disk;
-use flowfile_record::{ContentRef, Settled, Stored};
+use flowfile_record::{ContentRef, EventCounts, Settled, Stored};
 use flowfile_wal::Log;
 use kept_state::KeptState;
+use prov_store::{EventBlocks, Events};
 use std::alloc::Global;
 use std::marker::Model;
 
@@ -38,6 +40,7 @@ pub struct Store {
     pub(crate) contents: Content,
     // The contents that the store was opened with, which are held once more until it is closed.
     pub(crate) opened: Vec<ContentRef>,
+    pub(crate) events: Events,
     pub(crate) lot: u64,
     pub(crate) has_failed: bool,
 }
@@ -51,11 +54,11 @@ impl Model for Store {
 
     ghost coded = { Prim.hlevel (codes, attributes.the_row.coded) };
 
-    ghost view = { λ store. state_in store.state store.log store.entries store.contents store.opened.items store.lot
-        store.has_failed };
+    ghost view = { λ store. state_in store.state store.log store.entries store.contents store.opened.items store.events
+        store.lot store.has_failed };
 
     ghost invariant = { λ store. IsSound (state_in store.state store.log store.entries store.contents
-        store.opened.items store.lot store.has_failed) };
+        store.opened.items store.events store.lot store.has_failed) };
 }
 
 impl Store {
@@ -64,7 +67,7 @@ impl Store {
         ensures kept { kept_of result.now ≡ kept_by self.now }
         ensures consistent { IsConsistent (kept_by self.now) }
         ensures no_batches { (kept_by self.now).batches ≡ [] }
-        ensures no_events { self.now.failed ≡ false → (kept_by self.now).last_event ≡ 0 }
+        ensures last_event { self.now.failed ≡ false → (kept_by self.now).last_event ≡ self.now.events.end }
     {
         self.state.stored()
     }
@@ -93,8 +96,15 @@ impl Store {
         self.entries
     }
 
+    /// How many events there are of each kind.
+    pub fn event_counts(&self) -> EventCounts
+        ensures { result.counts ≡ self.now.events.counts }
+    {
+        self.events.counts()
+    }
+
     /// Takes all memory that the commit of a settled session wants, and makes no call of the disk. The session's new
-    /// contents are written by the commit from where they are.
+    /// contents are written by the commit from where they are, its events are encoded here.
     pub fn prepare<'a>(&mut self, settled: &'a Settled) -> Result<Prepared<'a>, StoreError>
         requires { MayChange (kept_by self.old) settled.now }
         ensures prepared { IfOk result (λ prepared. (prepared.settled ≡ settled.now) × IsPrepared self.new prepared) }
@@ -116,8 +126,14 @@ impl Store {
         if let Some(limit) = self.state.numbers_limit(settled) {
             return Err(StoreError::Limit(limit));
         }
+        let first = self.state.stored().last_event + 1;
         let entry = self.state.prepare(self.alloc, settled)?;
-        Ok(Prepared { entry, settled })
+        let events = EventBlocks::new(self.alloc, first, settled.events.as_slice())?;
+        Ok(Prepared {
+            entry,
+            settled,
+            events,
+        })
     }
 
     /// The bytes of a live content.
@@ -131,6 +147,7 @@ impl Store {
         ensures same { (self.new ≡ self.old) ⊎ (self.new ≡ record self.old { failed = true }) }
         ensures stays { Stays D.held D.moment D.images disk.old disk.new }
         ensures refusal { RefusesOnFault result self.old self.new (D.faults disk.old) (D.faults disk.new) }
+        ensures kinds { IfErr result (λ error. IsReadRefusal error ⊎ (error ≡ StoreError.MustReopen)) }
         ensures kept { IsKeptOn D.tells D.held D.moment D.images self.new disk.new }
     {
         if self.has_failed {
@@ -180,6 +197,9 @@ impl Store {
             → EachStandsFor (flow_in (kept_by self.old)) self.old.lot state (D.images disk.old (D.moment disk.old))
             → Since D.moment D.images disk.old disk.new
             (λ c. stands_for (flow_in (kept_by self.old)) self.old.lot c ≡ Ok state) }
+        // Only claims change: those that no live content stands in get shorter.
+        ensures alone { Since D.moment D.images disk.old disk.new
+            (After (Frees (live_in self.old)) (D.images disk.old (D.moment disk.old))) }
         // One image alone is left.
         ensures synced { OnOk result (IsOnly (D.held disk.new) (D.images disk.new (D.moment disk.new))) }
         // What stands in the claims is needed.

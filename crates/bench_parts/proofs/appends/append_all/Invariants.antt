@@ -1,4 +1,4 @@
-use Rattle.std.proofs.Common.{◌≡◌, ◌+◌, ◌≤◌}
+use Rattle.std.proofs.Common.{◌+◌, ◌≤◌}
 use Rattle.content_repo.specs.Slots.{held_in}
 use Rattle.content_repo.specs.declared.slot_set.TheConstants.{SLOTS}
 use Rattle.bench_parts.proofs.appends.append_all.Given as goal

@@ -1,50 +1,60 @@
-use Rattle.std.proofs.Common.{◌≡◌, List, [], arith, refl, subst, sym, ◌∙◌}
+use Rattle.std.proofs.Common.{List, length, refl, subst, ap, arith}
+use Rattle.std.specs.Prelude.{All}
 use Rattle.flowfile_record.specs.Stored.{kept_of}
 use Rattle.flowfile_record.specs.declared.event.Event.{Event}
-use Rattle.machine_model.specs.Changing.{state_after}
-use Rattle.store_core.specs.Change.{MayChange}
-use Rattle.store_core.specs.State.{state_with}
 use Rattle.store_core.specs.Store.{kept_by}
-use Rattle.engine_core.specs.Committing.{session_state}
-use Rattle.engine_core.proofs.Cases.{Case, settled_over}
+use Rattle.engine_core.specs.Committing.{HasTexts}
+use Rattle.engine_core.proofs.Cases.{Case, IsTyped, settled_over}
 use Rattle.engine_core.proofs.Commits.{live_contents, may_change, state_behind}
 use Rattle.engine_core.proofs.session.settle_session.Goals as goal
 
 pub returns-clause-may : goal.returns-clause-may
 returns-clause-may c =
-    let k = kept_by c.args.store.now in
-    let settled = c.in_ok-settled.settled in
-    let stored = kept_of c.state-state.result.now in
-    let known = c.state-state.ensures in
-    let is = settled_over c.args.flow.now c.args.given.now stored k c.args.ended settled known.kept c.requires.sound c.requires.flow c.requires.may
-    known.consistent known.no_batches (known.no_events c.requires.works) c.in_ok-settled.ensures.settles c.in_ok-settled.ensures.tells c.in_ok-settled.ensures.records in
-    let case : Case = record { flow = c.args.flow.now; given = c.args.given.now; k = k; ended = c.args.ended; settled = settled } in
-    let none : c.from.result ≡ [] = c.from.ensures ∙ c.new.ensures.items in
-    subst (λ (events : List Event). MayChange k (record settled { events = events })) (sym none)
-    (may_change case is (omega (arith, c.moment_of-moment.type_inv, c.moment_of-moment.ensures, c.in_ok-settled.ensures.tells.moment)))
+    let case : Case = record { flow = c.args.flow.now; given = c.args.given.now; k = kept_by c.args.store.now; ended = c.args.ended; settled = c.in_ok-settled.settled } in
+    let state = c.state-state.ensures in
+    let settled = c.in_ok-settled.ensures in
+    let laws = c.what_is_kept_is_a_state.ensures in
+    let typed : IsTyped case =
+    record {
+      moment = omega (arith, c.moment_of-moment.type_inv, c.moment_of-moment.ensures, settled.tells.moment);
+      received = omega (arith, c.received_name-received.ensures.short, ap length c.received_name-received.ensures.name);
+      sent = c.sent_name-sent.ensures;
+      texts = subst (λ (events : List Event). All HasTexts events) c.as_slice.ensures c.have_texts.ensures;
+    } in
+    let is = settled_over case (kept_of c.state-state.result.now) state.kept c.requires.sound c.requires.flow c.requires.may state.consistent state.no_batches
+    settled.settles settled.tells settled.records typed laws.valid laws.queued in
+    may_change case is
 
 pub returns-clause-live : goal.returns-clause-live
 returns-clause-live c =
-    let k = kept_by c.args.store.now in
-    let settled = c.in_ok-settled.settled in
-    let stored = kept_of c.state-state.result.now in
-    let known = c.state-state.ensures in
-    let is = settled_over c.args.flow.now c.args.given.now stored k c.args.ended settled known.kept c.requires.sound c.requires.flow c.requires.may
-    known.consistent known.no_batches (known.no_events c.requires.works) c.in_ok-settled.ensures.settles c.in_ok-settled.ensures.tells c.in_ok-settled.ensures.records in
-    let case : Case = record { flow = c.args.flow.now; given = c.args.given.now; k = k; ended = c.args.ended; settled = settled } in
+    let case : Case = record { flow = c.args.flow.now; given = c.args.given.now; k = kept_by c.args.store.now; ended = c.args.ended; settled = c.in_ok-settled.settled } in
+    let state = c.state-state.ensures in
+    let settled = c.in_ok-settled.ensures in
+    let laws = c.what_is_kept_is_a_state.ensures in
+    let typed : IsTyped case =
+    record {
+      moment = omega (arith, c.moment_of-moment.type_inv, c.moment_of-moment.ensures, settled.tells.moment);
+      received = omega (arith, c.received_name-received.ensures.short, ap length c.received_name-received.ensures.name);
+      sent = c.sent_name-sent.ensures;
+      texts = subst (λ (events : List Event). All HasTexts events) c.as_slice.ensures c.have_texts.ensures;
+    } in
+    let is = settled_over case (kept_of c.state-state.result.now) state.kept c.requires.sound c.requires.flow c.requires.may state.consistent state.no_batches
+    settled.settles settled.tells settled.records typed laws.valid laws.queued in
     live_contents case is c.args.store.now refl
 
 pub returns-clause-leaves : goal.returns-clause-leaves
 returns-clause-leaves c =
-    let k = kept_by c.args.store.now in
-    let settled = c.in_ok-settled.settled in
-    let stored = kept_of c.state-state.result.now in
-    let known = c.state-state.ensures in
-    let is = settled_over c.args.flow.now c.args.given.now stored k c.args.ended settled known.kept c.requires.sound c.requires.flow c.requires.may
-    known.consistent known.no_batches (known.no_events c.requires.works) c.in_ok-settled.ensures.settles c.in_ok-settled.ensures.tells c.in_ok-settled.ensures.records in
-    let case : Case = record { flow = c.args.flow.now; given = c.args.given.now; k = k; ended = c.args.ended; settled = settled } in
-    let none : c.from.result ≡ [] = c.from.ensures ∙ c.new.ensures.items in
-    λ processor at contents read.
-    subst (λ (events : List Event). state_after contents (state_with contents [] k) (record settled { events = events })
-    ≡ session_state c.args.flow.now c.args.given.now c.args.ended processor contents (state_with contents [] k)) (sym none)
-    (state_behind case is processor at contents read)
+    let case : Case = record { flow = c.args.flow.now; given = c.args.given.now; k = kept_by c.args.store.now; ended = c.args.ended; settled = c.in_ok-settled.settled } in
+    let state = c.state-state.ensures in
+    let settled = c.in_ok-settled.ensures in
+    let laws = c.what_is_kept_is_a_state.ensures in
+    let typed : IsTyped case =
+    record {
+      moment = omega (arith, c.moment_of-moment.type_inv, c.moment_of-moment.ensures, settled.tells.moment);
+      received = omega (arith, c.received_name-received.ensures.short, ap length c.received_name-received.ensures.name);
+      sent = c.sent_name-sent.ensures;
+      texts = subst (λ (events : List Event). All HasTexts events) c.as_slice.ensures c.have_texts.ensures;
+    } in
+    let is = settled_over case (kept_of c.state-state.result.now) state.kept c.requires.sound c.requires.flow c.requires.may state.consistent state.no_batches
+    settled.settles settled.tells settled.records typed laws.valid laws.queued in
+    state_behind case is

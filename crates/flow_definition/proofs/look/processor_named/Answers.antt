@@ -1,4 +1,4 @@
-use Rattle.std.proofs.Common.{ap, sym, ◌∙◌, rules, tests, find, option_map}
+use Rattle.std.proofs.Common.{ap, ◌∙◌, rules, tests, find, option_map}
 use Rattle.std.proofs.lemmas.Iterator.{YieldsList-from_slice}
 use Rattle.std.proofs.lemmas.Iterator.Search.{find_from_yields_List}
 use Rattle.serde_json.specs.View.{view}

@@ -1,14 +1,15 @@
-use Rattle.std.proofs.Common.{◌≡◌, ◌∙◌, List, map, refl, sym, subst}
+use Rattle.std.proofs.Common.{◌≡◌, ◌∙◌, ℕ, List, map, refl, sym, ap, subst}
 use Rattle.std.proofs.lemmas.Result.{err_from_is_err_and}
 use Rattle.std.specs.Prelude.{⊤, Err, Result}
 use Rattle.flowfile_record.specs.NamedFile.{NamedFile}
 use Rattle.flowfile_record.specs.declared.stored.ActiveFile.{ActiveFile}
 use Rattle.store_core.specs.Store.{kept_by}
-use Rattle.run_top.specs.Run.{HasRun, status_at}
+use Rattle.run_top.specs.Run.{HasRun, IsTidied, status_at}
 use Rattle.run_top.specs.Status.{status_of}
 use Rattle.run_top.specs.declared.status.RunError.{RunError}
-use Rattle.run_top.proofs.Ends.{closes, disk_of, inbox_no_limit, limit_closed, limit_unclosed, memory_no_limit, same_run, spares_by, to_run}
+use Rattle.run_top.proofs.Ends.{closes, disk_of, inbox_no_limit, limit_closed, limit_in, limit_unclosed, memory_no_limit, same_run, spares_by, tidied_by, to_run}
 use Rattle.run_top.proofs.Steps.{stops_between}
+use Rattle.run_top.proofs.Writing.{writes_by_close, writes_in_turn, writes_none}
 use Rattle.run_top.proofs.command.run_over.Goals as goal
 
 pub returns-in-Err-clause-headline : goal.returns-in-Err-clause-headline
@@ -54,7 +55,8 @@ returns-in-Ok-clause-headline g c disk_told in_told out_told opened first run =
     let new = c.close.new.disk in
     let spares = spares_by moment images old new lot c.move_all.new.store.lot c.move_all.ensures.lot c.close.ensures.spared in
     closes c.replay_goes_on.ensures.one_more c.states_stay_valid.ensures.one_step c.the_flow_is_quiet.ensures g.D.Disk.tells g.D.Disk.held moment images lot opened first old new (g.I.Inbox.left c.move_all.new.inbox) (g.O.Outbox.standing c.move_all.new.outbox)
-    (c.in-Ok.ensures.moved disk_told in_told out_told opened first listed) (c.in-Ok.ensures.none_to_take in_told) spares (laws.held_is_left new disk_told) c.close.result c.close.ensures.kinds
+    (c.in-Ok.ensures.moved disk_told in_told out_told opened first listed) (c.in-Ok.ensures.none_to_take in_told) spares (laws.held_is_left new disk_told) c.close.result
+    (tidied_by g.D.Disk.tells g.D.Disk.held new lot c.move_all.new.store.lot c.close.result c.move_all.ensures.lot disk_told c.close.ensures.tidied) c.close.ensures.kinds
 
 pub returns-in_err-close-in-Err-move_all-clause-headline :
     goal.returns-in_err-close-in-Err-move_all-clause-headline
@@ -95,6 +97,7 @@ returns-then-is_limit-clause-headline g c disk_told in_told out_told opened firs
     let spares = spares_by moment images old new lot c.move_all.new.store.lot c.move_all.ensures.lot c.close-then-is_limit.ensures.spared in
     limit_closed c.replay_goes_on.ensures.one_more c.states_stay_valid.ensures.one_step c.the_flow_is_quiet.ensures g.D.Disk.tells g.D.Disk.held moment images lot opened first old new (g.I.Inbox.left c.move_all.new.inbox) (g.O.Outbox.standing c.move_all.new.outbox)
     c.in-Err-move_all.error (sym c.is_limit.ensures ∙ c.if-is_limit.true) (c.in-Err-move_all.ensures.stopped c.in-Err-move_all.error refl disk_told in_told out_told opened first listed) spares (laws.held_is_left new disk_told)
+    (subst (λ (l : ℕ). IsTidied l (g.D.Disk.held new)) c.move_all.ensures.lot (c.in_ok-close-in-Err-move_all.ensures.tidied disk_told))
 
 pub returns-clause-headline : goal.returns-clause-headline
 returns-clause-headline g c disk_told in_told out_told opened first run =
@@ -109,3 +112,40 @@ returns-clause-headline g c disk_told in_told out_told opened first run =
     c.list.ensures.left (c.as_slice.ensures.value ∙ c.in_default.ensures.listed in_told) (c.deref.ensures.value ∙ c.in_ok-numbers.ensures) run in
     to_run g.D.Disk.tells g.D.Disk.held moment images lot opened first c.move_all.new.disk (g.I.Inbox.left c.move_all.new.inbox) (g.O.Outbox.standing c.move_all.new.outbox) c.in-Err-move_all.error
     (sym c.is_limit.ensures ∙ c.if-is_limit.false) (c.in-Err-move_all.ensures.stopped c.in-Err-move_all.error refl disk_told in_told out_told opened first listed)
+
+pub returns-in-Err-clause-alone : goal.returns-in-Err-clause-alone
+returns-in-Err-clause-alone g c = writes_none g.D.Disk.moment g.D.Disk.images c.args.store.now.log.number c.args.disk.now
+
+pub returns-in_err-numbers-clause-alone : goal.returns-in_err-numbers-clause-alone
+returns-in_err-numbers-clause-alone g c = writes_none g.D.Disk.moment g.D.Disk.images c.args.store.now.log.number c.args.disk.now
+
+pub returns-in-Ok-clause-alone : goal.returns-in-Ok-clause-alone
+returns-in-Ok-clause-alone g c =
+    writes_in_turn g.D.Disk.moment g.D.Disk.images c.args.store.now.log.number c.args.disk.now c.move_all.new.disk c.close.new.disk c.move_all.ensures.alone
+    (writes_by_close g.D.Disk.moment g.D.Disk.images c.args.store.now.log.number c.move_all.new.store c.move_all.new.disk c.close.new.disk c.close.ensures.alone)
+
+pub returns-in_err-close-in-Err-move_all-clause-alone : goal.returns-in_err-close-in-Err-move_all-clause-alone
+returns-in_err-close-in-Err-move_all-clause-alone g c =
+    writes_in_turn g.D.Disk.moment g.D.Disk.images c.args.store.now.log.number c.args.disk.now c.move_all.new.disk c.close-then-is_limit.new.disk c.move_all.ensures.alone
+    (writes_by_close g.D.Disk.moment g.D.Disk.images c.args.store.now.log.number c.move_all.new.store c.move_all.new.disk c.close-then-is_limit.new.disk c.close-then-is_limit.ensures.alone)
+
+pub returns-then-is_limit-clause-alone : goal.returns-then-is_limit-clause-alone
+returns-then-is_limit-clause-alone g c =
+    writes_in_turn g.D.Disk.moment g.D.Disk.images c.args.store.now.log.number c.args.disk.now c.move_all.new.disk c.close-then-is_limit.new.disk c.move_all.ensures.alone
+    (writes_by_close g.D.Disk.moment g.D.Disk.images c.args.store.now.log.number c.move_all.new.store c.move_all.new.disk c.close-then-is_limit.new.disk c.close-then-is_limit.ensures.alone)
+
+pub returns-then-is_limit-clause-limited : goal.returns-then-is_limit-clause-limited
+returns-then-is_limit-clause-limited g c limit is = record {
+  at = c.move_all.new.disk;
+  from = c.move_all.ensures.alone.later;
+  store = c.move_all.new.store;
+  lot_is = c.move_all.ensures.lot;
+  limit = limit;
+  refused = c.in-Err-move_all.ensures.refused limit is;
+  closed = c.close-then-is_limit.ensures.alone;
+}
+
+pub close-requires-then-is_limit-after_bounds : goal.close-requires-then-is_limit-after_bounds
+close-requires-then-is_limit-after_bounds g c κs within =
+    let limited = limit_in c.in-Err-move_all.error (sym c.is_limit.ensures ∙ c.if-is_limit.true) in
+    (c.in-Err-move_all.ensures.refused limited.0 (ap Err limited.1)).work

@@ -6,6 +6,7 @@ use Rattle.world_io.specs.Inbox.{IsAscending}
 use Rattle.run_top.specs.Running.{IsLeftBut, IsRunning, Stops}
 use Rattle.run_top.specs.declared.status.RunError.{RunError}
 use Rattle.run_top.proofs.Names.{ascends_behind, left_after, left_at_first}
+use Rattle.run_top.proofs.Writing.{damaged_by, writes_in_turn, writes_to}
 use Rattle.run_top.proofs.moving.move_all.Goals as goal
 
 pub returns-in_err-put_all-clause-stopped : goal.returns-in_err-put_all-clause-stopped
@@ -22,6 +23,8 @@ returns-in_err-put_all-clause-stopped g c error is telling in_telling out_tellin
 pub loop-name-init : goal.loop-name-init
 loop-name-init g c = record {
   lot = c.put_all.ensures.lot;
+  log = c.put_all.ensures.log;
+  alone = c.put_all.ensures.alone;
   work = c.in_ok-put_all.ensures.work;
   goes_on = λ telling in_telling out_telling opened first run. c.in_ok-put_all.ensures.goes_on telling out_telling opened first (g.I.Inbox.left c.args.inbox.now) c.args.names.now run;
   left = λ told. left_at_first c.args.names.now (g.I.Inbox.left c.args.inbox.now) (c.requires.names told);
@@ -57,6 +60,10 @@ returns-in_err-pass_on-clause-stopped g c error is telling in_telling out_tellin
 pub loop-name-preserved : goal.loop-name-preserved
 loop-name-preserved g c = record {
   lot = c.pass_on.ensures.lot ∙ c.loop-name.invariant.lot;
+  log = c.pass_on.ensures.log ∙ c.loop-name.invariant.log;
+  alone =
+      writes_in_turn g.D.Disk.moment g.D.Disk.images c.args.store.now.log.number c.args.disk.now c.loop-name.disk c.pass_on.new.disk c.loop-name.invariant.alone
+      (writes_to g.D.Disk.moment g.D.Disk.images c.args.store.now.log.number c.loop-name.store.log.number c.loop-name.disk c.pass_on.new.disk c.loop-name.invariant.log c.pass_on.ensures.alone);
   work = c.in_ok-pass_on.ensures.work;
   goes_on = λ telling in_telling out_telling opened first run.
       let D = g.D.Disk in
@@ -87,3 +94,27 @@ loop-name-preserved g c = record {
   inbox_faults = omega (arith, c.loop-name.invariant.inbox_faults, c.pass_on.ensures.inbox_cause.never_falls);
   outbox_faults = omega (arith, c.loop-name.invariant.outbox_faults, c.pass_on.ensures.outbox_cause.never_falls);
 }
+
+pub returns-in_err-pass_on-clause-alone : goal.returns-in_err-pass_on-clause-alone
+returns-in_err-pass_on-clause-alone g c =
+    writes_in_turn g.D.Disk.moment g.D.Disk.images c.args.store.now.log.number c.args.disk.now c.loop-name.disk c.pass_on.new.disk c.loop-name.invariant.alone
+    (writes_to g.D.Disk.moment g.D.Disk.images c.args.store.now.log.number c.loop-name.store.log.number c.loop-name.disk c.pass_on.new.disk c.loop-name.invariant.log c.pass_on.ensures.alone)
+
+pub returns-in_err-pass_on-clause-damaged : goal.returns-in_err-pass_on-clause-damaged
+returns-in_err-pass_on-clause-damaged g c damage is =
+    let p = err_from_is_err_and c.from_residual-in_err-pass_on.result c.from_residual-in_err-pass_on.ensures.1 in
+    let was : c.in_err-pass_on.field-0.0 ≡ RunError.Damaged damage = cc (p.1, p.2, is) in
+    damaged_by g.D.Disk.tells g.D.Disk.held g.D.Disk.moment g.D.Disk.images c.args.store.now.lot c.loop-name.store.lot c.pass_on.new.disk c.loop-name.invariant.lot
+    (c.in_err-pass_on.ensures.damaged damage (ap Err was))
+
+pub returns-in_err-put_all-clause-refused : goal.returns-in_err-put_all-clause-refused
+returns-in_err-put_all-clause-refused g c limit is =
+    let p = err_from_is_err_and c.from_residual.result c.from_residual.ensures.1 in
+    let was : c.in_err-put_all.field-0.0 ≡ RunError.Limit limit = cc (p.1, p.2, is) in
+    c.in_err-put_all.ensures.refused limit (ap Err was)
+
+pub returns-in_err-pass_on-clause-refused : goal.returns-in_err-pass_on-clause-refused
+returns-in_err-pass_on-clause-refused g c limit is =
+    let p = err_from_is_err_and c.from_residual-in_err-pass_on.result c.from_residual-in_err-pass_on.ensures.1 in
+    let was : c.in_err-pass_on.field-0.0 ≡ RunError.Limit limit = cc (p.1, p.2, is) in
+    c.in_err-pass_on.ensures.refused limit (ap Err was)

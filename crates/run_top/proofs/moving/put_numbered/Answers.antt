@@ -20,6 +20,7 @@ use Rattle.run_top.proofs.Putting.{kept_here, numbered_so, on_both, sent_is, wai
 use Rattle.run_top.proofs.Steps.{put_done, put_open, runs_on, stops_at_put}
 use Rattle.run_top.proofs.Stopping.{limit_or_none, stops_limited, stops_spared}
 use Rattle.run_top.proofs.Stopping.{without_number}
+use Rattle.run_top.proofs.Writing.{writes_none}
 use Rattle.run_top.proofs.moving.put_numbered.Goals as goal
 
 pub returns-in_default-clause-goes_on : goal.returns-in_default-clause-goes_on
@@ -131,3 +132,9 @@ returns-clause-stopped g c error is telling out_telling opened first left coming
           moment q.number there q now_standing refl go.2
           (cut.2 ∙ sent_is (name_in file.attributes) q.bytes run.reached.world.outbox go.0.world.outbox standing go.2.outbox run.stands))
     ]
+
+pub returns-in_default-clause-alone : goal.returns-in_default-clause-alone
+returns-in_default-clause-alone g c = writes_none g.D.Disk.moment g.D.Disk.images c.args.store.now.log.number c.args.disk.now
+
+pub returns-in_err-file-clause-alone : goal.returns-in_err-file-clause-alone
+returns-in_err-file-clause-alone g c = writes_none g.D.Disk.moment g.D.Disk.images c.args.store.now.log.number c.args.disk.now

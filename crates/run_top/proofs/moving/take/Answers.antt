@@ -14,6 +14,7 @@ use Rattle.run_top.specs.declared.status.RunError.TheVariants.{Inbox}
 use Rattle.run_top.proofs.Left.{found_left}
 use Rattle.run_top.proofs.Steps.{get_done, get_left, get_open, passes_over}
 use Rattle.run_top.proofs.Stopping.{limit_or_none, world_no_limit, stops_limited, stops_spared, with_numbers}
+use Rattle.run_top.proofs.Writing.{writes_none}
 use Rattle.run_top.proofs.moving.take.Goals as goal
 
 pub returns-in_default-clause-stopped : goal.returns-in_default-clause-stopped
@@ -125,7 +126,22 @@ returns-clause-goes_on g c telling in_telling opened first standing coming run =
     let stepped = c.in_ok-get.ensures.steps telling run.reached come.0 come.1 there.1 run.holds in
     let removed : now_left ≡ without name left = c.in-Ok-remove.ensures.removed in_telling ∙ ap (without name) read in
     let next : (kept_by c.args.store.now).next_number ≡ run.reached.state.next_number =
-    ap (λ (s : State). s.next_number) (c.holds_its_state.ensures.tied telling run.reached run.holds) in
+    ap (λ (s : State). s.next_number) (c.holds_its_state.ensures.tied telling run.reached run.holds).is in
     subst (λ (n : ℕ). IsRunning D.moment D.images lot opened first new now_left standing coming (n ∷ [])) (sym next)
     (get_done c.replay_goes_on.ensures.one_more c.states_stay_valid.ensures.one_step D.tells D.held D.moment D.images lot opened first disk new left standing (name ∷ coming) [] run
     come.0 (got c.now.result name) come.1 stepped c.now.result name coming refl refl come.2 now_left removed refl)
+
+pub returns-in_default-clause-alone : goal.returns-in_default-clause-alone
+returns-in_default-clause-alone g c = writes_none g.D.Disk.moment g.D.Disk.images c.args.store.now.log.number c.args.disk.now
+
+pub returns-then-size-gt-CONTENT_MAX-clause-alone : goal.returns-then-size-gt-CONTENT_MAX-clause-alone
+returns-then-size-gt-CONTENT_MAX-clause-alone g c = writes_none g.D.Disk.moment g.D.Disk.images c.args.store.now.log.number c.args.disk.now
+
+pub returns-in-Err-clause-alone : goal.returns-in-Err-clause-alone
+returns-in-Err-clause-alone g c = writes_none g.D.Disk.moment g.D.Disk.images c.args.store.now.log.number c.args.disk.now
+
+pub returns-in_err-get-clause-refused : goal.returns-in_err-get-clause-refused
+returns-in_err-get-clause-refused g c limit is =
+    let p = err_from_is_err_and c.from_residual.result c.from_residual.ensures.1 in
+    let was : c.in_err-get.field-0.0 ≡ RunError.Limit limit = cc (p.1, p.2, is) in
+    c.in_err-get.ensures.refused limit (ap Err was)

@@ -2,10 +2,10 @@ use Rattle.std.proofs.Common.{◌≡◌, ℕ, ◌≤◌, length, subst, sym}
 use Rattle.std.specs.Prelude.{Option}
 use Rattle.disk_trait.specs.Files.{Files, named}
 use Rattle.disk_trait.specs.Images.{After, Since}
-use Rattle.disk_trait.specs.declared.file_name.FileKind.TheVariants.{Log, Swap, Events}
+use Rattle.disk_trait.specs.declared.file_name.FileKind.TheVariants.{Log}
 use Rattle.store_core.specs.declared.discard.Spared.TheVariants.{Only}
 use Rattle.store_core.specs.Discard.{spares, CutsKind, IsAbove, Discards}
-use Rattle.store_core.proofs.Discarding.{empties_logs, since_step, after_snapshots, after_others, swap_apart, events_apart}
+use Rattle.store_core.proofs.Discarding.{empties_logs, since_step, after_snapshots, after_batches}
 use Rattle.store_core.proofs.discard.empty_files.Goals as goal
 
 -- the names of the steps
@@ -34,26 +34,13 @@ returns-in_err-cut_kind-2-clause-images g c =
     (λ d left. c.requires.short (laws.left_is_told old (g.D.Disk.moment old) d left)) c.cut_kind.ensures.images)
     c.cut_kind-2.ensures.images
 
-pub returns-in_err-cut_kind-3-clause-images : goal.returns-in_err-cut_kind-3-clause-images
-returns-in_err-cut_kind-3-clause-images g c =
+pub returns-clause-images : goal.returns-clause-images
+returns-clause-images g c =
     let laws = g.met.D.Disk g.world.𝓛 g.world.𝓜 g.world.𝓡 ((λ s x. x), (λ x. x), (λ x. x), λ x. x) in
     let old = c.args.disk.now in
-    after_others g.D.Disk.moment g.D.Disk.images c.args.current Swap swap_apart.0 swap_apart.1 swap_apart.2 old c.cut_kind-2.new.disk c.cut_kind-3.new.disk
+    after_batches g.D.Disk.moment g.D.Disk.images c.args.current old c.cut_kind-2.new.disk c.cut_kind-3.new.disk
     (after_snapshots g.D.Disk.moment g.D.Disk.images c.args.current old c.cut_kind.new.disk c.cut_kind-2.new.disk
     (logs_go g.D.Disk.moment g.D.Disk.images c.args.current old c.cut_kind.new.disk (g.D.Disk.held old) c.requires.synced
     (λ d left. c.requires.short (laws.left_is_told old (g.D.Disk.moment old) d left)) c.cut_kind.ensures.images)
     c.cut_kind-2.ensures.images)
     c.cut_kind-3.ensures.images
-
-pub returns-clause-images : goal.returns-clause-images
-returns-clause-images g c =
-    let laws = g.met.D.Disk g.world.𝓛 g.world.𝓜 g.world.𝓡 ((λ s x. x), (λ x. x), (λ x. x), λ x. x) in
-    let old = c.args.disk.now in
-    after_others g.D.Disk.moment g.D.Disk.images c.args.current Events events_apart.0 events_apart.1 events_apart.2 old c.cut_kind-3.new.disk c.cut_kind-4.new.disk
-    (after_others g.D.Disk.moment g.D.Disk.images c.args.current Swap swap_apart.0 swap_apart.1 swap_apart.2 old c.cut_kind-2.new.disk c.cut_kind-3.new.disk
-    (after_snapshots g.D.Disk.moment g.D.Disk.images c.args.current old c.cut_kind.new.disk c.cut_kind-2.new.disk
-    (logs_go g.D.Disk.moment g.D.Disk.images c.args.current old c.cut_kind.new.disk (g.D.Disk.held old) c.requires.synced
-    (λ d left. c.requires.short (laws.left_is_told old (g.D.Disk.moment old) d left)) c.cut_kind.ensures.images)
-    c.cut_kind-2.ensures.images)
-    c.cut_kind-3.ensures.images)
-    c.cut_kind-4.ensures.images

@@ -1,10 +1,33 @@
 use Rattle.std.proofs.Common.{length}
+use Rattle.std.specs.Prelude.{ℕ, List, None}
 use Rattle.flowfile_record.specs.Stored.{kept_of}
-use Rattle.checkpoint_store.specs.Snapshot.{snapshot}
-use Rattle.disk_trait.specs.Files.{Torn}
+use Rattle.checkpoint_store.specs.Begun.{IsBegunOrNot, log_file}
+use Rattle.checkpoint_store.specs.Snapshot.{snapshot, snapshot_file}
+use Rattle.disk_trait.specs.Files.{Files, At, Torn}
+use Rattle.disk_trait.specs.Images.{After, Since}
+use Rattle.store_core.specs.Discard.{Discards}
+use Rattle.store_core.proofs.Reviving.{EventsStaying, same_events_discarded, same_events_logged, same_events_snapshot, since_events, since_events_in_turn}
 use Rattle.store_core.proofs.Made.{since_discards, since_snapshot}
 use Rattle.store_core.proofs.MadeSteps.{begun_files, since_unmade, since_begin, made_at_the_end, each_staged, unmade_images}
+use Rattle.store_core.proofs.Touching.{revives_discarded, revives_first_log, revives_first_snapshot, since_revived, since_revives}
 use Rattle.store_core.proofs.revival.make.Goals as goal
+
+module _ {D : Type 0} (moment : D → ℕ) (images : D → ℕ → Files → Type 0) where
+  since_discarded : (old new : D) → Since moment images old new (After (Discards None) (images old (moment old))) → Since moment images old new (EventsStaying moment images old)
+  since_discarded old new since = since_events moment images old new (Discards None) since (λ d e. same_events_discarded None d e)
+
+  since_written : (P : List ℕ → List ℕ → Type 0) (old mid new : D) → Since moment images old mid (After (Discards None) (images old (moment old)))
+      → Since moment images mid new (After (At (snapshot_file 1) P) (images mid (moment mid))) → Since moment images old new (EventsStaying moment images old)
+  since_written P old mid new first second =
+      since_events_in_turn moment images old mid new (since_discarded old mid first)
+      (since_events moment images mid new (At (snapshot_file 1) P) second (λ d e. same_events_snapshot 1 P d e))
+
+  since_begun : (P Q : List ℕ → List ℕ → Type 0) (old mid next new : D) → Since moment images old mid (After (Discards None) (images old (moment old)))
+      → Since moment images mid next (After (At (snapshot_file 1) P) (images mid (moment mid)))
+      → Since moment images next new (After (At (log_file 1) Q) (images next (moment next))) → Since moment images old new (EventsStaying moment images old)
+  since_begun P Q old mid next new first second third =
+      since_events_in_turn moment images old next new (since_written P old mid next first second)
+      (since_events moment images next new (At (log_file 1) Q) third (λ d e. same_events_logged 1 Q d e))
 
 pub returns-in_err-discard-clause-images : goal.returns-in_err-discard-clause-images
 returns-in_err-discard-clause-images g c =
@@ -90,3 +113,67 @@ returns-clause-made g c =
     c.write.ensures.images)
     (each_staged moment images g.D.Disk.tells g.D.Disk.held k d1 d2 (λ d left. laws.left_is_told d2 (moment d2) d left) c.in_ok-write.ensures.synced c.in_ok-discard.ensures.logs c.in_ok-write.ensures.written)
     c.begin.ensures.images c.in_ok-begin.ensures.begun
+
+pub returns-in_err-discard-clause-events : goal.returns-in_err-discard-clause-events
+returns-in_err-discard-clause-events g c = since_discarded g.D.Disk.moment g.D.Disk.images c.args.disk.now c.discard.new.disk c.discard.ensures.images
+
+pub returns-in_err-write-clause-events : goal.returns-in_err-write-clause-events
+returns-in_err-write-clause-events g c =
+    since_written g.D.Disk.moment g.D.Disk.images (Torn 0 (length (snapshot (kept_of c.args.stored.now)))) c.args.disk.now c.discard.new.disk c.write.new.disk
+    c.discard.ensures.images c.write.ensures.images
+
+pub returns-in_err-begin-clause-events : goal.returns-in_err-begin-clause-events
+returns-in_err-begin-clause-events g c =
+    since_begun g.D.Disk.moment g.D.Disk.images (Torn 0 (length (snapshot (kept_of c.args.stored.now)))) (λ before now. IsBegunOrNot 1 now) c.args.disk.now c.discard.new.disk c.write.new.disk c.begin.new.disk
+    c.discard.ensures.images c.write.ensures.images c.begin.ensures.images
+
+pub returns-clause-events : goal.returns-clause-events
+returns-clause-events g c =
+    since_begun g.D.Disk.moment g.D.Disk.images (Torn 0 (length (snapshot (kept_of c.args.stored.now)))) (λ before now. IsBegunOrNot 1 now) c.args.disk.now c.discard.new.disk c.write.new.disk c.begin.new.disk
+    c.discard.ensures.images c.write.ensures.images c.begin.ensures.images
+
+pub returns-in_err-discard-clause-alone : goal.returns-in_err-discard-clause-alone
+returns-in_err-discard-clause-alone g c =
+    since_revives g.D.Disk.moment g.D.Disk.images None c.args.disk.now c.discard.new.disk (Discards None) c.discard.ensures.images (revives_discarded None)
+
+pub returns-in_err-write-clause-alone : goal.returns-in_err-write-clause-alone
+returns-in_err-write-clause-alone g c =
+    let moment = g.D.Disk.moment in
+    let images = g.D.Disk.images in
+    let d0 = c.args.disk.now in
+    let d1 = c.discard.new.disk in
+    let d2 = c.write.new.disk in
+    let torn = Torn 0 (length (snapshot (kept_of c.args.stored.now))) in
+    since_revived moment images None d0 d1 d2
+    (since_revives moment images None d0 d1 (Discards None) c.discard.ensures.images (revives_discarded None))
+    (since_revives moment images None d1 d2 (At (snapshot_file 1) torn) c.write.ensures.images (revives_first_snapshot torn))
+
+pub returns-in_err-begin-clause-alone : goal.returns-in_err-begin-clause-alone
+returns-in_err-begin-clause-alone g c =
+    let moment = g.D.Disk.moment in
+    let images = g.D.Disk.images in
+    let d0 = c.args.disk.now in
+    let d1 = c.discard.new.disk in
+    let d2 = c.write.new.disk in
+    let d3 = c.begin.new.disk in
+    let torn = Torn 0 (length (snapshot (kept_of c.args.stored.now))) in
+    since_revived moment images None d0 d2 d3
+    (since_revived moment images None d0 d1 d2
+    (since_revives moment images None d0 d1 (Discards None) c.discard.ensures.images (revives_discarded None))
+    (since_revives moment images None d1 d2 (At (snapshot_file 1) torn) c.write.ensures.images (revives_first_snapshot torn)))
+    (since_revives moment images None d2 d3 (At (log_file 1) (λ old new. IsBegunOrNot 1 new)) c.begin.ensures.images (revives_first_log (λ old new. IsBegunOrNot 1 new)))
+
+pub returns-clause-alone : goal.returns-clause-alone
+returns-clause-alone g c =
+    let moment = g.D.Disk.moment in
+    let images = g.D.Disk.images in
+    let d0 = c.args.disk.now in
+    let d1 = c.discard.new.disk in
+    let d2 = c.write.new.disk in
+    let d3 = c.begin.new.disk in
+    let torn = Torn 0 (length (snapshot (kept_of c.args.stored.now))) in
+    since_revived moment images None d0 d2 d3
+    (since_revived moment images None d0 d1 d2
+    (since_revives moment images None d0 d1 (Discards None) c.discard.ensures.images (revives_discarded None))
+    (since_revives moment images None d1 d2 (At (snapshot_file 1) torn) c.write.ensures.images (revives_first_snapshot torn)))
+    (since_revives moment images None d2 d3 (At (log_file 1) (λ old new. IsBegunOrNot 1 new)) c.begin.ensures.images (revives_first_log (λ old new. IsBegunOrNot 1 new)))

@@ -2,9 +2,10 @@ use Rattle.std.proofs.Common.{◌≡◌, ap, ◌∙◌}
 use Rattle.std.specs.Prelude.{Some, Result, Ok, Err, OnOk}
 use Rattle.disk_trait.specs.Images.{After}
 use Rattle.disk_trait.proofs.Moments.{at_the_end}
-use Rattle.flowfile_wal.specs.Steps.{LogState, Keeps}
+use Rattle.flowfile_wal.specs.Steps.{LogState, Keeps, SameLog}
 use Rattle.store_core.specs.Discard.{Discards}
-use Rattle.store_core.proofs.Reviving.{mended_agrees, discarded_agrees, ready_number, discarded_ready, since_agrees, since_agreeing}
+use Rattle.store_core.proofs.Reviving.{mended_agrees, discarded_agrees, ready_number, discarded_ready, since_agrees, since_agreeing, same_events_logged, same_events_discarded, since_events, since_events_in_turn}
+use Rattle.store_core.proofs.Touching.{revives_discarded, revives_log, since_revived, since_revives}
 use Rattle.store_core.proofs.revival.mend.Goals as goal
 
 ready_if : {A E : Type 0} {P : Type 0} (r : Result A E) → P → OnOk r P
@@ -34,3 +35,29 @@ returns-clause-ready g c = ready_if c.discard.result
     let after = at_the_end g.D.Disk.moment g.D.Disk.images c.mend.new.disk c.discard.new.disk
     (After (Discards (Some number)) (g.D.Disk.images c.mend.new.disk (g.D.Disk.moment c.mend.new.disk))) c.discard.ensures.images e left in
     discarded_ready c.mend.new.self number after.0 e same (c.in_ok-mend.ensures.ready.ready after.0 after.1) after.2)
+
+pub returns-in_err-mend-clause-events : goal.returns-in_err-mend-clause-events
+returns-in_err-mend-clause-events g c =
+    since_events g.D.Disk.moment g.D.Disk.images c.args.disk.now c.mend.new.disk (Keeps c.args.number) (c.mend.ensures.images c.args.number c.requires.number)
+    (λ d e. same_events_logged c.args.number (SameLog c.args.number) d e)
+
+pub returns-clause-events : goal.returns-clause-events
+returns-clause-events g c =
+    let number = c.args.number in
+    since_events_in_turn g.D.Disk.moment g.D.Disk.images c.args.disk.now c.mend.new.disk c.discard.new.disk
+    (since_events g.D.Disk.moment g.D.Disk.images c.args.disk.now c.mend.new.disk (Keeps number) (c.mend.ensures.images number c.requires.number)
+    (λ d e. same_events_logged number (SameLog number) d e))
+    (since_events g.D.Disk.moment g.D.Disk.images c.mend.new.disk c.discard.new.disk (Discards (Some number)) c.discard.ensures.images
+    (λ d e. same_events_discarded (Some number) d e))
+
+pub returns-in_err-mend-clause-alone : goal.returns-in_err-mend-clause-alone
+returns-in_err-mend-clause-alone g c =
+    let number = c.args.number in
+    since_revives g.D.Disk.moment g.D.Disk.images (Some number) c.args.disk.now c.mend.new.disk (Keeps number) (c.mend.ensures.images number c.requires.number) (revives_log number (SameLog number))
+
+pub returns-clause-alone : goal.returns-clause-alone
+returns-clause-alone g c =
+    let number = c.args.number in
+    since_revived g.D.Disk.moment g.D.Disk.images (Some number) c.args.disk.now c.mend.new.disk c.discard.new.disk
+    (since_revives g.D.Disk.moment g.D.Disk.images (Some number) c.args.disk.now c.mend.new.disk (Keeps number) (c.mend.ensures.images number c.requires.number) (revives_log number (SameLog number)))
+    (since_revives g.D.Disk.moment g.D.Disk.images (Some number) c.mend.new.disk c.discard.new.disk (Discards (Some number)) c.discard.ensures.images (revives_discarded (Some number)))

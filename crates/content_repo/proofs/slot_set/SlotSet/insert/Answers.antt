@@ -1,28 +1,25 @@
-use Rattle.std.proofs.Common.{◌≡◌, ◌/◌, ◌<◌, length, get_or, ◌∙◌, arith}
-use Rattle.std.proofs.lemmas.List.{get_or_default}
-use Rattle.content_repo.proofs.SlotSets.{has-with_same, has-with_other, levels-with}
+use Rattle.std.proofs.Common.{◌/◌, ℕ, List, length, drop, subst, ◌∙◌}
+use Rattle.std.proofs.lemmas.List.{take_at}
+use Rattle.content_repo.specs.SlotSet.{IsChangedAt}
+use Rattle.content_repo.proofs.SlotSets.{marked_with}
 use Rattle.content_repo.proofs.slot_set.SlotSet.insert.Goals as goal
 
 pub invariant_of-self : goal.invariant_of-self
 invariant_of-self c =
+    let inv = c.self.invariant in
     let words = c.self.inside.words.items in
     let groups = c.self.inside.groups.items in
-    let word : c.index_mut.result.now ≡ get_or words (c.args.slot / 64) 0 =
-    c.index_mut.ensures.value ∙ get_or_default words (c.args.slot / 64) _ 0 (omega (arith, c.requires, c.self.invariant.words_length)) in
-    let mark : c.index_mut-2.result.now ≡ get_or groups (c.args.slot / 64 / 64) 0 =
-    c.index_mut-2.ensures.value ∙ get_or_default groups (c.args.slot / 64 / 64) _ 0 (omega (arith, c.requires, c.self.invariant.groups_length)) in
-    rw (word, mark) (levels-with words groups c.args.slot c.requires c.self.invariant)
-
-pub returns-clause-here : goal.returns-clause-here
-returns-clause-here c =
-    let words = c.self.inside.words.items in
-    let within : c.args.slot / 64 < length words = omega (arith, c.requires, c.self.invariant.words_length) in
-    let word : c.index_mut.result.now ≡ get_or words (c.args.slot / 64) 0 = c.index_mut.ensures.value ∙ get_or_default words (c.args.slot / 64) _ 0 within in
-    rw word (has-with_same words c.args.slot within)
-
-pub returns-clause-others : goal.returns-clause-others
-returns-clause-others c other differs =
-    let words = c.self.inside.words.items in
-    let within : c.args.slot / 64 < length words = omega (arith, c.requires, c.self.invariant.words_length) in
-    let word : c.index_mut.result.now ≡ get_or words (c.args.slot / 64) 0 = c.index_mut.ensures.value ∙ get_or_default words (c.args.slot / 64) _ 0 within in
-    rw (word, ← c.self.view_is) (has-with_other words c.args.slot within other differs)
+    let new_words = c.set_bit.new.words in
+    let new_groups = c.set_bit-2.new.words in
+    let slot = c.args.slot in
+    let words_changed = subst (λ (l : List ℕ). IsChangedAt slot l new_words) c.as_mut_slice.ensures.value c.set_bit.ensures.changed in
+    let groups_changed = subst (λ (l : List ℕ). IsChangedAt (slot / 64) l new_groups) c.as_mut_slice-2.ensures.value c.set_bit-2.ensures.changed in
+    let words_back = take_at new_words (drop (length new_words) words) c.self.inside.words.len (c.set_bit.ensures.changed.size ∙ c.as_mut_slice.ensures.len) in
+    let groups_back = take_at new_groups (drop (length new_groups) groups) c.self.inside.groups.len (c.set_bit-2.ensures.changed.size ∙ c.as_mut_slice-2.ensures.len) in
+    rw (words_back, groups_back) (record {
+      words_length = words_changed.size ∙ inv.words_length;
+      groups_length = groups_changed.size ∙ inv.groups_length;
+      top_length = c.set_bit-3.ensures.changed.size ∙ inv.top_length;
+      lower = marked_with words groups new_words new_groups slot inv.lower words_changed groups_changed c.set_bit.ensures.here c.set_bit-2.ensures.here;
+      upper = marked_with groups c.self.inside.top new_groups c.set_bit-3.new.words (slot / 64) inv.upper groups_changed c.set_bit-3.ensures.changed c.set_bit-2.ensures.here c.set_bit-3.ensures.here;
+    })

@@ -1,37 +1,54 @@
-use Rattle.std.proofs.Common.{◌≡◌, ◌/◌, ◌<◌, length, get_or, ◌∙◌, sym, arith}
-use Rattle.std.proofs.lemmas.List.{get_or_default}
-use Rattle.content_repo.proofs.SlotSets.{has-without_same, has-without_other, levels-without}
+use Rattle.std.proofs.Common.{◌/◌, ℕ, List, length, drop, subst, ◌∙◌}
+use Rattle.std.proofs.lemmas.List.{take_at}
+use Rattle.content_repo.specs.SlotSet.{IsChangedAt}
+use Rattle.content_repo.proofs.SlotSets.{marked_left, marked_without}
 use Rattle.content_repo.proofs.slot_set.SlotSet.remove.Goals as goal
 
-pub invariant_of-self : goal.invariant_of-self
-invariant_of-self c =
+pub invariant_of-self-then-not-clear_bit-2 : goal.invariant_of-self-then-not-clear_bit-2
+invariant_of-self-then-not-clear_bit-2 c =
+    let inv = c.self.invariant in
     let words = c.self.inside.words.items in
     let groups = c.self.inside.groups.items in
-    let word : c.index_mut.result.now ≡ get_or words (c.args.slot / 64) 0 =
-    c.index_mut.ensures.value ∙ get_or_default words (c.args.slot / 64) _ 0 (omega (arith, c.requires, c.self.invariant.words_length)) in
-    let mark : c.index_mut-then-index-eq0.result.now ≡ get_or groups (c.args.slot / 64 / 64) 0 =
-    c.index_mut-then-index-eq0.ensures.value ∙ get_or_default groups (c.args.slot / 64 / 64) _ 0 (omega (arith, c.requires, c.self.invariant.groups_length)) in
-    let zero : c.index.result.now ≡ 0 = c.if-index-eq0.true in
-    let left = rw (word, zero) at c.index.ensures in
-    rw (word, mark) (levels-without words groups c.args.slot c.requires c.self.invariant (sym left))
+    let new_words = c.clear_bit.new.words in
+    let new_groups = c.clear_bit-2.new.words in
+    let slot = c.args.slot in
+    let words_changed = subst (λ (l : List ℕ). IsChangedAt slot l new_words) c.as_mut_slice.ensures.value c.clear_bit.ensures.changed in
+    let groups_changed = subst (λ (l : List ℕ). IsChangedAt (slot / 64) l new_groups) c.as_mut_slice-2.ensures.value c.clear_bit-2.ensures.changed in
+    let words_back = take_at new_words (drop (length new_words) words) c.self.inside.words.len (c.clear_bit.ensures.changed.size ∙ c.as_mut_slice.ensures.len) in
+    let groups_back = take_at new_groups (drop (length new_groups) groups) c.self.inside.groups.len (c.clear_bit-2.ensures.changed.size ∙ c.as_mut_slice-2.ensures.len) in
+    let left = rw c.as_mut_slice-2.ensures.value at c.clear_bit-2.ensures.left in
+    rw (words_back, groups_back) (record {
+      words_length = words_changed.size ∙ inv.words_length;
+      groups_length = groups_changed.size ∙ inv.groups_length;
+      top_length = inv.top_length;
+      lower = marked_without words groups new_words new_groups slot inv.lower words_changed groups_changed (c.clear_bit.ensures.none c.if-not-clear_bit.false) c.clear_bit-2.ensures.here;
+      upper = marked_left groups c.self.inside.top new_groups (slot / 64) inv.upper groups_changed left (c.clear_bit-2.ensures.some c.if-not-clear_bit-2.true);
+    })
 
-pub returns-then-index-eq0-clause-others : goal.returns-then-index-eq0-clause-others
-returns-then-index-eq0-clause-others c other differs =
+pub invariant_of-self-2 : goal.invariant_of-self-2
+invariant_of-self-2 c =
+    let inv = c.self.invariant in
     let words = c.self.inside.words.items in
-    let within : c.args.slot / 64 < length words = omega (arith, c.requires, c.self.invariant.words_length) in
-    let word : c.index_mut.result.now ≡ get_or words (c.args.slot / 64) 0 = c.index_mut.ensures.value ∙ get_or_default words (c.args.slot / 64) _ 0 within in
-    rw (word, ← c.self.view_is) (has-without_other words c.args.slot within other differs)
+    let groups = c.self.inside.groups.items in
+    let new_words = c.clear_bit.new.words in
+    let new_groups = c.clear_bit-2.new.words in
+    let slot = c.args.slot in
+    let words_changed = subst (λ (l : List ℕ). IsChangedAt slot l new_words) c.as_mut_slice.ensures.value c.clear_bit.ensures.changed in
+    let groups_changed = subst (λ (l : List ℕ). IsChangedAt (slot / 64) l new_groups) c.as_mut_slice-2.ensures.value c.clear_bit-2.ensures.changed in
+    let words_back = take_at new_words (drop (length new_words) words) c.self.inside.words.len (c.clear_bit.ensures.changed.size ∙ c.as_mut_slice.ensures.len) in
+    let groups_back = take_at new_groups (drop (length new_groups) groups) c.self.inside.groups.len (c.clear_bit-2.ensures.changed.size ∙ c.as_mut_slice-2.ensures.len) in
+    rw (words_back, groups_back) (record {
+      words_length = words_changed.size ∙ inv.words_length;
+      groups_length = groups_changed.size ∙ inv.groups_length;
+      top_length = c.clear_bit-none_left.ensures.changed.size ∙ inv.top_length;
+      lower = marked_without words groups new_words new_groups slot inv.lower words_changed groups_changed (c.clear_bit.ensures.none c.if-not-clear_bit.false) c.clear_bit-2.ensures.here;
+      upper = marked_without groups c.self.inside.top new_groups c.clear_bit-none_left.new.words (slot / 64) inv.upper groups_changed c.clear_bit-none_left.ensures.changed (c.clear_bit-2.ensures.none c.if-not-clear_bit-2.false) c.clear_bit-none_left.ensures.here;
+    })
 
-pub returns-else-index-eq0-clause-here : goal.returns-else-index-eq0-clause-here
-returns-else-index-eq0-clause-here c =
+pub returns-clause-others : goal.returns-clause-others
+returns-clause-others c other differs =
     let words = c.self.inside.words.items in
-    let within : c.args.slot / 64 < length words = omega (arith, c.requires, c.self.invariant.words_length) in
-    let word : c.index_mut.result.now ≡ get_or words (c.args.slot / 64) 0 = c.index_mut.ensures.value ∙ get_or_default words (c.args.slot / 64) _ 0 within in
-    rw word (has-without_same words c.args.slot within)
-
-pub returns-else-index-eq0-clause-others : goal.returns-else-index-eq0-clause-others
-returns-else-index-eq0-clause-others c other differs =
-    let words = c.self.inside.words.items in
-    let within : c.args.slot / 64 < length words = omega (arith, c.requires, c.self.invariant.words_length) in
-    let word : c.index_mut.result.now ≡ get_or words (c.args.slot / 64) 0 = c.index_mut.ensures.value ∙ get_or_default words (c.args.slot / 64) _ 0 within in
-    rw (word, ← c.self.view_is) (has-without_other words c.args.slot within other differs)
+    let new_words = c.clear_bit.new.words in
+    let words_changed = subst (λ (l : List ℕ). IsChangedAt c.args.slot l new_words) c.as_mut_slice.ensures.value c.clear_bit.ensures.changed in
+    let words_back = take_at new_words (drop (length new_words) words) c.self.inside.words.len (c.clear_bit.ensures.changed.size ∙ c.as_mut_slice.ensures.len) in
+    rw (words_back, ← c.self.view_is) (words_changed.others other differs)

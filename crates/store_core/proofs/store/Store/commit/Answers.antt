@@ -20,29 +20,29 @@ use Rattle.store_core.specs.State.{stands_for}
 use Rattle.store_core.specs.Store.{StoreState, state_in, kept_by, IsWorking}
 use Rattle.store_core.proofs.Agreeing.{of_state}
 use Rattle.store_core.proofs.Commits.{may_place, recorded_first, entry_fits, entry_room, entry_frame}
-use Rattle.store_core.proofs.Outcomes.{has_placed, has_change, placed_images, placed_states, placed_alone, numbered_of, has_logged, may_give_up, logged_images, logged_alone, logged_states, acknowledged_state as state_of_acknowledged, acknowledged_kept, acknowledged_works}
-use Rattle.store_core.proofs.Whole.{ready_grown}
+use Rattle.store_core.proofs.Outcomes.{has_placed, has_change, placed_images, placed_states, placed_alone, numbered_of, has_logged, may_give_up, logged_images, logged_alone, logged_states, acknowledged_state as state_of_acknowledged, acknowledged_kept, acknowledged_works, events_counted}
+use Rattle.store_core.proofs.Whole.{ready_ahead}
 use Rattle.store_core.proofs.store.Store.commit.Goals as goal
 
-pub place_contents-requires-clause-recorded : goal.place_contents-requires-clause-recorded
-place_contents-requires-clause-recorded g c κs within =
+pub write_ahead-requires-clause-recorded : goal.write_ahead-requires-clause-recorded
+write_ahead-requires-clause-recorded g c κs within =
     let i = c.self.inside in
-    let s = state_in i.state i.log i.entries i.contents i.opened.items i.lot i.has_failed in
+    let s = state_in i.state i.log i.entries i.contents i.opened.items i.events i.lot i.has_failed in
     let now = c.args.self.now in
     let view : s ≡ now = c.self.view_is in
-    let change : PreparedChange = record { entry = c.prepared.inside.entry; settled = c.prepared.inside.settled.now } in
+    let change : PreparedChange = record { entry = c.prepared.inside.entry; settled = c.prepared.inside.settled.now; events = c.prepared.inside.events } in
     let p = c.args.prepared in
     let p_view : change ≡ p = c.prepared.view_is in
     ap (λ (r : PreparedChange). placed_in r.entry) p_view ∙ recorded_first now p c.requires.prepared
     ∙ sym (ap (λ (r : PreparedChange). map record_of r.settled.placed) p_view) ∙ ap (map record_of) (sym c.as_slice.ensures)
 
-pub place_contents-requires-clause-may : goal.place_contents-requires-clause-may
-place_contents-requires-clause-may g c κs within =
+pub write_ahead-requires-clause-may : goal.write_ahead-requires-clause-may
+write_ahead-requires-clause-may g c κs within =
     let i = c.self.inside in
-    let s = state_in i.state i.log i.entries i.contents i.opened.items i.lot i.has_failed in
+    let s = state_in i.state i.log i.entries i.contents i.opened.items i.events i.lot i.has_failed in
     let now = c.args.self.now in
     let view : s ≡ now = c.self.view_is in
-    let change : PreparedChange = record { entry = c.prepared.inside.entry; settled = c.prepared.inside.settled.now } in
+    let change : PreparedChange = record { entry = c.prepared.inside.entry; settled = c.prepared.inside.settled.now; events = c.prepared.inside.events } in
     let p = c.args.prepared in
     let p_view : change ≡ p = c.prepared.view_is in
     let may : MayPlace now.slots p.settled.placed =
@@ -55,79 +55,99 @@ place_contents-requires-clause-may g c κs within =
 pub apply-requires-clause-fits : goal.apply-requires-clause-fits
 apply-requires-clause-fits g c =
     let i = c.self.inside in
-    let s = state_in i.state i.log i.entries i.contents i.opened.items i.lot i.has_failed in
+    let s = state_in i.state i.log i.entries i.contents i.opened.items i.events i.lot i.has_failed in
     let now = c.args.self.now in
     let view : s ≡ now = c.self.view_is in
-    let change : PreparedChange = record { entry = c.prepared.inside.entry; settled = c.prepared.inside.settled.now } in
+    let change : PreparedChange = record { entry = c.prepared.inside.entry; settled = c.prepared.inside.settled.now; events = c.prepared.inside.events } in
     let p = c.args.prepared in
     let p_view : change ≡ p = c.prepared.view_is in
-    let e = c.place_contents.new.entry in
+    let e = c.write_ahead.new.entry in
     let old = c.args.disk.now in
-    let mid = c.place_contents.new.disk in
+    let mid = c.write_ahead.new.disk in
     let moment = g.D.Disk.moment in
     let images = g.D.Disk.images in
     let held = g.D.Disk.held in
     let tells = g.D.Disk.tells in
-    let has = has_placed tells held moment images s now change p e old mid view p_view (c.self.invariant.works c.if-self.false) c.if-self.false c.stored-stored.ensures.consistent c.stored-stored.ensures.no_batches c.requires.kept c.requires.prepared c.requires.contents c.place_contents.ensures.same c.place_contents.ensures.images c.place_contents.ensures.held in
+    let has = has_placed tells held moment images s now change p e old mid view p_view (c.self.invariant.works c.if-self.false) c.if-self.false c.stored-stored.ensures.consistent c.stored-stored.ensures.no_batches c.requires.kept c.requires.prepared c.requires.contents c.write_ahead.ensures.same c.write_ahead.ensures.images c.write_ahead.ensures.held in
     ap (fits no_files i.state.kept) c.into_frame-entry.ensures.entry ∙ ap (λ (t : StoreState). fits no_files (kept_by t) e) view ∙ entry_fits now p e has.prepared has.same
 
 pub apply-requires-2-clause-fits : goal.apply-requires-2-clause-fits
 apply-requires-2-clause-fits g c =
     let i = c.self.inside in
-    let s = state_in i.state i.log i.entries i.contents i.opened.items i.lot i.has_failed in
+    let s = state_in i.state i.log i.entries i.contents i.opened.items i.events i.lot i.has_failed in
     let now = c.args.self.now in
     let view : s ≡ now = c.self.view_is in
-    let change : PreparedChange = record { entry = c.prepared.inside.entry; settled = c.prepared.inside.settled.now } in
+    let change : PreparedChange = record { entry = c.prepared.inside.entry; settled = c.prepared.inside.settled.now; events = c.prepared.inside.events } in
     let p = c.args.prepared in
     let p_view : change ≡ p = c.prepared.view_is in
-    let e = c.place_contents.new.entry in
+    let e = c.write_ahead.new.entry in
     let old = c.args.disk.now in
-    let mid = c.place_contents.new.disk in
+    let mid = c.write_ahead.new.disk in
     let moment = g.D.Disk.moment in
     let images = g.D.Disk.images in
     let held = g.D.Disk.held in
     let tells = g.D.Disk.tells in
-    let has = has_placed tells held moment images s now change p e old mid view p_view (c.self.invariant.works c.if-self.false) c.if-self.false c.stored-stored.ensures.consistent c.stored-stored.ensures.no_batches c.requires.kept c.requires.prepared c.requires.contents c.place_contents.ensures.same c.place_contents.ensures.images c.place_contents.ensures.held in
+    let has = has_placed tells held moment images s now change p e old mid view p_view (c.self.invariant.works c.if-self.false) c.if-self.false c.stored-stored.ensures.consistent c.stored-stored.ensures.no_batches c.requires.kept c.requires.prepared c.requires.contents c.write_ahead.ensures.same c.write_ahead.ensures.images c.write_ahead.ensures.held in
     ap (fits no_files i.state.kept) c.into_frame-entry-2.ensures.entry ∙ ap (λ (t : StoreState). fits no_files (kept_by t) e) view ∙ entry_fits now p e has.prepared has.same
+
+pub apply-requires-clause-room : goal.apply-requires-clause-room
+apply-requires-clause-room g c =
+    let i = c.self.inside in
+    let s = state_in i.state i.log i.entries i.contents i.opened.items i.events i.lot i.has_failed in
+    let now = c.args.self.now in
+    let view : s ≡ now = c.self.view_is in
+    let change : PreparedChange = record { entry = c.prepared.inside.entry; settled = c.prepared.inside.settled.now; events = c.prepared.inside.events } in
+    let p = c.args.prepared in
+    let p_view : change ≡ p = c.prepared.view_is in
+    let e = c.write_ahead.new.entry in
+    let old = c.args.disk.now in
+    let mid = c.write_ahead.new.disk in
+    let moment = g.D.Disk.moment in
+    let images = g.D.Disk.images in
+    let held = g.D.Disk.held in
+    let tells = g.D.Disk.tells in
+    let has = has_placed tells held moment images s now change p e old mid view p_view (c.self.invariant.works c.if-self.false) c.if-self.false c.stored-stored.ensures.consistent c.stored-stored.ensures.no_batches c.requires.kept c.requires.prepared c.requires.contents c.write_ahead.ensures.same c.write_ahead.ensures.images c.write_ahead.ensures.held in
+    subst (λ (l : LogEntry). length (placed_in l) ≤ i.state.room) (sym c.into_frame-entry.ensures.entry)
+    (subst (λ (t : StoreState). length (placed_in e) ≤ t.memory.room) (sym view) (entry_room now p e has.prepared has.same))
 
 pub apply-requires-2-clause-room : goal.apply-requires-2-clause-room
 apply-requires-2-clause-room g c =
     let i = c.self.inside in
-    let s = state_in i.state i.log i.entries i.contents i.opened.items i.lot i.has_failed in
+    let s = state_in i.state i.log i.entries i.contents i.opened.items i.events i.lot i.has_failed in
     let now = c.args.self.now in
     let view : s ≡ now = c.self.view_is in
-    let change : PreparedChange = record { entry = c.prepared.inside.entry; settled = c.prepared.inside.settled.now } in
+    let change : PreparedChange = record { entry = c.prepared.inside.entry; settled = c.prepared.inside.settled.now; events = c.prepared.inside.events } in
     let p = c.args.prepared in
     let p_view : change ≡ p = c.prepared.view_is in
-    let e = c.place_contents.new.entry in
+    let e = c.write_ahead.new.entry in
     let old = c.args.disk.now in
-    let mid = c.place_contents.new.disk in
+    let mid = c.write_ahead.new.disk in
     let moment = g.D.Disk.moment in
     let images = g.D.Disk.images in
     let held = g.D.Disk.held in
     let tells = g.D.Disk.tells in
-    let has = has_placed tells held moment images s now change p e old mid view p_view (c.self.invariant.works c.if-self.false) c.if-self.false c.stored-stored.ensures.consistent c.stored-stored.ensures.no_batches c.requires.kept c.requires.prepared c.requires.contents c.place_contents.ensures.same c.place_contents.ensures.images c.place_contents.ensures.held in
+    let has = has_placed tells held moment images s now change p e old mid view p_view (c.self.invariant.works c.if-self.false) c.if-self.false c.stored-stored.ensures.consistent c.stored-stored.ensures.no_batches c.requires.kept c.requires.prepared c.requires.contents c.write_ahead.ensures.same c.write_ahead.ensures.images c.write_ahead.ensures.held in
     subst (λ (l : LogEntry). length (placed_in l) ≤ i.state.room) (sym c.into_frame-entry-2.ensures.entry)
     (subst (λ (t : StoreState). length (placed_in e) ≤ t.memory.room) (sym view) (entry_room now p e has.prepared has.same))
 
 pub give_up-requires : goal.give_up-requires
 give_up-requires g c =
     let i = c.self.inside in
-    let s = state_in i.state i.log i.entries i.contents i.opened.items i.lot i.has_failed in
+    let s = state_in i.state i.log i.entries i.contents i.opened.items i.events i.lot i.has_failed in
     let now = c.args.self.now in
     let view : s ≡ now = c.self.view_is in
-    let change : PreparedChange = record { entry = c.prepared.inside.entry; settled = c.prepared.inside.settled.now } in
+    let change : PreparedChange = record { entry = c.prepared.inside.entry; settled = c.prepared.inside.settled.now; events = c.prepared.inside.events } in
     let p = c.args.prepared in
     let p_view : change ≡ p = c.prepared.view_is in
-    let e = c.place_contents.new.entry in
+    let e = c.write_ahead.new.entry in
     let old = c.args.disk.now in
-    let mid = c.place_contents.new.disk in
+    let mid = c.write_ahead.new.disk in
     let moment = g.D.Disk.moment in
     let images = g.D.Disk.images in
     let held = g.D.Disk.held in
     let tells = g.D.Disk.tells in
-    let has = has_placed tells held moment images s now change p e old mid view p_view (c.self.invariant.works c.if-self.false) c.if-self.false c.stored-stored.ensures.consistent c.stored-stored.ensures.no_batches c.requires.kept c.requires.prepared c.requires.contents c.place_contents.ensures.same c.place_contents.ensures.images c.place_contents.ensures.held in
-    let slots = c.place_contents.new.contents in
+    let has = has_placed tells held moment images s now change p e old mid view p_view (c.self.invariant.works c.if-self.false) c.if-self.false c.stored-stored.ensures.consistent c.stored-stored.ensures.no_batches c.requires.kept c.requires.prepared c.requires.contents c.write_ahead.ensures.same c.write_ahead.ensures.images c.write_ahead.ensures.held in
+    let slots = c.write_ahead.new.contents in
     let placed : PlacesAll tells (held mid) change.settled.placed s.slots slots e = subst (λ (l : List Placed). PlacesAll tells (held mid) l s.slots slots e) c.as_slice.ensures c.in-Ok.ensures.placed in
     let files : c.stored.result.now.files.items ≡ (kept_by now).files = ap (λ (k : Kept). k.files) c.stored.ensures.kept ∙ ap (λ (t : StoreState). (kept_by t).files) view in
     let gone : c.as_slice-2.result.now ≡ p.settled.gone = c.as_slice-2.ensures ∙ ap (λ (r : PreparedChange). r.settled.gone) p_view in
@@ -141,67 +161,67 @@ give_up-requires g c =
 pub append-requires-clause-block : goal.append-requires-clause-block
 append-requires-clause-block g c κs within =
     let i = c.self.inside in
-    let s = state_in i.state i.log i.entries i.contents i.opened.items i.lot i.has_failed in
+    let s = state_in i.state i.log i.entries i.contents i.opened.items i.events i.lot i.has_failed in
     let now = c.args.self.now in
     let view : s ≡ now = c.self.view_is in
-    let change : PreparedChange = record { entry = c.prepared.inside.entry; settled = c.prepared.inside.settled.now } in
+    let change : PreparedChange = record { entry = c.prepared.inside.entry; settled = c.prepared.inside.settled.now; events = c.prepared.inside.events } in
     let p = c.args.prepared in
     let p_view : change ≡ p = c.prepared.view_is in
-    let e = c.place_contents.new.entry in
+    let e = c.write_ahead.new.entry in
     let old = c.args.disk.now in
-    let mid = c.place_contents.new.disk in
+    let mid = c.write_ahead.new.disk in
     let moment = g.D.Disk.moment in
     let images = g.D.Disk.images in
     let held = g.D.Disk.held in
     let tells = g.D.Disk.tells in
-    let has = has_placed tells held moment images s now change p e old mid view p_view (c.self.invariant.works c.if-self.false) c.if-self.false c.stored-stored.ensures.consistent c.stored-stored.ensures.no_batches c.requires.kept c.requires.prepared c.requires.contents c.place_contents.ensures.same c.place_contents.ensures.images c.place_contents.ensures.held in
+    let has = has_placed tells held moment images s now change p e old mid view p_view (c.self.invariant.works c.if-self.false) c.if-self.false c.stored-stored.ensures.consistent c.stored-stored.ensures.no_batches c.requires.kept c.requires.prepared c.requires.contents c.write_ahead.ensures.same c.write_ahead.ensures.images c.write_ahead.ensures.held in
     let framed : IsFrame e c.as_slice-3.result.now = entry_frame now p e c.as_slice-3.result.now has.prepared has.same c.into_frame-entry-2.ensures.encoded (c.as_slice-3.ensures.value ∙ c.into_frame-entry-2.ensures.frame) in
     (e, framed)
 
 pub append-requires-clause-ready : goal.append-requires-clause-ready
 append-requires-clause-ready g c κs within =
     let i = c.self.inside in
-    let s = state_in i.state i.log i.entries i.contents i.opened.items i.lot i.has_failed in
+    let s = state_in i.state i.log i.entries i.contents i.opened.items i.events i.lot i.has_failed in
     let now = c.args.self.now in
     let view : s ≡ now = c.self.view_is in
-    let change : PreparedChange = record { entry = c.prepared.inside.entry; settled = c.prepared.inside.settled.now } in
+    let change : PreparedChange = record { entry = c.prepared.inside.entry; settled = c.prepared.inside.settled.now; events = c.prepared.inside.events } in
     let p = c.args.prepared in
     let p_view : change ≡ p = c.prepared.view_is in
-    let e = c.place_contents.new.entry in
+    let e = c.write_ahead.new.entry in
     let old = c.args.disk.now in
-    let mid = c.place_contents.new.disk in
+    let mid = c.write_ahead.new.disk in
     let moment = g.D.Disk.moment in
     let images = g.D.Disk.images in
     let held = g.D.Disk.held in
     let tells = g.D.Disk.tells in
-    let has = has_placed tells held moment images s now change p e old mid view p_view (c.self.invariant.works c.if-self.false) c.if-self.false c.stored-stored.ensures.consistent c.stored-stored.ensures.no_batches c.requires.kept c.requires.prepared c.requires.contents c.place_contents.ensures.same c.place_contents.ensures.images c.place_contents.ensures.held in
-    λ c' left. subst (λ (t : StoreState). IsReadyIn t.log c') (sym view) (ready_grown moment images now old mid (has.kept.log has.unfailed) has.grows c' left).ready
+    let has = has_placed tells held moment images s now change p e old mid view p_view (c.self.invariant.works c.if-self.false) c.if-self.false c.stored-stored.ensures.consistent c.stored-stored.ensures.no_batches c.requires.kept c.requires.prepared c.requires.contents c.write_ahead.ensures.same c.write_ahead.ensures.images c.write_ahead.ensures.held in
+    λ c' left. subst (λ (t : StoreState). IsReadyIn t.log c') (sym view) (ready_ahead moment images now old mid (has.kept.log has.unfailed) has.grows c' left).ready
 
 pub invariant_of-self-2 : goal.invariant_of-self-2
 invariant_of-self-2 g c =
     let i = c.self.inside in
-    let s = state_in i.state i.log i.entries i.contents i.opened.items i.lot i.has_failed in
+    let s = state_in i.state i.log i.entries i.contents i.opened.items i.events i.lot i.has_failed in
     let now = c.args.self.now in
     let view : s ≡ now = c.self.view_is in
-    let change : PreparedChange = record { entry = c.prepared.inside.entry; settled = c.prepared.inside.settled.now } in
+    let change : PreparedChange = record { entry = c.prepared.inside.entry; settled = c.prepared.inside.settled.now; events = c.prepared.inside.events } in
     let p = c.args.prepared in
     let p_view : change ≡ p = c.prepared.view_is in
-    let e = c.place_contents.new.entry in
+    let e = c.write_ahead.new.entry in
     let old = c.args.disk.now in
-    let mid = c.place_contents.new.disk in
+    let mid = c.write_ahead.new.disk in
     let moment = g.D.Disk.moment in
     let images = g.D.Disk.images in
     let held = g.D.Disk.held in
     let tells = g.D.Disk.tells in
-    let has = has_placed tells held moment images s now change p e old mid view p_view (c.self.invariant.works c.if-self.false) c.if-self.false c.stored-stored.ensures.consistent c.stored-stored.ensures.no_batches c.requires.kept c.requires.prepared c.requires.contents c.place_contents.ensures.same c.place_contents.ensures.images c.place_contents.ensures.held in
-    let slots = c.place_contents.new.contents in
+    let has = has_placed tells held moment images s now change p e old mid view p_view (c.self.invariant.works c.if-self.false) c.if-self.false c.stored-stored.ensures.consistent c.stored-stored.ensures.no_batches c.requires.kept c.requires.prepared c.requires.contents c.write_ahead.ensures.same c.write_ahead.ensures.images c.write_ahead.ensures.held in
+    let slots = c.write_ahead.new.contents in
     let placed : PlacesAll tells (held mid) change.settled.placed s.slots slots e = subst (λ (l : List Placed). PlacesAll tells (held mid) l s.slots slots e) c.as_slice.ensures c.in-Ok.ensures.placed in
     let framed : IsFrame e c.as_slice-3.result.now = entry_frame now p e c.as_slice-3.result.now has.prepared has.same c.into_frame-entry-2.ensures.encoded (c.as_slice-3.ensures.value ∙ c.into_frame-entry-2.ensures.frame) in
-    let new = state_in c.apply-2.new.self c.append.new.self c.saturating_add-self-inside.result c.give_up.new.contents i.opened.items i.lot i.has_failed in
+    let new = state_in c.apply-2.new.self c.append.new.self c.saturating_add-self-inside.result c.give_up.new.contents i.opened.items c.write_ahead.new.events i.lot i.has_failed in
     let end = c.append.new.disk in
     let laws = g.met.D.Disk g.world.𝓛 g.world.𝓜 g.world.𝓡 ((λ s x. x), (λ x. x), (λ x. x), λ x. x) in
     let number = numbered_of i.log.number c.self.invariant.current in
-    let logged = has_logged tells held moment images s now new change p e c.into_frame-entry-2.result.0 old mid end number.0 slots view p_view number.1 placed c.in-Ok.ensures.sizes c.into_frame-entry-2.ensures.entry c.apply-2.ensures.kept refl (c.append.ensures.images number.0 e number.1 framed) (λ disk k c' image. laws.left_is_told disk k c' image) (λ disk told. laws.held_is_left disk told) in
+    let logged = has_logged tells held moment images s now new change p e c.into_frame-entry-2.result.0 old mid end number.0 slots view p_view number.1 placed c.in-Ok.ensures.sizes c.in-Ok.ensures.events c.into_frame-entry-2.ensures.entry c.apply-2.ensures.kept refl (c.append.ensures.images number.0 e number.1 framed) (λ disk k c' image. laws.left_is_told disk k c' image) (λ disk told. laws.held_is_left disk told) in
     let files : c.stored.result.now.files.items ≡ (kept_by now).files = ap (λ (k : Kept). k.files) c.stored.ensures.kept ∙ ap (λ (t : StoreState). (kept_by t).files) view in
     let gone : c.as_slice-2.result.now ≡ p.settled.gone = c.as_slice-2.ensures ∙ ap (λ (r : PreparedChange). r.settled.gone) p_view in
     let given : contents_of c.stored.result.now.files.items c.as_slice-2.result.now ≡ contents_of (kept_by now).files p.settled.gone =
@@ -221,310 +241,317 @@ invariant_of-self-2 g c =
 pub returns-in_default-clause-changed : goal.returns-in_default-clause-changed
 returns-in_default-clause-changed g c =
     let i = c.self.inside in
-    let s = state_in i.state i.log i.entries i.contents i.opened.items i.lot i.has_failed in
+    let s = state_in i.state i.log i.entries i.contents i.opened.items i.events i.lot i.has_failed in
     let now = c.args.self.now in
     let view : s ≡ now = c.self.view_is in
-    let change : PreparedChange = record { entry = c.prepared.inside.entry; settled = c.prepared.inside.settled.now } in
+    let change : PreparedChange = record { entry = c.prepared.inside.entry; settled = c.prepared.inside.settled.now; events = c.prepared.inside.events } in
     let p = c.args.prepared in
     let p_view : change ≡ p = c.prepared.view_is in
-    let new = state_in c.apply.new.self i.log i.entries c.place_contents.new.contents i.opened.items i.lot true in
-    λ works. has_change s now new change p c.place_contents.new.entry c.into_frame-entry.result.0 view p_view c.place_contents.ensures.same c.into_frame-entry.ensures.entry c.apply.ensures.kept refl refl
+    let new = state_in c.apply.new.self i.log i.entries c.write_ahead.new.contents i.opened.items c.write_ahead.new.events i.lot true in
+    λ works. has_change s now new change p c.write_ahead.new.entry c.into_frame-entry.result.0 view p_view c.write_ahead.ensures.same c.into_frame-entry.ensures.entry c.apply.ensures.kept refl refl refl
 
 pub returns-in_default-clause-images : goal.returns-in_default-clause-images
 returns-in_default-clause-images g c =
     let i = c.self.inside in
-    let s = state_in i.state i.log i.entries i.contents i.opened.items i.lot i.has_failed in
+    let s = state_in i.state i.log i.entries i.contents i.opened.items i.events i.lot i.has_failed in
     let now = c.args.self.now in
     let view : s ≡ now = c.self.view_is in
-    let change : PreparedChange = record { entry = c.prepared.inside.entry; settled = c.prepared.inside.settled.now } in
+    let change : PreparedChange = record { entry = c.prepared.inside.entry; settled = c.prepared.inside.settled.now; events = c.prepared.inside.events } in
     let p = c.args.prepared in
     let p_view : change ≡ p = c.prepared.view_is in
-    let e = c.place_contents.new.entry in
+    let e = c.write_ahead.new.entry in
     let old = c.args.disk.now in
-    let mid = c.place_contents.new.disk in
+    let mid = c.write_ahead.new.disk in
     let moment = g.D.Disk.moment in
     let images = g.D.Disk.images in
     let held = g.D.Disk.held in
     let tells = g.D.Disk.tells in
-    let has = has_placed tells held moment images s now change p e old mid view p_view (c.self.invariant.works c.if-self.false) c.if-self.false c.stored-stored.ensures.consistent c.stored-stored.ensures.no_batches c.requires.kept c.requires.prepared c.requires.contents c.place_contents.ensures.same c.place_contents.ensures.images c.place_contents.ensures.held in
-    let new = state_in c.apply.new.self i.log i.entries c.place_contents.new.contents i.opened.items i.lot true in
+    let has = has_placed tells held moment images s now change p e old mid view p_view (c.self.invariant.works c.if-self.false) c.if-self.false c.stored-stored.ensures.consistent c.stored-stored.ensures.no_batches c.requires.kept c.requires.prepared c.requires.contents c.write_ahead.ensures.same c.write_ahead.ensures.images c.write_ahead.ensures.held in
+    let new = state_in c.apply.new.self i.log i.entries c.write_ahead.new.contents i.opened.items c.write_ahead.new.events i.lot true in
     λ works. placed_images tells held moment images now p e old mid new has
 
 pub returns-in_default-clause-states : goal.returns-in_default-clause-states
 returns-in_default-clause-states g c =
     let i = c.self.inside in
-    let s = state_in i.state i.log i.entries i.contents i.opened.items i.lot i.has_failed in
+    let s = state_in i.state i.log i.entries i.contents i.opened.items i.events i.lot i.has_failed in
     let now = c.args.self.now in
     let view : s ≡ now = c.self.view_is in
-    let change : PreparedChange = record { entry = c.prepared.inside.entry; settled = c.prepared.inside.settled.now } in
+    let change : PreparedChange = record { entry = c.prepared.inside.entry; settled = c.prepared.inside.settled.now; events = c.prepared.inside.events } in
     let p = c.args.prepared in
     let p_view : change ≡ p = c.prepared.view_is in
-    let e = c.place_contents.new.entry in
+    let e = c.write_ahead.new.entry in
     let old = c.args.disk.now in
-    let mid = c.place_contents.new.disk in
+    let mid = c.write_ahead.new.disk in
     let moment = g.D.Disk.moment in
     let images = g.D.Disk.images in
     let held = g.D.Disk.held in
     let tells = g.D.Disk.tells in
-    let has = has_placed tells held moment images s now change p e old mid view p_view (c.self.invariant.works c.if-self.false) c.if-self.false c.stored-stored.ensures.consistent c.stored-stored.ensures.no_batches c.requires.kept c.requires.prepared c.requires.contents c.place_contents.ensures.same c.place_contents.ensures.images c.place_contents.ensures.held in
+    let has = has_placed tells held moment images s now change p e old mid view p_view (c.self.invariant.works c.if-self.false) c.if-self.false c.stored-stored.ensures.consistent c.stored-stored.ensures.no_batches c.requires.kept c.requires.prepared c.requires.contents c.write_ahead.ensures.same c.write_ahead.ensures.images c.write_ahead.ensures.held in
     λ works state stands. placed_states tells held moment images now p e old mid (λ c'. stands_for (flow_in (kept_by now)) now.lot c' ≡ of_state (state_after (content_in (held old)) state p.settled)) state has stands
 
 pub returns-in_default-clause-alone : goal.returns-in_default-clause-alone
 returns-in_default-clause-alone g c =
     let i = c.self.inside in
-    let s = state_in i.state i.log i.entries i.contents i.opened.items i.lot i.has_failed in
+    let s = state_in i.state i.log i.entries i.contents i.opened.items i.events i.lot i.has_failed in
     let now = c.args.self.now in
     let view : s ≡ now = c.self.view_is in
-    let change : PreparedChange = record { entry = c.prepared.inside.entry; settled = c.prepared.inside.settled.now } in
+    let change : PreparedChange = record { entry = c.prepared.inside.entry; settled = c.prepared.inside.settled.now; events = c.prepared.inside.events } in
     let p = c.args.prepared in
     let p_view : change ≡ p = c.prepared.view_is in
-    let e = c.place_contents.new.entry in
+    let e = c.write_ahead.new.entry in
     let old = c.args.disk.now in
-    let mid = c.place_contents.new.disk in
+    let mid = c.write_ahead.new.disk in
     let moment = g.D.Disk.moment in
     let images = g.D.Disk.images in
     let held = g.D.Disk.held in
     let tells = g.D.Disk.tells in
-    let has = has_placed tells held moment images s now change p e old mid view p_view (c.self.invariant.works c.if-self.false) c.if-self.false c.stored-stored.ensures.consistent c.stored-stored.ensures.no_batches c.requires.kept c.requires.prepared c.requires.contents c.place_contents.ensures.same c.place_contents.ensures.images c.place_contents.ensures.held in
-    placed_alone tells held moment images now p e old mid now.log.number i.contents c.place_contents.ensures.images
+    let has = has_placed tells held moment images s now change p e old mid view p_view (c.self.invariant.works c.if-self.false) c.if-self.false c.stored-stored.ensures.consistent c.stored-stored.ensures.no_batches c.requires.kept c.requires.prepared c.requires.contents c.write_ahead.ensures.same c.write_ahead.ensures.images c.write_ahead.ensures.held in
+    placed_alone tells held moment images now p e old mid now.log.number i.contents i.events c.write_ahead.ensures.images
 
 pub returns-in_default-append-clause-changed : goal.returns-in_default-append-clause-changed
 returns-in_default-append-clause-changed g c =
     let i = c.self.inside in
-    let s = state_in i.state i.log i.entries i.contents i.opened.items i.lot i.has_failed in
+    let s = state_in i.state i.log i.entries i.contents i.opened.items i.events i.lot i.has_failed in
     let now = c.args.self.now in
     let view : s ≡ now = c.self.view_is in
-    let change : PreparedChange = record { entry = c.prepared.inside.entry; settled = c.prepared.inside.settled.now } in
+    let change : PreparedChange = record { entry = c.prepared.inside.entry; settled = c.prepared.inside.settled.now; events = c.prepared.inside.events } in
     let p = c.args.prepared in
     let p_view : change ≡ p = c.prepared.view_is in
-    let new = state_in c.apply-2.new.self c.append.new.self i.entries c.give_up.new.contents i.opened.items i.lot true in
-    λ works. has_change s now new change p c.place_contents.new.entry c.into_frame-entry-2.result.0 view p_view c.place_contents.ensures.same c.into_frame-entry-2.ensures.entry c.apply-2.ensures.kept refl refl
+    let new = state_in c.apply-2.new.self c.append.new.self i.entries c.give_up.new.contents i.opened.items c.write_ahead.new.events i.lot true in
+    λ works. has_change s now new change p c.write_ahead.new.entry c.into_frame-entry-2.result.0 view p_view c.write_ahead.ensures.same c.into_frame-entry-2.ensures.entry c.apply-2.ensures.kept refl refl (ap (λ (l : LogState). l.number) c.in_default-append.ensures.refusal.shown)
 
 pub returns-in_default-append-clause-images : goal.returns-in_default-append-clause-images
 returns-in_default-append-clause-images g c =
     let i = c.self.inside in
-    let s = state_in i.state i.log i.entries i.contents i.opened.items i.lot i.has_failed in
+    let s = state_in i.state i.log i.entries i.contents i.opened.items i.events i.lot i.has_failed in
     let now = c.args.self.now in
     let view : s ≡ now = c.self.view_is in
-    let change : PreparedChange = record { entry = c.prepared.inside.entry; settled = c.prepared.inside.settled.now } in
+    let change : PreparedChange = record { entry = c.prepared.inside.entry; settled = c.prepared.inside.settled.now; events = c.prepared.inside.events } in
     let p = c.args.prepared in
     let p_view : change ≡ p = c.prepared.view_is in
-    let e = c.place_contents.new.entry in
+    let e = c.write_ahead.new.entry in
     let old = c.args.disk.now in
-    let mid = c.place_contents.new.disk in
+    let mid = c.write_ahead.new.disk in
     let moment = g.D.Disk.moment in
     let images = g.D.Disk.images in
     let held = g.D.Disk.held in
     let tells = g.D.Disk.tells in
-    let has = has_placed tells held moment images s now change p e old mid view p_view (c.self.invariant.works c.if-self.false) c.if-self.false c.stored-stored.ensures.consistent c.stored-stored.ensures.no_batches c.requires.kept c.requires.prepared c.requires.contents c.place_contents.ensures.same c.place_contents.ensures.images c.place_contents.ensures.held in
-    let slots = c.place_contents.new.contents in
+    let has = has_placed tells held moment images s now change p e old mid view p_view (c.self.invariant.works c.if-self.false) c.if-self.false c.stored-stored.ensures.consistent c.stored-stored.ensures.no_batches c.requires.kept c.requires.prepared c.requires.contents c.write_ahead.ensures.same c.write_ahead.ensures.images c.write_ahead.ensures.held in
+    let slots = c.write_ahead.new.contents in
     let placed : PlacesAll tells (held mid) change.settled.placed s.slots slots e = subst (λ (l : List Placed). PlacesAll tells (held mid) l s.slots slots e) c.as_slice.ensures c.in-Ok.ensures.placed in
     let framed : IsFrame e c.as_slice-3.result.now = entry_frame now p e c.as_slice-3.result.now has.prepared has.same c.into_frame-entry-2.ensures.encoded (c.as_slice-3.ensures.value ∙ c.into_frame-entry-2.ensures.frame) in
-    let new = state_in c.apply-2.new.self c.append.new.self i.entries c.give_up.new.contents i.opened.items i.lot true in
+    let new = state_in c.apply-2.new.self c.append.new.self i.entries c.give_up.new.contents i.opened.items c.write_ahead.new.events i.lot true in
     let end = c.append.new.disk in
     let laws = g.met.D.Disk g.world.𝓛 g.world.𝓜 g.world.𝓡 ((λ s x. x), (λ x. x), (λ x. x), λ x. x) in
     let number = numbered_of i.log.number c.self.invariant.current in
-    let logged = has_logged tells held moment images s now new change p e c.into_frame-entry-2.result.0 old mid end number.0 slots view p_view number.1 placed c.in-Ok.ensures.sizes c.into_frame-entry-2.ensures.entry c.apply-2.ensures.kept refl (c.append.ensures.images number.0 e number.1 framed) (λ disk k c' image. laws.left_is_told disk k c' image) (λ disk told. laws.held_is_left disk told) in
+    let logged = has_logged tells held moment images s now new change p e c.into_frame-entry-2.result.0 old mid end number.0 slots view p_view number.1 placed c.in-Ok.ensures.sizes c.in-Ok.ensures.events c.into_frame-entry-2.ensures.entry c.apply-2.ensures.kept refl (c.append.ensures.images number.0 e number.1 framed) (λ disk k c' image. laws.left_is_told disk k c' image) (λ disk told. laws.held_is_left disk told) in
     λ works. logged_images tells held moment images now new p e old mid end number.0 slots has logged
 
 pub returns-in_default-append-clause-states : goal.returns-in_default-append-clause-states
 returns-in_default-append-clause-states g c =
     let i = c.self.inside in
-    let s = state_in i.state i.log i.entries i.contents i.opened.items i.lot i.has_failed in
+    let s = state_in i.state i.log i.entries i.contents i.opened.items i.events i.lot i.has_failed in
     let now = c.args.self.now in
     let view : s ≡ now = c.self.view_is in
-    let change : PreparedChange = record { entry = c.prepared.inside.entry; settled = c.prepared.inside.settled.now } in
+    let change : PreparedChange = record { entry = c.prepared.inside.entry; settled = c.prepared.inside.settled.now; events = c.prepared.inside.events } in
     let p = c.args.prepared in
     let p_view : change ≡ p = c.prepared.view_is in
-    let e = c.place_contents.new.entry in
+    let e = c.write_ahead.new.entry in
     let old = c.args.disk.now in
-    let mid = c.place_contents.new.disk in
+    let mid = c.write_ahead.new.disk in
     let moment = g.D.Disk.moment in
     let images = g.D.Disk.images in
     let held = g.D.Disk.held in
     let tells = g.D.Disk.tells in
-    let has = has_placed tells held moment images s now change p e old mid view p_view (c.self.invariant.works c.if-self.false) c.if-self.false c.stored-stored.ensures.consistent c.stored-stored.ensures.no_batches c.requires.kept c.requires.prepared c.requires.contents c.place_contents.ensures.same c.place_contents.ensures.images c.place_contents.ensures.held in
-    let slots = c.place_contents.new.contents in
+    let has = has_placed tells held moment images s now change p e old mid view p_view (c.self.invariant.works c.if-self.false) c.if-self.false c.stored-stored.ensures.consistent c.stored-stored.ensures.no_batches c.requires.kept c.requires.prepared c.requires.contents c.write_ahead.ensures.same c.write_ahead.ensures.images c.write_ahead.ensures.held in
+    let slots = c.write_ahead.new.contents in
     let placed : PlacesAll tells (held mid) change.settled.placed s.slots slots e = subst (λ (l : List Placed). PlacesAll tells (held mid) l s.slots slots e) c.as_slice.ensures c.in-Ok.ensures.placed in
     let framed : IsFrame e c.as_slice-3.result.now = entry_frame now p e c.as_slice-3.result.now has.prepared has.same c.into_frame-entry-2.ensures.encoded (c.as_slice-3.ensures.value ∙ c.into_frame-entry-2.ensures.frame) in
-    let new = state_in c.apply-2.new.self c.append.new.self i.entries c.give_up.new.contents i.opened.items i.lot true in
+    let new = state_in c.apply-2.new.self c.append.new.self i.entries c.give_up.new.contents i.opened.items c.write_ahead.new.events i.lot true in
     let end = c.append.new.disk in
     let laws = g.met.D.Disk g.world.𝓛 g.world.𝓜 g.world.𝓡 ((λ s x. x), (λ x. x), (λ x. x), λ x. x) in
     let number = numbered_of i.log.number c.self.invariant.current in
-    let logged = has_logged tells held moment images s now new change p e c.into_frame-entry-2.result.0 old mid end number.0 slots view p_view number.1 placed c.in-Ok.ensures.sizes c.into_frame-entry-2.ensures.entry c.apply-2.ensures.kept refl (c.append.ensures.images number.0 e number.1 framed) (λ disk k c' image. laws.left_is_told disk k c' image) (λ disk told. laws.held_is_left disk told) in
+    let logged = has_logged tells held moment images s now new change p e c.into_frame-entry-2.result.0 old mid end number.0 slots view p_view number.1 placed c.in-Ok.ensures.sizes c.in-Ok.ensures.events c.into_frame-entry-2.ensures.entry c.apply-2.ensures.kept refl (c.append.ensures.images number.0 e number.1 framed) (λ disk k c' image. laws.left_is_told disk k c' image) (λ disk told. laws.held_is_left disk told) in
     λ works state stands. logged_states tells held moment images now new p e old mid end number.0 slots has logged state stands
 
 pub returns-in_default-append-clause-alone : goal.returns-in_default-append-clause-alone
 returns-in_default-append-clause-alone g c =
     let i = c.self.inside in
-    let s = state_in i.state i.log i.entries i.contents i.opened.items i.lot i.has_failed in
+    let s = state_in i.state i.log i.entries i.contents i.opened.items i.events i.lot i.has_failed in
     let now = c.args.self.now in
     let view : s ≡ now = c.self.view_is in
-    let change : PreparedChange = record { entry = c.prepared.inside.entry; settled = c.prepared.inside.settled.now } in
+    let change : PreparedChange = record { entry = c.prepared.inside.entry; settled = c.prepared.inside.settled.now; events = c.prepared.inside.events } in
     let p = c.args.prepared in
     let p_view : change ≡ p = c.prepared.view_is in
-    let e = c.place_contents.new.entry in
+    let e = c.write_ahead.new.entry in
     let old = c.args.disk.now in
-    let mid = c.place_contents.new.disk in
+    let mid = c.write_ahead.new.disk in
     let moment = g.D.Disk.moment in
     let images = g.D.Disk.images in
     let held = g.D.Disk.held in
     let tells = g.D.Disk.tells in
-    let has = has_placed tells held moment images s now change p e old mid view p_view (c.self.invariant.works c.if-self.false) c.if-self.false c.stored-stored.ensures.consistent c.stored-stored.ensures.no_batches c.requires.kept c.requires.prepared c.requires.contents c.place_contents.ensures.same c.place_contents.ensures.images c.place_contents.ensures.held in
-    let slots = c.place_contents.new.contents in
+    let has = has_placed tells held moment images s now change p e old mid view p_view (c.self.invariant.works c.if-self.false) c.if-self.false c.stored-stored.ensures.consistent c.stored-stored.ensures.no_batches c.requires.kept c.requires.prepared c.requires.contents c.write_ahead.ensures.same c.write_ahead.ensures.images c.write_ahead.ensures.held in
+    let slots = c.write_ahead.new.contents in
     let placed : PlacesAll tells (held mid) change.settled.placed s.slots slots e = subst (λ (l : List Placed). PlacesAll tells (held mid) l s.slots slots e) c.as_slice.ensures c.in-Ok.ensures.placed in
     let framed : IsFrame e c.as_slice-3.result.now = entry_frame now p e c.as_slice-3.result.now has.prepared has.same c.into_frame-entry-2.ensures.encoded (c.as_slice-3.ensures.value ∙ c.into_frame-entry-2.ensures.frame) in
-    let new = state_in c.apply-2.new.self c.append.new.self i.entries c.give_up.new.contents i.opened.items i.lot true in
+    let new = state_in c.apply-2.new.self c.append.new.self i.entries c.give_up.new.contents i.opened.items c.write_ahead.new.events i.lot true in
     let end = c.append.new.disk in
     let laws = g.met.D.Disk g.world.𝓛 g.world.𝓜 g.world.𝓡 ((λ s x. x), (λ x. x), (λ x. x), λ x. x) in
     let number = numbered_of i.log.number c.self.invariant.current in
-    let logged = has_logged tells held moment images s now new change p e c.into_frame-entry-2.result.0 old mid end number.0 slots view p_view number.1 placed c.in-Ok.ensures.sizes c.into_frame-entry-2.ensures.entry c.apply-2.ensures.kept refl (c.append.ensures.images number.0 e number.1 framed) (λ disk k c' image. laws.left_is_told disk k c' image) (λ disk told. laws.held_is_left disk told) in
+    let logged = has_logged tells held moment images s now new change p e c.into_frame-entry-2.result.0 old mid end number.0 slots view p_view number.1 placed c.in-Ok.ensures.sizes c.in-Ok.ensures.events c.into_frame-entry-2.ensures.entry c.apply-2.ensures.kept refl (c.append.ensures.images number.0 e number.1 framed) (λ disk k c' image. laws.left_is_told disk k c' image) (λ disk told. laws.held_is_left disk told) in
     logged_alone tells held moment images now new p e old mid end number.0 slots has logged
 
 pub returns-clause-changed : goal.returns-clause-changed
 returns-clause-changed g c =
     let i = c.self.inside in
-    let s = state_in i.state i.log i.entries i.contents i.opened.items i.lot i.has_failed in
+    let s = state_in i.state i.log i.entries i.contents i.opened.items i.events i.lot i.has_failed in
     let now = c.args.self.now in
     let view : s ≡ now = c.self.view_is in
-    let change : PreparedChange = record { entry = c.prepared.inside.entry; settled = c.prepared.inside.settled.now } in
+    let change : PreparedChange = record { entry = c.prepared.inside.entry; settled = c.prepared.inside.settled.now; events = c.prepared.inside.events } in
     let p = c.args.prepared in
     let p_view : change ≡ p = c.prepared.view_is in
-    let new = state_in c.apply-2.new.self c.append.new.self c.saturating_add-self-inside.result c.give_up.new.contents i.opened.items i.lot i.has_failed in
-    λ works. has_change s now new change p c.place_contents.new.entry c.into_frame-entry-2.result.0 view p_view c.place_contents.ensures.same c.into_frame-entry-2.ensures.entry c.apply-2.ensures.kept refl refl
+    let new = state_in c.apply-2.new.self c.append.new.self c.saturating_add-self-inside.result c.give_up.new.contents i.opened.items c.write_ahead.new.events i.lot i.has_failed in
+    λ works. has_change s now new change p c.write_ahead.new.entry c.into_frame-entry-2.result.0 view p_view c.write_ahead.ensures.same c.into_frame-entry-2.ensures.entry c.apply-2.ensures.kept refl refl (ap (λ (l : LogState). l.number) c.in-Ok-append.ensures.acknowledged.1)
 
 pub returns-clause-images : goal.returns-clause-images
 returns-clause-images g c =
     let i = c.self.inside in
-    let s = state_in i.state i.log i.entries i.contents i.opened.items i.lot i.has_failed in
+    let s = state_in i.state i.log i.entries i.contents i.opened.items i.events i.lot i.has_failed in
     let now = c.args.self.now in
     let view : s ≡ now = c.self.view_is in
-    let change : PreparedChange = record { entry = c.prepared.inside.entry; settled = c.prepared.inside.settled.now } in
+    let change : PreparedChange = record { entry = c.prepared.inside.entry; settled = c.prepared.inside.settled.now; events = c.prepared.inside.events } in
     let p = c.args.prepared in
     let p_view : change ≡ p = c.prepared.view_is in
-    let e = c.place_contents.new.entry in
+    let e = c.write_ahead.new.entry in
     let old = c.args.disk.now in
-    let mid = c.place_contents.new.disk in
+    let mid = c.write_ahead.new.disk in
     let moment = g.D.Disk.moment in
     let images = g.D.Disk.images in
     let held = g.D.Disk.held in
     let tells = g.D.Disk.tells in
-    let has = has_placed tells held moment images s now change p e old mid view p_view (c.self.invariant.works c.if-self.false) c.if-self.false c.stored-stored.ensures.consistent c.stored-stored.ensures.no_batches c.requires.kept c.requires.prepared c.requires.contents c.place_contents.ensures.same c.place_contents.ensures.images c.place_contents.ensures.held in
-    let slots = c.place_contents.new.contents in
+    let has = has_placed tells held moment images s now change p e old mid view p_view (c.self.invariant.works c.if-self.false) c.if-self.false c.stored-stored.ensures.consistent c.stored-stored.ensures.no_batches c.requires.kept c.requires.prepared c.requires.contents c.write_ahead.ensures.same c.write_ahead.ensures.images c.write_ahead.ensures.held in
+    let slots = c.write_ahead.new.contents in
     let placed : PlacesAll tells (held mid) change.settled.placed s.slots slots e = subst (λ (l : List Placed). PlacesAll tells (held mid) l s.slots slots e) c.as_slice.ensures c.in-Ok.ensures.placed in
     let framed : IsFrame e c.as_slice-3.result.now = entry_frame now p e c.as_slice-3.result.now has.prepared has.same c.into_frame-entry-2.ensures.encoded (c.as_slice-3.ensures.value ∙ c.into_frame-entry-2.ensures.frame) in
-    let new = state_in c.apply-2.new.self c.append.new.self c.saturating_add-self-inside.result c.give_up.new.contents i.opened.items i.lot i.has_failed in
+    let new = state_in c.apply-2.new.self c.append.new.self c.saturating_add-self-inside.result c.give_up.new.contents i.opened.items c.write_ahead.new.events i.lot i.has_failed in
     let end = c.append.new.disk in
     let laws = g.met.D.Disk g.world.𝓛 g.world.𝓜 g.world.𝓡 ((λ s x. x), (λ x. x), (λ x. x), λ x. x) in
     let number = numbered_of i.log.number c.self.invariant.current in
-    let logged = has_logged tells held moment images s now new change p e c.into_frame-entry-2.result.0 old mid end number.0 slots view p_view number.1 placed c.in-Ok.ensures.sizes c.into_frame-entry-2.ensures.entry c.apply-2.ensures.kept refl (c.append.ensures.images number.0 e number.1 framed) (λ disk k c' image. laws.left_is_told disk k c' image) (λ disk told. laws.held_is_left disk told) in
+    let logged = has_logged tells held moment images s now new change p e c.into_frame-entry-2.result.0 old mid end number.0 slots view p_view number.1 placed c.in-Ok.ensures.sizes c.in-Ok.ensures.events c.into_frame-entry-2.ensures.entry c.apply-2.ensures.kept refl (c.append.ensures.images number.0 e number.1 framed) (λ disk k c' image. laws.left_is_told disk k c' image) (λ disk told. laws.held_is_left disk told) in
     λ works. logged_images tells held moment images now new p e old mid end number.0 slots has logged
 
 pub returns-clause-states : goal.returns-clause-states
 returns-clause-states g c =
     let i = c.self.inside in
-    let s = state_in i.state i.log i.entries i.contents i.opened.items i.lot i.has_failed in
+    let s = state_in i.state i.log i.entries i.contents i.opened.items i.events i.lot i.has_failed in
     let now = c.args.self.now in
     let view : s ≡ now = c.self.view_is in
-    let change : PreparedChange = record { entry = c.prepared.inside.entry; settled = c.prepared.inside.settled.now } in
+    let change : PreparedChange = record { entry = c.prepared.inside.entry; settled = c.prepared.inside.settled.now; events = c.prepared.inside.events } in
     let p = c.args.prepared in
     let p_view : change ≡ p = c.prepared.view_is in
-    let e = c.place_contents.new.entry in
+    let e = c.write_ahead.new.entry in
     let old = c.args.disk.now in
-    let mid = c.place_contents.new.disk in
+    let mid = c.write_ahead.new.disk in
     let moment = g.D.Disk.moment in
     let images = g.D.Disk.images in
     let held = g.D.Disk.held in
     let tells = g.D.Disk.tells in
-    let has = has_placed tells held moment images s now change p e old mid view p_view (c.self.invariant.works c.if-self.false) c.if-self.false c.stored-stored.ensures.consistent c.stored-stored.ensures.no_batches c.requires.kept c.requires.prepared c.requires.contents c.place_contents.ensures.same c.place_contents.ensures.images c.place_contents.ensures.held in
-    let slots = c.place_contents.new.contents in
+    let has = has_placed tells held moment images s now change p e old mid view p_view (c.self.invariant.works c.if-self.false) c.if-self.false c.stored-stored.ensures.consistent c.stored-stored.ensures.no_batches c.requires.kept c.requires.prepared c.requires.contents c.write_ahead.ensures.same c.write_ahead.ensures.images c.write_ahead.ensures.held in
+    let slots = c.write_ahead.new.contents in
     let placed : PlacesAll tells (held mid) change.settled.placed s.slots slots e = subst (λ (l : List Placed). PlacesAll tells (held mid) l s.slots slots e) c.as_slice.ensures c.in-Ok.ensures.placed in
     let framed : IsFrame e c.as_slice-3.result.now = entry_frame now p e c.as_slice-3.result.now has.prepared has.same c.into_frame-entry-2.ensures.encoded (c.as_slice-3.ensures.value ∙ c.into_frame-entry-2.ensures.frame) in
-    let new = state_in c.apply-2.new.self c.append.new.self c.saturating_add-self-inside.result c.give_up.new.contents i.opened.items i.lot i.has_failed in
+    let new = state_in c.apply-2.new.self c.append.new.self c.saturating_add-self-inside.result c.give_up.new.contents i.opened.items c.write_ahead.new.events i.lot i.has_failed in
     let end = c.append.new.disk in
     let laws = g.met.D.Disk g.world.𝓛 g.world.𝓜 g.world.𝓡 ((λ s x. x), (λ x. x), (λ x. x), λ x. x) in
     let number = numbered_of i.log.number c.self.invariant.current in
-    let logged = has_logged tells held moment images s now new change p e c.into_frame-entry-2.result.0 old mid end number.0 slots view p_view number.1 placed c.in-Ok.ensures.sizes c.into_frame-entry-2.ensures.entry c.apply-2.ensures.kept refl (c.append.ensures.images number.0 e number.1 framed) (λ disk k c' image. laws.left_is_told disk k c' image) (λ disk told. laws.held_is_left disk told) in
+    let logged = has_logged tells held moment images s now new change p e c.into_frame-entry-2.result.0 old mid end number.0 slots view p_view number.1 placed c.in-Ok.ensures.sizes c.in-Ok.ensures.events c.into_frame-entry-2.ensures.entry c.apply-2.ensures.kept refl (c.append.ensures.images number.0 e number.1 framed) (λ disk k c' image. laws.left_is_told disk k c' image) (λ disk told. laws.held_is_left disk told) in
     λ works state stands. logged_states tells held moment images now new p e old mid end number.0 slots has logged state stands
 
 pub returns-clause-alone : goal.returns-clause-alone
 returns-clause-alone g c =
     let i = c.self.inside in
-    let s = state_in i.state i.log i.entries i.contents i.opened.items i.lot i.has_failed in
+    let s = state_in i.state i.log i.entries i.contents i.opened.items i.events i.lot i.has_failed in
     let now = c.args.self.now in
     let view : s ≡ now = c.self.view_is in
-    let change : PreparedChange = record { entry = c.prepared.inside.entry; settled = c.prepared.inside.settled.now } in
+    let change : PreparedChange = record { entry = c.prepared.inside.entry; settled = c.prepared.inside.settled.now; events = c.prepared.inside.events } in
     let p = c.args.prepared in
     let p_view : change ≡ p = c.prepared.view_is in
-    let e = c.place_contents.new.entry in
+    let e = c.write_ahead.new.entry in
     let old = c.args.disk.now in
-    let mid = c.place_contents.new.disk in
+    let mid = c.write_ahead.new.disk in
     let moment = g.D.Disk.moment in
     let images = g.D.Disk.images in
     let held = g.D.Disk.held in
     let tells = g.D.Disk.tells in
-    let has = has_placed tells held moment images s now change p e old mid view p_view (c.self.invariant.works c.if-self.false) c.if-self.false c.stored-stored.ensures.consistent c.stored-stored.ensures.no_batches c.requires.kept c.requires.prepared c.requires.contents c.place_contents.ensures.same c.place_contents.ensures.images c.place_contents.ensures.held in
-    let slots = c.place_contents.new.contents in
+    let has = has_placed tells held moment images s now change p e old mid view p_view (c.self.invariant.works c.if-self.false) c.if-self.false c.stored-stored.ensures.consistent c.stored-stored.ensures.no_batches c.requires.kept c.requires.prepared c.requires.contents c.write_ahead.ensures.same c.write_ahead.ensures.images c.write_ahead.ensures.held in
+    let slots = c.write_ahead.new.contents in
     let placed : PlacesAll tells (held mid) change.settled.placed s.slots slots e = subst (λ (l : List Placed). PlacesAll tells (held mid) l s.slots slots e) c.as_slice.ensures c.in-Ok.ensures.placed in
     let framed : IsFrame e c.as_slice-3.result.now = entry_frame now p e c.as_slice-3.result.now has.prepared has.same c.into_frame-entry-2.ensures.encoded (c.as_slice-3.ensures.value ∙ c.into_frame-entry-2.ensures.frame) in
-    let new = state_in c.apply-2.new.self c.append.new.self c.saturating_add-self-inside.result c.give_up.new.contents i.opened.items i.lot i.has_failed in
+    let new = state_in c.apply-2.new.self c.append.new.self c.saturating_add-self-inside.result c.give_up.new.contents i.opened.items c.write_ahead.new.events i.lot i.has_failed in
     let end = c.append.new.disk in
     let laws = g.met.D.Disk g.world.𝓛 g.world.𝓜 g.world.𝓡 ((λ s x. x), (λ x. x), (λ x. x), λ x. x) in
     let number = numbered_of i.log.number c.self.invariant.current in
-    let logged = has_logged tells held moment images s now new change p e c.into_frame-entry-2.result.0 old mid end number.0 slots view p_view number.1 placed c.in-Ok.ensures.sizes c.into_frame-entry-2.ensures.entry c.apply-2.ensures.kept refl (c.append.ensures.images number.0 e number.1 framed) (λ disk k c' image. laws.left_is_told disk k c' image) (λ disk told. laws.held_is_left disk told) in
+    let logged = has_logged tells held moment images s now new change p e c.into_frame-entry-2.result.0 old mid end number.0 slots view p_view number.1 placed c.in-Ok.ensures.sizes c.in-Ok.ensures.events c.into_frame-entry-2.ensures.entry c.apply-2.ensures.kept refl (c.append.ensures.images number.0 e number.1 framed) (λ disk k c' image. laws.left_is_told disk k c' image) (λ disk told. laws.held_is_left disk told) in
     logged_alone tells held moment images now new p e old mid end number.0 slots has logged
 
 pub returns-clause-kept : goal.returns-clause-kept
 returns-clause-kept g c =
     let i = c.self.inside in
-    let s = state_in i.state i.log i.entries i.contents i.opened.items i.lot i.has_failed in
+    let s = state_in i.state i.log i.entries i.contents i.opened.items i.events i.lot i.has_failed in
     let now = c.args.self.now in
     let view : s ≡ now = c.self.view_is in
-    let change : PreparedChange = record { entry = c.prepared.inside.entry; settled = c.prepared.inside.settled.now } in
+    let change : PreparedChange = record { entry = c.prepared.inside.entry; settled = c.prepared.inside.settled.now; events = c.prepared.inside.events } in
     let p = c.args.prepared in
     let p_view : change ≡ p = c.prepared.view_is in
-    let e = c.place_contents.new.entry in
+    let e = c.write_ahead.new.entry in
     let old = c.args.disk.now in
-    let mid = c.place_contents.new.disk in
+    let mid = c.write_ahead.new.disk in
     let moment = g.D.Disk.moment in
     let images = g.D.Disk.images in
     let held = g.D.Disk.held in
     let tells = g.D.Disk.tells in
-    let has = has_placed tells held moment images s now change p e old mid view p_view (c.self.invariant.works c.if-self.false) c.if-self.false c.stored-stored.ensures.consistent c.stored-stored.ensures.no_batches c.requires.kept c.requires.prepared c.requires.contents c.place_contents.ensures.same c.place_contents.ensures.images c.place_contents.ensures.held in
-    let slots = c.place_contents.new.contents in
+    let has = has_placed tells held moment images s now change p e old mid view p_view (c.self.invariant.works c.if-self.false) c.if-self.false c.stored-stored.ensures.consistent c.stored-stored.ensures.no_batches c.requires.kept c.requires.prepared c.requires.contents c.write_ahead.ensures.same c.write_ahead.ensures.images c.write_ahead.ensures.held in
+    let slots = c.write_ahead.new.contents in
     let placed : PlacesAll tells (held mid) change.settled.placed s.slots slots e = subst (λ (l : List Placed). PlacesAll tells (held mid) l s.slots slots e) c.as_slice.ensures c.in-Ok.ensures.placed in
     let framed : IsFrame e c.as_slice-3.result.now = entry_frame now p e c.as_slice-3.result.now has.prepared has.same c.into_frame-entry-2.ensures.encoded (c.as_slice-3.ensures.value ∙ c.into_frame-entry-2.ensures.frame) in
-    let new = state_in c.apply-2.new.self c.append.new.self c.saturating_add-self-inside.result c.give_up.new.contents i.opened.items i.lot i.has_failed in
+    let new = state_in c.apply-2.new.self c.append.new.self c.saturating_add-self-inside.result c.give_up.new.contents i.opened.items c.write_ahead.new.events i.lot i.has_failed in
     let end = c.append.new.disk in
     let laws = g.met.D.Disk g.world.𝓛 g.world.𝓜 g.world.𝓡 ((λ s x. x), (λ x. x), (λ x. x), λ x. x) in
     let number = numbered_of i.log.number c.self.invariant.current in
-    let logged = has_logged tells held moment images s now new change p e c.into_frame-entry-2.result.0 old mid end number.0 slots view p_view number.1 placed c.in-Ok.ensures.sizes c.into_frame-entry-2.ensures.entry c.apply-2.ensures.kept refl (c.append.ensures.images number.0 e number.1 framed) (λ disk k c' image. laws.left_is_told disk k c' image) (λ disk told. laws.held_is_left disk told) in
+    let logged = has_logged tells held moment images s now new change p e c.into_frame-entry-2.result.0 old mid end number.0 slots view p_view number.1 placed c.in-Ok.ensures.sizes c.in-Ok.ensures.events c.into_frame-entry-2.ensures.entry c.apply-2.ensures.kept refl (c.append.ensures.images number.0 e number.1 framed) (λ disk k c' image. laws.left_is_told disk k c' image) (λ disk told. laws.held_is_left disk told) in
     let more : new.entries ≡ min (i.entries + 1) (2 ^ 64 - 1) = omega (arith, c.saturating_add-self-inside.ensures) in
     acknowledged_kept tells held moment images now new p e old mid end number.0 slots has logged (c.in-Ok-append.ensures.added number.0 e number.1 framed) c.in-Ok-append.ensures.ready.ready (more ∙ ap (λ (t : StoreState). min (t.entries + 1) (2 ^ 64 - 1)) view) c.give_up.ensures.sizes
 
 pub returns-clause-acknowledged_state : goal.returns-clause-acknowledged_state
 returns-clause-acknowledged_state g c =
     let i = c.self.inside in
-    let s = state_in i.state i.log i.entries i.contents i.opened.items i.lot i.has_failed in
+    let s = state_in i.state i.log i.entries i.contents i.opened.items i.events i.lot i.has_failed in
     let now = c.args.self.now in
     let view : s ≡ now = c.self.view_is in
-    let change : PreparedChange = record { entry = c.prepared.inside.entry; settled = c.prepared.inside.settled.now } in
+    let change : PreparedChange = record { entry = c.prepared.inside.entry; settled = c.prepared.inside.settled.now; events = c.prepared.inside.events } in
     let p = c.args.prepared in
     let p_view : change ≡ p = c.prepared.view_is in
-    let e = c.place_contents.new.entry in
+    let e = c.write_ahead.new.entry in
     let old = c.args.disk.now in
-    let mid = c.place_contents.new.disk in
+    let mid = c.write_ahead.new.disk in
     let moment = g.D.Disk.moment in
     let images = g.D.Disk.images in
     let held = g.D.Disk.held in
     let tells = g.D.Disk.tells in
-    let has = has_placed tells held moment images s now change p e old mid view p_view (c.self.invariant.works c.if-self.false) c.if-self.false c.stored-stored.ensures.consistent c.stored-stored.ensures.no_batches c.requires.kept c.requires.prepared c.requires.contents c.place_contents.ensures.same c.place_contents.ensures.images c.place_contents.ensures.held in
-    let slots = c.place_contents.new.contents in
+    let has = has_placed tells held moment images s now change p e old mid view p_view (c.self.invariant.works c.if-self.false) c.if-self.false c.stored-stored.ensures.consistent c.stored-stored.ensures.no_batches c.requires.kept c.requires.prepared c.requires.contents c.write_ahead.ensures.same c.write_ahead.ensures.images c.write_ahead.ensures.held in
+    let slots = c.write_ahead.new.contents in
     let placed : PlacesAll tells (held mid) change.settled.placed s.slots slots e = subst (λ (l : List Placed). PlacesAll tells (held mid) l s.slots slots e) c.as_slice.ensures c.in-Ok.ensures.placed in
     let framed : IsFrame e c.as_slice-3.result.now = entry_frame now p e c.as_slice-3.result.now has.prepared has.same c.into_frame-entry-2.ensures.encoded (c.as_slice-3.ensures.value ∙ c.into_frame-entry-2.ensures.frame) in
-    let new = state_in c.apply-2.new.self c.append.new.self c.saturating_add-self-inside.result c.give_up.new.contents i.opened.items i.lot i.has_failed in
+    let new = state_in c.apply-2.new.self c.append.new.self c.saturating_add-self-inside.result c.give_up.new.contents i.opened.items c.write_ahead.new.events i.lot i.has_failed in
     let end = c.append.new.disk in
     let laws = g.met.D.Disk g.world.𝓛 g.world.𝓜 g.world.𝓡 ((λ s x. x), (λ x. x), (λ x. x), λ x. x) in
     let number = numbered_of i.log.number c.self.invariant.current in
-    let logged = has_logged tells held moment images s now new change p e c.into_frame-entry-2.result.0 old mid end number.0 slots view p_view number.1 placed c.in-Ok.ensures.sizes c.into_frame-entry-2.ensures.entry c.apply-2.ensures.kept refl (c.append.ensures.images number.0 e number.1 framed) (λ disk k c' image. laws.left_is_told disk k c' image) (λ disk told. laws.held_is_left disk told) in
+    let logged = has_logged tells held moment images s now new change p e c.into_frame-entry-2.result.0 old mid end number.0 slots view p_view number.1 placed c.in-Ok.ensures.sizes c.in-Ok.ensures.events c.into_frame-entry-2.ensures.entry c.apply-2.ensures.kept refl (c.append.ensures.images number.0 e number.1 framed) (λ disk k c' image. laws.left_is_told disk k c' image) (λ disk told. laws.held_is_left disk told) in
     λ state stands. state_of_acknowledged tells held moment images now new p e old mid end number.0 slots has logged state stands (c.in-Ok-append.ensures.added number.0 e number.1 framed)
+
+pub returns-clause-events : goal.returns-clause-events
+returns-clause-events g c =
+    let i = c.self.inside in
+    let s = state_in i.state i.log i.entries i.contents i.opened.items i.events i.lot i.has_failed in
+    let change : PreparedChange = record { entry = c.prepared.inside.entry; settled = c.prepared.inside.settled.now; events = c.prepared.inside.events } in
+    events_counted s c.args.self.now change c.args.prepared c.write_ahead.new.events c.self.view_is c.prepared.view_is c.requires.prepared c.in-Ok.ensures.events.appended

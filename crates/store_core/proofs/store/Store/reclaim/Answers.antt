@@ -7,13 +7,13 @@ use Rattle.store_core.proofs.store.Store.reclaim.Goals as goal
 pub invariant_of-self : goal.invariant_of-self
 invariant_of-self g c =
     let i = c.self.inside in
-    let s = state_in i.state i.log i.entries i.contents i.opened.items i.lot i.has_failed in
+    let s = state_in i.state i.log i.entries i.contents i.opened.items i.events i.lot i.has_failed in
     sound_reclaimed s c.reclaim.new.self c.in-Ok.reclaimed c.self.invariant c.if-self.false c.in-Ok.ensures.reclaimed
 
 pub returns-in_default-clause-images : goal.returns-in_default-clause-images
 returns-in_default-clause-images g c works =
     let i = c.self.inside in
-    let s = state_in i.state i.log i.entries i.contents i.opened.items i.lot i.has_failed in
+    let s = state_in i.state i.log i.entries i.contents i.opened.items i.events i.lot i.has_failed in
     let moment = g.D.Disk.moment in
     let images = g.D.Disk.images in
     let kept = subst (λ (t : StoreState). IsKeptOn g.D.Disk.tells g.D.Disk.held moment images t c.args.disk.now) (sym c.self.view_is) c.requires in
@@ -23,7 +23,7 @@ returns-in_default-clause-images g c works =
 pub returns-clause-images : goal.returns-clause-images
 returns-clause-images g c works =
     let i = c.self.inside in
-    let s = state_in i.state i.log i.entries i.contents i.opened.items i.lot i.has_failed in
+    let s = state_in i.state i.log i.entries i.contents i.opened.items i.events i.lot i.has_failed in
     let moment = g.D.Disk.moment in
     let images = g.D.Disk.images in
     let kept = subst (λ (t : StoreState). IsKeptOn g.D.Disk.tells g.D.Disk.held moment images t c.args.disk.now) (sym c.self.view_is) c.requires in
@@ -33,9 +33,9 @@ returns-clause-images g c works =
 pub returns-clause-kept : goal.returns-clause-kept
 returns-clause-kept g c =
     let i = c.self.inside in
-    let s = state_in i.state i.log i.entries i.contents i.opened.items i.lot i.has_failed in
+    let s = state_in i.state i.log i.entries i.contents i.opened.items i.events i.lot i.has_failed in
     let moment = g.D.Disk.moment in
     let images = g.D.Disk.images in
     let kept = subst (λ (t : StoreState). IsKeptOn g.D.Disk.tells g.D.Disk.held moment images t c.args.disk.now) (sym c.self.view_is) c.requires in
     kept_reclaimed moment images s c.args.disk.now c.reclaim.new.disk g.D.Disk.tells g.D.Disk.held c.reclaim.new.self
-    (c.self.invariant.works c.if-self.false) c.if-self.false kept c.reclaim.ensures.images (λ told. (c.in-Ok.ensures.emptied told).sizes)
+    (c.self.invariant.works c.if-self.false) c.if-self.false kept c.reclaim.ensures.images c.reclaim.ensures.shortened (λ told. (c.in-Ok.ensures.emptied told).sizes)

@@ -1,0 +1,78 @@
+//! What the disk of a measurement keeps.
+ghost use Rattle.std.specs.Prelude.{◌+◌, ◌^◌, ◌<◌, length, OnOk, OnSome};
+ghost use Rattle.std.specs.List.Sorted.{IsStrictlyIncreasing};
+
+use disk_trait::{FileKind, FileName};
+use std::alloc::AllocError;
+
+/// The sizes of claims, by their numbers, and one file with its bytes. Of other files nothing is kept.
+#[derive(Drop)]
+pub struct Kept {
+    pub claims: Vec<u64>,
+    pub file: FileName,
+    pub bytes: Vec<u8>,
+}
+
+impl Kept {
+    /// Adds the numbers of the files of this kind that aren't empty, ascending.
+    pub fn list(&self, kind: FileKind, list: &mut Vec<u64>) -> Result<(), AllocError>
+        ensures { OnOk result (IsStrictlyIncreasing list.new.items) }
+    {
+        if kind == FileKind::Claim {
+            push_claims(self.claims.as_slice(), list)?;
+        }
+        if kind == self.file.kind && !self.bytes.is_empty() {
+            list.push(self.file.number)?;
+        }
+        list.sort_unstable();
+        list.dedup();
+        Ok(())
+    }
+
+    /// The file's length in bytes.
+    pub fn size(&self, file: FileName) -> u64 {
+        if file == self.file {
+            return self.bytes.len() as u64;
+        }
+        if file.kind == FileKind::Claim && file.number < self.claims.len() as u64 {
+            return self.claims[file.number as usize];
+        }
+        0
+    }
+
+    /// Fills `into` with the bytes from `at` on, where they are kept.
+    pub fn read(&self, file: FileName, at: u64, into: &mut [u8]) -> Option<()> {
+        let end = at.checked_add(into.len() as u64)?;
+        if file != self.file || end > self.bytes.len() as u64 {
+            return None;
+        }
+        into.copy_from_slice(&self.bytes[at as usize..end as usize]);
+        Some(())
+    }
+
+    /// A claim is as long as this write makes it. The bytes aren't kept.
+    pub fn write(&mut self, file: FileName, at: u64, bytes: &[u8]) -> Option<()>
+        ensures { OnSome result (at + length bytes.now < 2 ^ 64) }
+    {
+        let end = at.checked_add(bytes.len() as u64)?;
+        let size = self.size(file);
+        self.put(file, end.max(size));
+        Some(())
+    }
+
+    /// Sets the length of a claim that is kept.
+    pub fn put(&mut self, file: FileName, size: u64) {
+        if file.kind == FileKind::Claim && file.number < self.claims.len() as u64 {
+            self.claims[file.number as usize] = size;
+        }
+    }
+}
+
+fn push_claims(claims: &[u64], list: &mut Vec<u64>) -> Result<(), AllocError> {
+    for number in 0..claims.len() {
+        if claims[number] > 0 {
+            list.push(number as u64)?;
+        }
+    }
+    Ok(())
+}

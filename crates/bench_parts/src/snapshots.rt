@@ -1,0 +1,85 @@
+//! Reading and writing of a snapshot.
+ghost use Rattle.std.specs.Prelude.{◌≡◌, ◌^◌, ◌<◌, [], IfOk};
+ghost use Rattle.flowfile_record.specs.Stored.{kept_of};
+ghost use Rattle.checkpoint_store.specs.Consistent.{IsConsistent};
+
+use crate::disk::BenchDisk;
+use crate::measured::Measured;
+use crate::records::{put_block, put_file, put_numbers};
+use anyhow::{Result, bail};
+use checkpoint_store::{read, write};
+use disk_trait::{FileKind, FileName};
+use flowfile_record::{DIGEST_SIZE, Stored};
+use record_codec::{FORMAT_VERSION, SnapshotKind};
+use std::alloc::{AllocError, Global};
+use std::time::{Clock, Instant};
+
+const SNAPSHOT: FileName = FileName {
+    kind: FileKind::Snapshot,
+    number: 1,
+};
+
+/// The time that it takes to read a snapshot of so many files.
+pub fn measure_reading<R: Clock>(rt: &R, alloc: Global, files: u32) -> Result<Measured> {
+    let mut disk = BenchDisk::of_file(alloc, SNAPSHOT, snapshot(alloc, files)?);
+    let start = Instant::now(rt)?;
+    let state = read(alloc, &mut disk, SNAPSHOT.number)?;
+    let took = start.elapsed(rt)?;
+    Ok(Measured {
+        count: state.files.len(),
+        took,
+    })
+}
+
+/// The time that it takes to write one, which is kept nowhere.
+pub fn measure_writing<R: Clock>(rt: &R, alloc: Global, files: u32) -> Result<Measured> {
+    let state = state(alloc, files)?;
+    if !state.batches.is_empty() {
+        bail!("a snapshot without batches has some");
+    }
+    let mut disk = BenchDisk::of_file(alloc, SNAPSHOT, Vec::new(alloc));
+    let start = Instant::now(rt)?;
+    write(alloc, &mut disk, SNAPSHOT.number, &state)?;
+    let took = start.elapsed(rt)?;
+    Ok(Measured {
+        count: state.files.len(),
+        took,
+    })
+}
+
+// What a snapshot of so many files says.
+fn state(alloc: Global, files: u32) -> Result<Stored>
+    ensures { IfOk result (λ state. (kept_of state).batches ≡ [] → IsConsistent (kept_of state)) }
+{
+    let mut disk = BenchDisk::of_file(alloc, SNAPSHOT, snapshot(alloc, files)?);
+    let state = read(alloc, &mut disk, SNAPSHOT.number)?;
+    Ok(state)
+}
+
+fn snapshot(alloc: Global, files: u32) -> Result<Vec<u8>> {
+    let mut bytes = Vec::new(alloc);
+    let head = head(alloc, u64::from(files))?;
+    put_block(&mut bytes, SnapshotKind::Head.code(), head.as_slice())?;
+    let mut payload = Vec::new(alloc);
+    for number in 0..files {
+        payload.clear();
+        put_file(&mut payload, u64::from(number) + 1)?;
+        put_block(&mut bytes, SnapshotKind::File.code(), payload.as_slice())?;
+    }
+    let blocks = (u64::from(files) + 1).to_be_bytes();
+    put_block(&mut bytes, SnapshotKind::End.code(), &blocks)?;
+    Ok(bytes)
+}
+
+// One connection, no counts, and the numbers that come behind so many files.
+fn head(alloc: Global, files: u64) -> Result<Vec<u8>, AllocError>
+    requires { files < 2 ^ 32 }
+{
+    let mut bytes = Vec::new(alloc);
+    bytes.push(FORMAT_VERSION)?;
+    put_numbers(&mut bytes, &[7])?;
+    bytes.extend_from_slice(&[0; DIGEST_SIZE])?;
+    bytes.extend_from_slice(b"\0\0\0\x01\0\x02c1\0\0\0\0")?;
+    put_numbers(&mut bytes, &[files + 1, files + 1, 0, 1])?;
+    Ok(bytes)
+}

@@ -1,0 +1,16 @@
+use Rattle.std.proofs.Common.{◌≡◌, length, ap}
+use Rattle.std.proofs.lemmas.Result.{err_from_is_err_and}
+use Rattle.std.specs.Prelude.{Err}
+use Rattle.flowfile_record.specs.Reading.{whole}
+use Rattle.flowfile_record.specs.Stored.{kept_of}
+use Rattle.record_codec.specs.SnapshotReading.{batch_at}
+use Rattle.checkpoint_store.specs.declared.so_far.Unfit.TheVariants.{Memory}
+use Rattle.checkpoint_store.proofs.Parts.{batch_follows}
+use Rattle.checkpoint_store.proofs.so_far.SoFar.take_batch.Goals as goal
+
+pub returns-in_err-add_batch-clause-memory : goal.returns-in_err-add_batch-clause-memory
+returns-in_err-add_batch-clause-memory c = λ is.
+    let p = err_from_is_err_and c.from_residual-in_err-add_batch.result c.from_residual-in_err-add_batch.ensures.1 in
+    let same : c.in_err-add_batch.field-0.0 ≡ Memory = cc (p.1, p.2, is) in
+    batch_follows (kept_of c.args.self.now.state) c.in_ok-batch.batch (length c.args.payload.now) (whole batch_at c.args.payload.now) c.in_ok-batch.ensures.exact
+    (c.in_err-add_batch.ensures.memory (ap Err same))

@@ -1,0 +1,13 @@
+pub mod Counting
+pub mod Cutting
+pub mod Encoded
+pub mod Growing
+pub mod Headers
+pub mod InFile
+pub mod InFiles
+pub mod Keeping
+pub mod Loaded
+pub mod Loads
+pub mod Parting
+pub mod Scans
+pub mod Writing

@@ -1,0 +1,28 @@
+use Rattle.std.proofs.Common.{◌≡◌, ℕ, ◌+◌, ◌≤◌, ◌<◌, List, length, sym, ap, ◌∙◌, arith}
+use Rattle.std.specs.Prelude.{filter, nat_le, ◌&&◌, min, max}
+use Rattle.flowfile_record.specs.declared.event.Event.{Event}
+use Rattle.prov_store.specs.Events.{events_in}
+use Rattle.prov_store.specs.Scanning.{is_within}
+use Rattle.prov_store.proofs.InFiles.{last_numbered}
+use Rattle.prov_store.proofs.Scans.{none_between, same_found}
+use Rattle.prov_store.proofs.events.Events.scan.Goals.{then-scan+in_ok-scan_files, else-scan}
+use Rattle.prov_store.proofs.events.Events.scan.Goals as goal
+
+pub returns-clause-found : goal.returns-clause-found
+returns-clause-found g c told events is =
+    let files = g.D.Disk.held c.args.disk.now in
+    let from = c.args.from in
+    let to = c.args.to in
+    let end : c.self.inside.end ≡ c.args.self.now.end = ap (λ s. s.end) c.self.view_is in
+    let row = last_numbered c.args.self.now.end files events is in
+    let low : c.max.result ≡ max from 1 = omega (arith, c.max.ensures) in
+    let high : c.min.result ≡ min to c.args.self.now.end = omega (arith, c.min.ensures, end) in
+    let exact : filter (is_within c.max.result c.min.result) events ≡ filter (λ e. nat_le from e.number && nat_le e.number to) events =
+    ap (λ (n : ℕ). filter (is_within n c.min.result) events) low ∙ ap (λ (n : ℕ). filter (is_within (max from 1) n) events) high
+    ∙ same_found from to c.args.self.now.end 1 events row.0 (omega arith) (omega (arith, row.1)) in
+    elim c.if-scan.branch [
+      | then-scan+in_ok-scan_files w ↦
+          ap (λ s. s.found.items) w.scan-is ∙ w.in_ok-scan_files.ensures.found told events (ap (events_in files) end ∙ is) ∙ exact
+      | else-scan w ↦
+          ap (λ s. s.found.items) w.scan-is ∙ c.new-2.ensures.items ∙ sym (none_between c.max.result c.min.result events w.if-scan.false) ∙ exact
+    ]

@@ -1,0 +1,13 @@
+use Rattle.std.proofs.Common.{◌≡◌, ℕ, ◌+◌, ◌/◌, ◌<◌, map, slice_index}
+use Rattle.std.specs.Prelude.{Contains}
+use Rattle.prov_store.specs.Loading.{IsLoaded}
+use Rattle.prov_store.specs.declared.TheConstants.{EVENTS_PER_FILE}
+use Rattle.prov_store.proofs.load.Loading.find_later.Given as goal
+
+abbrev pub invariant-loop-number : goal.invariant-loop-number
+invariant-loop-number g l = record {
+  end : l.self.end ≡ l.fn.self.end;
+  loaded : IsLoaded g.D.Disk.tells (g.D.Disk.held l.fn.disk) (l.fn.self.end / EVENTS_PER_FILE + 1) l.self;
+  listed : (i : ℕ) → i < l.number-index → l.fn.self.end / EVENTS_PER_FILE < slice_index l.number-items i
+      → Contains (map (λ s. s.file) l.self.stale.items) (slice_index l.number-items i);
+}

@@ -1,0 +1,60 @@
+use Rattle.std.proofs.Common.{◌≡◌, ℕ, suc, ◌+◌, ◌-◌, ◌*◌, ◌/◌, ◌≤◌, ◌<◌, ◌++◌, List, [], IsTrue, length, refl, sym, ap, subst, ◌∙◌, arith, rules}
+use Rattle.std.specs.Prelude.{Ok, filter}
+use Rattle.flowfile_record.specs.declared.event.Event.{Event}
+use Rattle.disk_trait.specs.Files.{Files}
+use Rattle.prov_store.specs.Events.{events_of_file}
+use Rattle.prov_store.specs.Scanning.{is_within, SameScan}
+use Rattle.prov_store.specs.declared.TheConstants.{EVENTS_PER_FILE}
+use Rattle.prov_store.proofs.InFiles.{file_of_events}
+use Rattle.prov_store.proofs.Scans.{none_yet, one_file_found, all_found, found_alike}
+use Rattle.prov_store.proofs.scan.Scan.scan_files.Goals as goal
+
+pub loop-number-init : goal.loop-number-init
+loop-number-init g c = record {
+  same = record { end = refl; first = refl; last = refl };
+  found = λ told events is. c.requires.none ∙ sym (none_yet c.args.self.now.end c.args.self.now.first c.args.self.now.last (g.D.Disk.held c.args.disk.now) events is);
+  stays = search rules;
+  faults = omega arith;
+}
+
+pub scan_file-requires-clause-has : goal.scan_file-requires-clause-has
+scan_file-requires-clause-has g c κs within told =
+    let inv = c.loop-number.invariant in
+    let files = g.D.Disk.held c.args.disk.now in
+    let self = c.args.self.now in
+    let known = c.requires.has told in
+    let here = file_of_events self.end c.loop-number.number files known.0 known.1 (omega (arith, c.loop-number-test.true, c.requires.may.there, c.requires.may.counted, c.requires.may.some)) in (
+      here.0,
+      ap (λ (n : ℕ). events_of_file n c.loop-number.number (g.D.Disk.held c.loop-number.disk)) inv.same.end
+          ∙ ap (λ (f : Files). events_of_file self.end c.loop-number.number f) inv.stays.files ∙ here.1,
+    )
+
+pub loop-number-preserved : goal.loop-number-preserved
+loop-number-preserved g c =
+    let inv = c.loop-number.invariant in
+    let files = g.D.Disk.held c.args.disk.now in
+    let self = c.args.self.now in
+    let old = c.loop-number.self in
+    let new = c.scan_file.new.self in
+    record {
+      same = record {
+        end = c.scan_file.ensures.same.end ∙ inv.same.end;
+        first = c.scan_file.ensures.same.first ∙ inv.same.first;
+        last = c.scan_file.ensures.same.last ∙ inv.same.last;
+      };
+      found = λ told events is.
+          one_file_found self.end self.first self.last c.loop-number.number files old.found.items new.found.items events is (inv.found told)
+          (found_alike self.end self.first self.last old.end old.first old.last c.loop-number.number (g.D.Disk.held c.loop-number.disk) files old.found.items new.found.items
+          inv.same.end inv.same.first inv.same.last inv.stays.files (c.in_ok-scan_file.ensures.found told));
+      stays = search rules;
+      faults = omega (arith, inv.faults, c.scan_file.ensures.cause.never_falls);
+    }
+
+pub returns-clause-found : goal.returns-clause-found
+returns-clause-found g c told events is =
+    let inv = c.loop-number.invariant in
+    let self = c.args.self.now in
+    let reach = c.loop-number.auto.number-end (omega (arith, c.requires.may.some)) in
+    let behind : c.loop-number.number ≡ (self.last - 1) / EVENTS_PER_FILE + 1 = omega (arith, c.loop-number-test.false, reach) in
+    all_found self.end self.first self.last c.loop-number.number (g.D.Disk.held c.args.disk.now) c.loop-number.self.found.items events is behind (omega (arith, c.requires.may.counted, c.requires.may.some)) c.requires.may.there
+    (inv.found told)

@@ -1,0 +1,37 @@
+-- Some of the events of files are found.
+use Rattle.std.specs.Prelude.{◌≡◌, ℕ, ◌+◌, ◌<◌, ◌≤◌, ◌^◌, ◌&&◌, nat_le, Bool, IsTrue, List, ◌++◌, length, Ok}
+use Rattle.disk_trait.specs.Files.{Files}
+use Rattle.flowfile_record.specs.declared.event.Event.{Event}
+use Rattle.prov_store.specs.Events.{events_from, blocks_size}
+use Rattle.prov_store.specs.Loading.{AreRead, bytes_there}
+use Rattle.prov_store.specs.declared.read.Cursor.{Cursor}
+use Rattle.prov_store.specs.declared.scan.Scan.{Scan}
+
+-- its number lies between these
+abbrev pub is_within : (first last : ℕ) → Event → Bool
+is_within first last e = nat_le first e.number && nat_le e.number last
+
+-- there are events between the two numbers
+pub record MayScan (scan : Scan) : Type 0 where
+  pub counted : 1 ≤ scan.first
+  pub some : scan.first ≤ scan.last
+  pub there : scan.last ≤ scan.end
+  pub limit : scan.end < 2 ^ 62
+
+pub record SameScan (old new : Scan) : Type 0 where
+  pub end : new.end ≡ old.end
+  pub first : new.first ≡ old.first
+  pub last : new.last ≡ old.last
+
+-- so many events were read from a place on
+pub record HasRead (tells : Bool) (files : Files) (start : Cursor) (many : ℕ) (old new : List Event) : Type 0 where
+  pub events : List Event
+  pub says : IsTrue tells → events_from many start.file start.at start.number (bytes_there files start) ≡ Ok events
+  pub items : new ≡ old ++ events
+
+-- so many events were skipped
+pub record HasSkipped (tells : Bool) (files : Files) (start : Cursor) (many : ℕ) (cursor : Cursor) : Type 0 where
+  pub behind : cursor ≡ record start { at = cursor.at; number = start.number + many }
+  pub within : cursor.at ≤ start.size
+  pub reaches : IsTrue tells → (events : List Event) → events_from many start.file start.at start.number (bytes_there files start) ≡ Ok events
+      → cursor.at ≡ start.at + blocks_size many (bytes_there files start)

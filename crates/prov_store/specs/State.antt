@@ -1,0 +1,126 @@
+-- What is in memory of the files of events, and how it is tied to them.
+use Rattle.std.specs.Prelude.{◌≡◌, ◌≢◌, ℕ, zero, suc, ◌+◌, ◌-◌, ◌/◌, ◌<◌, ◌≤◌, ◌==◌, List, [], ◌∷◌, ◌++◌, length, map, filter, take, All, Contains, Ok, slice_index, if◌then◌else◌}
+use Rattle.std.specs.List.{range_with_len}
+use Rattle.disk_trait.specs.Files.{Files, Shortened}
+use Rattle.disk_trait.specs.declared.file_name.FileKind.TheVariants.{Events}
+use Rattle.disk_trait.specs.declared.file_name.FileName.{FileName}
+use Rattle.disk_trait.specs.Images.{next_moment}
+use Rattle.flowfile_record.specs.Events.{code_of}
+use Rattle.flowfile_record.specs.declared.event.Event.{Event}
+use Rattle.prov_event.specs.Encoding.{event, IsEvent}
+use Rattle.prov_event.specs.declared.TheConstants.{EVENT_KIND}
+use Rattle.prov_store.specs.Events.{events_file, events_in, covered, covered_size}
+use Rattle.prov_store.specs.declared.TheConstants.{EVENTS_PER_FILE}
+use Rattle.prov_store.specs.declared.events.Stale.{Stale}
+use Rattle.record_codec.specs.Block.{block}
+use Rattle.record_codec.specs.declared.block.TheConstants.{PAYLOAD_MAX}
+
+-- ---- events
+
+-- an event that has a block
+pub record HasBlock (e : Event) : Type 0 where
+  pub encoded : IsEvent e
+  pub payload : length (event e) ≤ PAYLOAD_MAX
+
+-- the block of an event
+abbrev pub event_block : Event → List ℕ
+event_block e = block EVENT_KIND (event e)
+
+-- numbered from this one on, without a gap
+abbrev pub AreNumberedFrom : (first : ℕ) → List Event → Type 0
+AreNumberedFrom first events = map (λ e. e.number) events ≡ range_with_len first (length events)
+
+-- how many of the events are of the kind of this code
+abbrev pub of_code : (code : ℕ) → List Event → ℕ
+of_code code events = length (filter (λ e. code_of e.kind == code) events)
+
+-- how many of the events are of each kind, by its code less 1
+unfoldable pub counts_of : List Event → List ℕ
+counts_of events = map (λ code. of_code code events) (range_with_len 1 12)
+
+-- ---- in memory
+
+-- The number of the last event; where the next one goes in its file; how many there are of each kind; and the files that
+-- have bytes behind the covered end, each with the size of what is covered.
+pub record EventsState : Type 0 where
+  pub end : ℕ
+  pub offset : ℕ
+  pub counts : List ℕ
+  pub stale : List Stale
+
+-- events to be added, and the number of the first
+pub record NumberedEvents : Type 0 where
+  pub first : ℕ
+  pub events : List Event
+
+-- the file that the next event goes to
+abbrev pub next_file : (last : ℕ) → ℕ
+next_file last = last / EVENTS_PER_FILE
+
+-- the files have the events that are known
+pub record HasEvents (state : EventsState) (files : Files) : Type 0 where
+  pub events : List Event
+  pub says : events_in files state.end ≡ Ok events
+  pub offset : state.offset ≡ covered_size state.end (next_file state.end) files
+  pub counts : state.counts ≡ counts_of events
+
+-- the files that have bytes behind the covered end are known
+pub record HasStale (state : EventsState) (files : Files) : Type 0 where
+  pub sizes : All (λ s. s.size ≡ covered_size state.end s.file files) state.stale
+  pub others : (k : ℕ) → (Contains (map (λ s. s.file) state.stale) k → ⊥) → files (events_file k) ≡ covered state.end k files
+
+-- nothing stands behind the covered end
+abbrev pub IsTrimmed : (last : ℕ) → Files → Type 0
+IsTrimmed last files = (k : ℕ) → files (events_file k) ≡ covered last k files
+
+-- the files have the events that are known, and nothing behind them
+pub record IsReady (state : EventsState) (files : Files) : Type 0 where
+  pub has : HasEvents state files
+  pub trimmed : IsTrimmed state.end files
+
+-- ---- what calls leave
+
+-- the bytes of the events up to a last one stay
+abbrev pub SameEvents : (last : ℕ) (old new : Files) → Type 0
+SameEvents last old new = (k : ℕ) → covered last k new ≡ covered last k old
+
+-- and each file of another kind is as it was
+pub record KeepsEvents (last : ℕ) (old new : Files) : Type 0 where
+  pub others : (f : FileName) → f.kind ≢ Events → new f ≡ old f
+  pub events : SameEvents last old new
+
+-- files of events grow, behind the last event that is known
+pub record GrowsBehind (state : EventsState) (old new : Files) : Type 0 where
+  pub others : (f : FileName) → f.kind ≢ Events → new f ≡ old f
+  pub earlier : (k : ℕ) → k < next_file state.end → new (events_file k) ≡ old (events_file k)
+  pub front : take state.offset (new (events_file (next_file state.end)))
+      ≡ take state.offset (old (events_file (next_file state.end)))
+  pub no_shorter : (k : ℕ) → length (old (events_file k)) ≤ length (new (events_file k))
+
+-- files that are known to have bytes behind the covered end get shorter, down to it
+pub record CutsStale (stale : List Stale) (old new : Files) : Type 0 where
+  pub others : (f : FileName) → f.kind ≢ Events → new f ≡ old f
+  pub rest : (k : ℕ) → (Contains (map (λ s. s.file) stale) k → ⊥) → new (events_file k) ≡ old (events_file k)
+  pub cut : All (λ s. Shortened s.size (old (events_file s.file)) (new (events_file s.file))) stale
+
+-- ---- what is known once events are added
+
+-- the counts of some more events
+abbrev pub AreCounted : List Event → (old new : List ℕ) → Type 0
+AreCounted events old new = (code : ℕ) → 1 ≤ code → code ≤ 12
+    → slice_index new (code - 1) ≡ slice_index old (code - 1) + of_code code events
+
+pub record IsAppended (events : List Event) (old new : EventsState) : Type 0 where
+  pub end : new.end ≡ old.end + length events
+  pub counts : AreCounted events old.counts new.counts
+  pub stale : new.stale ≡ old.stale
+
+-- how many files get events where so many are added behind a last one
+abbrev pub files_for : (last count : ℕ) → ℕ
+files_for last count =
+    if count == 0 then 0 else (last + count - 1) / EVENTS_PER_FILE - last / EVENTS_PER_FILE + 1
+
+-- the moment of a disk after so many calls that change it
+abbrev pub calls_later : (calls moment : ℕ) → ℕ
+calls_later zero moment = moment
+calls_later (suc calls) moment = calls_later calls (next_moment moment)

@@ -1,0 +1,131 @@
+//! The event at an offset of a file.
+ghost use Rattle.std.specs.Prelude.{◌≡◌, ℕ, ◌+◌, ◌<◌, ◌≤◌, ◌^◌, length, drop, IsTrue, IfOk, IfErr, IsErrOf, Ok, Err, Some, None};
+ghost use Rattle.disk_trait.specs.Images.{Stays};
+ghost use Rattle.disk_trait.specs.Faults.{CountsFaults};
+ghost use Rattle.disk_trait.specs.declared.damage.Damage.{Damage as TheDamage};
+ghost use Rattle.flowfile_record.specs.declared.event.Event.{Event as TheEvent};
+ghost use Rattle.record_codec.specs.Block.{reading_of};
+ghost use Rattle.prov_store.specs.Events.{events_file, event_in, event_by};
+ghost use Rattle.prov_store.specs.Reading.{event_there, IsThere};
+
+use crate::EventsError;
+use block_file::{BlockAddress, read_block_at};
+use disk_trait::{Damage, Disk, FileName};
+use flowfile_record::{CodecError, Event};
+use prov_event::{EVENT_KIND, read_event};
+use record_codec::{BlockEnd, HEADER_SIZE, size_by_header};
+use std::alloc::Global;
+
+/// Where the event of a number is wanted: an offset of a file of this size.
+#[derive(Clone, Copy)]
+pub struct Cursor {
+    pub file: FileName,
+    pub size: u64,
+    pub at: u64,
+    pub number: u64,
+}
+
+impl Cursor {
+    /// Behind a block of this size.
+    pub fn behind(self, size: u64) -> Cursor
+        requires within { self.at + size ≤ self.size }
+        requires number { self.number + 1 < 2 ^ 64 }
+        ensures { result ≡ record self { at = self.at + size; number = self.number + 1 } }
+    {
+        Cursor {
+            at: self.at + size,
+            number: self.number + 1,
+            ..self
+        }
+    }
+}
+
+/// The event that stands there, and the size of its block.
+pub fn read_event_at<D: Disk>(
+    alloc: Global,
+    disk: &mut D,
+    cursor: Cursor,
+    buffer: &mut Vec<u8>,
+) -> Result<(Event, u64), EventsError>
+    requires { IsThere D.tells (D.held disk.old) cursor }
+    ensures found { IfOk result (λ found. IsTrue D.tells → event_there (D.held disk.old) cursor ≡ Ok found) }
+    ensures within { IfOk result (λ found. cursor.at + found.1 ≤ cursor.size) }
+    ensures damaged { (damage : TheDamage) → IsErrOf result (EventsError.Damaged damage) → IsTrue D.tells
+        → event_there (D.held disk.old) cursor ≡ Err damage }
+    ensures stays { Stays D.held D.moment D.images disk.old disk.new }
+    ensures cause { CountsFaults (D.faults disk.old) (D.faults disk.new) (IsErrOf result EventsError.Disk) }
+{
+    let address = BlockAddress {
+        file: cursor.file,
+        size: cursor.size,
+        offset: cursor.at,
+        at: cursor.at,
+    };
+    let block = read_block_at(disk, address, buffer)?;
+    let payload = &buffer[block.start as usize..block.end as usize];
+    let event = event_of(alloc, cursor, block.kind, payload)?;
+    Ok((event, block.next))
+}
+
+// The event of a block.
+fn event_of(alloc: Global, cursor: Cursor, kind: u8, payload: &[u8]) -> Result<Event, EventsError>
+    ensures event { IfOk result (λ event. event_in cursor.number kind payload.now ≡ Some event) }
+    ensures damaged { (damage : TheDamage) → IsErrOf result (EventsError.Damaged damage)
+        → (damage ≡ TheDamage.Form cursor.file cursor.at) × (event_in cursor.number kind payload.now ≡ None) }
+    ensures kinds { IsErrOf result EventsError.Disk → ⊥ }
+{
+    let damaged = EventsError::Damaged(Damage::Form {
+        file: cursor.file,
+        at: cursor.at,
+    });
+    if kind != EVENT_KIND {
+        return Err(damaged);
+    }
+    match read_event(alloc, payload) {
+        Ok(event) => {
+            if event.number != cursor.number {
+                return Err(damaged);
+            }
+            Ok(event)
+        }
+        Err(CodecError::Memory) => Err(EventsError::Memory),
+        Err(CodecError::Form { .. }) => Err(damaged),
+    }
+}
+
+/// The size of the block that stands there, by its header. What it holds isn't read.
+pub fn skip_event_at<D: Disk>(disk: &mut D, cursor: Cursor) -> Result<u64, EventsError>
+    requires { IsThere D.tells (D.held disk.old) cursor }
+    ensures size { IfOk result (λ size. IsTrue D.tells → (event : TheEvent) (whole : ℕ)
+        → event_there (D.held disk.old) cursor ≡ Ok (event, whole) → size ≡ whole) }
+    ensures within { IfOk result (λ size. cursor.at + size ≤ cursor.size) }
+    ensures damaged { (damage : TheDamage) → IsErrOf result (EventsError.Damaged damage) → IsTrue D.tells
+        → (event : TheEvent) (whole : ℕ) → event_there (D.held disk.old) cursor ≡ Ok (event, whole) → ⊥ }
+    ensures stays { Stays D.held D.moment D.images disk.old disk.new }
+    ensures cause { CountsFaults (D.faults disk.old) (D.faults disk.new) (IsErrOf result EventsError.Disk) }
+{
+    let have = cursor.size - cursor.at;
+    if have < HEADER_SIZE {
+        return Err(EventsError::Damaged(Damage::Short {
+            file: cursor.file,
+            at: cursor.at,
+            need: HEADER_SIZE,
+            have,
+        }));
+    }
+    let mut header = [0u8; HEADER_SIZE as usize];
+    disk.read(cursor.file, cursor.at, &mut header)?;
+    match size_by_header(&header, have) {
+        Ok(size) => Ok(size),
+        Err(BlockEnd::Short { need, have }) => Err(EventsError::Damaged(Damage::Short {
+            file: cursor.file,
+            at: cursor.at,
+            need,
+            have,
+        })),
+        Err(_) => Err(EventsError::Damaged(Damage::Form {
+            file: cursor.file,
+            at: cursor.at,
+        })),
+    }
+}

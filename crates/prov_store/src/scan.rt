@@ -1,0 +1,162 @@
+//! Some events are read back.
+ghost use Rattle.std.specs.Prelude.{◌≡◌, ◌+◌, ◌-◌, ◌/◌, ◌<◌, ◌≤◌, ◌^◌, ◌&&◌, ◌++◌, nat_le, List, [], filter, IsTrue, IfOk, OnOk, IsErrOf, Ok, Err};
+ghost use Rattle.disk_trait.specs.Images.{Stays};
+ghost use Rattle.disk_trait.specs.Faults.{CountsFaults};
+ghost use Rattle.disk_trait.specs.declared.damage.Damage.{Damage as TheDamage};
+ghost use Rattle.flowfile_record.specs.declared.event.Event.{Event as TheEvent};
+ghost use Rattle.prov_store.specs.Events.{events_from, events_of_file, events_in};
+ghost use Rattle.prov_store.specs.Loading.{bytes_there};
+ghost use Rattle.prov_store.specs.Reading.{IsThere};
+ghost use Rattle.prov_store.specs.Scanning.{is_within, HasRead, HasSkipped, MayScan, SameScan};
+ghost use Rattle.prov_store.specs.State.{HasEvents};
+
+use crate::events::file_named;
+use crate::read::{Cursor, read_event_at, skip_event_at};
+use crate::{EVENTS_PER_FILE, Events, EventsError};
+use disk_trait::Disk;
+use flowfile_record::Event;
+use std::alloc::Global;
+
+// The events of a store up to a last one that are found between two numbers.
+#[derive(Drop)]
+struct Scan {
+    end: u64,
+    first: u64,
+    last: u64,
+    buffer: Vec<u8>,
+    found: Vec<Event>,
+}
+
+impl Events {
+    /// The events numbered from one to another, both included, as far as there are such. Of the files that have some it
+    /// reads the headers of the blocks before them, and nothing behind them.
+    pub fn scan<D: Disk>(
+        &self,
+        alloc: Global,
+        disk: &mut D,
+        from: u64,
+        to: u64,
+    ) -> Result<Vec<Event>, EventsError>
+        requires { IsTrue D.tells → HasEvents self.now (D.held disk.old) }
+        ensures found { IfOk result (λ found. IsTrue D.tells → (events : List TheEvent)
+            → events_in (D.held disk.old) self.now.end ≡ Ok events
+            → found.items ≡ filter (λ e. nat_le from e.number && nat_le e.number to) events) }
+        // Only a disk that doesn't tell may hold other events than it was loaded with.
+        ensures undamaged { (damage : TheDamage) → IsErrOf result (EventsError.Damaged damage) → IsTrue D.tells → ⊥ }
+        ensures stays { Stays D.held D.moment D.images disk.old disk.new }
+        ensures cause { CountsFaults (D.faults disk.old) (D.faults disk.new) (IsErrOf result EventsError.Disk) }
+    {
+        let mut scan = Scan {
+            end: self.end,
+            first: from.max(1),
+            last: to.min(self.end),
+            buffer: Vec::new(alloc),
+            found: Vec::new(alloc),
+        };
+        if scan.first <= scan.last {
+            scan.scan_files(alloc, disk)?;
+        }
+        Ok(scan.found)
+    }
+}
+
+impl Scan {
+    // Finds the events file by file.
+    fn scan_files<D: Disk>(&mut self, alloc: Global, disk: &mut D) -> Result<(), EventsError>
+        requires may { MayScan self.old }
+        requires none { self.old.found.items ≡ [] }
+        requires has { IsTrue D.tells → (events : List TheEvent) × (events_in (D.held disk.old) self.old.end ≡ Ok events) }
+        ensures found { OnOk result (IsTrue D.tells → (events : List TheEvent)
+            → events_in (D.held disk.old) self.old.end ≡ Ok events
+            → self.new.found.items ≡ filter (is_within self.old.first self.old.last) events) }
+        ensures undamaged { (damage : TheDamage) → IsErrOf result (EventsError.Damaged damage) → IsTrue D.tells → ⊥ }
+        ensures stays { Stays D.held D.moment D.images disk.old disk.new }
+        ensures cause { CountsFaults (D.faults disk.old) (D.faults disk.new) (IsErrOf result EventsError.Disk) }
+    {
+        let begin = (self.first - 1) / EVENTS_PER_FILE;
+        let end = (self.last - 1) / EVENTS_PER_FILE + 1;
+        for number in begin..end {
+            self.scan_file(alloc, disk, number)?;
+        }
+        Ok(())
+    }
+
+    // Finds the events of the file of this number.
+    fn scan_file<D: Disk>(
+        &mut self,
+        alloc: Global,
+        disk: &mut D,
+        number: u64,
+    ) -> Result<(), EventsError>
+        requires may { MayScan self.old }
+        requires from { (self.old.first - 1) / EVENTS_PER_FILE ≤ number }
+        requires to { number ≤ (self.old.last - 1) / EVENTS_PER_FILE }
+        requires has { IsTrue D.tells → (here : List TheEvent) × (events_of_file self.old.end number (D.held disk.old) ≡ Ok here) }
+        ensures found { OnOk result (IsTrue D.tells → (here : List TheEvent)
+            → events_of_file self.old.end number (D.held disk.old) ≡ Ok here
+            → self.new.found.items ≡ self.old.found.items ++ filter (is_within self.old.first self.old.last) here) }
+        ensures same { SameScan self.old self.new }
+        ensures undamaged { (damage : TheDamage) → IsErrOf result (EventsError.Damaged damage) → IsTrue D.tells → ⊥ }
+        ensures stays { Stays D.held D.moment D.images disk.old disk.new }
+        ensures cause { CountsFaults (D.faults disk.old) (D.faults disk.new) (IsErrOf result EventsError.Disk) }
+    {
+        let file = file_named(number);
+        let before = number * EVENTS_PER_FILE;
+        let start = Cursor {
+            file,
+            size: disk.size(file)?,
+            at: 0,
+            number: before + 1,
+        };
+        let cursor = skip_events(disk, start, self.first.saturating_sub(start.number))?;
+        let last = self.last.min(before + EVENTS_PER_FILE);
+        let many = last + 1 - cursor.number;
+        read_events(alloc, disk, cursor, many, &mut self.buffer, &mut self.found)?;
+        Ok(())
+    }
+}
+
+// Skips so many events from there on. Answers where the next one stands.
+fn skip_events<D: Disk>(disk: &mut D, start: Cursor, many: u64) -> Result<Cursor, EventsError>
+    requires there { IsThere D.tells (D.held disk.old) start }
+    requires numbers { start.number + many < 2 ^ 64 }
+    ensures skipped { IfOk result (HasSkipped D.tells (D.held disk.old) start many) }
+    ensures undamaged { (damage : TheDamage) → IsErrOf result (EventsError.Damaged damage) → IsTrue D.tells
+        → (events : List TheEvent) → events_from many start.file start.at start.number (bytes_there (D.held disk.old) start) ≡ Ok events → ⊥ }
+    ensures stays { Stays D.held D.moment D.images disk.old disk.new }
+    ensures cause { CountsFaults (D.faults disk.old) (D.faults disk.new) (IsErrOf result EventsError.Disk) }
+{
+    let mut cursor = start;
+    for _ in 0..many {
+        let size = skip_event_at(disk, cursor)?;
+        cursor = cursor.behind(size);
+    }
+    Ok(cursor)
+}
+
+// Reads so many events from there on.
+fn read_events<D: Disk>(
+    alloc: Global,
+    disk: &mut D,
+    start: Cursor,
+    many: u64,
+    buffer: &mut Vec<u8>,
+    found: &mut Vec<Event>,
+) -> Result<(), EventsError>
+    requires there { IsThere D.tells (D.held disk.old) start }
+    requires numbers { start.number + many < 2 ^ 64 }
+    ensures read { OnOk result (HasRead D.tells (D.held disk.old) start many found.old.items found.new.items) }
+    ensures damaged { (damage : TheDamage) → IsErrOf result (EventsError.Damaged damage) → IsTrue D.tells
+        → events_from many start.file start.at start.number (bytes_there (D.held disk.old) start) ≡ Err damage }
+    ensures stays { Stays D.held D.moment D.images disk.old disk.new }
+    ensures cause { CountsFaults (D.faults disk.old) (D.faults disk.new) (IsErrOf result EventsError.Disk) }
+{
+    let mut cursor = start;
+    for _ in 0..many {
+        let (event, size) = read_event_at(alloc, disk, cursor, buffer)?;
+        found.reserve(1)?;
+        found.push_reserved(event);
+        cursor = cursor.behind(size);
+    }
+    Ok(())
+}

@@ -1,0 +1,96 @@
+-- What stays of a store's events while files change.
+use Rattle.std.proofs.Common.{◌≡◌, ℕ, zero, suc, ◌/◌, ◌+◌, List, [], ◌++◌, take, get_or, refl, sym, ap, ◌∙◌, arith}
+use Rattle.std.specs.Prelude.{Result, Ok}
+use Rattle.disk_trait.specs.Files.{Files}
+use Rattle.disk_trait.specs.declared.damage.Damage.{Damage}
+use Rattle.flowfile_record.specs.declared.event.Event.{Event}
+use Rattle.prov_store.specs.Events.{events_file, count_in, first_in, events_from, events_of_file, events_of_files, ◌>>=◌, events_in, blocks_size, covered, covered_size}
+use Rattle.prov_store.specs.State.{EventsState, HasEvents, HasStale, IsTrimmed, CutsStale, SameEvents}
+use Rattle.prov_store.specs.declared.events.Stale.{Stale}
+use Rattle.prov_store.specs.declared.TheConstants.{EVENTS_PER_FILE}
+use Rattle.prov_store.proofs.InFiles.{events_stay}
+use Rattle.prov_store.proofs.Keeping.{still_has, cuts_keep}
+use Rattle.store_core.specs.Agreement.{SameEventFiles}
+
+pub events_in_turn : (last : ℕ) (a b c : Files) → SameEvents last a b → SameEvents last b c → SameEvents last a c
+events_in_turn last a b c first second k = second k ∙ first k
+
+-- ---- the same files of events
+
+pub same_size : (last k : ℕ) (old new : Files) → new (events_file k) ≡ old (events_file k) → covered_size last k new ≡ covered_size last k old
+unfolding covered_size
+same_size last k old new same = ap (blocks_size (count_in last k)) same
+
+pub same_covered : (last : ℕ) (old new : Files) → SameEventFiles old new → SameEvents last old new
+same_covered last old new same k =
+    ap (λ (n : ℕ). take n (new (events_file k))) (same_size last k old new (same k))
+    ∙ ap (take (covered_size last k old)) (same k)
+
+abbrev both : Result (List Event) Damage → Result (List Event) Damage → Result (List Event) Damage
+both one other = do
+  events ← one
+  later ← other
+  Ok (events ++ later)
+
+of_files : (count last k : ℕ) (old new : Files) → SameEventFiles old new → events_of_files count last k new ≡ events_of_files count last k old
+of_files zero last k old new same = refl
+of_files (suc count) last k old new same =
+    ap (λ (bytes : List ℕ). both (events_from (count_in last k) (events_file k) 0 (first_in k) bytes) (events_of_files count last (k + 1) new)) (same k)
+    ∙ ap (both (events_of_file last k old)) (of_files count last (k + 1) old new same)
+
+pub same_events : (last : ℕ) (old new : Files) → SameEventFiles old new → events_in new last ≡ events_in old last
+unfolding events_in
+same_events last old new same = of_files (suc (last / EVENTS_PER_FILE)) last 0 old new same
+
+pub has_same : (state : EventsState) (old new : Files) → SameEventFiles old new → HasEvents state old → HasEvents state new
+has_same state old new same has = record {
+  events = has.events;
+  says = same_events state.end old new same ∙ has.says;
+  offset = has.offset ∙ sym (same_size state.end (state.end / EVENTS_PER_FILE) old new (same (state.end / EVENTS_PER_FILE)));
+  counts = has.counts;
+}
+
+pub stale_same : (state : EventsState) (old new : Files) → SameEventFiles old new → HasStale state old → HasStale state new
+stale_same state old new same has = record {
+  sizes = λ i d lt.
+      let s = get_or state.stale i d in
+      has.sizes i d lt ∙ sym (same_size state.end s.file old new (same s.file));
+  others = λ k known. same k ∙ has.others k known ∙ sym (same_covered state.end old new same k);
+}
+
+pub trimmed_same : (last : ℕ) (old new : Files) → SameEventFiles old new → IsTrimmed last old → IsTrimmed last new
+trimmed_same last old new same trimmed k = same k ∙ trimmed k ∙ sym (same_covered last old new same k)
+
+-- what is known of files to be cut is no part of the events
+pub has_trimmed : (state : EventsState) (stale : List Stale) (files : Files) → HasEvents state files → HasEvents (record state { stale = stale }) files
+has_trimmed state stale files has = record { events = has.events; says = has.says; offset = has.offset; counts = has.counts }
+
+-- ---- no event
+
+none_in : (last k : ℕ) → last ≡ 0 → count_in last k ≡ 0
+none_in last k none = omega (arith, none)
+
+pub none_covered : (k : ℕ) (files : Files) → covered 0 k files ≡ []
+unfolding covered_size
+none_covered k files =
+    ap (λ (n : ℕ). take (blocks_size n (files (events_file k))) (files (events_file k))) (none_in 0 k refl)
+
+abbrev of_none : Result (List Event) Damage
+of_none = Ok []
+
+pub no_event : (files : Files) → events_in files 0 ≡ of_none
+unfolding events_in
+no_event files = refl
+
+-- ---- the same bytes up to the last event
+
+pub says_still : (last : ℕ) (old new : Files) (events : List Event) → SameEvents last old new → events_in old last ≡ Ok events → events_in new last ≡ Ok events
+says_still last old new events same says = events_stay last old new events same says
+
+pub has_still : (state : EventsState) (old new : Files) → SameEvents state.end old new → HasEvents state old → HasEvents state new
+has_still state old new same has = still_has state old new same has
+
+-- ---- cut behind the last event
+
+pub cut_covers : (state : EventsState) (old new : Files) → HasEvents state old → HasStale state old → CutsStale state.stale old new → SameEvents state.end old new
+cut_covers state old new has stale cuts = (cuts_keep state old new has stale.sizes cuts).events

@@ -1,0 +1,44 @@
+-- Which files a call changes, and how.
+use Rattle.std.specs.Prelude.{◌≡◌, ◌⊎◌, ℕ, List, Option, None, Some}
+use Rattle.disk_trait.specs.Files.{Files, Shortened, named}
+use Rattle.disk_trait.specs.declared.file_name.FileKind.TheVariants.{Claim, Events, Log, Snapshot}
+use Rattle.disk_trait.specs.declared.file_name.FileName.{FileName}
+use Rattle.flowfile_record.specs.declared.content.ContentRef.{ContentRef}
+use Rattle.content_repo.specs.Claims.{OnClaims}
+use Rattle.store_core.specs.New.{first_log}
+use Rattle.store_core.specs.Store.{StandsIn}
+
+-- but for these, each file is as it was
+abbrev pub TouchesOnly : (FileName → Type 0) → Files → Files → Type 0
+TouchesOnly may old new = (f : FileName) → (may f → ⊥) → new f ≡ old f
+
+-- but for these, each file is as it was or shorter: nothing is written to it
+abbrev pub OnlyShortens : (FileName → Type 0) → Files → Files → Type 0
+OnlyShortens may old new = (f : FileName) → (may f → ⊥) → Shortened 0 (old f) (new f)
+
+-- ---- an opening
+
+-- The file of the current log. Where none is current: those of the first log and its snapshot, which are made.
+abbrev pub IsOfLog : (current : Option ℕ) → FileName → Type 0
+IsOfLog (Some number) f = f ≡ named Log number
+IsOfLog None f = (f ≡ named Log first_log) ⊎ (f ≡ named Snapshot first_log)
+
+-- the log of the opened store: the current one, or the first
+abbrev pub log_opened : (current : Option ℕ) → ℕ
+log_opened (Some number) = number
+log_opened None = first_log
+
+-- The log is mended, or a store is made. Nothing else is written, and the snapshot of a current log stays.
+pub record Revives (current : Option ℕ) (old new : Files) : Type 0 where
+  pub shorter : OnlyShortens (IsOfLog current) old new
+  pub snapshot : (n : ℕ) → current ≡ Some n → new (named Snapshot n) ≡ old (named Snapshot n)
+
+-- ---- a store at work
+
+-- files of claims and of events change, and the log of this number
+abbrev pub MayTouch : Option ℕ → FileName → Type 0
+MayTouch log f = (f.kind ≡ Claim) ⊎ (f.kind ≡ Events) ⊎ ((n : ℕ) × (log ≡ Some n) × (f ≡ named Log n))
+
+-- only claims change, and they get shorter; one that any of these contents stands in stays
+abbrev pub Frees : List ContentRef → Files → Files → Type 0
+Frees live = OnClaims (λ k old new. Shortened 0 old new × (StandsIn k live → new ≡ old))
