@@ -15,9 +15,9 @@ enum World {
     InTheOutbox,
 }
 
-// The moment at which the file's session is acknowledged: 10 calls make the store, one writes the content, and 4 add
-// the session to the log.
-const ACKNOWLEDGED: u64 = 15;
+// The moment at which the file's session is acknowledged: 10 calls make the store, one writes the content, one the event,
+// and 4 add the session to the log.
+const ACKNOWLEDGED: u64 = 16;
 
 // Whether a run that is stopped at the moment may leave the world so.
 fn may_stand(world: World, moment: u64) -> bool {
@@ -84,7 +84,7 @@ fn wherever_a_run_stops_the_next_one_delivers_the_file(rt: HostRuntime) -> Resul
     let mut disk = MemoryDisk::new(Vec::new(alloc));
     assert!(rt; delivers(alloc, &mut disk, World::InTheInbox)?);
     for pick in [Pick::Old, Pick::New, Pick::Torn(1), Pick::Torn(0x5a5a)] {
-        assert_eq!(rt; runs_again(alloc, &disk, pick)?, 24);
+        assert_eq!(rt; runs_again(alloc, &disk, pick)?, 26);
     }
     Ok(())
 }
