@@ -1,8 +1,14 @@
 //! A run over devices in memory, stopped at every moment and begun anew.
 use super::*;
 use disk_trait::{Disk, MemoryDisk, Pick};
+use engine_core::connection_ids;
+use fixed_flow::fixed_flow;
+use flowfile_record::{Event, EventKind};
+use prov_store::Events;
+use sha2::{Digest, Sha256};
 use std::alloc::Global;
 use std::test::Fail;
+use store_core::{FlowIdentity, Store};
 use world_io::{
     FreeGate, MemoryClock, MemoryInbox, MemoryOutbox, MemorySink, MemorySource, Name, Outbox,
 };
@@ -25,6 +31,17 @@ fn may_stand(world: World, moment: u64) -> bool {
         World::InTheInbox => moment <= ACKNOWLEDGED,
         World::InTheStore => moment == ACKNOWLEDGED,
         World::InTheOutbox => moment >= ACKNOWLEDGED,
+    }
+}
+
+// Whether the file may be told to have come and gone so often, behind a run that goes on from such a stop. Where it is in
+// the store and still in the inbox, it comes twice; in the call before, its entry may be in the log or not.
+fn may_be_told(world: World, moment: u64, times: u64) -> bool {
+    match world {
+        World::InTheInbox => {
+            (times == 1 && moment < ACKNOWLEDGED) || (times == 2 && moment + 1 >= ACKNOWLEDGED)
+        }
+        _ => times == 1,
     }
 }
 
@@ -62,14 +79,46 @@ fn delivers(alloc: Global, disk: &mut MemoryDisk, world: World) -> Result<bool, 
     Ok(status == DONE && stands && inbox.files_left().is_empty())
 }
 
+// How often the disk's events tell that the file came, was sent and left the flow, where they tell nothing else.
+fn times_told(alloc: Global, disk: &mut MemoryDisk) -> Result<u64, Fail> {
+    let flow = fixed_flow(alloc)?;
+    let ids = connection_ids(alloc, &flow)?;
+    let identity = FlowIdentity {
+        digest: flow.digest,
+        connections: &ids,
+        processors: 2,
+    };
+    let store = Store::load(alloc, disk, &identity, 0)?;
+    let counts = store.event_counts().counts;
+    let [_, times, ..] = counts;
+    if counts != [0, times, 0, 0, 0, 0, 0, 0, times, times, 0, 0] {
+        return Err("an event that nothing caused, or none where there was a cause")?;
+    }
+    Ok(times)
+}
+
+// Whether an event of the file's first round is of this kind, with this component and detail.
+fn tells(event: &Event, kind: EventKind, component: &str, detail: &str) -> bool {
+    event.kind == kind
+        && event.component.as_str() == component
+        && event.detail.as_str() == detail
+        && event.file == 1
+        && event.size == 2
+        && event.digest == Sha256::digest(b"hi")
+}
+
 // Stops the disk at each moment, and runs again in each world that may stand so. How many runs there were.
 fn runs_again(alloc: Global, disk: &MemoryDisk, pick: Pick) -> Result<u32, Fail> {
     let mut runs = 0u32;
     for moment in 0..=disk.moment() {
         for world in [World::InTheInbox, World::InTheStore, World::InTheOutbox] {
             if may_stand(world, moment) {
-                if !delivers(alloc, &mut disk.stopped(moment, pick)?, world)? {
+                let mut left = disk.stopped(moment, pick)?;
+                if !delivers(alloc, &mut left, world)? {
                     return Err("a stop that a run doesn't mend")?;
+                }
+                if !may_be_told(world, moment, times_told(alloc, &mut left)?) {
+                    return Err("events that aren't those of the two runs")?;
                 }
                 runs = runs.saturating_add(1);
             }
@@ -83,6 +132,12 @@ fn wherever_a_run_stops_the_next_one_delivers_the_file(rt: HostRuntime) -> Resul
     let alloc = rt.alloc();
     let mut disk = MemoryDisk::new(Vec::new(alloc));
     assert!(rt; delivers(alloc, &mut disk, World::InTheInbox)?);
+    let mut left = disk.stopped(disk.moment(), Pick::New)?;
+    let events = Events::load(alloc, &mut left, 3)?.scan(alloc, &mut left, 1, 3)?;
+    assert_eq!(rt; events.len(), 3);
+    assert!(rt; tells(&events[0], EventKind::Receive, "get", "a.txt"));
+    assert!(rt; tells(&events[1], EventKind::Send, "put", "a.txt"));
+    assert!(rt; tells(&events[2], EventKind::Drop, "put", "success"));
     for pick in [Pick::Old, Pick::New, Pick::Torn(1), Pick::Torn(0x5a5a)] {
         assert_eq!(rt; runs_again(alloc, &disk, pick)?, 26);
     }
