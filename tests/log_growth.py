@@ -68,22 +68,23 @@ def gets_then_puts(entries):
     return store
 
 
-def in_turn(entries):
-    store = Store()
-    for number in range(1, entries // 2 + 1):
+def each_at_once(store, first, last):
+    """The files of these numbers come, each of which goes before the next one comes."""
+    for number in range(first, last + 1):
         store.get()
         store.put(number)
     return store
+
+
+def in_turn(entries):
+    return each_at_once(Store(), 1, entries // 2)
 
 
 def never_empty(entries):
     """In turn, but the first file waits all the time, and at the end."""
     store = Store()
     store.get()
-    for number in range(2, entries // 2 + 1):
-        store.get()
-        store.put(number)
-    return store
+    return each_at_once(store, 2, entries // 2)
 
 
 def last_first(entries):
