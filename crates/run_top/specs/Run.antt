@@ -116,8 +116,8 @@ pub record IsTidied (lot : ℕ) (held : Files) : Type 0 where
   pub keeps : kept_in (identity_of fixed_flow) lot held ≡ Ok kept
   pub tidy : IsTidy kept held
 
--- At the end of a run that was done: what the disk holds is that of the whole journal, no claim holds more than contents
--- of queued files, and the flow is quiet.
+-- At the end of a run that was done: what the disk holds is that of the whole journal, each claim that isn't empty has
+-- the content of a file that is kept, and the flow is quiet.
 pub record IsDone (lot : ℕ) (reached : Machine) (held : Files) : Type 0 where
   pub disk : StandsFor lot reached held
   pub tidied : IsTidied lot held
@@ -209,7 +209,8 @@ pub record IsToldShut {D I O : Type 0} (status : ℕ) (tells : Bool) (held : D �
 abbrev pub MayWrite : Files → FileName → Type 0
 MayWrite files f = (f.kind ≡ Claim) ⊎ (f.kind ≡ Events) ⊎ IsOfLog (current_number files) f
 
--- from behind the opening's first sync on, whatever a stop may leave has each other file as it was at the start or shorter
+-- from behind the opening's first sync on, whatever a stop may leave has each other file as it was at the start or
+-- shorter
 abbrev pub WritesAlone : {D : Type 0} → (D → ℕ) → (D → ℕ → Files → Type 0) → Files → (old new : D) → Type 0
 WritesAlone moment images files old new = SinceSync moment images old new (OnlyShortens (MayWrite files) files)
 

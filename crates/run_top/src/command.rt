@@ -37,8 +37,8 @@ use world_io::{Clock, Gate, Inbox, Outbox, Sink, Source};
 ///
 /// The one command is `run`: it opens the store on the disk, or makes one, whose id is then the low 60 bits of the lot.
 /// It puts the files that wait there into the outbox, and then takes each file of the inbox of at most 16 MiB, in the
-/// order of their names, into the store and puts it into the outbox. The clock tells the moments of sessions. The flow is
-/// fixed and a run prints nothing: source and sink are left alone, and no gate is asked.
+/// order of their names, into the store and puts it into the outbox. The clock tells the moments of sessions. The flow
+/// is fixed and a run prints nothing: source and sink are left alone, and no gate is asked.
 pub fn run<R, D: Disk, I: Inbox, O: Outbox, F: Source, S: Sink, C: Clock, G: Gate>(
     _rt: &R,
     alloc: Global,
@@ -52,8 +52,8 @@ pub fn run<R, D: Disk, I: Inbox, O: Outbox, F: Source, S: Sink, C: Clock, G: Gat
     clock: &mut C,
     _gate: &G,
 ) -> u8
-    // The headline. Where the devices tell and the files stand for a state of this flow, there is a journal of which all
-    // that HasRun says is true, whatever the status; or the opening's first sync failed.
+    // The headline. Where the devices tell and the files stand for a state of this flow, there is a journal of which
+    // all that HasRun says is true, whatever the status; or the opening's first sync failed.
     ensures headline { IsTrue D.tells → IsTrue I.tells → IsTrue O.tells → is_run words.now ≡ true
         → (state : State) → IsOfFlow lot (D.held disk.old) state
         → HasRun result D.tells D.held D.moment D.images lot

@@ -24,8 +24,8 @@ use std::alloc::{AllocError, Global};
 use store_core::{Store, what_is_kept_is_a_state};
 use world_io::{CONTENT_MAX, Clock, Inbox, Name, Outbox};
 
-// Takes a file of the inbox into the store, unless it is larger than a content may be, and removes it. Nothing is queued
-// before.
+// Takes a file of the inbox into the store, unless it is larger than a content may be, and removes it. Nothing is
+// queued before.
 fn take<D: Disk, I: Inbox, C: Clock>(
     alloc: Global,
     flow: &Flow,

@@ -21,8 +21,8 @@ enum World {
     InTheOutbox,
 }
 
-// The moment at which the file's session is acknowledged: 10 calls make the store, one writes the content, one the event,
-// and 4 add the session to the log.
+// The moment at which the file's session is acknowledged: 10 calls make the store, one writes the content, one the
+// event, and 4 add the session to the log.
 const ACKNOWLEDGED: u64 = 16;
 
 // Whether a run that is stopped at the moment may leave the world so.
@@ -34,8 +34,8 @@ fn may_stand(world: World, moment: u64) -> bool {
     }
 }
 
-// Whether the file may be told to have come and gone so often, behind a run that goes on from such a stop. Where it is in
-// the store and still in the inbox, it comes twice; in the call before, its entry may be in the log or not.
+// Whether the file may be told to have come and gone so often, behind a run that goes on from such a stop. Where it is
+// in the store and still in the inbox, it comes twice; in the call before, its entry may be in the log or not.
 fn may_be_told(world: World, moment: u64, times: u64) -> bool {
     match world {
         World::InTheInbox => {
