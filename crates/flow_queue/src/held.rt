@@ -40,7 +40,7 @@ impl Held {
         order.compare(&self.rank(), &other.rank()).is_lt()
     }
 
-    fn is_penalised(&self, moment: u64) -> bool
+    pub(crate) fn is_penalised(&self, moment: u64) -> bool
         ensures { result ≡ is_penalised moment (view_of self.now) }
     {
         moment < self.file.penalty_end

@@ -1,12 +1,14 @@
 //! What a queue answers.
-ghost use Rattle.std.specs.Prelude.{◌≡◌, [], None, length, All, IfOk, IfSome, IsOk, OnOk, OnErr, is_some};
+ghost use Rattle.std.specs.Prelude.{◌≡◌, ◌||◌, not, nat_lt, min, [], None, length, map, filter, All, IfOk, IfSome, IsOk, OnOk, OnErr, is_some};
+ghost use Rattle.std.specs.List.{list_all, reduce};
 ghost use Rattle.std.specs.Option.{option_map};
 ghost use Rattle.machine_model.specs.Due.{expired_numbers};
 ghost use Rattle.machine_model.specs.Laws.{ArrivalsDiffer};
 ghost use Rattle.machine_model.specs.Order.{best};
 ghost use Rattle.machine_model.specs.Quiet.{is_full};
+ghost use Rattle.machine_model.specs.View.{is_penalised, is_expired};
 ghost use Rattle.flow_queue.specs.Choosing.{goes_first};
-ghost use Rattle.flow_queue.specs.Queue.{AreApart, IsAtRest, seen, view_of, views_of, picked, picked_numbers, TakesAtMostOne};
+ghost use Rattle.flow_queue.specs.Queue.{AreApart, IsAtRest, seen, view_of, views_of, picked, picked_numbers, TakesAtMostOne, is_nothing_due, next_penalty_end};
 
 use super::Queue;
 use crate::held::Held;
@@ -85,6 +87,45 @@ impl Queue {
         (objects > 0 && objects <= self.files.len() as u64)
             || (bytes > 0 && u128::from(bytes) <= self.bytes)
     }
+
+    /// Whether no file has expired or waits for its penalty's end, and no batch has to be swapped out.
+    pub fn is_nothing_due(&self, moment: u64) -> bool
+        ensures { result ≡ is_nothing_due moment self.now }
+    {
+        let swap = u64::from(self.limits.swap);
+        none_expired(&self.files, &self.limits, moment)
+            && count_at_rest(&self.files) < swap + swap / 2
+            && none_penalised(&self.files, moment)
+    }
+
+    /// When the first penalty of a file ends that hasn't ended by a moment.
+    pub fn next_penalty_end(&self, moment: u64) -> Option<u64>
+        ensures { result ≡ next_penalty_end moment (seen self.now).active }
+    {
+        next_end(&self.files, moment)
+    }
+}
+
+// Whether none of the files that no session works on has expired.
+fn none_expired(files: &[Held], limits: &QueueLimits, moment: u64) -> bool
+    ensures { result ≡ list_all
+        (λ held. held.in_flight || not (is_expired limits.now.expiration moment (view_of held))) files.now }
+{
+    files
+        .iter()
+        .all(|held| held.in_flight || !held.is_expired(limits, moment))
+}
+
+fn count_at_rest(files: &[Held]) -> u64
+    ensures { result ≡ length (filter (λ held. not held.in_flight) files.now) }
+{
+    files.iter().filter(|held| !held.in_flight).count() as u64
+}
+
+fn none_penalised(files: &[Held], moment: u64) -> bool
+    ensures { result ≡ list_all (λ held. not (is_penalised moment (view_of held))) files.now }
+{
+    files.iter().all(|held| !held.is_penalised(moment))
 }
 
 fn best_of<'a>(
@@ -115,4 +156,14 @@ fn goes_first(held: &Held, first: Option<&Held>, order: &Order) -> bool
         Some(first) => held.goes_before(first, order),
         None => true,
     }
+}
+
+fn next_end(files: &[Held], moment: u64) -> Option<u64>
+    ensures { result ≡ reduce min (filter (nat_lt moment) (map (λ held. held.file.penalty_end) files.now)) }
+{
+    files
+        .iter()
+        .map(|held| held.file.penalty_end)
+        .filter(|end| moment < *end)
+        .min()
 }

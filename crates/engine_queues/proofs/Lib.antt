@@ -1,0 +1,15 @@
+pub mod Alike
+pub mod Arranged
+pub mod Changing
+pub mod Due
+pub mod First
+pub mod ForCallers
+pub mod Held
+pub mod KeptQueues
+pub mod Least
+pub mod Opened
+pub mod Places
+pub mod QuietSeen
+pub mod Reserving
+pub mod Settled
+pub mod Shown

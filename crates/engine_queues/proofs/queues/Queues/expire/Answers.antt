@@ -1,0 +1,22 @@
+use Rattle.std.proofs.Common.{List, refl, sym, ap, subst, ◌∙◌}
+use Rattle.flowfile_record.specs.Stored.{Kept}
+use Rattle.kept_state.specs.Applied.{left_after}
+use Rattle.flow_queue.specs.Queue.{QueueState}
+use Rattle.engine_queues.specs.Queues.{AreQueuesOf}
+use Rattle.engine_queues.specs.Settling.{queues_without, HasFiles}
+use Rattle.engine_queues.proofs.Changing.{leaving}
+use Rattle.engine_queues.proofs.queues.Queues.expire.Goals as goal
+
+pub take_out-requires : goal.take_out-requires
+take_out-requires c =
+    let k = c.requires.1 in
+    let may = c.requires.2 in
+    let after : Kept = record k { files = left_after c.args.numbers.now k.files } in
+    let out = leaving c.requires.0 c.args.numbers.now k after c.args.connection c.args.self.now may.of_kept may.connections may.consistent may.distinct may.active refl in
+    subst (λ (l : List QueueState). HasFiles c.args.connection c.args.numbers.now l) (sym c.self.view_is) out.1
+
+pub returns : goal.returns
+returns c flow k after may files =
+    let out = leaving flow c.args.numbers.now k after c.args.connection c.args.self.now may.of_kept may.connections may.consistent may.distinct may.active files in
+    let new = c.take_out.ensures ∙ ap (queues_without c.args.connection c.args.numbers.now) c.self.view_is in
+    subst (λ (l : List QueueState). AreQueuesOf flow after l) (sym new) out.0

@@ -1,0 +1,121 @@
+-- How the queues of a flow change with a session that is committed, and with files that expire.
+use Rattle.std.specs.Prelude.{◌≡◌, ℕ, ◌+◌, ◌-◌, ◌<◌, ◌≤◌, ◌==◌, zero, suc, true, List, [], ◌∷◌, length, map, count_by, Some, IsSome, slice_get}
+use Rattle.std.specs.Option.{option_map_or}
+use Rattle.flowfile_record.specs.Stored.{Kept}
+use Rattle.flowfile_record.specs.declared.change.Change.TheVariants as change
+use Rattle.flowfile_record.specs.declared.change.Settled.{Settled}
+use Rattle.flowfile_record.specs.declared.content.ContentRef.{ContentRef}
+use Rattle.flowfile_record.specs.declared.flow_file.FlowFile.{FlowFile}
+use Rattle.flowfile_record.specs.declared.stored.ActiveFile.{ActiveFile}
+use Rattle.flowfile_record.specs.declared.stored.Placed.{Placed}
+use Rattle.record_codec.specs.ActiveFile.{active}
+use Rattle.record_codec.specs.Placeless.{placeless_entry}
+use Rattle.record_codec.specs.declared.entry.LogEntry.{LogEntry}
+use Rattle.checkpoint_store.specs.Consistent.{IsConsistent}
+use Rattle.kept_state.specs.Applied.{applied}
+use Rattle.kept_state.specs.Changes.{entry_of, at_content, no_files, MaySettle}
+use Rattle.kept_state.specs.Fits.{active_of, are_active_in, are_distinct}
+use Rattle.machine_model.specs.declared.flow.Flow.{Flow}
+use Rattle.flow_queue.specs.Queue.{QueueState, with_file, without_file, flight_of, IsApart}
+use Rattle.engine_queues.specs.Queues.{AreQueuesOf}
+
+-- ---- what is known before
+
+-- the queues are those of what is kept, and a session may be settled there
+pub record MaySettleOver (flow : Flow) (k : Kept) (settled : Settled) (queues : List QueueState) : Type 0 where
+  pub of_kept : AreQueuesOf flow k queues
+  pub connections : length k.connections ≡ length flow.connections
+  pub consistent : IsConsistent k
+  pub no_batches : k.batches ≡ []
+  pub may : MaySettle k settled
+
+-- What is kept after the session: its new contents stand somewhere. The files that are gone were in this connection.
+pub record IsKeptAfter (k : Kept) (connection : ℕ) (settled : Settled) (after : Kept) : Type 0 where
+  pub active : are_active_in k.files connection settled.gone ≡ true
+  pub entry : LogEntry
+  pub same : placeless_entry entry ≡ placeless_entry (entry_of k (change.Session settled))
+  pub kept : after ≡ applied no_files k entry
+
+-- the queues are those of what is kept, and files of these numbers may expire in this connection
+pub record MayExpireIn (flow : Flow) (k : Kept) (connection : ℕ) (numbers : List ℕ) (queues : List QueueState)
+    : Type 0 where
+  pub of_kept : AreQueuesOf flow k queues
+  pub connections : length k.connections ≡ length flow.connections
+  pub consistent : IsConsistent k
+  pub distinct : are_distinct numbers ≡ true
+  pub active : are_active_in k.files connection numbers ≡ true
+
+-- each queue has room for the files that go into its connection, which are placed into these connections
+pub record HasRoomIn (connections : List ℕ) (queues : List QueueState) : Type 0 where
+  pub each : (place : ℕ) (queue : QueueState) → slice_get queues place ≡ Some queue
+      → count_by (λ connection. connection == place) connections ≤ queue.spare
+
+-- the connections that the files of a session are placed into
+abbrev pub connections_of : Settled → List ℕ
+connections_of settled = map (λ placed. placed.connection) settled.placed
+
+-- each queue has room for the files that a session places into it
+abbrev pub HasRoomFor : Settled → List QueueState → Type 0
+HasRoomFor settled queues = HasRoomIn (connections_of settled) queues
+
+-- the queue but for its room
+abbrev pub without_room : QueueState → QueueState
+without_room queue = record queue { spare = 0 }
+
+-- ---- files leave
+
+abbrev pub queue_without : ℕ → QueueState → QueueState
+queue_without number queue = record queue { files = without_file number queue.files; spare = queue.spare + 1 }
+
+-- the queues, that at a place changed
+abbrev pub changed_at : ℕ → (QueueState → QueueState) → List QueueState → List QueueState
+changed_at place change [] = []
+changed_at zero change (queue ∷ queues) = change queue ∷ queues
+changed_at (suc place) change (queue ∷ queues) = queue ∷ changed_at place change queues
+
+-- the queues, that at a place without the files of these numbers
+abbrev pub queues_without : ℕ → List ℕ → List QueueState → List QueueState
+queues_without place [] queues = queues
+queues_without place (number ∷ numbers) queues =
+    queues_without place numbers (changed_at place (queue_without number) queues)
+
+-- the queue at a place has a file of this number
+pub record HasFile (place number : ℕ) (queues : List QueueState) : Type 0 where
+  pub within : place < length queues
+  pub there : (queue : QueueState) → slice_get queues place ≡ Some queue → IsSome (flight_of number queue.files)
+
+-- it has a file of each number, when that one's turn comes
+abbrev pub HasFiles : ℕ → List ℕ → List QueueState → Type 0
+HasFiles place [] queues = Unit {0}
+HasFiles place (number ∷ numbers) queues =
+    HasFile place number queues × HasFiles place numbers (changed_at place (queue_without number) queues)
+
+-- ---- files join
+
+abbrev pub queue_with : FlowFile → QueueState → QueueState
+queue_with file queue = record queue { files = with_file file queue.files; spare = queue.spare - 1 }
+
+-- the queues, each with the files that are active in its connection
+abbrev pub queues_with : List ActiveFile → List QueueState → List QueueState
+queues_with [] queues = queues
+queues_with (a ∷ files) queues = queues_with files (changed_at a.connection (queue_with a.file) queues)
+
+-- the queue of its connection has room for the file, and no file of its number or its arrival
+pub record MayJoin (a : ActiveFile) (queues : List QueueState) : Type 0 where
+  pub within : a.connection < length queues
+  pub room : (queue : QueueState) → slice_get queues a.connection ≡ Some queue → 0 < queue.spare
+  pub apart : (queue : QueueState) → slice_get queues a.connection ≡ Some queue → IsApart a.file queue.files
+
+-- each file may join, when its turn comes
+abbrev pub MayAllJoin : List ActiveFile → List QueueState → Type 0
+MayAllJoin [] queues = Unit {0}
+MayAllJoin (a ∷ files) queues =
+    MayJoin a queues × MayAllJoin files (changed_at a.connection (queue_with a.file) queues)
+
+-- the reference of the content of a file, as these active files have it
+abbrev pub content_in : List ActiveFile → FlowFile → ContentRef
+content_in files file = option_map_or (λ a. a.file.content) (active_of file.number files) file.content
+
+-- the placed file, its content standing where these active files say
+abbrev pub as_kept : List ActiveFile → Placed → ActiveFile
+as_kept files placed = at_content (content_in files placed.file) (active placed.connection placed.file)

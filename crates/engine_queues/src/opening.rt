@@ -1,0 +1,52 @@
+//! The queues of what a store keeps.
+ghost use Rattle.std.specs.Prelude.{◌≡◌, length, map, IfOk, OnOk};
+ghost use Rattle.flowfile_record.specs.Stored.{kept_of};
+ghost use Rattle.checkpoint_store.specs.Consistent.{IsConsistent};
+ghost use Rattle.flow_queue.specs.Queue.{IsApart, with_file};
+ghost use Rattle.engine_queues.specs.Queues.{AreQueuesOf};
+ghost use Rattle.engine_queues.specs.Opening.{empty_queue};
+
+use crate::Queues;
+use flow_queue::Queue;
+use flowfile_record::{FlowFile, Stored};
+use machine_model::{Connection, Flow};
+use std::alloc::{AllocError, Global};
+
+impl Queues {
+    /// The queues of a flow, with the live files that a store keeps.
+    pub fn open(alloc: Global, flow: &Flow, stored: &Stored) -> Result<Queues, AllocError>
+        requires consistent { IsConsistent (kept_of stored.now) }
+        requires count { length (kept_of stored.now).connections ≡ length flow.now.connections }
+        ensures { IfOk result (AreQueuesOf flow.now (kept_of stored.now)) }
+    {
+        let mut list = empty_queues(alloc, flow.connections.as_slice())?;
+        for active in stored.files.iter() {
+            put_copy(&mut list[usize::from(active.connection)], &active.file)?;
+        }
+        Ok(Queues { list })
+    }
+}
+
+// A queue without files for each connection.
+fn empty_queues(alloc: Global, connections: &[Connection]) -> Result<Vec<Queue>, AllocError>
+    ensures { IfOk result (λ queues. queues.items ≡ map empty_queue connections.now) }
+{
+    let mut queues = Vec::new(alloc);
+    for connection in connections {
+        let order = connection.order.copy()?;
+        queues.push(Queue::new(alloc, order, connection.limits))?;
+    }
+    Ok(queues)
+}
+
+// Puts a copy of a file into a queue.
+fn put_copy(queue: &mut Queue, file: &FlowFile) -> Result<(), AllocError>
+    requires { IsApart file.now queue.old.files }
+    ensures { OnOk result
+        (queue.new ≡ record queue.old { files = with_file file.now queue.old.files; spare = queue.new.spare }) }
+{
+    let copy = file.copy()?;
+    queue.reserve(1)?;
+    queue.put(copy);
+    Ok(())
+}

@@ -1,0 +1,96 @@
+//! How the queues follow what is kept.
+ghost use Rattle.std.specs.Prelude.{◌≡◌, ◌<◌, ◌^◌, length, map, All, OnOk};
+ghost use Rattle.flowfile_record.specs.Stored.{Kept, kept_of};
+ghost use Rattle.kept_state.specs.Applied.{left_after};
+ghost use Rattle.machine_model.specs.declared.flow.Flow.{Flow};
+ghost use Rattle.engine_queues.specs.Queues.{AreQueuesOf};
+ghost use Rattle.engine_queues.specs.Settling.{MaySettleOver, IsKeptAfter, MayExpireIn, HasRoomIn, HasRoomFor, without_room, queues_without, HasFiles, queues_with, MayAllJoin, as_kept};
+
+use crate::Queues;
+use flow_queue::Queue;
+use flowfile_record::{ActiveFile, ActiveList, Placed, Settled, Stored};
+use std::alloc::AllocError;
+
+impl Queues {
+    /// Makes room for the files that a session places.
+    pub fn reserve(&mut self, settled: &Settled) -> Result<(), AllocError>
+        requires { (flow : Flow) × (k : Kept) × MaySettleOver flow k settled.now self.old }
+        ensures same { map without_room self.new ≡ map without_room self.old }
+        ensures room { OnOk result (HasRoomFor settled.now self.new) }
+    {
+        reserve_for(&mut self.list, settled.placed.as_slice())
+    }
+
+    /// The queues after a session that the store has committed: the files that are gone are taken out of the queue of
+    /// the connection that they were in, and the placed ones are put into those of theirs. It takes no memory.
+    pub fn settle(&mut self, connection: u16, settled: Settled, stored: &Stored)
+        requires kept { (flow : Flow) × (k : Kept) × MaySettleOver flow k settled self.old
+            × IsKeptAfter k connection settled (kept_of stored.now) }
+        requires room { HasRoomFor settled self.old }
+        ensures { (flow : Flow) (k : Kept) → MaySettleOver flow k settled self.old
+            → IsKeptAfter k connection settled (kept_of stored.now)
+            → AreQueuesOf flow (kept_of stored.now) self.new }
+    {
+        take_out(&mut self.list, connection, settled.gone.as_slice());
+        put_in(&mut self.list, settled.placed.into_vec(), &stored.files);
+    }
+
+    /// The queues after files of a connection expired. It takes no memory.
+    pub fn expire(&mut self, connection: u16, numbers: &[u64])
+        requires { (flow : Flow) × (k : Kept) × MayExpireIn flow k connection numbers.now self.old }
+        ensures { (flow : Flow) (k after : Kept) → MayExpireIn flow k connection numbers.now self.old
+            → after.files ≡ left_after numbers.now k.files → AreQueuesOf flow after self.new }
+    {
+        take_out(&mut self.list, connection, numbers);
+    }
+}
+
+// Makes room for the placed files in each queue that one goes into.
+fn reserve_for(queues: &mut Vec<Queue>, placed: &[Placed]) -> Result<(), AllocError>
+    requires few { length placed.now < 2 ^ 32 }
+    requires within { All (λ one. one.connection < length queues.old.items) placed.now }
+    ensures same { map without_room queues.new.items ≡ map without_room queues.old.items }
+    ensures room { OnOk result (HasRoomIn (map (λ one. one.connection) placed.now) queues.new.items) }
+{
+    let count = placed.len() as u32;
+    for one in placed {
+        queues[usize::from(one.connection)].reserve(count)?;
+    }
+    Ok(())
+}
+
+// Takes files out of the queue of a connection.
+fn take_out(queues: &mut Vec<Queue>, connection: u16, numbers: &[u64])
+    requires { HasFiles connection numbers.now queues.old.items }
+    ensures { queues.new.items ≡ queues_without connection numbers.now queues.old.items }
+{
+    for number in numbers {
+        let _ = queues[usize::from(connection)].leave(*number);
+    }
+}
+
+// Puts placed files into the queues of their connections, their contents standing where these files say.
+fn put_in(queues: &mut Vec<Queue>, placed: Vec<Placed>, files: &ActiveList)
+    requires { MayAllJoin (map (as_kept files.now.items) placed.items) queues.old.items }
+    ensures { queues.new.items ≡ queues_with (map (as_kept files.now.items) placed.items) queues.old.items }
+{
+    for one in placed {
+        let ActiveFile { connection, file } = as_kept(one, files);
+        queues[usize::from(connection)].put(file);
+    }
+}
+
+// A placed file, its content standing where these files say.
+fn as_kept(placed: Placed, files: &ActiveList) -> ActiveFile
+    ensures { result ≡ as_kept files.now.items placed }
+{
+    let Placed {
+        connection,
+        mut file,
+        fresh: _,
+    } = placed;
+    if let Some(active) = files.get(file.number) {
+        file.content = active.file.content;
+    }
+    ActiveFile { connection, file }
+}

@@ -1,0 +1,4 @@
+pub mod Handing
+pub mod Laws
+pub mod Steps
+pub mod Working

@@ -1,0 +1,38 @@
+-- What a processor of a flow may be handed, and what it owes.
+use Rattle.std.specs.Prelude.{◌≡◌, ℕ, ◌||◌, Bool, List, length, map, IsTrue, Some, slice_get}
+use Rattle.flowfile_record.specs.Outcome.{IsOutcome}
+use Rattle.flowfile_record.specs.declared.worked.Outcome.{Outcome}
+use Rattle.machine_model.specs.declared.flow.Flow.{Flow}
+use Rattle.machine_model.specs.declared.flow.Processor.{Processor}
+use Rattle.machine_model.specs.declared.given.Given.{Given}
+use Rattle.machine_model.specs.declared.kind.Kind.{Kind}
+use Rattle.machine_model.specs.Kinds.{relationships_of}
+use Rattle.process_session.specs.Bench.{source_of, sizes_of}
+use Rattle.process_session.specs.declared.file.Source.{Source}
+use Rattle.process_session.specs.declared.file.Taken.{Taken}
+use Rattle.processor_api.specs.Acts.{IsOutcomeOf, MayBeHanded}
+use Rattle.proc_source.specs.Kinds.{is_get_file, is_generate_flow_file, is_put_file}
+
+-- there are processors of this kind
+abbrev pub is_built : Kind → Bool
+is_built kind = is_get_file kind || is_generate_flow_file kind || is_put_file kind
+
+-- the processor at this place may be handed these files
+pub record MayWork (flow : Flow) (place : ℕ) (taken : List Taken) (given : Given) : Type 0 where
+  pub processor : Processor
+  pub found : slice_get flow.processors place ≡ Some processor
+  pub built : IsTrue (is_built processor.kind)
+  pub handed : MayBeHanded processor.kind taken given
+
+-- The outcome is the one that the machine gives, one of a session with the kind's relationships over the contents that
+-- were taken; what stays of the files is as they were taken.
+pub record IsWorkOf (kind : Kind) (taken : List Taken) (given : Given) (done : Outcome × List Source) : Type 0 where
+  pub outcome : IsOutcomeOf kind taken given done.0
+  pub sound : IsOutcome (length (relationships_of kind)) (sizes_of (map source_of taken)) done.0
+  pub sources : done.1 ≡ map source_of taken
+
+-- it is the work of the processor at this place
+abbrev pub IsWorkAt : Flow → (place : ℕ) → List Taken → Given → Outcome × List Source → Type 0
+IsWorkAt flow place taken given done =
+    (processor : Processor) → slice_get flow.processors place ≡ Some processor
+    → IsWorkOf processor.kind taken given done

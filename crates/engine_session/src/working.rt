@@ -1,0 +1,54 @@
+//! The work of a flow's processors.
+ghost use Rattle.std.specs.Prelude.{IfOk, IsTrue};
+ghost use Rattle.processor_api.specs.Acts.{KeepsGiven, MayBeHanded};
+ghost use Rattle.engine_session.specs.Working.{is_built, IsWorkAt, IsWorkOf, MayWork};
+
+use flowfile_record::Outcome;
+use machine_model::{Flow, Given, Kind};
+use proc_source::{GenerateFlowFile, GetFile, PutFile};
+use process_session::{SourceList, TakenList};
+use processor_api::work_on;
+use std::alloc::{AllocError, Global};
+
+/// What the processor at a place of a flow makes of these files, and what stays of them. The bytes that it is given
+/// may be taken out.
+pub fn work(
+    alloc: Global,
+    flow: &Flow,
+    processor: u16,
+    taken: TakenList,
+    given: &mut Given,
+) -> Result<(Outcome, SourceList), AllocError>
+    requires { MayWork flow.now processor taken given.old }
+    ensures work { IfOk result (IsWorkAt flow.now processor taken given.old) }
+    ensures given { KeepsGiven given.old given.new }
+{
+    let Some(processor) = flow.processors.as_slice().get(processor as usize) else {
+        unreachable!()
+    };
+    work_as(alloc, &processor.kind, taken, given)
+}
+
+/// What a processor of this kind makes of them.
+fn work_as(
+    alloc: Global,
+    kind: &Kind,
+    taken: TakenList,
+    given: &mut Given,
+) -> Result<(Outcome, SourceList), AllocError>
+    requires built { IsTrue (is_built kind.now) }
+    requires handed { MayBeHanded kind.now taken given.old }
+    ensures work { IfOk result (IsWorkOf kind.now taken given.old) }
+    ensures given { KeepsGiven given.old given.new }
+{
+    if let Some(get_file) = GetFile::of(kind) {
+        return work_on(alloc, &get_file, 1, taken, given);
+    }
+    if let Some(generator) = GenerateFlowFile::of(kind) {
+        return work_on(alloc, &generator, 1, taken, given);
+    }
+    if let Some(put_file) = PutFile::of(kind) {
+        return work_on(alloc, &put_file, 2, taken, given);
+    }
+    unreachable!()
+}

@@ -1,0 +1,199 @@
+-- What one step of a run keeps, and what a run that fails within it leaves.
+use Rattle.std.proofs.Common.{◌≡◌, ◌⊎◌, inl, inr, ⊎_elim, ℕ, ◌+◌, Bool, List, [], ◌∷◌, ◌++◌, refl, sym, ◌∙◌, ap, subst, arith}
+use Rattle.std.specs.Prelude.{Option, None, Some, IfSome}
+use Rattle.disk_trait.specs.Files.{Files}
+use Rattle.flowfile_record.specs.NamedFile.{NamedFile, without}
+use Rattle.machine_model.specs.declared.flow.Flow.{Flow}
+use Rattle.machine_model.specs.declared.journal.Entry.{Entry}
+use Rattle.machine_model.specs.declared.journal.Step.{Step}
+use Rattle.machine_model.specs.Laws.{ReplayOfOneMore, StepsLoseNames, StepsStayValid, names_of_step}
+use Rattle.machine_model.specs.State.{Machine}
+use Rattle.machine_model.specs.Stepping.{step}
+use Rattle.machine_model.specs.Valid.{IsValid}
+use Rattle.flow_run.specs.Going.{IsBetween, IsRunningAt, IsStepped}
+use Rattle.flow_run.specs.Journal.{files_left}
+use Rattle.flow_run.specs.Laws.{DiskFaultsEnd, FaultsEnd, InboxFaultsEnd, OutboxFaultsEnd, SparedRunsGoOn, SteppedRunsGoOn}
+use Rattle.flow_run.specs.Run.{HasRun, IsGoneByEntry, IsLeftOver, Replays}
+use Rattle.flow_run.specs.declared.ended.Ended.TheVariants as ending
+use Rattle.flow_run.specs.declared.ended.Fault.TheVariants as fault
+use Rattle.flow_run.proofs.Gone.{gone_without, still_gone}
+use Rattle.flow_run.proofs.Journals.{acknowledged-all, acknowledged-open, all-append, step_acked, step_none, step_open}
+use Rattle.flow_run.proofs.Left.{one_taken, other_steps, step_takes, takes_cases, takes_one}
+
+next_valid : StepsStayValid → (flow : Flow) (m after : Machine) (one : Step) → IsValid flow m.state → step flow m one ≡ Some after → IsValid flow after.state
+next_valid stays flow m after one valid goes = subst (λ (o : Option Machine). IfSome o (λ n. IsValid flow n.state)) goes (stays flow m one valid)
+
+module _ (law : ReplayOfOneMore) (stays : StepsStayValid) (loses : StepsLoseNames) {D : Type 0} (moment : D → ℕ) (images : D → ℕ → Files → Type 0) where
+  -- ---- a run goes on
+
+  pub spared : SparedRunsGoOn moment images
+  spared flow lot opened reached first old new journal left standing run since = record {
+    ran = step_none law flow moment images lot first old new opened reached reached journal run.ran run.all since;
+    all = run.all;
+    gone = run.gone;
+    valid = run.valid;
+    holds = λ c there. since.each (moment new) c since.later (omega arith) there;
+    lies = run.lies;
+    stands = run.stands;
+  }
+
+  module _ (flow : Flow) (lot : ℕ) (opened reached after : Machine) (first old new : D) (journal : List Entry) (one : Step) (left : List NamedFile) (standing : List ℕ → Option (List ℕ))
+      (run : IsRunningAt flow moment images lot opened first old journal reached left standing) (goes : step flow reached one ≡ Some after) where
+    -- ---- a step that is acknowledged
+
+    module _ (stepped : IsStepped flow moment images lot reached after old new) where
+      abbrev entry_acked : Entry
+      entry_acked = record { step = one; acked = Some (moment new) }
+
+      acked_ran : Replays flow moment images lot opened (journal ++ entry_acked ∷ []) after first new
+      acked_ran = step_acked law flow moment images lot first old new opened reached after journal one run.ran run.all goes stepped.since stepped.done
+
+      -- its file is gone, where it took one
+      acked_gone : (now_left : List NamedFile) → now_left ≡ files_left after.world → IsGoneByEntry flow opened.world.inbox now_left (journal ++ entry_acked ∷ [])
+      acked_gone now_left lies = ⊎_elim
+          (λ (none : names_of_step flow one ≡ []).
+          subst (λ (l : List NamedFile). IsGoneByEntry flow opened.world.inbox l (journal ++ entry_acked ∷ []))
+          (run.lies ∙ sym (other_steps loses flow reached after one goes none) ∙ sym lies) (still_gone flow opened.world.inbox left journal entry_acked run.gone))
+          (λ (some : (name : List ℕ) × (names_of_step flow one ≡ name ∷ [])).
+          subst (λ (l : List NamedFile). IsGoneByEntry flow opened.world.inbox l (journal ++ entry_acked ∷ []))
+          (ap (without some.0) run.lies ∙ sym (step_takes loses flow reached after one some.0 goes some.1) ∙ sym lies)
+          (gone_without flow opened.world.inbox left some.0 journal entry_acked run.gone some.1 refl))
+          (takes_cases flow one)
+
+      stepped_on : (now_left : List NamedFile) (now_standing : List ℕ → Option (List ℕ)) → now_left ≡ files_left after.world → now_standing ≡ after.world.outbox
+          → IsRunningAt flow moment images lot opened first new (journal ++ entry_acked ∷ []) after now_left now_standing
+      stepped_on now_left now_standing lies stands = record {
+        ran = acked_ran;
+        all = all-append journal entry_acked run.all refl;
+        gone = acked_gone now_left lies;
+        valid = next_valid stays flow reached after one run.valid goes;
+        holds = stepped.done;
+        lies = lies;
+        stands = stands;
+      }
+
+      -- ---- the file's removal failed: it may be there
+
+      module _ (tells : Bool) (held : D → Files) (time : ℕ) (name : List ℕ) (takes : names_of_step flow one ≡ name ∷ []) where
+        removed_is : (now_left : List NamedFile) → now_left ≡ without name left → now_left ≡ files_left after.world
+        removed_is now_left removed = removed ∙ ap (without name) run.lies ∙ sym (step_takes loses flow reached after one name goes takes)
+
+        left_over : (now_left : List NamedFile) → now_left ≡ left → IsLeftOver flow (ending.Fault fault.Inbox) opened (journal ++ entry_acked ∷ []) now_left
+        left_over now_left same = record {
+          failed = inr refl;
+          before = journal;
+          last = entry_acked;
+          parts = refl;
+          name = name;
+          took = takes_one flow one name takes;
+          reached = reached;
+          replays = run.ran.replays;
+          still = same ∙ run.lies;
+        }
+
+        unremoved : (now_left : List NamedFile) (now_standing : List ℕ → Option (List ℕ)) → (now_left ≡ left) ⊎ (now_left ≡ without name left) → now_standing ≡ after.world.outbox
+            → HasRun flow (ending.Fault fault.Inbox) time tells held moment images lot opened first new now_left now_standing
+        unremoved now_left now_standing either stands = record {
+          journal = journal ++ entry_acked ∷ [];
+          reached = after;
+          ran = acked_ran;
+          acked = inl (acknowledged-all (journal ++ entry_acked ∷ []) (moment first + 1) (moment new) (moment new) (all-append journal entry_acked run.all refl) acked_ran.in_order (omega arith));
+          gone = ⊎_elim
+              (λ (same : now_left ≡ left). subst (λ (l : List NamedFile). IsGoneByEntry flow opened.world.inbox l (journal ++ entry_acked ∷ [])) (sym same) (still_gone flow opened.world.inbox left journal entry_acked run.gone))
+              (λ (removed : now_left ≡ without name left). acked_gone now_left (removed_is now_left removed))
+              either;
+          inbox = ⊎_elim
+              (λ (same : now_left ≡ left). inr (left_over now_left same))
+              (λ (removed : now_left ≡ without name left). inl (removed_is now_left removed))
+              either;
+          outbox = inl stands;
+          ends = tt;
+        }
+
+    -- ---- a step that isn't acknowledged
+
+    module _ (since : IsBetween flow moment images lot reached after old new) where
+      abbrev entry_open : Entry
+      entry_open = record { step = one; acked = None }
+
+      open_ran : Replays flow moment images lot opened (journal ++ entry_open ∷ []) after first new
+      open_ran = step_open law flow moment images lot first old new opened reached after journal one run.ran run.all goes since
+
+      -- the inbox is that of the step, unless it took a file, which is still there
+      open_inbox : (left ≡ files_left after.world) ⊎ IsLeftOver flow (ending.Fault fault.Disk) opened (journal ++ entry_open ∷ []) left
+      open_inbox = ⊎_elim
+          (λ (none : names_of_step flow one ≡ []). inl (run.lies ∙ sym (other_steps loses flow reached after one goes none)))
+          (λ (some : (name : List ℕ) × (names_of_step flow one ≡ name ∷ [])). inr (record {
+            failed = inl refl;
+            before = journal;
+            last = entry_open;
+            parts = refl;
+            name = some.0;
+            took = takes_one flow one some.0 some.1;
+            reached = reached;
+            replays = run.ran.replays;
+            still = run.lies;
+          }))
+          (takes_cases flow one)
+
+      stopped_within : (tells : Bool) (held : D → Files) (time : ℕ) (now_standing : List ℕ → Option (List ℕ)) → now_standing ≡ after.world.outbox
+          → HasRun flow (ending.Fault fault.Disk) time tells held moment images lot opened first new left now_standing
+      stopped_within tells held time now_standing stands = record {
+        journal = journal ++ entry_open ∷ [];
+        reached = after;
+        ran = open_ran;
+        acked = inr (refl, acknowledged-open journal one (moment first + 1) (moment old) (moment new) run.all run.ran.in_order since.later);
+        gone = still_gone flow opened.world.inbox left journal entry_open run.gone;
+        inbox = open_inbox;
+        outbox = inl stands;
+        ends = tt;
+      }
+
+  pub steps_go_on : SteppedRunsGoOn moment images
+  steps_go_on flow lot opened reached after first old new journal one left now_left standing now_standing run goes stepped lies stands =
+      stepped_on flow lot opened reached after first old new journal one left standing run goes stepped now_left now_standing lies stands
+
+  module _ (tells : Bool) (held : D → Files) where
+    pub disk_faults : DiskFaultsEnd tells held moment images
+    disk_faults flow lot time opened reached after first old new journal one left standing now_standing run goes since stands =
+        stopped_within flow lot opened reached after first old new journal one left standing run goes since tells held time now_standing stands
+
+    pub inbox_faults : InboxFaultsEnd tells held moment images
+    inbox_faults flow lot time opened reached after first old new journal one name left now_left standing now_standing run goes stepped takes either stands =
+        unremoved flow lot opened reached after first old new journal one left standing run goes stepped tells held time name (one_taken flow one name takes) now_left now_standing either stands
+
+    pub faults : FaultsEnd tells held moment images
+    faults flow lot time opened reached first old new journal left standing cause run since =
+        let on = spared flow lot opened reached first old new journal left standing run since in
+        record {
+          journal = journal;
+          reached = reached;
+          ran = on.ran;
+          acked = inl (acknowledged-all journal (moment first + 1) (moment new) (moment new) on.all on.ran.in_order (omega arith));
+          gone = on.gone;
+          inbox = inl on.lies;
+          outbox = inl on.stands;
+          ends = tt;
+        }
+
+    pub outbox_faults : OutboxFaultsEnd tells held moment images
+    outbox_faults flow lot time opened reached first old new journal left standing now_standing place file name run since waits named others =
+        let on = spared flow lot opened reached first old new journal left standing run since in
+        record {
+          journal = journal;
+          reached = reached;
+          ran = on.ran;
+          acked = inl (acknowledged-all journal (moment first + 1) (moment new) (moment new) on.all on.ran.in_order (omega arith));
+          gone = on.gone;
+          inbox = inl on.lies;
+          outbox = inr (record {
+            failed = refl;
+            place = place;
+            file = file;
+            waits = waits;
+            name = name;
+            named = named;
+            others = λ other isnt. others other isnt ∙ ap (λ (o : List ℕ → Option (List ℕ)). o other) on.stands;
+          });
+          ends = tt;
+        }

@@ -1,0 +1,4 @@
+pub mod Going
+pub mod Journal
+pub mod Laws
+pub mod Run
