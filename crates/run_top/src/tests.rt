@@ -1,14 +1,11 @@
 //! A run over devices in memory, stopped at every moment and begun anew.
 use super::*;
 use disk_trait::{Disk, MemoryDisk, Pick};
-use engine_core::connection_ids;
-use fixed_flow::fixed_flow;
 use flowfile_record::{Event, EventKind};
 use prov_store::Events;
 use sha2::{Digest, Sha256};
 use std::alloc::Global;
 use std::test::Fail;
-use store_core::{FlowIdentity, Store};
 use world_io::{
     FreeGate, MemoryClock, MemoryInbox, MemoryOutbox, MemorySink, MemorySource, Name, Outbox,
 };
@@ -39,7 +36,7 @@ fn may_stand(world: World, moment: u64) -> bool {
 fn may_be_told(world: World, moment: u64, times: u64) -> bool {
     match world {
         World::InTheInbox => {
-            (times == 1 && moment < ACKNOWLEDGED) || (times == 2 && moment + 1 >= ACKNOWLEDGED)
+            (times == 1 && moment < ACKNOWLEDGED) || (times == 2 && moment >= ACKNOWLEDGED - 1)
         }
         _ => times == 1,
     }
@@ -79,17 +76,19 @@ fn delivers(alloc: Global, disk: &mut MemoryDisk, world: World) -> Result<bool, 
     Ok(status == DONE && stands && inbox.files_left().is_empty())
 }
 
+// The events of the disk, as many as there are from 3 to 7.
+fn events_on(alloc: Global, disk: &mut MemoryDisk) -> Result<Events, Fail> {
+    for end in [7, 6, 5, 4] {
+        if let Ok(events) = Events::load(alloc, disk, end) {
+            return Ok(events);
+        }
+    }
+    Ok(Events::load(alloc, disk, 3)?)
+}
+
 // How often the disk's events tell that the file came, was sent and left the flow, where they tell nothing else.
 fn times_told(alloc: Global, disk: &mut MemoryDisk) -> Result<u64, Fail> {
-    let flow = fixed_flow(alloc)?;
-    let ids = connection_ids(alloc, &flow)?;
-    let identity = FlowIdentity {
-        digest: flow.digest,
-        connections: &ids,
-        processors: 2,
-    };
-    let store = Store::load(alloc, disk, &identity, 0)?;
-    let counts = store.event_counts().counts;
+    let counts = events_on(alloc, disk)?.counts().counts;
     let [_, times, ..] = counts;
     if counts != [0, times, 0, 0, 0, 0, 0, 0, times, times, 0, 0] {
         return Err("an event that nothing caused, or none where there was a cause")?;
