@@ -1,0 +1,311 @@
+-- Where nothing is due and no session comes, the machine is quiet or blocked.
+use Rattle.std.proofs.Common.{◌≡◌, ℕ, ◌+◌, ◌==◌, ◌&&◌, ◌||◌, not, Bool, true, false, cond, List, [], ◌∷◌, ◌++◌, length, map, take, drop, min, refl, sym, ap, subst, ◌∙◌, arith, take-append-drop}
+use Rattle.std.specs.Prelude.{nat_lt, Option, Some, None, filter, find, is_none, is_some, option_map, option_and_then, slice_index, bytes_eq}
+use Rattle.std.specs.List.{enumerate_from, flat_map, list_all, list_any, reduce}
+use Rattle.std.proofs.lemmas.Bool.{lt-ltb, true≢false}
+use Rattle.machine_model.specs.declared.flow.Connection.{Connection}
+use Rattle.machine_model.specs.declared.flow.Flow.{Flow}
+use Rattle.machine_model.specs.declared.flow.Processor.{Processor}
+use Rattle.machine_model.specs.declared.kind.Kind.{Kind}
+use Rattle.machine_model.specs.declared.kind.Kind.TheVariants.{GetFile, GenerateFlowFile}
+use Rattle.machine_model.specs.declared.pattern.Pattern.{Pattern}
+use Rattle.machine_model.specs.Acting.{passes}
+use Rattle.machine_model.specs.Due.{expired_numbers, last_batch, lowest_batch}
+use Rattle.machine_model.specs.Files.{queues_of}
+use Rattle.machine_model.specs.Quiet.{gives_a_pick, has_source, holds_back, holds_back_any, is_held_back, is_nothing_due_in, nothing_due, quiet, blocked}
+use Rattle.machine_model.specs.Kinds.{is_source, take_rule_of}
+use Rattle.machine_model.specs.Order.{eligible_files}
+use Rattle.machine_model.specs.State.{State, World}
+use Rattle.machine_model.specs.Taking.{picks}
+use Rattle.machine_model.specs.Stepping.{may_get}
+use Rattle.machine_model.specs.View.{FileView, QueueView, is_penalised}
+use Rattle.engine_queues.specs.Choosing.{first_pick}
+use Rattle.engine_queues.specs.Laws.{BlockedIsSeen, QuietIsSeen, SeesTheSame, wants_by}
+use Rattle.engine_choice.specs.declared.choice.Ending.{Ending}
+use Rattle.engine_choice.specs.declared.choice.Taking.{Taking}
+use Rattle.engine_choice.specs.declared.choice.Taking.TheVariants.{Files, Generate, Receive}
+use Rattle.engine_choice.specs.Choice.{choice_at, choice_of, coming_of, ending_by, ending_of, first_blocking, first_penalty_end, fits, in_turn, is_ready, next_choice, place_behind, takers, taking_by, taking_of}
+use Rattle.engine_choice.specs.Laws.{EndsAreMachineEnds, IsEndAt}
+use Rattle.engine_choice.proofs.Found.{Each, any-append, each-weaker, none-found-any}
+use Rattle.engine_choice.proofs.Sessions.{stands-among}
+
+-- a processor has a first pick exactly where some connection gives it one
+abbrev pub PicksAreGiven : Type 0
+PicksAreGiven =
+    (flow : Flow) (queues : ℕ → QueueView) (moment place : ℕ) (p : Processor)
+    → is_some (first_pick flow queues moment (place, p)) ≡ list_any (gives_a_pick queues moment place p) (enumerate_from 0 flow.connections)
+
+-- ---- tests
+
+and-left : (a b : Bool) → (a && b) ≡ true → a ≡ true
+and-left true b is = refl
+and-left false b is = is
+
+and-right : (a b : Bool) → (a && b) ≡ true → b ≡ true
+and-right true b is = is
+and-right false b is = absurd (true≢false (sym is))
+
+none-left : (a b : Bool) → (a || b) ≡ false → a ≡ false
+none-left true b is = is
+none-left false b is = refl
+
+none-right : (a b : Bool) → (a || b) ≡ false → b ≡ false
+none-right true b is = absurd (true≢false is)
+none-right false b is = is
+
+-- ---- no processor is ready
+
+found-passes : {X : Type 0} (test : X → Bool) (xs : List X) (x : X) → find test xs ≡ Some x → test x ≡ true
+found-passes test [] x is = cc
+found-passes {X} test (y ∷ xs) x is = by_test (test y) refl is (λ later. found-passes test xs x later)
+  where
+    by_test : (b : Bool) → test y ≡ b → cond b (Some y) (find test xs) ≡ Some x → (find test xs ≡ Some x → test x ≡ true) → test x ≡ true
+    by_test true holds is rest = let same : y ≡ x = cc in ap test (sym same) ∙ holds
+    by_test false fails is rest = rest is
+
+module _ (flow : Flow) (queues : ℕ → QueueView) (counts : List ℕ) (coming : List (List ℕ)) (moment : ℕ) where
+  abbrev ready : ℕ × Processor → Bool
+  ready = is_ready flow queues counts coming moment
+
+  abbrev takes : ℕ × Processor → Bool
+  takes p = is_some (taking_of flow queues counts coming moment p)
+
+  ready-chooses : (p : ℕ × Processor) → is_ready flow queues counts coming moment p ≡ true → choice_of flow queues counts coming moment p ≡ None → ⊥
+  ready-chooses p is none = by_parts (taking_of flow queues counts coming moment p) (is_held_back flow queues p) is none
+    where
+      by_parts : (t : Option Taking) (held : Bool) → (is_some t && not held) ≡ true
+          → cond held None (option_map (choice_at p.0) t) ≡ None → ⊥
+      by_parts None held is none = true≢false (sym is)
+      by_parts (Some t) true is none = true≢false (sym is)
+      by_parts (Some t) false is none = cc
+
+  none-ready-found : (last : Option ℕ) → next_choice flow queues counts coming moment last ≡ None → find ready (in_turn last (enumerate_from 0 flow.processors)) ≡ None
+  none-ready-found last none = by_found (find ready (in_turn last (enumerate_from 0 flow.processors))) refl none
+    where
+      by_found : (o : Option (ℕ × Processor)) → find ready (in_turn last (enumerate_from 0 flow.processors)) ≡ o → option_and_then (choice_of flow queues counts coming moment) o ≡ None
+          → find ready (in_turn last (enumerate_from 0 flow.processors)) ≡ None
+      by_found None e none = e
+      by_found (Some p) e none = absurd (ready-chooses p (found-passes ready (in_turn last (enumerate_from 0 flow.processors)) p e) none)
+
+  none-ready : (last : Option ℕ) → next_choice flow queues counts coming moment last ≡ None → list_any ready (enumerate_from 0 flow.processors) ≡ false
+  none-ready last none =
+      let all = enumerate_from 0 flow.processors in
+      let n = place_behind last in
+      let fails : (list_any ready (drop n all) || list_any ready (take n all)) ≡ false = sym (any-append ready (drop n all) (take n all)) ∙ none-found-any ready (in_turn last all) (none-ready-found last none) in
+      ap (list_any ready) (sym (take-append-drop n all)) ∙ any-append ready (take n all) (drop n all)
+      ∙ ap (λ b. b || list_any ready (drop n all)) (none-right (list_any ready (drop n all)) (list_any ready (take n all)) fails)
+      ∙ none-left (list_any ready (drop n all)) (list_any ready (take n all)) fails
+
+  -- each that has something to take is held back
+  takers-held : (ps : List (ℕ × Processor)) → list_any ready ps ≡ false → list_all (is_held_back flow queues) (filter takes ps) ≡ true
+  takers-held [] none = refl
+  takers-held (p ∷ ps) none =
+      by_parts (takes p) (is_held_back flow queues p) refl (none-left (ready p) (list_any ready ps) none) (takers-held ps (none-right (ready p) (list_any ready ps) none))
+    where
+      by_parts : (t held : Bool) → is_held_back flow queues p ≡ held → (t && not held) ≡ false → list_all (is_held_back flow queues) (filter takes ps) ≡ true
+          → list_all (is_held_back flow queues) (cond t (p ∷ filter takes ps) (filter takes ps)) ≡ true
+      by_parts false held e isnt rest = rest
+      by_parts true true e isnt rest = ap (λ b. b && list_all (is_held_back flow queues) (filter takes ps)) e ∙ rest
+      by_parts true false e isnt rest = absurd (true≢false isnt)
+
+any-more : {X : Type 0} (test other : X → Bool) → ((x : X) → test x ≡ true → other x ≡ true) → (xs : List X) → list_any test xs ≡ true → list_any other xs ≡ true
+any-more test other more [] is = is
+any-more test other more (x ∷ xs) is = by_test (test x) (other x) (more x) is (λ later. any-more test other more xs later)
+  where
+    by_test : (b c : Bool) → (b ≡ true → c ≡ true) → (b || list_any test xs) ≡ true → (list_any test xs ≡ true → list_any other xs ≡ true) → (c || list_any other xs) ≡ true
+    by_test b true m is rest = refl
+    by_test true false m is rest = absurd (true≢false (sym (m refl)))
+    by_test false false m is rest = rest is
+
+-- with a processor that is held back among some, a connection holds one of these back
+some-holds : (flow : Flow) (queues : ℕ → QueueView) (p : ℕ × Processor) (ps : List (ℕ × Processor)) → is_held_back flow queues p ≡ true
+    → find (holds_back_any queues (p ∷ ps)) (enumerate_from 0 flow.connections) ≡ None → ⊥
+some-holds flow queues p ps held none =
+    let any = any-more (holds_back queues p.0) (holds_back_any queues (p ∷ ps)) (λ c is. ap (λ b. b || holds_back_any queues ps c) is) (enumerate_from 0 flow.connections) held in
+    true≢false (sym any ∙ none-found-any (holds_back_any queues (p ∷ ps)) (enumerate_from 0 flow.connections) none)
+
+none-holds : (queues : ℕ → QueueView) (cs : List (ℕ × Connection)) → find (holds_back_any queues []) cs ≡ None
+none-holds queues [] = refl
+none-holds queues (c ∷ cs) = none-holds queues cs
+
+-- ---- what a processor wants is what it has to take
+
+any-same-among : {X : Type 0} (test other : X → Bool) (xs : List X) → Each (λ x. test x ≡ other x) xs → list_any test xs ≡ list_any other xs
+any-same-among test other [] each = refl
+any-same-among test other (x ∷ xs) each = ap (λ b. b || list_any test xs) each.0 ∙ ap (λ b. other x || b) (any-same-among test other xs each.1)
+
+some-mapped : {X Y : Type 0} (f : X → Y) (o : Option X) → is_some (option_map f o) ≡ is_some o
+some-mapped f None = refl
+some-mapped f (Some x) = refl
+
+some-found : {X : Type 0} (test : X → Bool) (xs : List X) → is_some (find test xs) ≡ list_any test xs
+some-found test [] = refl
+some-found test (x ∷ xs) = elim (test x) as (λ b. is_some (cond b (Some x) (find test xs)) ≡ (b || list_any test xs)) [ true ↦ refl | false ↦ some-found test xs ]
+
+any-filtered : {X : Type 0} (test kept : X → Bool) (xs : List X) → list_any test (filter kept xs) ≡ list_any (λ x. test x && kept x) xs
+any-filtered test kept [] = refl
+any-filtered test kept (x ∷ xs) = by_kept (kept x) (any-filtered test kept xs)
+  where
+    and_true : (b : Bool) → b ≡ (b && true)
+    and_true true = refl
+    and_true false = refl
+
+    and_false : (b : Bool) → false ≡ (b && false)
+    and_false true = refl
+    and_false false = refl
+
+    by_kept : (k : Bool) → list_any test (filter kept xs) ≡ list_any (λ x. test x && kept x) xs
+        → list_any test (cond k (x ∷ filter kept xs) (filter kept xs)) ≡ ((test x && k) || list_any (λ x. test x && kept x) xs)
+    by_kept true rest = ap (λ b. test x || b) rest ∙ ap (λ b. b || list_any (λ x. test x && kept x) xs) (and_true (test x))
+    by_kept false rest = rest ∙ ap (λ b. b || list_any (λ x. test x && kept x) xs) (and_false (test x))
+
+-- a source picks from no connection
+abbrev IsNoneOfSource : Kind → Bool → Type 0
+IsNoneOfSource kind any = is_source kind ≡ true → any ≡ false
+
+or-none : (b any : Bool) → (true ≡ true → any ≡ false) → b ≡ (b || any)
+or-none true any none = refl
+or-none false any none = sym (none refl)
+
+some-if : {X : Type 0} (b : Bool) (x : X) → is_some (cond b (Some x) None) ≡ b
+some-if true x = refl
+some-if false x = refl
+
+three-same : (there passes fits : Bool) → there ≡ true → (passes && fits) ≡ (there && passes && fits)
+three-same true passes fits is = refl
+three-same false passes fits is = absurd (true≢false (sym is))
+
+module _ (flow : Flow) (queues : ℕ → QueueView) (state : State) (world : World) (moment : ℕ) where
+  got-same : (filter : Option Pattern) → is_some (find (passes filter) (coming_of world)) ≡ list_any (may_get filter world) world.left
+  got-same filter =
+      some-found (passes filter) (coming_of world) ∙ any-filtered (passes filter) (fits world) world.left
+      ∙ any-same-among (λ name. passes filter name && fits world name) (may_get filter world) world.left
+      (each-weaker (λ name. is_some (find (bytes_eq name) world.left) ≡ true) (λ name. (passes filter name && fits world name) ≡ may_get filter world name)
+      (λ name there. three-same (is_some (find (bytes_eq name) world.left)) (passes filter name) (fits world name) there) world.left (stands-among world.left))
+
+  -- fails rule of a source picks
+  kind-wants : (kind : Kind) (place : ℕ) (pick : Option (ℕ × List ℕ)) (any : Bool) → is_some pick ≡ any → IsNoneOfSource kind any
+      → is_some (taking_by kind (coming_of world) (slice_index state.counts place) pick) ≡ (has_source kind place state world || any)
+  kind-wants (GetFile filter) place pick any same none =
+      some-mapped (λ name. Receive name) (find (passes filter) (coming_of world)) ∙ got-same filter ∙ or-none (list_any (may_get filter world) world.left) any none
+  kind-wants (GenerateFlowFile count text) place pick any same none =
+      some-if (nat_lt (slice_index state.counts place) count) (Generate (slice_index state.counts place + 1)) ∙ or-none (nat_lt (slice_index state.counts place) count) any none
+  kind-wants kind place pick any same none = some-mapped (λ files. Files files.0 files.1) pick ∙ same
+
+  source-picks-none : (kind : Kind) (files : List FileView) → is_source kind ≡ true → is_some (picks (take_rule_of kind) files) ≡ false
+  source-picks-none (GetFile filter) files is = refl
+  source-picks-none (GenerateFlowFile count text) files is = refl
+  source-picks-none kind files is = absurd (true≢false (sym is))
+
+  none-gives : (place : ℕ) (processor : Processor) → is_source processor.kind ≡ true → (cs : List (ℕ × Connection)) → list_any (gives_a_pick queues moment place processor) cs ≡ false
+  none-gives place processor is [] = refl
+  none-gives place processor is (c ∷ cs) =
+      let fails = source-picks-none processor.kind (eligible_files c.1.order c.1.limits moment (queues c.0).active) is in
+      ap (λ b. ((c.1.target == place) && b) || list_any (gives_a_pick queues moment place processor) cs) fails ∙ by_target (c.1.target == place) (none-gives place processor is cs)
+    where
+      by_target : (b : Bool) → list_any (gives_a_pick queues moment place processor) cs ≡ false → ((b && false) || list_any (gives_a_pick queues moment place processor) cs) ≡ false
+      by_target true rest = rest
+      by_target false rest = rest
+
+  pub wants-takes : PicksAreGiven → (p : ℕ × Processor) → takes flow queues state.counts (coming_of world) moment p ≡ wants_by flow queues state world moment p
+  wants-takes given p =
+      kind-wants p.1.kind p.0 (first_pick flow queues moment p) (list_any (gives_a_pick queues moment p.0 p.1) (enumerate_from 0 flow.connections))
+      (given flow queues moment p.0 p.1) (λ is. none-gives p.0 p.1 is (enumerate_from 0 flow.connections))
+
+-- ---- nothing waits for its penalty's end
+
+and-four : (a b c d : Bool) → (a && b && c && d) ≡ true → d ≡ true
+and-four a b c d is = and-right (a && b && c) d is
+
+none-waits : (moment : ℕ) (files more : List FileView) → list_all (λ file. not (is_penalised moment file)) files ≡ true
+    → filter (nat_lt moment) (map (λ file. file.penalty_end) (files ++ more)) ≡ filter (nat_lt moment) (map (λ file. file.penalty_end) more)
+none-waits moment [] more is = refl
+none-waits moment (file ∷ files) more is = by_test (nat_lt moment file.penalty_end) is (λ later. none-waits moment files more later)
+  where
+    by_test : (b : Bool) → (not b && list_all (λ file. not (is_penalised moment file)) files) ≡ true
+        → (list_all (λ file. not (is_penalised moment file)) files ≡ true → filter (nat_lt moment) (map (λ file. file.penalty_end) (files ++ more)) ≡ filter (nat_lt moment) (map (λ file. file.penalty_end) more))
+        → cond b (file.penalty_end ∷ filter (nat_lt moment) (map (λ file. file.penalty_end) (files ++ more))) (filter (nat_lt moment) (map (λ file. file.penalty_end) (files ++ more)))
+        ≡ filter (nat_lt moment) (map (λ file. file.penalty_end) more)
+    by_test true is rest = absurd (true≢false (sym is))
+    by_test false is rest = rest is
+
+no-ends : (queues : ℕ → QueueView) (moment : ℕ) (cs : List (ℕ × Connection)) → list_all (is_nothing_due_in queues moment) cs ≡ true
+    → filter (nat_lt moment) (map (λ file. file.penalty_end) (flat_map (λ c. (queues c.0).active) cs)) ≡ []
+no-ends queues moment [] is = refl
+no-ends queues moment (c ∷ cs) is =
+    let queue = queues c.0 in
+    let here = and-left (is_nothing_due_in queues moment c) (list_all (is_nothing_due_in queues moment) cs) is in
+    let rest = and-right (is_nothing_due_in queues moment c) (list_all (is_nothing_due_in queues moment) cs) is in
+    let waits = and-four (length (expired_numbers c.1.limits moment queue.active) == 0) (is_none (last_batch c.1.order c.1.limits queue.active)) (is_none (lowest_batch c.1.limits queue))
+    (list_all (λ file. not (is_penalised moment file)) queue.active) here in
+    none-waits moment queue.active (flat_map (λ c. (queues c.0).active) cs) waits ∙ no-ends queues moment cs rest
+
+no-penalty : (flow : Flow) (queues : ℕ → QueueView) (moment : ℕ) → nothing_due flow queues moment ≡ true → first_penalty_end flow queues moment ≡ None
+no-penalty flow queues moment is = ap (reduce min) (no-ends queues moment (enumerate_from 0 flow.connections) is)
+
+none-filtered : {X : Type 0} (test : X → Bool) (xs : List X) → filter test xs ≡ [] → list_any test xs ≡ false
+none-filtered test [] is = refl
+none-filtered test (x ∷ xs) is = by_test (test x) is (λ later. none-filtered test xs later)
+  where
+    by_test : (b : Bool) → cond b (x ∷ filter test xs) (filter test xs) ≡ [] → (filter test xs ≡ [] → list_any test xs ≡ false) → (b || list_any test xs) ≡ false
+    by_test true is rest = cc
+    by_test false is rest = rest is
+
+-- ---- the end
+
+module _ (given : PicksAreGiven) (quiet_law : QuietIsSeen) (blocked_law : BlockedIsSeen) (flow : Flow) (queues : ℕ → QueueView) (state : State) (world : World) (moment : ℕ)
+    (same : SeesTheSame flow queues (queues_of state)) (due : nothing_due flow queues moment ≡ true)
+    (held : list_all (is_held_back flow queues) (takers flow queues state.counts (coming_of world) moment) ≡ true) where
+  wanting-is : filter (wants_by flow queues state world moment) (enumerate_from 0 flow.processors) ≡ takers flow queues state.counts (coming_of world) moment
+  wanting-is = λ i. filter (λ p. sym (wants-takes flow queues state world moment given p) i) (enumerate_from 0 flow.processors)
+
+  blocked-at : (p : ℕ × Processor) (ps : List (ℕ × Processor)) (c : ℕ × Connection) → takers flow queues state.counts (coming_of world) moment ≡ p ∷ ps
+      → find (holds_back_any queues (p ∷ ps)) (enumerate_from 0 flow.connections) ≡ Some c → blocked flow state world moment ≡ Some c.0
+  blocked-at p ps c are is =
+      let wanting = wanting-is ∙ are in
+      let held_all : list_all (is_held_back flow queues) (p ∷ ps) ≡ true = ap (list_all (is_held_back flow queues)) (sym are) ∙ held in
+      let nonempty : nat_lt 0 (length (p ∷ ps)) ≡ true = lt-ltb 0 (length (p ∷ ps)) (omega arith) in
+      let answer = option_map (λ c. c.0) (find (holds_back_any queues (p ∷ ps)) (enumerate_from 0 flow.connections)) in
+      blocked_law flow queues state world moment same
+      ∙ (λ i. let processors = wanting i in
+      cond (due i && nat_lt 0 (length processors) && list_all (is_held_back flow queues) processors)
+      (option_map (λ c. c.0) (find (holds_back_any queues processors) (enumerate_from 0 flow.connections))) None)
+      ∙ (λ i. cond (true && nonempty i && held_all i) answer None)
+      ∙ ap (option_map (λ c. c.0)) is
+
+  quiet-at : takers flow queues state.counts (coming_of world) moment ≡ [] → quiet flow state world moment ≡ true
+  quiet-at none =
+      quiet_law flow queues state world moment same
+      ∙ ap (λ b. b && not (list_any (wants_by flow queues state world moment) (enumerate_from 0 flow.processors))) due
+      ∙ ap not (none-filtered (wants_by flow queues state world moment) (enumerate_from 0 flow.processors) (wanting-is ∙ none))
+
+  pub end-at : IsEndAt flow state world moment (ending_of flow queues state.counts (coming_of world) moment)
+  end-at =
+      let Is : Ending → Type 0 = IsEndAt flow state world moment in
+      subst Is (ap (λ rest. ending_by rest (first_blocking flow queues state.counts (coming_of world) moment)) (sym (no-penalty flow queues moment due)))
+      (by_takers (takers flow queues state.counts (coming_of world) moment) refl)
+    where
+      by_takers : (ps : List (ℕ × Processor)) → takers flow queues state.counts (coming_of world) moment ≡ ps
+          → IsEndAt flow state world moment (ending_by None (first_blocking flow queues state.counts (coming_of world) moment))
+      by_takers [] are =
+          let nothing : first_blocking flow queues state.counts (coming_of world) moment ≡ None =
+          ap (λ l. option_map (λ c. c.0) (find (holds_back_any queues l) (enumerate_from 0 flow.connections))) are
+          ∙ ap (option_map (λ c. c.0)) (none-holds queues (enumerate_from 0 flow.connections)) in
+          let Is : Ending → Type 0 = IsEndAt flow state world moment in
+          subst Is (ap (ending_by None) (sym nothing)) (quiet-at are)
+      by_takers (p ∷ ps) are = by_found (find (holds_back_any queues (p ∷ ps)) (enumerate_from 0 flow.connections)) refl
+        where
+          by_found : (o : Option (ℕ × Connection)) → find (holds_back_any queues (p ∷ ps)) (enumerate_from 0 flow.connections) ≡ o
+              → IsEndAt flow state world moment (ending_by None (first_blocking flow queues state.counts (coming_of world) moment))
+          by_found None e =
+              absurd (some-holds flow queues p ps (and-left (is_held_back flow queues p) (list_all (is_held_back flow queues) ps) (ap (list_all (is_held_back flow queues)) (sym are) ∙ held)) e)
+          by_found (Some c) e =
+              let it : first_blocking flow queues state.counts (coming_of world) moment ≡ Some c.0 =
+              ap (λ l. option_map (λ c. c.0) (find (holds_back_any queues l) (enumerate_from 0 flow.connections))) are ∙ ap (option_map (λ c. c.0)) e in
+              let Is : Ending → Type 0 = IsEndAt flow state world moment in
+              subst Is (ap (ending_by None) (sym it)) (blocked-at p ps c are e)
+
+pub ends-are-machine-ends : PicksAreGiven → QuietIsSeen → BlockedIsSeen → EndsAreMachineEnds
+ends-are-machine-ends given quiet_law blocked_law flow queues state world moment last same due none =
+    end-at given quiet_law blocked_law flow queues state world moment same due
+    (takers-held flow queues state.counts (coming_of world) moment (enumerate_from 0 flow.processors) (none-ready flow queues state.counts (coming_of world) moment last none))

@@ -1,0 +1,9 @@
+pub mod Ends
+pub mod Found
+pub mod Left
+pub mod Moved
+pub mod Penalties
+pub mod Sessions
+pub mod Sources
+pub mod Takings
+pub mod Turns

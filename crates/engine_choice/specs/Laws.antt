@@ -1,0 +1,71 @@
+-- That the session that comes next is one of the machine, and that where none comes the machine is quiet or blocked.
+use Rattle.std.specs.Prelude.{◌≡◌, ℕ, Bool, true, List, [], Option, None, Some, slice_get}
+use Rattle.machine_model.specs.declared.flow.Flow.{Flow}
+use Rattle.machine_model.specs.declared.flow.Processor.{Processor}
+use Rattle.machine_model.specs.declared.given.Given.{Given}
+use Rattle.machine_model.specs.Files.{queues_of}
+use Rattle.machine_model.specs.Kinds.{take_rule_of}
+use Rattle.machine_model.specs.Quiet.{blocked, nothing_due, quiet}
+use Rattle.machine_model.specs.State.{QueuedFile, State, World}
+use Rattle.machine_model.specs.Stepping.{given_in, is_there, taken_files}
+use Rattle.machine_model.specs.Valid.{IsValid}
+use Rattle.machine_model.specs.View.{QueueView}
+use Rattle.engine_queues.specs.Laws.{SeesTheSame}
+use Rattle.engine_choice.specs.declared.choice.Choice.{Choice}
+use Rattle.engine_choice.specs.declared.choice.Ending.{Ending}
+use Rattle.engine_choice.specs.declared.choice.Ending.TheVariants.{Rest, Blocked, Quiet}
+use Rattle.engine_choice.specs.declared.choice.Taking.{Taking}
+use Rattle.engine_choice.specs.declared.choice.Taking.TheVariants.{Files, Generate, Receive}
+use Rattle.engine_choice.specs.Choice.{coming_of, ending_of, next_choice}
+
+-- ---- a session
+
+-- the numbers of the files that are taken
+abbrev pub numbers_in : Taking → List ℕ
+numbers_in (Files connection numbers) = numbers
+numbers_in (Generate index) = []
+numbers_in (Receive name) = []
+
+-- what a session is given: its moment, the index, whether the outbox has the file's name, and the name, with no bytes
+abbrev pub given_for : (moment : ℕ) → (there : Bool) → Taking → Given
+given_for moment there (Files connection numbers) =
+    record { moment = moment; index = 0; there = there; file = None; bytes = None }
+given_for moment there (Generate index) =
+    record { moment = moment; index = index; there = there; file = None; bytes = None }
+given_for moment there (Receive name) =
+    record { moment = moment; index = 0; there = there; file = Some name; bytes = None }
+
+-- It is one of the machine: its processor is the one at its place, which may take the files of these numbers, and what
+-- it is given stands in the state and the world.
+pub record IsSessionAt (flow : Flow) (state : State) (world : World) (moment : ℕ) (choice : Choice) : Type 0 where
+  pub processor : Processor
+  pub files : List QueuedFile
+  pub handed : Given
+  pub found : slice_get flow.processors choice.processor ≡ Some processor
+  pub taken : taken_files flow state choice.processor (take_rule_of processor.kind) (numbers_in choice.taking) moment
+      ≡ Some files
+  pub given : given_in processor.kind choice.processor state world files
+      (given_for moment (is_there world files) choice.taking) ≡ Some handed
+
+-- the session that comes next, by views that see the same as the queues of a state
+abbrev pub ChoicesAreSessions : Type 0
+ChoicesAreSessions =
+    (flow : Flow) (queues : ℕ → QueueView) (state : State) (world : World) (moment : ℕ) (last : Option ℕ)
+    (choice : Choice) → IsValid flow state → SeesTheSame flow queues (queues_of state)
+    → next_choice flow queues state.counts (coming_of world) moment last ≡ Some choice
+    → IsSessionAt flow state world moment choice
+
+-- ---- the end
+
+-- nothing waits where nothing is due: the machine is blocked at this connection, or it is quiet
+abbrev pub IsEndAt : Flow → State → World → (moment : ℕ) → Ending → Type 0
+IsEndAt flow state world moment (Rest until) = ⊥
+IsEndAt flow state world moment (Blocked connection) = blocked flow state world moment ≡ Some connection
+IsEndAt flow state world moment Quiet = quiet flow state world moment ≡ true
+
+abbrev pub EndsAreMachineEnds : Type 0
+EndsAreMachineEnds =
+    (flow : Flow) (queues : ℕ → QueueView) (state : State) (world : World) (moment : ℕ) (last : Option ℕ)
+    → SeesTheSame flow queues (queues_of state) → nothing_due flow queues moment ≡ true
+    → next_choice flow queues state.counts (coming_of world) moment last ≡ None
+    → IsEndAt flow state world moment (ending_of flow queues state.counts (coming_of world) moment)

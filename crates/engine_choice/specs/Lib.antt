@@ -1,0 +1,5 @@
+pub mod Choice
+pub mod First
+pub mod Inside
+pub mod Laws
+pub mod Listing

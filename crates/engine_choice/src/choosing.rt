@@ -1,0 +1,197 @@
+//! Which session comes next, and how it ends where none does.
+ghost use Rattle.std.specs.Prelude.{◌≡◌, ◌+◌, ◌<◌, ◌≤◌, nat_lt, None, Some, length, map, IfOk, slice_get, option_map, if◌then◌else◌};
+ghost use Rattle.machine_model.specs.declared.flow.Processor.{Processor};
+ghost use Rattle.engine_queues.specs.Queues.{queue_seen};
+ghost use Rattle.engine_choice.specs.declared.choice.Taking.TheVariants.{Files, Generate, Receive};
+ghost use Rattle.engine_choice.specs.Choice.{MayChoose, taking_of, place_within, choice_of, next_choice, takers, ending_of};
+ghost use Rattle.engine_choice.specs.First.{IsFirstGiven};
+
+use crate::{Choice, Ending, Listing, Taking};
+use engine_queues::{Picked, Queues};
+use flowfile_record::Name;
+use machine_model::{Flow, Kind};
+use std::alloc::{AllocError, Global};
+
+/// The session of the first processor that is ready, in turn: from behind the one that got the last job, or from the
+/// first one.
+pub fn choose(
+    alloc: Global,
+    flow: &Flow,
+    queues: &Queues,
+    counts: &[u64],
+    listing: &Listing,
+    last: Option<u16>,
+    moment: u64,
+) -> Result<Option<Choice>, AllocError>
+    requires { MayChoose flow.now queues.now counts.now listing.now }
+    ensures { IfOk result (λ choice.
+        choice ≡ next_choice flow.now (queue_seen queues.now) counts.now listing.now.names moment last) }
+{
+    let count = flow.processors.len() as u16;
+    let start = place_behind(last, count);
+    match first_choice(alloc, flow, queues, counts, listing, moment, start, count)? {
+        Some(choice) => Ok(Some(choice)),
+        None => first_choice(alloc, flow, queues, counts, listing, moment, 0, start),
+    }
+}
+
+/// How it ends where no session comes: with a rest until a penalty of a file ends, blocked by the first full connection
+/// that leaves a processor with something to take, or quiet.
+pub fn ending(
+    alloc: Global,
+    flow: &Flow,
+    queues: &Queues,
+    counts: &[u64],
+    listing: &Listing,
+    moment: u64,
+) -> Result<Ending, AllocError>
+    requires { MayChoose flow.now queues.now counts.now listing.now }
+    ensures { IfOk result (λ ending.
+        ending ≡ ending_of flow.now (queue_seen queues.now) counts.now listing.now.names moment) }
+{
+    if let Some(until) = queues.next_penalty_end(moment) {
+        return Ok(Ending::Rest { until });
+    }
+    let takers = takers(alloc, flow, queues, counts, listing, moment)?;
+    match queues.first_holding_back(flow, &takers) {
+        Some(connection) => Ok(Ending::Blocked(connection)),
+        None => Ok(Ending::Quiet),
+    }
+}
+
+// The place behind the processor that got the last job, where there is one, or the first.
+fn place_behind(last: Option<u16>, count: u16) -> u16
+    ensures { result ≡ place_within count last }
+{
+    match last {
+        Some(last) if last < count => last + 1,
+        _ => 0,
+    }
+}
+
+// The session of the first processor that is ready of those from one place to another.
+fn first_choice(
+    alloc: Global,
+    flow: &Flow,
+    queues: &Queues,
+    counts: &[u64],
+    listing: &Listing,
+    moment: u64,
+    start: u16,
+    end: u16,
+) -> Result<Option<Choice>, AllocError>
+    requires may { MayChoose flow.now queues.now counts.now listing.now }
+    requires end { end ≤ length flow.now.processors }
+    ensures { IfOk result (IsFirstGiven
+        (choice_of flow.now (queue_seen queues.now) counts.now listing.now.names moment)
+        flow.now.processors start end) }
+{
+    for processor in start..end {
+        if let Some(choice) = choice_for(alloc, flow, queues, counts, listing, moment, processor)? {
+            return Ok(Some(choice));
+        }
+    }
+    Ok(None)
+}
+
+// The session of a processor, where it is ready.
+fn choice_for(
+    alloc: Global,
+    flow: &Flow,
+    queues: &Queues,
+    counts: &[u64],
+    listing: &Listing,
+    moment: u64,
+    processor: u16,
+) -> Result<Option<Choice>, AllocError>
+    requires may { MayChoose flow.now queues.now counts.now listing.now }
+    requires processor { processor < length flow.now.processors }
+    ensures { IfOk result (λ choice. (p : Processor) → slice_get flow.now.processors processor ≡ Some p
+        → choice ≡ choice_of flow.now (queue_seen queues.now) counts.now listing.now.names moment (processor, p)) }
+{
+    if queues.is_held_back(flow, processor) {
+        return Ok(None);
+    }
+    match taking_for(alloc, flow, queues, counts, listing, moment, processor)? {
+        Some(taking) => Ok(Some(Choice { processor, taking })),
+        None => Ok(None),
+    }
+}
+
+// The places of the processors that have something to take.
+fn takers(
+    alloc: Global,
+    flow: &Flow,
+    queues: &Queues,
+    counts: &[u64],
+    listing: &Listing,
+    moment: u64,
+) -> Result<Vec<u16>, AllocError>
+    requires { MayChoose flow.now queues.now counts.now listing.now }
+    ensures { IfOk result (λ places. places.items
+        ≡ map (λ p. p.0) (takers flow.now (queue_seen queues.now) counts.now listing.now.names moment)) }
+{
+    let mut takers = Vec::new(alloc);
+    for processor in 0..flow.processors.len() as u16 {
+        if taking_for(alloc, flow, queues, counts, listing, moment, processor)?.is_some() {
+            takers.push(processor)?;
+        }
+    }
+    Ok(takers)
+}
+
+// What a session of a processor takes.
+fn taking_for(
+    alloc: Global,
+    flow: &Flow,
+    queues: &Queues,
+    counts: &[u64],
+    listing: &Listing,
+    moment: u64,
+    processor: u16,
+) -> Result<Option<Taking>, AllocError>
+    requires may { MayChoose flow.now queues.now counts.now listing.now }
+    requires processor { processor < length flow.now.processors }
+    ensures { IfOk result (λ taking. (p : Processor) → slice_get flow.now.processors processor ≡ Some p
+        → taking ≡ taking_of flow.now (queue_seen queues.now) counts.now listing.now.names moment (processor, p)) }
+{
+    let place = usize::from(processor);
+    match &flow.processors.as_slice()[place].kind {
+        Kind::GetFile { .. } => received(listing.first_for(processor)),
+        Kind::GenerateFlowFile { count, .. } => Ok(generated(*count, counts[place])),
+        _ => Ok(picked(queues.pick(alloc, flow, processor, moment)?)),
+    }
+}
+
+fn received(name: Option<&Name>) -> Result<Option<Taking>, AllocError>
+    ensures { IfOk result (λ taking. taking ≡ option_map (λ name. Receive name.now) name.entry) }
+{
+    match name {
+        Some(name) => Ok(Some(Taking::Receive {
+            name: name.clone()?,
+        })),
+        None => Ok(None),
+    }
+}
+
+fn generated(count: u32, made: u64) -> Option<Taking>
+    ensures { result ≡ (if nat_lt made count then Some (Generate (made + 1)) else None) }
+{
+    if made < u64::from(count) {
+        Some(Taking::Generate { index: made + 1 })
+    } else {
+        None
+    }
+}
+
+fn picked(files: Option<Picked>) -> Option<Taking>
+    ensures { result ≡ option_map (λ picked. Files picked.connection picked.numbers) files }
+{
+    match files {
+        Some(picked) => Some(Taking::Files {
+            connection: picked.connection,
+            numbers: picked.numbers,
+        }),
+        None => None,
+    }
+}

@@ -1,0 +1,20 @@
+//! What ties the choice of the next session to the machine, each law as the contract of a function that does nothing.
+ghost use Rattle.engine_choice.specs.Laws.{ChoicesAreSessions, EndsAreMachineEnds};
+
+use engine_queues::{picks_are_given, quiet_and_blocked_are_seen};
+use machine_model::picks_may_be_taken;
+
+/// The session that comes next is one of the machine.
+pub fn choices_are_sessions()
+    ensures { ChoicesAreSessions }
+{
+    picks_may_be_taken();
+}
+
+/// Where nothing is due and no session comes, the machine is quiet, or blocked at the connection that is named.
+pub fn ends_are_machine_ends()
+    ensures { EndsAreMachineEnds }
+{
+    picks_are_given();
+    quiet_and_blocked_are_seen();
+}

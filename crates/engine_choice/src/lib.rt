@@ -1,0 +1,12 @@
+//! Which session comes next, over what an engine has in memory.
+#![tactic(auto)]
+
+mod choice;
+mod choosing;
+mod laws;
+mod listing;
+
+pub use choice::{Choice, Ending, Taking};
+pub use choosing::{choose, ending};
+pub use laws::{choices_are_sessions, ends_are_machine_ends};
+pub use listing::Listing;
