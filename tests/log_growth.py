@@ -2,9 +2,10 @@
 """Opens long logs and large snapshots, written from the format alone, and shows that time and memory grow in a
 straight line.
 
-Each shape is tried with a number of sessions and with twice as many. The processor's time beyond that of an empty
-store has to grow by about 2, and so may the peak of memory. A state in which letting a file go moved the others would
-make the time grow fourfold.
+Each shape is tried with a number of sessions and with four times as many. The processor's time beyond that of an empty
+store grows by about 4 then, and the peak of memory may. A state in which letting a file go moved the others would make
+the time grow by 16. What else a machine does has made it 3 times as long where the sessions were twice as many, so the
+limit lies between.
 """
 
 import hashlib
@@ -16,9 +17,10 @@ from support import DONE, Report, find_program, names, need, need_status, new_fo
 CONTENT = bytes(200)
 DIGEST = hashlib.sha256(CONTENT).digest()
 
-# Twice the entries may take so many times as long, and so many times the memory.
-LEAST_TIME, MOST_TIME = 1.5, 2.7
-MOST_MEMORY = 2.6
+# So many times the entries may take so many times as long, and so many times the memory.
+TIMES = 4
+MOST_TIME = 10
+MOST_MEMORY = 5
 # By how many bytes the peak may differ between two stores whose size it doesn't depend on.
 MOST_BESIDE = 300_000
 
@@ -167,23 +169,22 @@ class Opening:
 
 def grows(program, parent, entries, shape):
     made, waits = SHAPES[shape]
-    with new_folder(parent) as idle, new_folder(parent) as once, new_folder(parent) as twice:
+    with new_folder(parent) as idle, new_folder(parent) as small, new_folder(parent) as large:
         none = Opening(program, idle, empty(0))
-        one = Opening(program, once, made(entries))
-        two = Opening(program, twice, made(2 * entries))
+        one = Opening(program, small, made(entries))
+        two = Opening(program, large, made(TIMES * entries))
         # In turn, so that what else the machine does meets all; and until the fastest are near enough.
         for tries in range(1, MOST_TRIES + 1):
             none.again([])
             one.again(waits())
             two.again(waits())
             time_ratio = (two.fastest.busy - none.fastest.busy) / max(1e-9, one.fastest.busy - none.fastest.busy)
-            if tries >= LEAST_TRIES and LEAST_TIME <= time_ratio <= MOST_TIME:
+            if tries >= LEAST_TRIES and time_ratio <= MOST_TIME:
                 break
     memory_ratio = (two.peak - none.peak) / max(1, one.peak - none.peak)
     note = (f"{one.said()}; {two.said()}; with an empty store peak {none.peak / 1e6:.1f} MB; "
             f"ratio of time {time_ratio:.2f}, of memory {memory_ratio:.2f}, fastest of {tries}")
-    need(LEAST_TIME <= time_ratio <= MOST_TIME,
-         f"the time's ratio isn't between {LEAST_TIME} and {MOST_TIME}: {note}")
+    need(time_ratio <= MOST_TIME, f"the time's ratio is above {MOST_TIME}: {note}")
     if made is events_alone:
         need(two.peak - one.peak <= MOST_BESIDE, f"the memory grows with the events: {note}")
     else:
@@ -193,11 +194,11 @@ def grows(program, parent, entries, shape):
 
 def main():
     parser = options(__doc__)
-    parser.add_argument("--entries", type=int, default=50_000,
-                        help="entries of the shorter log (default 50000); the longer one has twice as many")
+    parser.add_argument("--entries", type=int, default=25_000,
+                        help=f"entries of the shorter log (default 25000); the longer one has {TIMES} times as many")
     given = parser.parse_args()
     program = find_program(given.program)
-    print(f"log_growth: {given.entries} and {2 * given.entries} entries", flush=True)
+    print(f"log_growth: {given.entries} and {TIMES * given.entries} entries", flush=True)
     report = Report()
     for shape in SHAPES:
         report.case(shape, grows, program, given.folder, given.entries, shape)
