@@ -24,13 +24,6 @@ pub record IsRunningAt {D : Type 0} (flow : Flow) (moment : D → ℕ) (images :
   pub lies : left ≡ files_left reached.world
   pub stands : standing ≡ reached.world.outbox
 
--- the same of some journal
-pub record IsRunning {D : Type 0} (flow : Flow) (moment : D → ℕ) (images : D → ℕ → Files → Type 0) (lot : ℕ)
-    (opened : Machine) (old now : D) (left : List NamedFile) (standing : List ℕ → Option (List ℕ)) : Type 0 where
-  pub journal : List Entry
-  pub reached : Machine
-  pub run : IsRunningAt flow moment images lot opened old now journal reached left standing
-
 -- Within a step whatever a stop leaves stands for the state before it or for that behind it, ..
 abbrev pub IsBetween : {D : Type 0} → Flow → (D → ℕ) → (D → ℕ → Files → Type 0) → (lot : ℕ)
     → (before after : Machine) → (old new : D) → Type 0

@@ -5,14 +5,9 @@ use Rattle.flowfile_record.specs.NamedFile.{NamedFile}
 use Rattle.machine_model.specs.declared.flow.Flow.{Flow}
 use Rattle.machine_model.specs.declared.journal.Entry.{Entry}
 use Rattle.machine_model.specs.declared.journal.Step.{Step}
-use Rattle.machine_model.specs.Acknowledged.{steps}
 use Rattle.machine_model.specs.Kinds.{is_among}
-use Rattle.machine_model.specs.Laws.{names_of_step, names_taken}
+use Rattle.machine_model.specs.Laws.{names_of_step}
 use Rattle.machine_model.specs.State.{World}
-
--- the names that the journal's sessions took of the inbox, in their order
-abbrev pub names_got : Flow → List Entry → List (List ℕ)
-names_got flow journal = names_taken flow (steps journal)
 
 -- a step takes the file of this name from the inbox
 abbrev pub Takes : Flow → Step → List ℕ → Type 0
