@@ -67,7 +67,7 @@ pub fn run<R, D: Disk, I: Inbox, O: Outbox, F: Source, S: Sink, C: Clock, G: Gat
         → IsLeftShut result D.held D.moment D.images lot disk.old disk.new inbox.old inbox.new outbox.old outbox.new
         ⊎ IsNotOpened result D.moment D.images disk.old disk.new inbox.old inbox.new outbox.old outbox.new }
 
-    // Whatever the status, only claims, events and the log are written, and a new store's snapshot; or that sync failed.
+    // Whatever the status, only claims, events, the log and a new store's snapshot are written; or that sync failed.
     ensures alone { is_run words.now ≡ true → WritesAlone D.moment D.images (D.held disk.old) disk.old disk.new
         ⊎ IsNotOpened result D.moment D.images disk.old disk.new inbox.old inbox.new outbox.old outbox.new }
 
