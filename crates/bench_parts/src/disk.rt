@@ -11,8 +11,8 @@ use disk_trait::{Disk, DiskError, Failed, FileKind, FileName};
 use kept::Kept;
 use std::alloc::Global;
 
-/// Claims whose sizes alone are kept, and one file that is read. It tells nothing of them, and no call fails but one that
-/// asks for what isn't kept, for want of memory, or after the last moment.
+/// Claims whose sizes alone are kept, and one file that is read. It tells nothing of them, and no call fails but one
+/// that asks for what isn't kept, for want of memory, or after the last moment.
 #[derive(Drop)]
 pub struct BenchDisk {
     kept: Kept,

@@ -42,7 +42,8 @@ pub record IsBlockAt (tells : Bool) (files : Files) (address : BlockAddress) (bu
 
 -- a whole block of so many bytes
 abbrev pub IsBlockOfSize : ℕ → Reading → Type 0
-IsBlockOfSize n reading = (kind : ℕ) × ((payload : List ℕ) × ((reading ≡ Whole kind payload) × (n ≡ length payload + BLOCK_OVERHEAD)))
+IsBlockOfSize n reading =
+    (kind : ℕ) × ((payload : List ℕ) × ((reading ≡ Whole kind payload) × (n ≡ length payload + BLOCK_OVERHEAD)))
 
 -- a whole block stands there, which is longer than this
 pub record HasBlockPast (files : Files) (address : BlockAddress) (capacity : ℕ) : Type 0 where
@@ -51,9 +52,9 @@ pub record HasBlockPast (files : Files) (address : BlockAddress) (capacity : ℕ
   pub whole : reading_at files address ≡ Whole kind payload
   pub long : capacity < length payload + BLOCK_OVERHEAD
 
--- Why no block is read into a buffer of this capacity. What is damaged is told as it is, whether or not there is memory:
--- that is taken only for a whole block that the buffer has no room for. A buffer with room for the rest of the file takes
--- none, whatever the disk tells.
+-- Why no block is read into a buffer of this capacity. What is damaged is told as it is, whether or not there is
+-- memory: that is taken only for a whole block that the buffer has no room for. A buffer with room for the rest of the
+-- file takes none, whatever the disk tells.
 pub record IsBlockRefusal (tells : Bool) (files : Files) (address : BlockAddress) (capacity : ℕ) (error : BlockError)
     : Type 0 where
   pub damaged : (damage : Damage) → error ≡ Damaged damage → IsTrue tells

@@ -77,8 +77,8 @@ fn size_at<D: Disk>(disk: &mut D, address: BlockAddress) -> Result<u64, BlockErr
     }
 }
 
-// The bytes of the block there, which has this size by its header. Where there is no memory for them, the block's digest
-// is compared all the same: damage is told as damage.
+// The bytes of the block there, which has this size by its header. Where there is no memory for them, the block's
+// digest is compared all the same: damage is told as damage.
 fn read_bytes<D: Disk>(
     disk: &mut D,
     address: BlockAddress,

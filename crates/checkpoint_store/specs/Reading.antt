@@ -170,7 +170,8 @@ PartTakes k kind payload =
     ((kind ≡ kind_code kinds.File) × IsTrue (is_ok (active_front_at payload)))
     ⊎ ((next : Next) × (next_in k kind payload ≡ Some next))
 
--- a block that takes memory where the buffer has this capacity: it is whole, and the buffer too small or the part takes it
+-- a block that takes memory where the buffer has this capacity: it is whole, and the buffer too small or the part takes
+-- it
 abbrev pub BlockTakes : ℕ → Kept → Reading → Type 0
 BlockTakes capacity k (Whole kind payload) = (capacity < length payload + BLOCK_OVERHEAD) ⊎ PartTakes k kind payload
 BlockTakes capacity k (Cut need have) = ⊥

@@ -31,7 +31,8 @@ pub fn write<D: Disk>(
     requires { IsConsistent (kept_of state.now) }
     // The file begins with the snapshot, and what stood behind it there and in other files is as it was.
     ensures written { OnOk result (IsTrue D.tells
-        → At (snapshot_file number) (Overwritten 0 (snapshot (kept_of state.now))) (D.held disk.old) (D.held disk.new)) }
+        → At (snapshot_file number) (Overwritten 0 (snapshot (kept_of state.now))) (D.held disk.old)
+        (D.held disk.new)) }
     // Each image is that.
     ensures synced { OnOk result (IsOnly (D.held disk.new) (D.images disk.new (D.moment disk.new))) }
     // A stop within the call leaves all as it was but for the bytes that the snapshot has.

@@ -63,8 +63,8 @@ pub fn read_content<D: Disk>(
     Ok(bytes)
 }
 
-// The bytes of a content that lies in its claim. Where there is no memory for them, its digest is compared all the same:
-// damage is told as damage.
+// The bytes of a content that lies in its claim. Where there is no memory for them, its digest is compared all the
+// same: damage is told as damage.
 fn read_bytes<D: Disk>(
     alloc: Global,
     disk: &mut D,

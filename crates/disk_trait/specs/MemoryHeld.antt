@@ -21,7 +21,8 @@ count_all k (t ∷ ts) passed =
 pub until_all : (p : Past) (k : ℕ) → IsPast p → p.now ≤ k → calls_until p k ≡ length p.calls
 unfolding calls_until
 until_all p k past late =
-    count_all k p.moments (All-weaker (λ t. t ≤ p.now) (λ t. t ≤ k) (λ t h. omega (arith, h, late)) p.moments past.passed)
+    count_all k p.moments (All-weaker (λ t. t ≤ p.now) (λ t. t ≤ k)
+    (λ t h. omega (arith, h, late)) p.moments past.passed)
     ∙ past.paired
 
 pub held_is_left : (p : Past) → IsPast p → left_at p p.now (bytes_of p.table)

@@ -16,7 +16,8 @@ use Rattle.record_codec.specs.ActiveFile.{active_file}
 use Rattle.record_codec.specs.EntryEncoding.{entry as encoding}
 use Rattle.record_codec.specs.declared.block.TheConstants.{PAYLOAD_MAX}
 use Rattle.record_codec.specs.declared.entry.LogEntry.TheVariants.{Session}
-use Rattle.record_codec.proofs.Sizes.{active_size, numbers_size, session_size}
+use Rattle.flowfile_record.proofs.Sizes.{numbers_size}
+use Rattle.record_codec.proofs.Sizes.{active_size, session_size}
 use Rattle.kept_state.specs.Changes.{record_of, session_of}
 use Rattle.kept_state.proofs.Sizes.{file_is, record_is}
 use Rattle.machine_model.specs.declared.limits.TheConstants.{FAN_OUT_MAX}

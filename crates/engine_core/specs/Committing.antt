@@ -48,8 +48,8 @@ pub record MayCommit (flow : Flow) (given : Given) (k : Kept) (ended : Ended) : 
 abbrev pub AreEventsUpTo : (last : ℕ) → List Event → Type 0
 AreEventsUpTo last events = (length events ≡ last) × AreNumberedFrom 1 events
 
--- Whatever bytes references stand for, where those that were read are these, and whatever the events so far tell: behind
--- what is kept the settled session leaves the state that the machine does.
+-- Whatever bytes references stand for, where those that were read are these, and whatever the events so far tell:
+-- behind what is kept the settled session leaves the state that the machine does.
 abbrev pub LeavesState : Flow → Given → Ended → Kept → Settled → Type 0
 LeavesState flow given ended k settled =
     (processor : Processor) → slice_get flow.processors ended.processor ≡ Some processor

@@ -2,8 +2,8 @@
 ghost use Rattle.engine_queues.specs.Laws.{KeptIsSeen, QueuesShowKept, QueuesAreSeen, HeldContentsHaveSizes, QuietIsSeen, BlockedIsSeen};
 
 /// What is kept, and the queues of a flow that hold it, show the machine's queues: the same files are eligible, expire
-/// and wait, and the same queues are full. In files that hold what a store has in memory, each live content has the size
-/// that its reference says.
+/// and wait, and the same queues are full. In files that hold what a store has in memory, each live content has the
+/// size that its reference says.
 pub fn what_is_kept_is_seen()
     ensures seen { KeptIsSeen }
     ensures shown { QueuesShowKept }

@@ -24,9 +24,9 @@ use Rattle.engine_core.specs.Committing.{AreEventsUpTo, LeavesState}
 abbrev pub machine_in : State → World → Machine
 machine_in state world = record { state = state; world = world }
 
--- A session of the machine: its processor is the one at its place, it takes the files of these numbers, which it may take
--- at this moment, it is handed what it is given as that stands in the state and the world, and this is what it makes of
--- both.
+-- A session of the machine: its processor is the one at its place, it takes the files of these numbers, which it may
+-- take at this moment, it is handed what it is given as that stands in the state and the world, and this is what it
+-- makes of both.
 pub record IsSession (world : World) (numbers : List ℕ) (moment : ℕ) (given : Given) (session : EndedSession)
     (outcome : Outcome) : Type 0 where
   pub processor : slice_get session.flow.processors session.place ≡ Some session.processor

@@ -1,5 +1,5 @@
-//! A session of any processor, from the files that it takes of what a store keeps to its end, and the step of the machine
-//! that it is.
+//! A session of any processor, from the files that it takes of what a store keeps to its end, and the step of the
+//! machine that it is.
 #![tactic(auto)]
 
 mod ending;

@@ -32,7 +32,8 @@ IsName (c ∷ cs) = IsTrue (starts_name c) × IsTrue (list_all is_name_byte cs)
 pub data IsBody (mark : ℕ) : List ℕ → List ℕ → Type 0 where
   nothing : IsBody mark [] []
   plain : (c : ℕ) (bytes s : List ℕ) → c ≢ mark → c ≢ 92 → IsBody mark bytes s → IsBody mark (c ∷ bytes) (c ∷ s)
-  escape : (c d : ℕ) (bytes s : List ℕ) → escaped c ≡ Some d → IsBody mark bytes s → IsBody mark (92 ∷ c ∷ bytes) (d ∷ s)
+  escape : (c d : ℕ) (bytes s : List ℕ) → escaped c ≡ Some d → IsBody mark bytes s
+      → IsBody mark (92 ∷ c ∷ bytes) (d ∷ s)
 
 -- single or double quotes, and a body between
 pub record IsQuoted (bytes s : List ℕ) : Type 0 where
@@ -70,16 +71,20 @@ pub data IsSubject (E : List ℕ → Term → Type 0) : List ℕ → Term → Ty
 pub data IsCall (E : List ℕ → Term → Type 0) (before : Term) : List ℕ → Term → Type 0 where
   no_argument : (f : Nullary) (u v : List ℕ) → AreSpaces u → AreSpaces v →
       IsCall E before (nullary_name f ++ (u ++ (40 ∷ (v ++ (41 ∷ []))))) (alone f before)
-  one_argument : (f : Unary) (u v first w : List ℕ) (x : Term) → AreSpaces u → AreSpaces v → IsArgument E first x → AreSpaces w →
+  one_argument : (f : Unary) (u v first w : List ℕ) (x : Term) → AreSpaces u → AreSpaces v → IsArgument E first x
+      → AreSpaces w →
       IsCall E before (unary_name f ++ (u ++ (40 ∷ (v ++ (first ++ (w ++ (41 ∷ []))))))) (with_one f before x)
   two_arguments : (f : Binary) (u v first w w' second w'' : List ℕ) (x y : Term) → AreSpaces u → AreSpaces v →
       IsArgument E first x → AreSpaces w → AreSpaces w' → IsArgument E second y → AreSpaces w'' →
-      IsCall E before (binary_name f ++ (u ++ (40 ∷ (v ++ (first ++ (w ++ (44 ∷ (w' ++ (second ++ (w'' ++ (41 ∷ []))))))))))) (with_two f before x y)
+      IsCall E before (binary_name f
+      ++ (u ++ (40 ∷ (v ++ (first ++ (w ++ (44 ∷ (w' ++ (second ++ (w'' ++ (41 ∷ [])))))))))))
+      (with_two f before x y)
 
 -- a subject, and calls from the left
 pub data IsExpression (E : List ℕ → Term → Type 0) : List ℕ → Term → Type 0 where
   subject : (bytes : List ℕ) (t : Term) → IsSubject E bytes t → IsExpression E bytes t
-  call : (front u v bytes : List ℕ) (t t' : Term) → IsExpression E front t → AreSpaces u → AreSpaces v → IsCall E t bytes t' →
+  call : (front u v bytes : List ℕ) (t t' : Term) → IsExpression E front t → AreSpaces u → AreSpaces v
+      → IsCall E t bytes t' →
       IsExpression E (front ++ (u ++ (58 ∷ (v ++ bytes)))) t'
 
 -- an expression between ${ and }

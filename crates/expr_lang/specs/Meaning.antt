@@ -14,7 +14,8 @@ term_value find (attribute name) = bounded (unwrap_or (find name) [])
 term_value find (constant v) = Ok v
 term_value find (alone f t) = term_value find t >>= λ v. given_alone f v
 term_value find (with_one f t x) = term_value find t >>= λ v. term_value find x >>= λ a. given_one f v a
-term_value find (with_two f t x y) = term_value find t >>= λ v. term_value find x >>= λ a. term_value find y >>= λ b. given_two f v a b
+term_value find (with_two f t x y) =
+    term_value find t >>= λ v. term_value find x >>= λ a. term_value find y >>= λ b. given_two f v a b
 
 -- the texts of all parts, joined
 abbrev pub joined_text : Attributes → List Part → Answer (List ℕ)

@@ -84,7 +84,8 @@ number_of sign digits =
 
 unfoldable pub number_read : List ℕ → Reading ℤ
 number_read bytes =
-    number_of (sign_of bytes) (front_while is_digit (unsigned bytes)) >>= λ z. Some (z, behind_while is_digit (unsigned bytes))
+    number_of (sign_of bytes) (front_while is_digit (unsigned bytes))
+    >>= λ z. Some (z, behind_while is_digit (unsigned bytes))
 
 unfoldable pub truth_read : List ℕ → Reading Bool
 truth_read bytes =
@@ -117,16 +118,19 @@ module _ (E : List ℕ → Reading Term) where
   subject_read [] = None
   subject_read (c ∷ bytes) =
       if is_mark c then quoted_read (c ∷ bytes) >>= (λ x. Some (attribute x.0, x.1)) else
-      if starts_name c then name_read (front_while is_name_byte (c ∷ bytes)) (behind_while is_name_byte (c ∷ bytes)) else None
+      if starts_name c then name_read (front_while is_name_byte (c ∷ bytes))
+      (behind_while is_name_byte (c ∷ bytes)) else None
 
   -- the arguments of a function, behind its parenthesis
   unfoldable pub arguments_read : Term → Function → List ℕ → Reading Term
   arguments_read t (Alone f) bytes = behind_token (codes ")") bytes >>= λ rest. Some (alone f t, rest)
   arguments_read t (WithOne f) bytes =
-      argument_read (behind_spaces bytes) >>= λ x. behind_token (codes ")") x.1 >>= λ rest. Some (with_one f t x.0, rest)
+      argument_read (behind_spaces bytes) >>= λ x. behind_token (codes ")") x.1
+      >>= λ rest. Some (with_one f t x.0, rest)
   arguments_read t (WithTwo f) bytes =
       argument_read (behind_spaces bytes) >>= λ x. behind_token (codes ",") x.1 >>= λ rest.
-      argument_read (behind_spaces rest) >>= λ y. behind_token (codes ")") y.1 >>= λ end. Some (with_two f t x.0 y.0, end)
+      argument_read (behind_spaces rest) >>= λ y. behind_token (codes ")") y.1
+      >>= λ end. Some (with_two f t x.0 y.0, end)
 
   unfoldable pub call_read : Term → List ℕ → Reading Term
   call_read t bytes =

@@ -73,7 +73,8 @@ fn call_value<S: Subject>(
     before: Val,
     subject: &S,
 ) -> Result<Val, EvalError>
-    ensures { (t : Term) → term_value (S.attributes subject.now) t ≡ Ok (seen before) → Gives seen result (term_value (S.attributes subject.now) (call_term call.now t)) }
+    ensures { (t : Term) → term_value (S.attributes subject.now) t ≡ Ok (seen before)
+        → Gives seen result (term_value (S.attributes subject.now) (call_term call.now t)) }
 {
     match call {
         Call::Alone(function) => apply_alone(alloc, *function, before),

@@ -72,8 +72,11 @@ fn read_pieces(alloc: Global, text: &str) -> Result<Vec<Piece>, ExprError>
 
 /// Adds a run of plain characters, where it has any.
 fn push_plain(pieces: &mut Vec<Piece>, plain: String) -> Result<(), ExprError>
-    ensures pieces { IfOk result (λ _. flat_map piece_parts pieces.new.items ≡ flat_map piece_parts pieces.old.items ++ map byte (string_bytes plain)) }
-    ensures parts { AllByRecursion HasParts pieces.old.items → IfOk result (λ _. AllByRecursion HasParts pieces.new.items) }
+    ensures pieces { IfOk result
+        (λ _. flat_map piece_parts pieces.new.items
+        ≡ flat_map piece_parts pieces.old.items ++ map byte (string_bytes plain)) }
+    ensures parts { AllByRecursion HasParts pieces.old.items
+        → IfOk result (λ _. AllByRecursion HasParts pieces.new.items) }
     ensures memory { IfErr result (λ e. e ≡ Memory) }
 {
     if !plain.is_empty() {

@@ -57,14 +57,16 @@ session zero state taken given =
 session (suc place) state taken given =
     record { flow = fixed_flow; place = suc place; processor = put; state = state; taken = taken; given = given }
 
--- What the step makes of the state is what the session settles that is given the file's bytes too; whether the bytes are
--- still at hand as it settles is no matter.
+-- What the step makes of the state is what the session settles that is given the file's bytes too; whether the bytes
+-- are still at hand as it settles is no matter.
 abbrev pub ComingSettles : Type 0
 ComingSettles = (m after : Machine) (moment : ℕ) (name bytes : List ℕ) (left : Option (List ℕ)) (outcome : Outcome)
     → step fixed_flow m (got moment name) ≡ Some after
     → bytes_of m.world.inbox name ≡ Some bytes
-    → act get.kind [] (record { moment = moment; index = 0; there = false; file = Some name; bytes = Some bytes }) ≡ Some outcome
-    → settle (session 0 m.state [] (record { moment = moment; index = 0; there = false; file = Some name; bytes = left })) outcome
+    → act get.kind [] (record { moment = moment; index = 0; there = false; file = Some name; bytes = Some bytes })
+    ≡ Some outcome
+    → settle (session 0 m.state []
+    (record { moment = moment; index = 0; there = false; file = Some name; bytes = left })) outcome
     ≡ after.state
 
 -- ---- a file goes out
@@ -89,7 +91,8 @@ GoingSettles = (m after : Machine) (moment : ℕ) (file : QueuedFile) (outcome :
     → Contains (waiting m) file → file.batch ≡ None
     → step fixed_flow m (gone_out moment file.number (is_there m.world (file ∷ []))) ≡ Some after
     → act put.kind (as_taken m.state file ∷ [])
-    (record { moment = moment; index = 0; there = is_there m.world (file ∷ []); file = None; bytes = None }) ≡ Some outcome
+    (record { moment = moment; index = 0; there = is_there m.world (file ∷ []); file = None; bytes = None })
+    ≡ Some outcome
     → settle (session 1 m.state (file ∷ [])
     (record { moment = moment; index = 0; there = is_there m.world (file ∷ []); file = None; bytes = None })) outcome
     ≡ after.state

@@ -77,7 +77,8 @@ refused_by rule (made.Refused refusal) =
 -- the first of the made processors, from this place on, that was refused by a rule
 abbrev pub first_refused : Rule → ℕ → List Made → Option Path
 first_refused rule place [] = None
-first_refused rule place (made ∷ more) = option_or (option_map (in_list_item Processors place) (refused_by rule made)) (first_refused rule (suc place) more)
+first_refused rule place (made ∷ more) =
+    option_or (option_map (in_list_item Processors place) (refused_by rule made)) (first_refused rule (suc place) more)
 
 abbrev pub IsProcessorMade : Made → Type 0
 IsProcessorMade (made.Processor processor) = Unit {0}

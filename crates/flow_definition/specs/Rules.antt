@@ -1,4 +1,5 @@
--- The rules, one for each way to be wrong. Each says where in an object it is broken first, as a path from the object on.
+-- The rules, one for each way to be wrong. Each says where in an object it is broken first, as a path from the object
+-- on.
 use Rattle.std.specs.Prelude.{ℕ, ◌&&◌, ◌||◌, Bool, true, false, not, List, [], ◌∷◌, ◌++◌, length, nat_lt, Option, Some, None, option_map, option_and_then, is_some, is_none, bytes_eq, find, count_by, if◌then◌else◌}
 use Rattle.std.specs.Option.{option_map_or}
 use Rattle.std.specs.List.{list_any}
@@ -87,8 +88,8 @@ unknown_end top connection =
     if is_unknown_source top connection then Some (in_field From)
     else if is_unknown_target top connection then Some (in_field To) else None
 
--- ---- a relationship of a processor is neither terminated nor in a connection, or both; a name is no relationship of its
--- processor, or stands earlier in its list. Where no type is known nothing is known of its relationships
+-- ---- a relationship of a processor is neither terminated nor in a connection, or both; a name is no relationship of
+-- its processor, or stands earlier in its list. Where no type is known nothing is known of its relationships
 
 abbrev pub leaves : Data → Data → Bool
 leaves processor connection = option_map_or (λ id. has_text From id connection) (text_at Id processor) false

@@ -1,6 +1,6 @@
--- The types of processors, a row for each: its name, whether it makes files and takes none, its properties, ascending by
--- the bytes of their names, and its relationships in their order. Of a property: its name, what it may hold, and what a
--- missing one stands for; a property without a default is required.
+-- The types of processors, a row for each: its name, whether it makes files and takes none, its properties, ascending
+-- by the bytes of their names, and its relationships in their order. Of a property: its name, what it may hold, and
+-- what a missing one stands for; a property without a default is required.
 use Rattle.std.specs.Prelude.{ℕ, Bool, true, false, List, [], ◌∷◌, Option, Some, None, codes, find, bytes_eq}
 use Rattle.machine_model.specs.declared.limits.TheConstants.{GENERATED_MAX}
 use Rattle.flow_definition.specs.declared.processor_type.ProcessorType.{ProcessorType}
@@ -42,7 +42,8 @@ pub record PropertyRow : Type 0 where
   pub default : Option (List ℕ)
 
 abbrev pub property_row : Property → PropertyRow
-property_row FileFilter = record { name = codes "File Filter"; form = form.WholePattern; default = Some (codes "[^.].*") }
+property_row FileFilter =
+    record { name = codes "File Filter"; form = form.WholePattern; default = Some (codes "[^.].*") }
 property_row Count = record { name = codes "Count"; form = form.Number 0 GENERATED_MAX; default = None }
 property_row CustomText = record { name = codes "Custom Text"; form = form.Expression; default = Some [] }
 property_row ConflictResolution = record {

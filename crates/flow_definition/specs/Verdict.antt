@@ -73,12 +73,14 @@ IsAnswerOf Risen bytes top answer =
 abbrev pub IsAnswerTo : (Risen : Type 0) → List ℕ → Option Data → Result Flow FlowError → Type 0
 IsAnswerTo Risen bytes None answer = Refuses (NotJson, []) answer
 IsAnswerTo Risen bytes (Some top) (Ok flow) = IsAnswerOf Risen bytes top (Ok flow)
-IsAnswerTo Risen bytes (Some top) (Err (error.Rule rule place)) = IsAnswerOf Risen bytes top (Err (error.Rule rule place))
+IsAnswerTo Risen bytes (Some top) (Err (error.Rule rule place)) =
+    IsAnswerOf Risen bytes top (Err (error.Rule rule place))
 IsAnswerTo Risen bytes (Some top) (Err error.Memory) = Unit {0}
 
 abbrev pub IsAnswer : (Risen : Type 0) → List ℕ → Result Flow FlowError → Type 0
 IsAnswer Risen bytes answer =
-    MatchBool (nat_lt TEXT_MAX (length bytes)) (Refuses (TooMany, []) answer) (IsAnswerTo Risen bytes (object_in bytes) answer)
+    MatchBool (nat_lt TEXT_MAX (length bytes)) (Refuses (TooMany, []) answer)
+    (IsAnswerTo Risen bytes (object_in bytes) answer)
 
 -- a pattern is too big
 abbrev pub IsPatternTooBig : Result Flow FlowError → Type 0

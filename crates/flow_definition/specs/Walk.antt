@@ -22,13 +22,16 @@ in_top _ top = None
 
 -- in a processor of the text, and the ones before it
 abbrev pub in_processor : Rule → Data → List Data → Data → Option Path
-in_processor MissingField top earlier processor = option_or (missing_field level.Processor processor) (missing_property processor)
+in_processor MissingField top earlier processor =
+    option_or (missing_field level.Processor processor) (missing_property processor)
 in_processor UnknownType top earlier processor = unknown_type processor
 in_processor DoubleId top earlier processor = doubled_id earlier processor
 in_processor RelationshipUnconnected top earlier processor = unconnected top processor
-in_processor BadProperty top earlier processor = option_or (misshapen_field level.Processor processor) (bad_property processor)
+in_processor BadProperty top earlier processor =
+    option_or (misshapen_field level.Processor processor) (bad_property processor)
 in_processor UnknownField top earlier processor = unknown_field level.Processor processor
-in_processor BadNumber top earlier processor = option_or (bad_number level.Processor processor) (bad_number_property processor)
+in_processor BadNumber top earlier processor =
+    option_or (bad_number level.Processor processor) (bad_number_property processor)
 in_processor _ top earlier processor = None
 
 -- in a connection of the text, and the ones before it
@@ -57,7 +60,8 @@ in_object rule earlier d = if is_object d then rule earlier d else None
 abbrev pub first_in : (List Data → Data → Option Path) → Field → (earlier objects : List Data) → Option Path
 first_in rule f earlier [] = None
 first_in rule f earlier (d ∷ ds) =
-    option_or (option_map (in_list_item f (length earlier)) (in_object rule earlier d)) (first_in rule f (earlier ++ d ∷ []) ds)
+    option_or (option_map (in_list_item f (length earlier)) (in_object rule earlier d))
+    (first_in rule f (earlier ++ d ∷ []) ds)
 
 abbrev pub first_place : Rule → Data → Option Path
 first_place rule top =

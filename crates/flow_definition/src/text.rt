@@ -100,7 +100,8 @@ fn read_top<P: Patterns>(
     top: &Value,
     patterns: &mut P,
 ) -> Result<Flow, FlowError>
-    ensures answer { IsAnswerOf (HasRisen (P.faults patterns.old) (P.faults patterns.new)) bytes.now (view top.now) result }
+    ensures answer { IsAnswerOf (HasRisen (P.faults patterns.old) (P.faults patterns.new)) bytes.now
+        (view top.now) result }
     ensures count { CountsFaults (P.faults patterns.old) (P.faults patterns.new) (IsPatternTooBig result) }
 {
     match first_of(first_rules(), top) {
@@ -116,7 +117,8 @@ fn read_behind<P: Patterns>(
     top: &Value,
     patterns: &mut P,
 ) -> Result<Flow, FlowError>
-    ensures answer { IsAnswerBehind (HasRisen (P.faults patterns.old) (P.faults patterns.new)) bytes.now (view top.now) result }
+    ensures answer { IsAnswerBehind (HasRisen (P.faults patterns.old) (P.faults patterns.new)) bytes.now
+        (view top.now) result }
     ensures count { CountsFaults (P.faults patterns.old) (P.faults patterns.new) (IsPatternTooBig result) }
 {
     let made = make_all(alloc, items_at(top, Field::Processors), patterns)?;

@@ -69,7 +69,8 @@ fn first_in<'a>(
     top: &'a Value,
     items: &'a [Value],
 ) -> Option<Place<'a>>
-    ensures { option_map place_path result ≡ first_in (in_level level rule (view top.now)) list [] (map view items.now) }
+    ensures { option_map place_path result
+        ≡ first_in (in_level level rule (view top.now)) list [] (map view items.now) }
 {
     'items: for (place, item) in items.iter().enumerate() {
         if let Some(part) = in_object(level, rule, top, &items[..place], item) {
@@ -133,7 +134,8 @@ fn in_processor<'a>(
 }
 
 fn either<'a>(first: Option<Part<'a>>, second: Option<Part<'a>>) -> Option<Part<'a>>
-    ensures { option_map part_path result ≡ option_or (option_map part_path first.entry) (option_map part_path second.entry) }
+    ensures { option_map part_path result
+        ≡ option_or (option_map part_path first.entry) (option_map part_path second.entry) }
 {
     match first {
         Some(part) => Some(part),

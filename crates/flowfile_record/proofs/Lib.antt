@@ -8,3 +8,4 @@ pub mod Numbers
 pub mod Wholes
 pub mod Same
 pub mod Search
+pub mod Sizes

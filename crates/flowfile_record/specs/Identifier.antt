@@ -8,7 +8,8 @@ use Rattle.flowfile_record.specs.declared.identifier.TheConstants.{VERSION, VARI
 -- other 12 bits, the variant 10, and 62 bits of the flow file's number.
 abbrev pub identifier_number : ℕ → ℕ → ℕ
 identifier_number store number =
-    store % STORE_LIMIT / 2 ^ 12 * 2 ^ 80 + VERSION * 2 ^ 76 + store % 2 ^ 12 * 2 ^ 64 + VARIANT * 2 ^ 62 + number % NUMBER_LIMIT
+    store % STORE_LIMIT / 2 ^ 12 * 2 ^ 80 + VERSION * 2 ^ 76 + store % 2 ^ 12 * 2 ^ 64 + VARIANT * 2 ^ 62
+    + number % NUMBER_LIMIT
 
 unfoldable pub identifier : ℕ → ℕ → List ℕ
 identifier store number = to_be_bytes w128 (identifier_number store number)
@@ -21,4 +22,5 @@ pub record IsHeldWhole (store number : ℕ) : Type 0 where
 -- no other two have this identifier
 abbrev pub IsOneOfAKind : ℕ → ℕ → Type 0
 IsOneOfAKind store number =
-    (other n : ℕ) → IsHeldWhole store number → IsHeldWhole other n → identifier store number ≡ identifier other n → (store ≡ other) × (number ≡ n)
+    (other n : ℕ) → IsHeldWhole store number → IsHeldWhole other n → identifier store number ≡ identifier other n
+    → (store ≡ other) × (number ≡ n)

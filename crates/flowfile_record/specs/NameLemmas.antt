@@ -8,11 +8,13 @@ use Rattle.flowfile_record.specs.Name.{IsName, is_name}
 
 pub name-some : (text : List ℕ) → IsName text → 0 < length text
 unfolding is_name
-name-some text is = ltb-true _ _ (and_parts _ _ (and_parts _ _ (and_parts _ _ (and_parts _ _ (and_parts _ _ (and_parts _ _ is).0).0).0).0).0).0
+name-some text is = ltb-true _ _
+    (and_parts _ _ (and_parts _ _ (and_parts _ _ (and_parts _ _ (and_parts _ _ (and_parts _ _ is).0).0).0).0).0).0
 
 pub name-most : (text : List ℕ) → IsName text → length text ≤ NAME_MAX
 unfolding is_name
-name-most text is = leb-true _ _ (and_parts _ _ (and_parts _ _ (and_parts _ _ (and_parts _ _ (and_parts _ _ (and_parts _ _ is).0).0).0).0).0).1
+name-most text is = leb-true _ _
+    (and_parts _ _ (and_parts _ _ (and_parts _ _ (and_parts _ _ (and_parts _ _ (and_parts _ _ is).0).0).0).0).0).1
 
 pub name-utf8 : (text : List ℕ) → IsName text → IsUtf8 text
 unfolding is_name

@@ -14,7 +14,8 @@ item_of number n (item ∷ items) = if number item == n then Some item else item
 -- the elements and one more, in the order of their numbers
 abbrev pub with_item : {A : Type 0} → (A → ℕ) → A → List A → List A
 with_item number new [] = new ∷ []
-with_item number new (item ∷ items) = if nat_lt (number item) (number new) then item ∷ with_item number new items else new ∷ item ∷ items
+with_item number new (item ∷ items) =
+    if nat_lt (number item) (number new) then item ∷ with_item number new items else new ∷ item ∷ items
 
 -- the elements but that of a number
 abbrev pub without_item : {A : Type 0} → (A → ℕ) → ℕ → List A → List A

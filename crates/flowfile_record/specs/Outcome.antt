@@ -38,7 +38,8 @@ content_of taken (body.New bytes) = bytes
 
 abbrev pub same_pairs : List (List ℕ × List ℕ) → List (List ℕ × List ℕ) → Bool
 same_pairs [] [] = true
-same_pairs (pair ∷ pairs) (other ∷ others) = bytes_eq pair.0 other.0 && bytes_eq pair.1 other.1 && same_pairs pairs others
+same_pairs (pair ∷ pairs) (other ∷ others) =
+    bytes_eq pair.0 other.0 && bytes_eq pair.1 other.1 && same_pairs pairs others
 same_pairs _ _ = false
 
 abbrev pub same_attributes : AttributeMap → AttributeMap → Bool
@@ -46,7 +47,8 @@ same_attributes a b = same_pairs (entries a) (entries b)
 
 -- what a made file without a `filename` counts for the one that it is given later
 abbrev pub filename_to_come : Origin → AttributeMap → ℕ
-filename_to_come origin attributes = if is_made origin && not (contains_key attributes (codes "filename")) then FILENAME_SIZE else 0
+filename_to_come origin attributes =
+    if is_made origin && not (contains_key attributes (codes "filename")) then FILENAME_SIZE else 0
 
 -- ---- what holds of each file of an outcome, whose session has so many relationships and took contents of these sizes
 
@@ -86,7 +88,8 @@ StandsInTurn place count _ = count ≤ place
 abbrev pub AreInTurn : (place count : ℕ) → List Worked → Type 0
 AreInTurn place count [] = count ≤ place
 AreInTurn place count (file ∷ files) =
-    StandsInTurn place count file.origin × All (λ parent. parent < place) (parents_of file.origin) × AreInTurn (place + 1) count files
+    StandsInTurn place count file.origin × All (λ parent. parent < place) (parents_of file.origin)
+    × AreInTurn (place + 1) count files
 
 -- The outcome of a session with so many relationships, which took files with contents of these sizes: all taken files
 -- at their places, then made ones behind their parents, each within the limits of a flow file and all together within

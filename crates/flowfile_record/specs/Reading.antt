@@ -96,7 +96,8 @@ unfoldable pub raw_at : ℕ → Reading (List ℕ)
 raw_at size bytes = if nat_lt (length bytes) size then Err (length bytes) else Ok (take size bytes, drop size bytes)
 
 unfoldable pub uint_at : Width → Reading ℕ
-uint_at w bytes = if nat_lt (length bytes) (byte_len w) then Err (length bytes) else Ok (from_be_bytes w (take (byte_len w) bytes), drop (byte_len w) bytes)
+uint_at w bytes = if nat_lt (length bytes) (byte_len w)
+    then Err (length bytes) else Ok (from_be_bytes w (take (byte_len w) bytes), drop (byte_len w) bytes)
 
 -- a number of a file, an arrival, an event, a batch or a log, a counter of these, or a count
 unfoldable pub number_at : Reading ℕ
@@ -104,7 +105,8 @@ number_at = such (λ n. nat_lt n NUMBER_LIMIT) (uint_at w64)
 
 -- so many bytes of UTF-8, of a field that begins where so many are left
 unfoldable pub chars_at : ℕ → ℕ → Reading (List ℕ)
-chars_at left size bytes = if nat_le size (length bytes) && is_utf8 (take size bytes) then Ok (take size bytes, drop size bytes) else Err left
+chars_at left size bytes =
+    if nat_le size (length bytes) && is_utf8 (take size bytes) then Ok (take size bytes, drop size bytes) else Err left
 
 -- UTF-8 behind its length; what can't be read is the whole field
 unfoldable pub utf8_at : Width → Reading (List ℕ)

@@ -273,7 +273,8 @@ fn size_with(pairs: &[Pair], size: u64, place: Result<usize, usize>, key: &str, 
     requires key_within { length key.now ≤ KEY_MAX }
     requires found { IfOk place (IsAt (slice_cmp nat_cmp) (each key_and_value pairs.now) key.now) }
     requires absent { IfErr place (IsGap (slice_cmp nat_cmp) (each key_and_value pairs.now) key.now) }
-    ensures { result ≡ sum_by pair_size (put (slice_cmp nat_cmp) key.now value.now (each key_and_value pairs.now)) + COUNT_SIZE }
+    ensures { result ≡ sum_by pair_size
+        (put (slice_cmp nat_cmp) key.now value.now (each key_and_value pairs.now)) + COUNT_SIZE }
 {
     match place {
         Ok(place) => size - pairs[place].value.as_str().len() as u64 + value.len() as u64,
@@ -290,7 +291,10 @@ fn store(
 ) -> Result<(), AllocError>
     requires found { IfOk place (IsAt (slice_cmp nat_cmp) (each key_and_value pairs.old.items) key.now) }
     requires absent { IfErr place (IsGap (slice_cmp nat_cmp) (each key_and_value pairs.old.items) key.now) }
-    ensures { each key_and_value pairs.new.items ≡ (if is_ok result then put (slice_cmp nat_cmp) key.now value.now (each key_and_value pairs.old.items) else each key_and_value pairs.old.items) }
+    ensures { each key_and_value pairs.new.items
+        ≡ (if is_ok result
+        then put (slice_cmp nat_cmp) key.now value.now (each key_and_value pairs.old.items)
+        else each key_and_value pairs.old.items) }
 {
     let alloc = *pairs.allocator();
     let value = Text::from_str(alloc, value)?;
@@ -306,7 +310,8 @@ fn store(
 
 // Keeps the pairs that stand in the attributes.
 fn keep_standing_in(pairs: &mut Vec<Pair>, attributes: &Attributes)
-    ensures { pairs.new.items ≡ filter (λ pair. same_text (Some pair.value) (map.get attributes.now pair.key)) pairs.old.items }
+    ensures { pairs.new.items
+        ≡ filter (λ pair. same_text (Some pair.value) (map.get attributes.now pair.key)) pairs.old.items }
 {
     pairs.retain(
         |pair: &Pair| -> bool

@@ -1,7 +1,8 @@
 //! The plain fields of an encoding: numbers (big-endian), texts, lists of numbers and digests.
 //!
 //! A reader takes a field from the front of some bytes, and gives its value and the bytes behind it. Where the
-//! field can't be read, it tells how many bytes are left from the field on. A writer adds a field at the end.
+//! field can't be read, it tells how many bytes are left from the field on. A writer adds a field at the end, where
+//! there has to be room for it.
 mod fault;
 mod law;
 mod read;
@@ -13,6 +14,4 @@ pub use read::{
     read_digest, read_long, read_number, read_numbers, read_text, read_u8, read_u16, read_u32,
     read_u64,
 };
-pub use write::{
-    write_digest, write_long, write_numbers, write_text, write_u8, write_u16, write_u32, write_u64,
-};
+pub use write::{put, put_long, put_numbers, put_text, put_u8, put_u16, put_u32, put_u64};

@@ -30,7 +30,8 @@ pub fn limits_of_a_session()
     ensures taken { TAKEN_MAX ≡ 1_000 }
     ensures attributes { SESSION_ATTRIBUTES_MAX ≡ 64 * 2 ^ 20 }
     ensures written { WRITTEN_MAX ≡ 64 * 2 ^ 20 }
-    ensures filename { (store number : ℕ) → pair_size (codes "filename", hyphenated_text lower (identifier store number)) ≡ FILENAME_SIZE }
+    ensures filename { (store number : ℕ)
+        → pair_size (codes "filename", hyphenated_text lower (identifier store number)) ≡ FILENAME_SIZE }
 {}
 
 /// The limits of a state.

@@ -36,7 +36,10 @@ impl<T: Numbered> Model for NumberedList<T> {
     ghost use Rattle.std.specs.Prelude.{◌-◌, vec_len, vec_capacity};
     ghost use Rattle.flowfile_record.specs.Slots.{items_of, AreSlots};
 
-    ghost view = { λ list. record { items = items_of list.slots.items; room = vec_capacity list.slots - vec_len list.slots } };
+    ghost view = { λ list. record {
+      items = items_of list.slots.items;
+      room = vec_capacity list.slots - vec_len list.slots;
+    } };
 
     ghost invariant = { λ list. AreSlots T.number list.slots.items list.held };
 }
@@ -87,7 +90,8 @@ impl<T: Numbered> NumberedList<T> {
 }
 
 impl<T: Numbered + Drop> NumberedList<T> {
-    /// Makes room for so many more elements. The elements stay, and no room is lost. It fails only where there was less.
+    /// Makes room for so many more elements. The elements stay, and no room is lost. It fails only where there was
+    /// less.
     pub fn reserve(&mut self, count: u64) -> Result<(), AllocError>
         ensures items { self.new.items ≡ self.old.items }
         ensures ok { OnOk result (count ≤ self.new.room) }
@@ -144,7 +148,8 @@ fn fill<T: Drop>(slots: &mut Vec<Slot<T>>, place: Result<usize, usize>, number: 
     requires found { IfOk place (IsAt nat_cmp (map number_and_item slots.old.items) number) }
     requires absent { IfErr place (IsGap nat_cmp (map number_and_item slots.old.items) number) }
     requires room { vec_len slots.old < vec_capacity slots.old }
-    ensures slots { map number_and_item slots.new.items ≡ put nat_cmp number (Some item) (map number_and_item slots.old.items) }
+    ensures slots { map number_and_item slots.new.items
+        ≡ put nat_cmp number (Some item) (map number_and_item slots.old.items) }
     ensures len { vec_len slots.new ≤ vec_len slots.old + 1 }
     ensures capacity { vec_capacity slots.new ≡ vec_capacity slots.old }
 {
@@ -165,7 +170,8 @@ fn fill<T: Drop>(slots: &mut Vec<Slot<T>>, place: Result<usize, usize>, number: 
 // Sweeps the empty places out, where half of all are empty.
 fn sweep<T: Drop>(slots: &mut Vec<Slot<T>>, held: usize)
     ensures items { items_of slots.new.items ≡ items_of slots.old.items }
-    ensures slots { (number : T → ℕ) (count : ℕ) → AreSlots number slots.old.items count → AreSlots number slots.new.items count }
+    ensures slots { (number : T → ℕ) (count : ℕ) → AreSlots number slots.old.items count
+        → AreSlots number slots.new.items count }
     ensures len { vec_len slots.new ≤ vec_len slots.old }
     ensures capacity { vec_capacity slots.new ≡ vec_capacity slots.old }
 {

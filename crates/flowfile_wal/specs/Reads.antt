@@ -63,7 +63,8 @@ pub record IsReadTo (number end : ℕ) (entries : List (ℕ × LogEntry)) (bytes
 
 -- A block is read into a buffer of this capacity: it is whole, and the buffer too small or its entry takes memory.
 abbrev pub EntryTakes : ℕ → Reading → Type 0
-EntryTakes capacity (Whole kind payload) = (capacity < length payload + BLOCK_OVERHEAD) ⊎ IsTrue (takes_memory kind payload)
+EntryTakes capacity (Whole kind payload) =
+    (capacity < length payload + BLOCK_OVERHEAD) ⊎ IsTrue (takes_memory kind payload)
 EntryTakes capacity (Cut need have) = ⊥
 EntryTakes capacity (Long size) = ⊥
 EntryTakes capacity (Differs stored found) = ⊥

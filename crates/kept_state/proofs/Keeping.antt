@@ -18,7 +18,8 @@ use Rattle.record_codec.specs.EntryEncoding.{IsSession, IsExpire, IsGenerator}
 use Rattle.record_codec.specs.declared.entry.SessionEntry.{SessionEntry}
 use Rattle.record_codec.specs.declared.entry.ExpireEntry.{ExpireEntry}
 use Rattle.record_codec.specs.declared.entry.LogEntry.TheVariants.{Session, Expire}
-use Rattle.record_codec.proofs.Sizes.{head_size, numbers_size}
+use Rattle.flowfile_record.proofs.Sizes.{numbers_size}
+use Rattle.record_codec.proofs.Sizes.{head_size}
 use Rattle.checkpoint_store.specs.Consistent.{AreDistinctBy, HasCounters, IsFileIn, IsBatchIn, IsConsistent, record_size}
 use Rattle.checkpoint_store.specs.Snapshot.{head_in}
 use Rattle.kept_state.specs.Applied.{number_of, is_among, left_after, with_files, with_count, session_applied, applied}

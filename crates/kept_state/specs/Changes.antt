@@ -45,8 +45,14 @@ session_of k s = record {
 abbrev pub entry_of : Kept → Change → LogEntry
 entry_of k (change.Session s) = Session (session_of k s)
 entry_of k (change.Expire connection moment numbers events) =
-    Expire (record { connection = connection; moment = moment; numbers = numbers; last_event = k.last_event + length events })
-entry_of k (change.SwapOut connection batch numbers) = SwapOut (record { connection = connection; batch = batch; numbers = numbers })
+    Expire (record {
+      connection = connection;
+      moment = moment;
+      numbers = numbers;
+      last_event = k.last_event + length events;
+    })
+entry_of k (change.SwapOut connection batch numbers) =
+    SwapOut (record { connection = connection; batch = batch; numbers = numbers })
 entry_of k (change.SwapIn connection batch files) = SwapIn connection batch
 
 -- the files that an entry places
@@ -94,7 +100,8 @@ HasContentLike at (suc place) (a ∷ files) = HasContentLike at place files
 abbrev pub no_files : ℕ → List FlowFile
 no_files batch = []
 
--- a settled session whose entry fits, but that it may pass a limit, and has an encoding unless it passes that of numbers
+-- a settled session whose entry fits, but that it may pass a limit, and has an encoding unless it passes that of
+-- numbers
 pub record MaySettle (k : Kept) (s : Settled) : Type 0 where
   pub suits : session_suits no_files k (session_of k s) ≡ true
   pub gone : length s.gone < 2 ^ 32

@@ -17,9 +17,11 @@ pub record InMemory : Type 0 where
   pub room : ℕ
 
 abbrev pub in_memory_code : Coded InMemory
-in_memory_code = code_by (Kept × ℕ) (coded× kept_code coded_ℕ) (λ m. (m.kept, m.room)) (λ p. record { kept = p.0; room = p.1 }) (λ _. refl)
+in_memory_code = code_by (Kept × ℕ) (coded× kept_code coded_ℕ) (λ m. (m.kept, m.room))
+    (λ p. record { kept = p.0; room = p.1 }) (λ _. refl)
 
--- what a state in memory keeps true of its parts: no batch is swapped out, and the records of the files have so many bytes
+-- what a state in memory keeps true of its parts: no batch is swapped out, and the records of the files have so many
+-- bytes
 pub record IsHeldState (stored : Stored) (bytes : ℕ) : Type 0 where
   pub consistent : IsConsistent (kept_of stored)
   pub no_batches : stored.batches.items ≡ []

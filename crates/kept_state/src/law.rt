@@ -60,7 +60,8 @@ pub fn other_files_stay()
 
 /// Where no batch is swapped out, which files a batch would have doesn't matter.
 pub fn without_batches_their_files_dont_matter()
-    ensures fits { (files : ℕ → List File) (k : Kept) (e : Entry) → k.batches ≡ [] → fits files k e ≡ fits no_files k e }
+    ensures fits { (files : ℕ → List File) (k : Kept) (e : Entry) → k.batches ≡ []
+        → fits files k e ≡ fits no_files k e }
     ensures applied { (files : ℕ → List File) (k : Kept) (e : Entry) → k.batches ≡ [] → fits no_files k e ≡ true
         → applied files k e ≡ applied no_files k e }
 {}

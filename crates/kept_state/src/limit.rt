@@ -45,7 +45,8 @@ impl Limit {
 
     /// The first limit of what lives that so many files with so many bytes pass.
     pub(crate) fn of_live(files: u64, bytes: u64) -> Option<Limit>
-        ensures { result ≡ option_or (passed which.Files LIVE_FILES_MAX files) (passed which.FileBytes LIVE_BYTES_MAX bytes) }
+        ensures { result ≡ option_or (passed which.Files LIVE_FILES_MAX files)
+            (passed which.FileBytes LIVE_BYTES_MAX bytes) }
     {
         Limit::passed(Which::Files, LIVE_FILES_MAX, files).or(Limit::passed(
             Which::FileBytes,
@@ -56,7 +57,8 @@ impl Limit {
 
     /// The first of these counters that passes the limit of numbers.
     pub(crate) fn of_numbers(files: u64, arrivals: u64, events: u64, batches: u64) -> Option<Limit>
-        ensures { result ≡ option_or (passed which.Numbers NUMBER_MAX files) (option_or (passed which.Numbers NUMBER_MAX arrivals)
+        ensures { result ≡ option_or (passed which.Numbers NUMBER_MAX files)
+            (option_or (passed which.Numbers NUMBER_MAX arrivals)
             (option_or (passed which.Numbers NUMBER_MAX events) (passed which.Numbers NUMBER_MAX batches))) }
     {
         Limit::passed(Which::Numbers, NUMBER_MAX, files)

@@ -28,8 +28,8 @@ use record_codec::{ExpireEntry, LogEntry, SessionEntry};
 use std::alloc::{AllocError, Global};
 use std::marker::Model;
 
-/// What a store keeps, and room for more files. It is consistent, and no batch is swapped out. A call looks at the files
-/// that it names alone, each in a time that grows with the logarithm of how many there are.
+/// What a store keeps, and room for more files. It is consistent, and no batch is swapped out. A call looks at the
+/// files that it names alone, each in a time that grows with the logarithm of how many there are.
 #[derive(Drop)]
 pub struct KeptState {
     stored: Stored,
@@ -104,7 +104,8 @@ impl KeptState {
         self.stored
     }
 
-    /// The limit of what lives that the state would pass with a settled session, the number of files before their bytes.
+    /// The limit of what lives that the state would pass with a settled session, the number of files before their
+    /// bytes.
     pub fn live_limit(&self, settled: &Settled) -> Option<Limit>
         requires { MaySettle self.now.kept settled.now }
         ensures { result ≡ live_limit (session_applied self.now.kept (session_of self.now.kept settled.now)) }

@@ -1,5 +1,5 @@
--- What a settled session makes of a state, where references stand for these bytes; and a state without what it tells of the
--- past.
+-- What a settled session makes of a state, where references stand for these bytes; and a state without what it tells of
+-- the past.
 use Rattle.std.specs.Prelude.{ℕ, ◌==◌, List, [], ◌++◌, map, filter, fold, unwrap_or, slice_set, Option, None, Some}
 use Rattle.std.specs.FinSet.{empty, union, from_list}
 use Rattle.std.specs.List.{enumerate_from}

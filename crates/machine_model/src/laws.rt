@@ -59,8 +59,8 @@ pub fn replay_goes_on()
     ensures joined { ReplayOfJoined }
 {}
 
-/// Neither a session nor a step nor a replay goes by what has happened before: but for events and kin, it gives the same
-/// of a state without them.
+/// Neither a session nor a step nor a replay goes by what has happened before: but for events and kin, it gives the
+/// same of a state without them.
 pub fn the_past_is_not_asked()
     ensures session { SettlesWithoutPast }
     ensures step { StepsWithoutPast }

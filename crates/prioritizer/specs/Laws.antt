@@ -38,7 +38,8 @@ pub record FirstTellerPrefers (list : List Prioritizer) (a b : Standing) : Type 
 -- a file goes first exactly where the first prioritizer to tell prefers it, or none tells and it arrived first
 abbrev pub FirstTellerDecides : Type 0
 FirstTellerDecides = (list : List Prioritizer) (a b : Standing) →
-    GoesBefore list a b ↔ (FirstTellerPrefers (prioritizers_of list) a b ⊎ (AllTie (prioritizers_of list) a b × (a.arrival < b.arrival)))
+    GoesBefore list a b ↔ (FirstTellerPrefers (prioritizers_of list) a b
+    ⊎ (AllTie (prioritizers_of list) a b × (a.arrival < b.arrival)))
 
 -- what std writes of a number reads as that number
 abbrev pub WrittenNumbersRead : Type 0
@@ -46,4 +47,6 @@ WrittenNumbersRead = (number : ℤ) → FitsSigned w64 number → number_of (sig
 
 -- a '+' (43) or a '0' (48) before digits changes nothing
 abbrev pub PlusAndZerosTellNothing : Type 0
-PlusAndZerosTellNothing = (digits : List ℕ) → is_numeral digits ≡ true → (number_of (43 ∷ digits) ≡ number_of digits) × (number_of (48 ∷ digits) ≡ number_of digits)
+PlusAndZerosTellNothing =
+    (digits : List ℕ) → is_numeral digits ≡ true
+    → (number_of (43 ∷ digits) ≡ number_of digits) × (number_of (48 ∷ digits) ≡ number_of digits)

@@ -55,7 +55,8 @@ by_parts-is Missing Missing = refl
 
 by_parts-total : IsTotalOrder by_parts
 unfolding by_parts
-by_parts-total = then_total (on_total place nat_cmp_total) (then_total (on_total number_in int_cmp_total) (on_total text_in nat_list_cmp_total))
+by_parts-total = then_total (on_total place nat_cmp_total)
+    (then_total (on_total number_in int_cmp_total) (on_total text_in nat_list_cmp_total))
 
 worth_cmp-total : IsTotalOrder worth_cmp
 worth_cmp-total = subst IsTotalOrder (λ i x y. by_parts-is x y i) by_parts-total
@@ -104,7 +105,8 @@ abbrev Decided : List Prioritizer → Standing → Standing → Type 0
 Decided list a b = FirstTellerPrefers list a b ⊎ (AllTie list a b × (a.arrival < b.arrival))
 
 -- one more before, that ties
-more_tied : (prioritizer : Prioritizer) (rest : List Prioritizer) (a b : Standing) → Ties a b prioritizer → Decided rest a b → Decided (prioritizer ∷ rest) a b
+more_tied : (prioritizer : Prioritizer) (rest : List Prioritizer) (a b : Standing) → Ties a b prioritizer
+    → Decided rest a b → Decided (prioritizer ∷ rest) a b
 more_tied prioritizer rest a b e (inl first) = inl (record {
   before = prioritizer ∷ first.before;
   teller = first.teller;
@@ -115,9 +117,19 @@ more_tied prioritizer rest a b e (inl first) = inl (record {
 })
 more_tied prioritizer rest a b e (inr last) = inr (All-cons (Ties a b) prioritizer rest e last.0, last.1)
 
-decided_by : (prioritizer : Prioritizer) (rest : List Prioritizer) (a b : Standing) (o : Ordering) → (chain_cmp rest a b ≡ Less → Decided rest a b)
-    → prioritizer_cmp prioritizer a b ≡ o → ordering_then o (chain_cmp rest a b) ≡ Less → Decided (prioritizer ∷ rest) a b
-decided_by prioritizer rest a b Less f e h = inl (record { before = []; teller = prioritizer; after = rest; parts = refl; tied = All-nil (Ties a b); prefers = e })
+decided_by : (prioritizer : Prioritizer) (rest : List Prioritizer) (a b : Standing) (o : Ordering)
+    → (chain_cmp rest a b ≡ Less → Decided rest a b)
+    → prioritizer_cmp prioritizer a b ≡ o → ordering_then o (chain_cmp rest a b) ≡ Less
+    → Decided (prioritizer ∷ rest) a b
+decided_by prioritizer rest a b Less f e h =
+    inl (record {
+      before = [];
+      teller = prioritizer;
+      after = rest;
+      parts = refl;
+      tied = All-nil (Ties a b);
+      prefers = e;
+    })
 decided_by prioritizer rest a b Equal f e h = more_tied prioritizer rest a b e (f h)
 decided_by prioritizer rest a b Greater f e h = cc h
 
@@ -125,7 +137,8 @@ decided : (list : List Prioritizer) (a b : Standing) → chain_cmp list a b ≡ 
 decided [] a b h = inr (All-nil (Ties a b), ranked a.arrival b.arrival Less (sym h))
 decided (prioritizer ∷ rest) a b h = decided_by prioritizer rest a b _ (decided rest a b) refl h
 
-chain_cmp-append : (before rest : List Prioritizer) (a b : Standing) → AllTie before a b → chain_cmp (before ++ rest) a b ≡ chain_cmp rest a b
+chain_cmp-append : (before rest : List Prioritizer) (a b : Standing) → AllTie before a b
+    → chain_cmp (before ++ rest) a b ≡ chain_cmp rest a b
 chain_cmp-append [] rest a b h = refl
 chain_cmp-append (prioritizer ∷ before) rest a b h =
     ap (λ o. ordering_then o (chain_cmp (before ++ rest) a b)) (All-head (Ties a b) prioritizer before h)

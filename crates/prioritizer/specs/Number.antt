@@ -13,7 +13,8 @@ value_of (digit ∷ digits) = (digit - 48) * 10 ^ length digits + value_of digit
 
 -- digits behind a '-', and digits behind a '+' or nothing: their number, if it has 64 signed bits
 abbrev pub below_zero : List ℕ → Option ℤ
-below_zero text = if is_numeral text && nat_le (value_of text) (2 ^ 63) then Some (neg_ℤ (pos (value_of text))) else None
+below_zero text = if is_numeral text && nat_le (value_of text) (2 ^ 63)
+    then Some (neg_ℤ (pos (value_of text))) else None
 
 abbrev pub from_zero : List ℕ → Option ℤ
 from_zero text = if is_numeral text && nat_lt (value_of text) (2 ^ 63) then Some (pos (value_of text)) else None

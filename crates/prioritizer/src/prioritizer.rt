@@ -36,7 +36,8 @@ impl Prioritizer {
 
     /// The one that has this name, and `None` exactly where none has.
     pub fn named(name: &str) -> Option<Prioritizer>
-        ensures { MatchOption result ((other : Prioritizer) → name_of other ≢ name.now) (λ found. name_of found ≡ name.now) }
+        ensures { MatchOption result ((other : Prioritizer) → name_of other ≢ name.now)
+            (λ found. name_of found ≡ name.now) }
     {
         match name {
             "FirstInFirstOut" => Some(Prioritizer::FirstInFirstOut),

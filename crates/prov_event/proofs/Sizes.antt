@@ -7,6 +7,7 @@ use Rattle.std.proofs.Math.Nat.{suc-mul}
 use Rattle.std.proofs.lemmas.List.{length-map}
 use Rattle.std.proofs.lemmas.List.Concat.{flat_map-cons}
 use Rattle.std.proofs.lemmas.List.Folds.{length-flat_map-take}
+use Rattle.flowfile_record.proofs.Sizes.{numbers_size}
 use Rattle.flowfile_record.specs.Encoding.{byte, text, long, numbers}
 use Rattle.flowfile_record.specs.Events.{code_of}
 use Rattle.flowfile_record.specs.Kin.{pairs_of}
@@ -18,13 +19,6 @@ len3 a b c = length-append (a ++ b) c ∙ ap (λ n. n + length c) (length-append
 
 len5 : (a b c d e : List ℕ) → length (a ++ b ++ c ++ d ++ e) ≡ length a + length b + length c + length d + length e
 len5 a b c d e = omega (arith, len3 (a ++ b ++ c) d e, len3 a b c)
-
-words_size : (ns : List ℕ) → length (flat_map (to_be_bytes w64) ns) ≡ 8 * length ns
-words_size [] = refl
-words_size (n ∷ ns) = omega (arith, ap length (flat_map-cons (to_be_bytes w64) n ns), length-append (to_be_bytes w64 n) (flat_map (to_be_bytes w64) ns), words_size ns)
-
-pub numbers_size : (ns : List ℕ) → length (numbers ns) ≡ 4 + 8 * length ns
-numbers_size ns = omega (arith, length-append (to_be_bytes w32 (length ns)) (flat_map (to_be_bytes w64) ns), words_size ns)
 
 pub parts_of_event : (e : Event) → length (event e) ≡ 39 + length e.component + length (numbers e.parents) + length (numbers e.children) + length e.detail + length e.digest
 unfolding event

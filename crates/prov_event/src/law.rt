@@ -17,7 +17,8 @@ pub fn numbers_of_the_format()
 /// bytes.
 pub fn events_are_read_as_encoded()
     ensures field { IsField event_at event IsEvent }
-    ensures found { (bytes : List ℕ) (value : Event) → IsBytes bytes → whole event_at bytes ≡ Ok value → IsEvent value × (bytes ≡ event value) }
+    ensures found { (bytes : List ℕ) (value : Event) → IsBytes bytes → whole event_at bytes ≡ Ok value
+        → IsEvent value × (bytes ≡ event value) }
     ensures only { (value : Event) → IsEvent value → whole event_at (event value) ≡ Ok value }
 {}
 

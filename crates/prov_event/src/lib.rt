@@ -6,7 +6,6 @@
 
 mod law;
 mod pairs;
-mod put;
 mod read;
 mod write;
 

@@ -80,7 +80,8 @@ struct Front<'a> {
 }
 
 fn read_front(bytes: &[u8]) -> Result<(Front, &[u8]), Unread>
-    ensures { Reads (λ x. ((x.0.number, (x.0.kind, (x.0.moment, (x.0.component.now, x.0.file)))), x.1.now)) result (front_at bytes.now) }
+    ensures { Reads (λ x. ((x.0.number, (x.0.kind, (x.0.moment, (x.0.component.now, x.0.file)))), x.1.now)) result
+        (front_at bytes.now) }
 {
     let (number, rest) = read_counted_number(bytes)?;
     let (kind, rest) = read_kind(rest)?;

@@ -3,7 +3,7 @@ ghost use Rattle.std.specs.Prelude.{◌≡◌, ◌+◌, ◌<◌, ◌≤◌, ◌^
 ghost use Rattle.prov_event.specs.Encoding.{IsEvent};
 ghost use Rattle.prov_event.specs.Encoding as encoding;
 
-use crate::put::{put, put_long, put_numbers, put_text, put_u8, put_u64};
+use flowfile_record::fields::{put, put_long, put_numbers, put_text, put_u8, put_u64};
 use flowfile_record::{DIGEST_SIZE, Event};
 use std::alloc::AllocError;
 

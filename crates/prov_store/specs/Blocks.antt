@@ -21,7 +21,8 @@ pub record IsPart (last : ℕ) (part : Part) (events : List Event) : Type 0 wher
 -- events that are added behind a last one, part by part
 abbrev pub AreParts : (last : ℕ) → List Part → List Event → Type 0
 AreParts last [] events = events ≡ []
-AreParts last (part ∷ parts) events = IsPart last part events × AreParts (last + part.count) parts (drop part.count events)
+AreParts last (part ∷ parts) events =
+    IsPart last part events × AreParts (last + part.count) parts (drop part.count events)
 
 -- what is known of events with their blocks
 pub record AreEncoded (first : ℕ) (events : List Event) (bytes : List ℕ) (parts : List Part) : Type 0 where

@@ -49,7 +49,8 @@ with_size file at size None = Err (Form file at)
 
 -- the event that stands where the one of this number is wanted, with the size of its block
 abbrev pub event_by : FileName → (at number : ℕ) → Reading → Result (Event × ℕ) Damage
-event_by file at number (Whole kind payload) = with_size file at (length payload + BLOCK_OVERHEAD) (event_in number kind payload)
+event_by file at number (Whole kind payload) =
+    with_size file at (length payload + BLOCK_OVERHEAD) (event_in number kind payload)
 event_by file at number (Cut need have) = Err (Short file at need have)
 event_by file at number (Long size) = Err (Form file at)
 event_by file at number (Differs stored found) = Err (Digest file at stored found)

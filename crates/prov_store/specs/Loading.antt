@@ -14,14 +14,16 @@ abbrev pub bytes_there : Files → Cursor → List ℕ
 bytes_there files cursor = drop cursor.at (files cursor.file)
 
 -- so many events were read from a place on, up to this offset
-pub record AreRead (tells : Bool) (files : Files) (start : Cursor) (many : ℕ) (events : List Event) (end : ℕ) : Type 0 where
+pub record AreRead (tells : Bool) (files : Files) (start : Cursor) (many : ℕ) (events : List Event)
+    (end : ℕ) : Type 0 where
   pub count : length events ≡ many
   pub within : end ≤ start.size
   pub says : IsTrue tells → events_from many start.file start.at start.number (bytes_there files start) ≡ Ok events
   pub reaches : IsTrue tells → end ≡ start.at + blocks_size many (bytes_there files start)
 
 -- and counted
-pub record HaveCounted (tells : Bool) (files : Files) (start : Cursor) (many : ℕ) (old new : List ℕ) (end : ℕ) : Type 0 where
+pub record HaveCounted (tells : Bool) (files : Files) (start : Cursor) (many : ℕ) (old new : List ℕ)
+    (end : ℕ) : Type 0 where
   pub events : List Event
   pub read : AreRead tells files start many events end
   pub counted : AreCounted events old new

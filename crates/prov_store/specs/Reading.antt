@@ -9,7 +9,8 @@ use Rattle.prov_store.specs.declared.read.Cursor.{Cursor}
 
 -- what stands there, with the size of its block
 abbrev pub event_there : Files → Cursor → Result (Event × ℕ) Damage
-event_there files cursor = event_by cursor.file cursor.at cursor.number (reading_of (drop cursor.at (files cursor.file)))
+event_there files cursor =
+    event_by cursor.file cursor.at cursor.number (reading_of (drop cursor.at (files cursor.file)))
 
 -- the place lies within the file, whose size is right where the disk tells
 pub record IsThere (tells : Bool) (files : Files) (cursor : Cursor) : Type 0 where

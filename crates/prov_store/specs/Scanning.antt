@@ -33,5 +33,6 @@ pub record HasRead (tells : Bool) (files : Files) (start : Cursor) (many : ℕ) 
 pub record HasSkipped (tells : Bool) (files : Files) (start : Cursor) (many : ℕ) (cursor : Cursor) : Type 0 where
   pub behind : cursor ≡ record start { at = cursor.at; number = start.number + many }
   pub within : cursor.at ≤ start.size
-  pub reaches : IsTrue tells → (events : List Event) → events_from many start.file start.at start.number (bytes_there files start) ≡ Ok events
+  pub reaches : IsTrue tells → (events : List Event)
+      → events_from many start.file start.at start.number (bytes_there files start) ≡ Ok events
       → cursor.at ≡ start.at + blocks_size many (bytes_there files start)

@@ -40,8 +40,8 @@ counts_of events = map (λ code. of_code code events) (range_with_len 1 12)
 
 -- ---- in memory
 
--- The number of the last event; where the next one goes in its file; how many there are of each kind; and the files that
--- have bytes behind the covered end, each with the size of what is covered.
+-- The number of the last event; where the next one goes in its file; how many there are of each kind; and the files
+-- that have bytes behind the covered end, each with the size of what is covered.
 pub record EventsState : Type 0 where
   pub end : ℕ
   pub offset : ℕ
@@ -67,7 +67,8 @@ pub record HasEvents (state : EventsState) (files : Files) : Type 0 where
 -- the files that have bytes behind the covered end are known
 pub record HasStale (state : EventsState) (files : Files) : Type 0 where
   pub sizes : All (λ s. s.size ≡ covered_size state.end s.file files) state.stale
-  pub others : (k : ℕ) → (Contains (map (λ s. s.file) state.stale) k → ⊥) → files (events_file k) ≡ covered state.end k files
+  pub others : (k : ℕ) → (Contains (map (λ s. s.file) state.stale) k → ⊥)
+      → files (events_file k) ≡ covered state.end k files
 
 -- nothing stands behind the covered end
 abbrev pub IsTrimmed : (last : ℕ) → Files → Type 0

@@ -55,7 +55,8 @@ impl Events {
     // Writes the blocks of these events, part by part. Answers the place behind them.
     fn write_parts<D: Disk>(&self, disk: &mut D, blocks: &EventBlocks<'_>) -> Result<Place, Failed>
         requires next { blocks.now.first ≡ self.now.end + 1 }
-        requires stands { IsTrue D.tells → (before : List TheEvent) × Stands self.now.end self.now.offset (D.held disk.old) before }
+        requires stands { IsTrue D.tells
+            → (before : List TheEvent) × Stands self.now.end self.now.offset (D.held disk.old) before }
         ensures stands { IfOk result (λ place. IsTrue D.tells → (before : List TheEvent)
             → Stands self.now.end self.now.offset (D.held disk.old) before
             → Stands place.end place.offset (D.held disk.new) (before ++ blocks.now.events)) }
@@ -93,12 +94,17 @@ fn write_part<D: Disk>(
     requires size { part.size ≡ length bytes.now }
     requires reaches { IsTrue D.tells → place.offset ≤ length (D.held disk.old (events_file (next_file place.end))) }
     ensures end { IfOk result (λ next. next.end ≡ place.end + part.count) }
-    ensures offset { IfOk result (λ next. next.offset ≡ next_offset (place.end + part.count) (place.offset + part.size)) }
+    ensures offset { IfOk result
+        (λ next. next.offset ≡ next_offset (place.end + part.count) (place.offset + part.size)) }
     ensures written { OnOk result (IsTrue D.tells
-        → At (events_file (next_file place.end)) (Overwritten place.offset bytes.now) (D.held disk.old) (D.held disk.new)) }
-    ensures torn { IsTrue D.tells → At (events_file (next_file place.end)) (Torn place.offset (length bytes.now)) (D.held disk.old) (D.held disk.new) }
+        → At (events_file (next_file place.end)) (Overwritten place.offset bytes.now) (D.held disk.old)
+        (D.held disk.new)) }
+    ensures torn { IsTrue D.tells
+        → At (events_file (next_file place.end)) (Torn place.offset (length bytes.now)) (D.held disk.old)
+        (D.held disk.new) }
     ensures images { Since D.moment D.images disk.old disk.new
-        (After (At (events_file (next_file place.end)) (Torn place.offset (length bytes.now))) (D.images disk.old (D.moment disk.old))) }
+        (After (At (events_file (next_file place.end)) (Torn place.offset (length bytes.now)))
+        (D.images disk.old (D.moment disk.old))) }
     ensures moment { D.moment disk.new ≡ next_moment (D.moment disk.old) }
     ensures cause { CountsFaults (D.faults disk.old) (D.faults disk.new) (IsErr result) }
 {

@@ -8,7 +8,8 @@ use flowfile_record::{Event, EventCounts, EventKind};
 /// Counts one event more of this kind.
 pub fn count(counts: &mut EventCounts, kind: EventKind)
     requires room { slice_index counts.old.counts (code_of kind - 1) + 1 < 2 ^ 64 }
-    ensures { counts.new.counts ≡ slice_set counts.old.counts (code_of kind - 1) (slice_index counts.old.counts (code_of kind - 1) + 1) }
+    ensures { counts.new.counts
+        ≡ slice_set counts.old.counts (code_of kind - 1) (slice_index counts.old.counts (code_of kind - 1) + 1) }
 {
     counts.counts[kind.code() as usize - 1] += 1;
 }
@@ -18,7 +19,8 @@ pub fn count_all(counts: &mut EventCounts, events: &[Event])
     requires room { All (λ n. n + length events.now < 2 ^ 64) counts.old.counts }
     requires long { length counts.old.counts ≡ 12 }
     ensures counted { AreCounted events.now counts.old.counts counts.new.counts }
-    ensures most { (most : ℕ) → All (λ n. n ≤ most) counts.old.counts → All (λ n. n ≤ most + length events.now) counts.new.counts }
+    ensures most { (most : ℕ) → All (λ n. n ≤ most) counts.old.counts
+        → All (λ n. n ≤ most + length events.now) counts.new.counts }
     ensures long { length counts.new.counts ≡ 12 }
 {
     for event in events {

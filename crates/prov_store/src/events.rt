@@ -30,9 +30,15 @@ impl Model for Events {
 
     ghost Value = { EventsState };
 
-    ghost view = { λ events. record { end = events.end; offset = events.offset; counts = events.counts.counts; stale = events.stale.items } };
+    ghost view = { λ events. record {
+      end = events.end;
+      offset = events.offset;
+      counts = events.counts.counts;
+      stale = events.stale.items;
+    } };
 
-    ghost invariant = { λ events. IsNumber events.end × (length events.counts.counts ≡ 12) × All (λ count. count ≤ events.end) events.counts.counts };
+    ghost invariant = { λ events. IsNumber events.end × (length events.counts.counts ≡ 12)
+        × All (λ count. count ≤ events.end) events.counts.counts };
 }
 
 impl Events {

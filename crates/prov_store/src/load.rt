@@ -100,7 +100,8 @@ impl Loading {
     // Finds the files behind the one that the next event goes to.
     fn find_later<D: Disk>(&mut self, alloc: Global, disk: &mut D) -> Result<(), EventsError>
         requires { IsLoaded D.tells (D.held disk.old) (self.old.end / EVENTS_PER_FILE + 1) self.old }
-        ensures loaded { OnOk result (IsLoaded D.tells (D.held disk.old) (self.old.end / EVENTS_PER_FILE + 1) self.new) }
+        ensures loaded { OnOk result
+            (IsLoaded D.tells (D.held disk.old) (self.old.end / EVENTS_PER_FILE + 1) self.new) }
         ensures later { OnOk result (IsTrue D.tells → (j : ℕ) → self.old.end / EVENTS_PER_FILE < j
             → (Contains (map (λ s. s.file) self.new.stale.items) j → ⊥) → D.held disk.old (events_file j) ≡ []) }
         ensures end { self.new.end ≡ self.old.end }
@@ -147,7 +148,8 @@ fn count_events<D: Disk>(
     requires numbers { start.number + many < 2 ^ 64 }
     requires room { All (λ n. n + many < 2 ^ 64) counts.old.counts }
     requires long { length counts.old.counts ≡ 12 }
-    ensures counted { IfOk result (HaveCounted D.tells (D.held disk.old) start many counts.old.counts counts.new.counts) }
+    ensures counted { IfOk result
+        (HaveCounted D.tells (D.held disk.old) start many counts.old.counts counts.new.counts) }
     ensures damaged { (damage : TheDamage) → IsErrOf result (EventsError.Damaged damage) → IsTrue D.tells
         → events_from many start.file start.at start.number (bytes_there (D.held disk.old) start) ≡ Err damage }
     ensures stays { Stays D.held D.moment D.images disk.old disk.new }

@@ -65,7 +65,8 @@ impl Scan {
     fn scan_files<D: Disk>(&mut self, alloc: Global, disk: &mut D) -> Result<(), EventsError>
         requires may { MayScan self.old }
         requires none { self.old.found.items ≡ [] }
-        requires has { IsTrue D.tells → (events : List TheEvent) × (events_in (D.held disk.old) self.old.end ≡ Ok events) }
+        requires has { IsTrue D.tells
+            → (events : List TheEvent) × (events_in (D.held disk.old) self.old.end ≡ Ok events) }
         ensures found { OnOk result (IsTrue D.tells → (events : List TheEvent)
             → events_in (D.held disk.old) self.old.end ≡ Ok events
             → self.new.found.items ≡ filter (is_within self.old.first self.old.last) events) }
@@ -91,7 +92,8 @@ impl Scan {
         requires may { MayScan self.old }
         requires from { (self.old.first - 1) / EVENTS_PER_FILE ≤ number }
         requires to { number ≤ (self.old.last - 1) / EVENTS_PER_FILE }
-        requires has { IsTrue D.tells → (here : List TheEvent) × (events_of_file self.old.end number (D.held disk.old) ≡ Ok here) }
+        requires has { IsTrue D.tells
+            → (here : List TheEvent) × (events_of_file self.old.end number (D.held disk.old) ≡ Ok here) }
         ensures found { OnOk result (IsTrue D.tells → (here : List TheEvent)
             → events_of_file self.old.end number (D.held disk.old) ≡ Ok here
             → self.new.found.items ≡ self.old.found.items ++ filter (is_within self.old.first self.old.last) here) }
@@ -122,7 +124,8 @@ fn skip_events<D: Disk>(disk: &mut D, start: Cursor, many: u64) -> Result<Cursor
     requires numbers { start.number + many < 2 ^ 64 }
     ensures skipped { IfOk result (HasSkipped D.tells (D.held disk.old) start many) }
     ensures undamaged { (damage : TheDamage) → IsErrOf result (EventsError.Damaged damage) → IsTrue D.tells
-        → (events : List TheEvent) → events_from many start.file start.at start.number (bytes_there (D.held disk.old) start) ≡ Ok events → ⊥ }
+        → (events : List TheEvent)
+        → events_from many start.file start.at start.number (bytes_there (D.held disk.old) start) ≡ Ok events → ⊥ }
     ensures stays { Stays D.held D.moment D.images disk.old disk.new }
     ensures cause { CountsFaults (D.faults disk.old) (D.faults disk.new) (IsErrOf result EventsError.Disk) }
 {

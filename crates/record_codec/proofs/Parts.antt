@@ -16,14 +16,6 @@ module _ {X Y : Type 0} (f : X → List Y) (xs : List X) (i : ℕ) (d : X) (with
       let whole = ap (flat_map f) (sym (take-append-drop (i + 1) xs)) ∙ flat_map-append f (take (i + 1) xs) (drop (i + 1) xs) in
       omega (arith, ap length whole, ap length one_part_more, length-append (flat_map f (take (i + 1) xs)) (flat_map f (drop (i + 1) xs)), length-append (flat_map f (take i xs)) (f (get_or xs i d)))
 
-  -- what is written behind a head and the parts before a place, with the one that is there
-  pub put_more : (old head now new : List Y) → now ≡ old ++ head ++ flat_map f (take i xs) → new ≡ now ++ f (get_or xs i d) → new ≡ old ++ head ++ flat_map f (take (i + 1) xs)
-  put_more old head now new is more =
-      more ∙ ap (λ l. l ++ f (get_or xs i d)) is ∙ append_assoc (old ++ head) (flat_map f (take i xs)) (f (get_or xs i d)) ∙ ap (λ l. (old ++ head) ++ l) (sym one_part_more)
-
-  pub length_more : length (flat_map f (take (i + 1) xs)) ≡ length (flat_map f (take i xs)) + length (f (get_or xs i d))
-  length_more = ap length one_part_more ∙ length-append (flat_map f (take i xs)) (f (get_or xs i d))
-
 -- those before a place are no longer than all
 pub front_within : {X Y : Type 0} (f : X → List Y) (xs : List X) (i : ℕ) → length (flat_map f (take i xs)) ≤ length (flat_map f xs)
 front_within f xs i =

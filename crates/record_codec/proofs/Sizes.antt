@@ -78,13 +78,6 @@ each_at_most f P n most [] all = omega arith
 each_at_most f P n most (x ∷ xs) all =
     omega (arith, ap length (flat_map-cons f x xs), length-append (f x) (flat_map f xs), most x (All-head P x xs all), each_at_most f P n most xs (All-tail P x xs all))
 
-words_size : (ns : List ℕ) → length (flat_map (to_be_bytes w64) ns) ≡ 8 * length ns
-words_size [] = refl
-words_size (n ∷ ns) = omega (arith, ap length (flat_map-cons (to_be_bytes w64) n ns), length-append (to_be_bytes w64 n) (flat_map (to_be_bytes w64) ns), words_size ns)
-
-pub numbers_size : (ns : List ℕ) → length (numbers ns) ≡ 4 + 8 * length ns
-numbers_size ns = omega (arith, length-append (to_be_bytes w32 (length ns)) (flat_map (to_be_bytes w64) ns), words_size ns)
-
 pub text_at_most : (t : List ℕ) → IsText t → length (text t) ≤ 2 ^ 16 + 1
 text_at_most t is = omega (arith, length-append (to_be_bytes w16 (length t)) t, is.0)
 

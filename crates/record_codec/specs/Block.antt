@@ -54,7 +54,13 @@ sized size have =
 
 -- that reading, as the answer to who asks at an offset
 abbrev pub answer_at : ℕ → Reading → Result Block BlockEnd
-answer_at at (Whole kind payload) = Ok (record { kind = kind; start = at + HEADER_SIZE; end = at + HEADER_SIZE + length payload; next = at + BLOCK_OVERHEAD + length payload })
+answer_at at (Whole kind payload) =
+    Ok (record {
+      kind = kind;
+      start = at + HEADER_SIZE;
+      end = at + HEADER_SIZE + length payload;
+      next = at + BLOCK_OVERHEAD + length payload;
+    })
 answer_at at (Cut need have) = Err (Short need have)
 answer_at at (Long size) = Err (TooLong size)
 answer_at at (Differs stored found) = Err (Digest stored found)

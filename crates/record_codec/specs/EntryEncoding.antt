@@ -21,10 +21,12 @@ generator (Some g) = to_be_bytes w16 g.processor ++ to_be_bytes w64 g.count
 
 -- the counters behind a session
 unfoldable pub counters : SessionEntry → List ℕ
-counters s = to_be_bytes w64 s.next_number ++ to_be_bytes w64 s.next_arrival ++ to_be_bytes w64 s.last_event ++ generator s.generator
+counters s = to_be_bytes w64 s.next_number ++ to_be_bytes w64 s.next_arrival ++ to_be_bytes w64 s.last_event
+    ++ generator s.generator
 
 unfoldable pub session : SessionEntry → List ℕ
-session s = to_be_bytes w16 s.processor ++ to_be_bytes w64 s.moment ++ numbers s.gone ++ listed active_file s.placed ++ counters s
+session s = to_be_bytes w16 s.processor ++ to_be_bytes w64 s.moment ++ numbers s.gone ++ listed active_file s.placed
+    ++ counters s
 
 unfoldable pub expire : ExpireEntry → List ℕ
 expire e = to_be_bytes w16 e.connection ++ to_be_bytes w64 e.moment ++ numbers e.numbers ++ to_be_bytes w64 e.last_event

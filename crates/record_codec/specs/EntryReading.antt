@@ -23,7 +23,11 @@ unfoldable pub generator_at : Reading (Option Counted)
 generator_at bytes = do
   processor ← uint_at w16 bytes
   count ← count_at processor.0 processor.1
-  Ok ((if processor.0 == NO_GENERATOR then None else Some (record { processor = processor.0; count = count.0 })), count.1)
+  Ok (
+    (if processor.0 == NO_GENERATOR then None
+        else Some (record { processor = processor.0; count = count.0 })),
+    count.1,
+  )
 
 unfoldable pub session_at : Reading SessionEntry
 session_at = made (λ s. record {
@@ -36,14 +40,16 @@ session_at = made (λ s. record {
   last_event = s.1.1.1.1.1.1.0;
   generator = s.1.1.1.1.1.1.1;
 })
-    (uint_at w16 then uint_at w64 then numbers_at then listed_at active_file_at then number_at then number_at then number_at then generator_at)
+    (uint_at w16 then uint_at w64 then numbers_at then listed_at active_file_at then number_at then number_at
+    then number_at then generator_at)
 
 unfoldable pub expire_at : Reading ExpireEntry
 expire_at = made (λ e. record { connection = e.0; moment = e.1.0; numbers = e.1.1.0; last_event = e.1.1.1 })
     (uint_at w16 then uint_at w64 then numbers_at then number_at)
 
 unfoldable pub swap_out_at : Reading SwapOutEntry
-swap_out_at = made (λ s. record { connection = s.0; batch = s.1.0; numbers = s.1.1 }) (uint_at w16 then number_at then numbers_at)
+swap_out_at = made (λ s. record { connection = s.0; batch = s.1.0; numbers = s.1.1 })
+    (uint_at w16 then number_at then numbers_at)
 
 unfoldable pub swap_in_at : Reading LogEntry
 swap_in_at = made (λ s. SwapIn s.0 s.1) (uint_at w16 then number_at)

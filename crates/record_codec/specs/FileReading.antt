@@ -18,7 +18,8 @@ use Rattle.flowfile_record.specs.declared.limits.TheConstants.{DIGEST_SIZE}
 
 -- a key that may stand behind these: it keeps the rule of keys, and each of theirs comes before it
 unfoldable pub may_follow : AttributeMap → List ℕ → Bool
-may_follow m key = has_key_length key && not (is_uuid key) && list_all (λ pair. is_lt (slice_cmp nat_cmp pair.0 key)) (entries m)
+may_follow m key = has_key_length key && not (is_uuid key)
+    && list_all (λ pair. is_lt (slice_cmp nat_cmp pair.0 key)) (entries m)
 
 -- a value that there is room for
 unfoldable pub may_hold : AttributeMap → List ℕ → List ℕ → Bool
@@ -72,5 +73,12 @@ abbrev pub file_front_at : Reading (ℕ × AttributeMap)
 file_front_at = file_number_at then first_pair_at
 
 unfoldable pub flow_file_at : Reading FlowFile
-flow_file_at = made (λ f. record { number = f.0; attributes = f.1.0; content = f.1.1.0; entered = f.1.1.1.0; penalty_end = f.1.1.1.1.0; arrival = f.1.1.1.1.1 })
+flow_file_at = made (λ f. record {
+  number = f.0;
+  attributes = f.1.0;
+  content = f.1.1.0;
+  entered = f.1.1.1.0;
+  penalty_end = f.1.1.1.1.0;
+  arrival = f.1.1.1.1.1;
+})
     (file_number_at then attributes_at then content_ref_at then uint_at w64 then uint_at w64 then number_at)

@@ -14,7 +14,8 @@ kind_code kinds.Batch = 12
 kind_code kinds.End = 13
 
 unfoldable pub swap_batch : SwapBatch → List ℕ
-swap_batch b = to_be_bytes w16 b.connection ++ to_be_bytes w64 b.batch ++ to_be_bytes w64 b.files ++ to_be_bytes w64 b.bytes ++ to_be_bytes w64 b.encoded
+swap_batch b = to_be_bytes w16 b.connection ++ to_be_bytes w64 b.batch ++ to_be_bytes w64 b.files
+    ++ to_be_bytes w64 b.bytes ++ to_be_bytes w64 b.encoded
 
 -- a batch that has an encoding
 pub record IsBatch (b : SwapBatch) : Type 0 where

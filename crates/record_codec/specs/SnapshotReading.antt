@@ -5,7 +5,13 @@ use Rattle.flowfile_record.specs.Reading.{Reading, ◌then◌, made, uint_at, nu
 use Rattle.flowfile_record.specs.declared.stored.SwapBatch.{SwapBatch}
 
 unfoldable pub batch_at : Reading SwapBatch
-batch_at = made (λ b. record { connection = b.0; batch = b.1.0; files = b.1.1.0; bytes = b.1.1.1.0; encoded = b.1.1.1.1 })
+batch_at = made (λ b. record {
+  connection = b.0;
+  batch = b.1.0;
+  files = b.1.1.0;
+  bytes = b.1.1.1.0;
+  encoded = b.1.1.1.1;
+})
     (uint_at w16 then number_at then number_at then uint_at w64 then uint_at w64)
 
 abbrev pub ending_at : Reading ℕ

@@ -11,7 +11,8 @@ use Rattle.record_codec.specs.Texts.{texts, AreTexts}
 unfoldable pub head : Head → List ℕ
 head h =
     byte FORMAT_VERSION ++ to_be_bytes w64 h.store ++ h.flow ++ texts h.connections ++ numbers h.counts
-    ++ to_be_bytes w64 h.next_number ++ to_be_bytes w64 h.next_arrival ++ to_be_bytes w64 h.last_event ++ to_be_bytes w64 h.next_batch
+    ++ to_be_bytes w64 h.next_number ++ to_be_bytes w64 h.next_arrival ++ to_be_bytes w64 h.last_event
+    ++ to_be_bytes w64 h.next_batch
 
 -- the head of what is stored
 abbrev pub head_of : Stored → Head

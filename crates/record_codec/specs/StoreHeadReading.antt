@@ -20,7 +20,8 @@ head_at = made (λ h. record {
   next_arrival = h.1.1.1.1.1.1.0;
   last_event = h.1.1.1.1.1.1.1.0;
   next_batch = h.1.1.1.1.1.1.1.1;
-}) (version_at then store_at then raw_at DIGEST_SIZE then texts_at then numbers_at then number_at then number_at then number_at then number_at)
+}) (version_at then store_at then raw_at DIGEST_SIZE then texts_at then numbers_at then number_at then number_at
+    then number_at then number_at)
 
 -- where memory is taken: for the first item of a list
 abbrev pub head_takes_memory : List ℕ → Bool

@@ -7,8 +7,7 @@ ghost use Rattle.flowfile_record.specs.declared.stored.ActiveFile.{ActiveFile as
 ghost use Rattle.record_codec.specs.ActiveFile.{active, active_file, active_file_at, active_front_at, IsActiveFile};
 
 use crate::flow_file::{file_size, put_flow_file, read_flow_file};
-use crate::put::put_u16;
-use flowfile_record::fields::{FieldError, read_u16};
+use flowfile_record::fields::{FieldError, put_u16, read_u16};
 use flowfile_record::{ActiveFile, CodecError, FlowFile};
 use std::alloc::{AllocError, Global};
 
@@ -31,7 +30,8 @@ pub fn write_active_file(
     requires { IsFlowFile file.now }
     ensures ok { OnOk result (out.new.items ≡ out.old.items ++ active_file (active connection file.now)) }
     ensures err { OnErr result (out.new.items ≡ out.old.items) }
-    ensures room { vec_len out.old + length (active_file (active connection file.now)) ≤ vec_capacity out.old → IsOk result }
+    ensures room { vec_len out.old + length (active_file (active connection file.now)) ≤ vec_capacity out.old
+        → IsOk result }
     ensures capacity { vec_capacity out.old ≤ vec_capacity out.new }
 {
     out.reserve(active_file_size(file) as usize)?;
@@ -45,7 +45,8 @@ pub fn read_active_file(alloc: Global, bytes: &[u8]) -> Result<ActiveFile, Codec
     // What is read is encoded so.
     ensures found { IfOk result (λ active. IsActiveFile active × (bytes.now ≡ active_file active)) }
     // What is encoded so is read, unless memory runs out.
-    ensures only { (active : Active) → IsActiveFile active → bytes.now ≡ active_file active → Answers result (Ok active) }
+    ensures only { (active : Active) → IsActiveFile active → bytes.now ≡ active_file active
+        → Answers result (Ok active) }
     // Which offset can't be read.
     ensures exact { Answers result (answer (length bytes.now) (whole active_file_at bytes.now)) }
     // Memory is taken only for attributes, behind a first pair that can be read.

@@ -7,8 +7,9 @@ ghost use Rattle.flowfile_record.specs.Reading.{Gives};
 ghost use Rattle.record_codec.specs.FileReading.{may_follow, pair_at, pairs_at, first_pair_at, attributes_at};
 ghost use Rattle.record_codec.specs.FileEncoding as encoding;
 
-use crate::put::{put_long, put_text, put_u16};
-use flowfile_record::fields::{FieldError, read_long, read_text, read_u16};
+use flowfile_record::fields::{
+    FieldError, put_long, put_text, put_u16, read_long, read_text, read_u16,
+};
 use flowfile_record::{ATTRIBUTES_MAX, Attributes, KEY_MAX};
 use std::alloc::Global;
 
@@ -72,7 +73,8 @@ fn may_follow(attributes: &Attributes, key: &str) -> bool
 }
 
 fn last_key(attributes: &Attributes) -> Option<&str>
-    ensures { option_map (λ key. key.now) result ≡ option_map (λ pair. pair.0) (slice_get (entries attributes.now) (len attributes.now - 1)) }
+    ensures { option_map (λ key. key.now) result
+        ≡ option_map (λ pair. pair.0) (slice_get (entries attributes.now) (len attributes.now - 1)) }
 {
     match attributes.pair(attributes.len().saturating_sub(1)) {
         Some((key, _)) => Some(key),

@@ -9,8 +9,8 @@ ghost use Rattle.sha2.specs.Sha256.{sha256};
 ghost use Rattle.flowfile_record.specs.Field.{HasOneEncoding};
 ghost use Rattle.record_codec.specs.Block.{block, block_of, IsBlock, Whole, reading_of, answer_at, sized};
 
-use crate::put::{put, put_u8, put_u32};
 use flowfile_record::DIGEST_SIZE;
+use flowfile_record::fields::{put, put_u8, put_u32};
 use sha2::{Digest, Sha256};
 use std::alloc::AllocError;
 use thiserror::Error;
@@ -97,7 +97,8 @@ pub fn append_parts(out: &mut Vec<u8>, kind: u8, parts: &[&[u8]]) -> Result<(), 
     requires { length (flat_map (λ part. part.now) parts.now) ≤ PAYLOAD_MAX }
     ensures ok { OnOk result (out.new.items ≡ out.old.items ++ block kind (flat_map (λ part. part.now) parts.now)) }
     ensures err { OnErr result (out.new.items ≡ out.old.items) }
-    ensures room { vec_len out.old + length (block kind (flat_map (λ part. part.now) parts.now)) ≤ vec_capacity out.old → IsOk result }
+    ensures room { vec_len out.old + length (block kind (flat_map (λ part. part.now) parts.now)) ≤ vec_capacity out.old
+        → IsOk result }
     ensures capacity { vec_capacity out.old ≤ vec_capacity out.new }
 {
     // Room for the whole block is made first, so that each part is copied once.
@@ -171,11 +172,17 @@ pub fn read_block(bytes: &[u8], at: u64) -> Result<Block, BlockEnd>
     requires { at ≤ length bytes.now }
     ensures read { result ≡ answer_at at (reading_of (drop at bytes.now)) }
     // A block that was encoded is read, wherever it stands.
-    ensures only { (front rest payload : List ℕ) (kind : ℕ) → length front ≡ at → length payload ≤ PAYLOAD_MAX → bytes.now ≡ front ++ block kind payload ++ rest → result ≡ answer_at at (Whole kind payload) }
+    ensures only { (front rest payload : List ℕ) (kind : ℕ) → length front ≡ at → length payload ≤ PAYLOAD_MAX
+        → bytes.now ≡ front ++ block kind payload ++ rest → result ≡ answer_at at (Whole kind payload) }
     // What was read stands in these bytes, which are encoded as it is.
-    ensures whole { IfOk result (λ found. reading_of (drop at bytes.now) ≡ Whole found.kind (slice_range bytes.now found.start found.end)) }
-    ensures encoded { IfOk result (λ found. take (found.next - at) (drop at bytes.now) ≡ block found.kind (slice_range bytes.now found.start found.end)) }
-    ensures within { IfOk result (λ found. (found.start ≤ found.end) × (found.end + DIGEST_SIZE ≡ found.next) × (found.next ≤ length bytes.now)) }
+    ensures whole { IfOk result
+        (λ found. reading_of (drop at bytes.now) ≡ Whole found.kind (slice_range bytes.now found.start found.end)) }
+    ensures encoded { IfOk result
+        (λ found. take (found.next - at) (drop at bytes.now)
+        ≡ block found.kind (slice_range bytes.now found.start found.end)) }
+    ensures within { IfOk result
+        (λ found. (found.start ≤ found.end) × (found.end + DIGEST_SIZE ≡ found.next)
+        × (found.next ≤ length bytes.now)) }
 {
     read_whole(bytes, at)
 }
@@ -188,9 +195,14 @@ pub fn blocks_have_one_encoding()
 fn read_whole(bytes: &[u8], at: u64) -> Result<Block, BlockEnd>
     requires { at ≤ length bytes.now }
     ensures read { result ≡ answer_at at (reading_of (drop at bytes.now)) }
-    ensures whole { IfOk result (λ found. reading_of (drop at bytes.now) ≡ Whole found.kind (slice_range bytes.now found.start found.end)) }
-    ensures encoded { IfOk result (λ found. take (found.next - at) (drop at bytes.now) ≡ block found.kind (slice_range bytes.now found.start found.end)) }
-    ensures within { IfOk result (λ found. (found.start ≤ found.end) × (found.end + DIGEST_SIZE ≡ found.next) × (found.next ≤ length bytes.now)) }
+    ensures whole { IfOk result
+        (λ found. reading_of (drop at bytes.now) ≡ Whole found.kind (slice_range bytes.now found.start found.end)) }
+    ensures encoded { IfOk result
+        (λ found. take (found.next - at) (drop at bytes.now)
+        ≡ block found.kind (slice_range bytes.now found.start found.end)) }
+    ensures within { IfOk result
+        (λ found. (found.start ≤ found.end) × (found.end + DIGEST_SIZE ≡ found.next)
+        × (found.next ≤ length bytes.now)) }
 {
     let rest = &bytes[at as usize..];
     let have = rest.len() as u64;

@@ -5,8 +5,9 @@ ghost use Rattle.flowfile_record.specs.Encoding.{IsDigest};
 ghost use Rattle.record_codec.specs.FileReading.{slot_at, size_at, content_ref_at};
 ghost use Rattle.record_codec.specs.FileEncoding as encoding;
 
-use crate::put::{put, put_u32, put_u64};
-use flowfile_record::fields::{Unread, read_digest, read_number, read_u32, read_u64};
+use flowfile_record::fields::{
+    Unread, put, put_u32, put_u64, read_digest, read_number, read_u32, read_u64,
+};
 use flowfile_record::{CONTENT_MAX, ContentRef};
 
 /// The slots of resource claims are below it.

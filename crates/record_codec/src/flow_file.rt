@@ -8,8 +8,7 @@ ghost use Rattle.record_codec.specs.FileEncoding.{flow_file, IsFlowFile};
 
 use crate::attributes::{put_attributes, read_attributes};
 use crate::content::{put_content_ref, read_content_ref};
-use crate::put::put_u64;
-use flowfile_record::fields::{FieldError, Unread, read_number, read_u64};
+use flowfile_record::fields::{FieldError, Unread, put_u64, read_number, read_u64};
 use flowfile_record::{CodecError, DIGEST_SIZE, FlowFile};
 use std::alloc::{AllocError, Global};
 

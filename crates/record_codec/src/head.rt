@@ -11,11 +11,11 @@ ghost use Rattle.record_codec.specs.StoreHead as encoding;
 ghost use Rattle.record_codec.specs.StoreHeadReading.{store_at, head_at, head_takes_memory};
 
 use crate::FORMAT_VERSION;
-use crate::put::{put, put_numbers, put_u8, put_u64};
 use crate::texts::{put_texts, read_texts, texts_size};
 use crate::version::read_version;
 use flowfile_record::fields::{
-    FieldError, Unread, read_digest, read_number, read_numbers, read_u64,
+    FieldError, Unread, put, put_numbers, put_u8, put_u64, read_digest, read_number, read_numbers,
+    read_u64,
 };
 use flowfile_record::{CodecError, DIGEST_SIZE, Numbers, STORE_LIMIT, Stored, Text, TextList};
 use std::alloc::{AllocError, Global};
@@ -23,8 +23,8 @@ use std::alloc::{AllocError, Global};
 /// What a store keeps beside its flow files: its id, the digest of its flow's text, the flow's connections, how many
 /// files each processor has generated, and the numbers that come next (0 for the last event means none yet).
 ///
-/// It has an encoding where the store is below `STORE_LIMIT`, the counts and numbers are below 2^62, a connection has fewer than
-/// 65,536 bytes, and each list has fewer than 2^32 items.
+/// It has an encoding where the store is below `STORE_LIMIT`, the counts and numbers are below 2^62, a connection has
+/// fewer than 65,536 bytes, and each list has fewer than 2^32 items.
 #[derive(Debug, Drop)]
 pub struct Head {
     pub store: u64,
@@ -45,8 +45,8 @@ pub fn head_size(head: &Head) -> u64
     size_of(head.connections.as_slice(), head.counts.as_slice())
 }
 
-/// Appends the one encoding of a head. It fails only where there is less room than `head_size` tells, and then the bytes
-/// stay.
+/// Appends the one encoding of a head. It fails only where there is less room than `head_size` tells, and then the
+/// bytes stay.
 pub fn write_head(out: &mut Vec<u8>, head: &Head) -> Result<(), AllocError>
     requires { IsHead head.now }
     ensures ok { OnOk result (out.new.items ≡ out.old.items ++ encoding.head head.now) }
@@ -80,8 +80,8 @@ pub fn head_size_of(stored: &Stored) -> u64
     size_of(stored.connections.as_slice(), stored.counts.as_slice())
 }
 
-/// Appends the one encoding of the head of what is stored. It fails only where there is less room than `head_size_of` tells, and then the bytes
-/// stay.
+/// Appends the one encoding of the head of what is stored. It fails only where there is less room than `head_size_of`
+/// tells, and then the bytes stay.
 pub fn write_head_of(out: &mut Vec<u8>, stored: &Stored) -> Result<(), AllocError>
     requires { IsHead (head_of stored.now) }
     ensures ok { OnOk result (out.new.items ≡ out.old.items ++ encoding.head (head_of stored.now)) }
@@ -213,9 +213,13 @@ fn put_lists(
     requires flow { IsDigest flow.now }
     requires connections { AreTexts connections.now }
     requires counts { length counts.now < 2 ^ 32 }
-    requires room { vec_len out.old + 9 + DIGEST_SIZE + length (texts connections.now) + length (numbers counts.now) ≤ vec_capacity out.old }
-    ensures items { out.new.items ≡ out.old.items ++ (byte FORMAT_VERSION ++ to_be_bytes w64 store ++ flow.now ++ texts connections.now ++ numbers counts.now) }
-    ensures len { vec_len out.new ≡ vec_len out.old + 9 + DIGEST_SIZE + length (texts connections.now) + length (numbers counts.now) }
+    requires room { vec_len out.old + 9 + DIGEST_SIZE + length (texts connections.now) + length (numbers counts.now)
+        ≤ vec_capacity out.old }
+    ensures items { out.new.items
+        ≡ out.old.items ++ (byte FORMAT_VERSION ++ to_be_bytes w64 store ++ flow.now ++ texts connections.now
+        ++ numbers counts.now) }
+    ensures len { vec_len out.new
+        ≡ vec_len out.old + 9 + DIGEST_SIZE + length (texts connections.now) + length (numbers counts.now) }
     ensures capacity { vec_capacity out.old ≤ vec_capacity out.new }
 {
     put_u8(out, FORMAT_VERSION);
@@ -234,7 +238,9 @@ fn put_counters(
     next_batch: u64,
 )
     requires { vec_len out.old + 32 ≤ vec_capacity out.old }
-    ensures items { out.new.items ≡ out.old.items ++ (to_be_bytes w64 next_number ++ to_be_bytes w64 next_arrival ++ to_be_bytes w64 last_event ++ to_be_bytes w64 next_batch) }
+    ensures items { out.new.items
+        ≡ out.old.items ++ (to_be_bytes w64 next_number ++ to_be_bytes w64 next_arrival ++ to_be_bytes w64 last_event
+        ++ to_be_bytes w64 next_batch) }
     ensures capacity { vec_capacity out.old ≤ vec_capacity out.new }
 {
     put_u64(out, next_number);

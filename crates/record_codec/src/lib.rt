@@ -13,7 +13,6 @@ mod flow_file;
 mod head;
 mod law;
 mod log;
-mod put;
 mod snapshot;
 mod texts;
 mod version;

@@ -16,15 +16,21 @@ pub const CLOSED_GATE: u8 = 0x00;
 /// A log's entries end at its last gate: a gate that isn't open, or is the last byte, can stand there with anything
 /// behind it, or be missing.
 pub fn last_gates_end_a_log()
-    ensures missing { (bytes : List ℕ) (read : LogRead) → log_of bytes ≡ Ok read → log_of (take read.end bytes) ≡ Ok read }
-    ensures last_byte { (bytes : List ℕ) (read : LogRead) (gate : ℕ) → log_of bytes ≡ Ok read → log_of (take read.end bytes ++ gate ∷ []) ≡ Ok read }
-    ensures not_open { (bytes : List ℕ) (read : LogRead) (gate : ℕ) (behind : List ℕ) → log_of bytes ≡ Ok read → gate ≢ OPEN_GATE → log_of (take read.end bytes ++ gate ∷ behind) ≡ Ok read }
+    ensures missing { (bytes : List ℕ) (read : LogRead) → log_of bytes ≡ Ok read
+        → log_of (take read.end bytes) ≡ Ok read }
+    ensures last_byte { (bytes : List ℕ) (read : LogRead) (gate : ℕ) → log_of bytes ≡ Ok read
+        → log_of (take read.end bytes ++ gate ∷ []) ≡ Ok read }
+    ensures not_open { (bytes : List ℕ) (read : LogRead) (gate : ℕ) (behind : List ℕ) → log_of bytes ≡ Ok read
+        → gate ≢ OPEN_GATE → log_of (take read.end bytes ++ gate ∷ behind) ≡ Ok read }
 {}
 
-/// With the block of an entry behind the last gate, and a closed gate behind the block, a log has one entry more as soon
-/// as that gate opens.
+/// With the block of an entry behind the last gate, and a closed gate behind the block, a log has one entry more as
+/// soon as that gate opens.
 pub fn an_open_gate_adds_an_entry()
-    ensures { (bytes : List ℕ) (read : LogRead) (entry : Entry) → log_of bytes ≡ Ok read → IsEntry entry → length (encoding entry) ≤ PAYLOAD_MAX → log_of (take read.end bytes ++ OPEN_GATE ∷ (block (kind_of entry) (encoding entry) ++ CLOSED_GATE ∷ [])) ≡ Ok (one_more read entry (length (block (kind_of entry) (encoding entry)))) }
+    ensures { (bytes : List ℕ) (read : LogRead) (entry : Entry) → log_of bytes ≡ Ok read → IsEntry entry
+        → length (encoding entry) ≤ PAYLOAD_MAX
+        → log_of (take read.end bytes ++ OPEN_GATE ∷ (block (kind_of entry) (encoding entry) ++ CLOSED_GATE ∷ []))
+        ≡ Ok (one_more read entry (length (block (kind_of entry) (encoding entry)))) }
 {}
 
 /// The damage of a log is the first one, and where there is a first damage, the log has it.

@@ -8,8 +8,9 @@ ghost use Rattle.record_codec.specs.Snapshot.{kind_code, IsBatch, IsEnding};
 ghost use Rattle.record_codec.specs.Snapshot as encoding;
 ghost use Rattle.record_codec.specs.SnapshotReading.{batch_at, ending_at};
 
-use crate::put::{put_u16, put_u64};
-use flowfile_record::fields::{FieldError, Unread, read_number, read_u16, read_u64};
+use flowfile_record::fields::{
+    FieldError, Unread, put_u16, put_u64, read_number, read_u16, read_u64,
+};
 use flowfile_record::{CodecError, SwapBatch};
 use std::alloc::AllocError;
 

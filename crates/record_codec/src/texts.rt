@@ -4,8 +4,7 @@ ghost use Rattle.flowfile_record.specs.Reading.{Gives, text_at, items_at, first_
 ghost use Rattle.record_codec.specs.Texts.{AreTexts, texts_at};
 ghost use Rattle.record_codec.specs.Texts as encoding;
 
-use crate::put::{put_text, put_u32};
-use flowfile_record::fields::{FieldError, read_text, read_u32};
+use flowfile_record::fields::{FieldError, put_text, put_u32, read_text, read_u32};
 use flowfile_record::{Text, TextList};
 use std::alloc::{AllocError, Global};
 

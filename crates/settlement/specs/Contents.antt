@@ -22,7 +22,8 @@ source_bytes sources place = option_map_or (λ source. unwrap_or source.bytes []
 
 abbrev pub content_in : List FlowFile → List Source → Body → ContentRef
 content_in taken sources (Whole of) = kept_content taken of
-content_in taken sources (Part of offset size) = fresh_ref (slice_range (source_bytes sources of) offset (offset + size))
+content_in taken sources (Part of offset size) =
+    fresh_ref (slice_range (source_bytes sources of) offset (offset + size))
 content_in taken sources (New bytes) = fresh_ref bytes
 
 -- the bytes of a content that isn't in the store yet

@@ -24,8 +24,8 @@ use Rattle.settlement.specs.declared.handed.Ended.{Ended}
 abbrev pub sizes_of : List FlowFile → List ℕ
 sizes_of taken = map (λ file. file.content.size) taken
 
--- The processor is one of the flow, whose connections have places of 16 bits. The outcome is one over the taken files, and
--- parts are of contents that were read. The counters are numbers of a state.
+-- The processor is one of the flow, whose connections have places of 16 bits. The outcome is one over the taken files,
+-- and parts are of contents that were read. The counters are numbers of a state.
 pub record MaySettle (flow : Flow) (counters : Counters) (ended : Ended) : Type 0 where
   pub processor : ended.processor < length flow.processors
   pub connections : length flow.connections ≤ 2 ^ 16

@@ -21,8 +21,8 @@ pub record IsKeptFile (file : FlowFile) : Type 0 where
   pub entered : file.entered < 2 ^ 64
   pub size : file.content.size ≤ CONTENT_MAX
 
--- The processor is this one, none of whose relationships leads to more connections than one may; taken files came from a
--- connection of the flow.
+-- The processor is this one, none of whose relationships leads to more connections than one may; taken files came from
+-- a connection of the flow.
 pub record MayRecord (flow : Flow) (ended : Ended) (processor : Processor) : Type 0 where
   pub found : slice_get flow.processors ended.processor ≡ Some processor
   pub fan_out : (relationship : List ℕ) → length (connections_of flow ended.processor relationship) ≤ FAN_OUT_MAX

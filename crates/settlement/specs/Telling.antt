@@ -168,7 +168,8 @@ abbrev pub row_of : Told → Row → List Draft
 row_of told row = flat_map (row_at told row) (enumerate_from 0 told.files)
 
 abbrev pub sent : Told → Option Sent → List Draft
-sent told (Some put) = option_map_or (λ file. alone told kind.Send file put.name ∷ []) (slice_get told.files put.place) []
+sent told (Some put) = option_map_or (λ file. alone told kind.Send file put.name ∷ [])
+    (slice_get told.files put.place) []
 sent told None = []
 
 -- ---- clones

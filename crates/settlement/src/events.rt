@@ -59,7 +59,8 @@ impl Teller<'_> {
     /// What changed of the taken files, and which files were routed.
     fn tell_changed(&self, events: &mut Vec<Event>) -> Result<(), AllocError>
         requires { IsReady self.now }
-        ensures { OnOk result (Adds self.now.first events.old.items (changed_rows (told_by self.now)) events.new.items) }
+        ensures { OnOk result (Adds self.now.first events.old.items
+            (changed_rows (told_by self.now)) events.new.items) }
     {
         self.tell_row(events, Row::ContentModified)?;
         self.tell_row(events, Row::AttributesModified)?;
@@ -262,7 +263,8 @@ impl Teller<'_> {
 
     fn tell_sent(&self, events: &mut Vec<Event>, put: &Option<Sent>) -> Result<(), AllocError>
         requires { IsReady self.now }
-        ensures { OnOk result (Adds self.now.first events.old.items (sent (told_by self.now) put.now) events.new.items) }
+        ensures { OnOk result (Adds self.now.first events.old.items
+            (sent (told_by self.now) put.now) events.new.items) }
     {
         match put {
             Some(put) => self.tell_put(events, put),
@@ -338,7 +340,8 @@ impl Teller<'_> {
         detail: &str,
     ) -> Result<(), AllocError>
         requires { IsReady self.now }
-        ensures { OnOk result (Adds self.now.first events.old.items (alone (told_by self.now) kind file.now detail.now ∷ [])
+        ensures { OnOk result (Adds self.now.first events.old.items
+            (alone (told_by self.now) kind file.now detail.now ∷ [])
             events.new.items) }
     {
         let none = Numbers::new(self.alloc);

@@ -51,7 +51,8 @@ impl Setting<'_> {
         requires entered { length entered.now ≡ length files.items }
         requires within { All (IsWorkedWithin self.now.sources.now) files.items }
         ensures { IfOk result (λ ended. ended.items
-            ≡ map (λ f. ended_file (place_of self.now) (f.0, f.1.0, f.1.1)) (zip numbers.now (zip entered.now files.items))) }
+            ≡ map (λ f. ended_file (place_of self.now) (f.0, f.1.0, f.1.1))
+            (zip numbers.now (zip entered.now files.items))) }
     {
         let mut ended = Vec::new(self.alloc);
         let mut place = 0;

@@ -66,7 +66,8 @@ impl Placer<'_> {
         ensures returned { OnOk result (returned.new.items
             ≡ returned.old.items ++ returning (placing_of self.now) file file.goes) }
         ensures arrived { OnOk result (arrived.new.items ≡ arrived.old.items
-            ++ placed_from self.now.sources.now (self.now.next_arrival + vec_len arrived.old) (first_of file file.goes)) }
+            ++ placed_from self.now.sources.now (self.now.next_arrival + vec_len arrived.old)
+            (first_of file file.goes)) }
     {
         if is_returning(&file.goes) {
             let arrival = self.arrival_of(&file.worked.origin);

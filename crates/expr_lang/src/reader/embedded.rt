@@ -65,7 +65,8 @@ fn read_subject(alloc: Global, depth: u64, text: &str) -> Result<(Operand, &str)
 #[cycle(reading)]
 #[tactic(auto, unfolding(crate::specs::Reading::name_read))]
 fn read_name(alloc: Global, depth: u64, name: String, behind: &str) -> Result<(Operand, &str), Stop>
-    ensures { Reads (λ x. (operand_term x.0, x.1.now)) result (name_read (embedded_read depth) (string_bytes name) behind.now) }
+    ensures { Reads (λ x. (operand_term x.0, x.1.now)) result
+        (name_read (embedded_read depth) (string_bytes name) behind.now) }
 {
     if name.as_str() == "literal" {
         if let Some(inside) = behind_token(behind, "(") {
@@ -106,7 +107,8 @@ fn read_arguments(
     function: Function,
     text: &str,
 ) -> Result<(Call, &str), Stop>
-    ensures { (t : Term) → Reads (λ x. (call_term x.0 t, x.1.now)) result (arguments_read (embedded_read depth) t function text.now) }
+    ensures { (t : Term) → Reads (λ x. (call_term x.0 t, x.1.now)) result
+        (arguments_read (embedded_read depth) t function text.now) }
 {
     match function {
         Function::Alone(function) => {

@@ -68,7 +68,8 @@ fn count(processor: &Value, name: &str, connections: &[Value]) -> u64
 }
 
 fn count_carrying(processor: &Value, name: &str, connections: &[Value]) -> usize
-    ensures { result ≡ count_by (λ connection. carries (view processor.now) name.now (view connection)) connections.now }
+    ensures { result ≡ count_by
+        (λ connection. carries (view processor.now) name.now (view connection)) connections.now }
 {
     connections
         .iter()

@@ -131,8 +131,8 @@ pub fn read_digest(bytes: &[u8]) -> Result<([u8; DIGEST_SIZE], &[u8]), Unread>
     Ok((digest, rest))
 }
 
-/// A list of numbers below `NUMBER_LIMIT`, behind its count in four bytes. An item that can't be read is a field of its own.
-/// Memory is taken only where a first item can be read.
+/// A list of numbers below `NUMBER_LIMIT`, behind its count in four bytes. An item that can't be read is a field of its
+/// own. Memory is taken only where a first item can be read.
 #[tactic(auto, unfolding(crate::specs::Reading::listed_at))]
 pub fn read_numbers(alloc: Global, bytes: &[u8]) -> Result<(Numbers, &[u8]), FieldError>
     ensures read { Gives (λ x. (x.0, x.1.now)) result (numbers_at bytes.now) }

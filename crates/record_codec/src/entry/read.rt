@@ -103,7 +103,8 @@ fn read_placed_list(
     bytes: &[u8],
 ) -> Result<(Sequence<ActiveFile>, &[u8]), FieldError>
     ensures read { Gives (λ x. (x.0, x.1.now)) result (listed_at active_file_at bytes.now) }
-    ensures memory { IsErrOf result FieldError.Memory → IsTrue (is_ok (first_at active_front_at bytes.now) || is_ok (first_at active_file_at bytes.now)) }
+    ensures memory { IsErrOf result FieldError.Memory
+        → IsTrue (is_ok (first_at active_front_at bytes.now) || is_ok (first_at active_file_at bytes.now)) }
 {
     let (count, rest) = read_u32(bytes)?;
     let (items, rest) = read_placed_items(alloc, count, rest)?;
@@ -116,7 +117,8 @@ fn read_placed_items(
     bytes: &[u8],
 ) -> Result<(Vec<ActiveFile>, &[u8]), FieldError>
     ensures read { Gives (λ x. (x.0.items, x.1.now)) result (items_at active_file_at count bytes.now) }
-    ensures memory { IsErrOf result FieldError.Memory → (0 < count) × IsTrue (is_ok (active_front_at bytes.now) || is_ok (active_file_at bytes.now)) }
+    ensures memory { IsErrOf result FieldError.Memory
+        → (0 < count) × IsTrue (is_ok (active_front_at bytes.now) || is_ok (active_file_at bytes.now)) }
 {
     let mut items = Vec::new(alloc);
     let mut rest = bytes;

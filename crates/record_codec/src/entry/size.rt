@@ -30,7 +30,7 @@ pub(crate) fn size_of(entry: &LogEntry) -> u64
     }
 }
 
-#[tactic(auto, using(crate::proofs::Sizes::session_size, crate::proofs::Sizes::numbers_size))]
+#[tactic(auto, using(crate::proofs::Sizes::session_size, flowfile_record::proofs::Sizes::numbers_size))]
 fn session_size(session: &SessionEntry) -> u64
     requires { IsSession session.now }
     ensures { result ≡ length (encoding.session session.now) }
@@ -56,7 +56,7 @@ fn swap_out_size(swap_out: &SwapOutEntry) -> u64
     10 + numbers_size(swap_out.numbers.as_slice())
 }
 
-#[tactic(auto, using(crate::proofs::Sizes::numbers_size))]
+#[tactic(auto, using(flowfile_record::proofs::Sizes::numbers_size))]
 fn numbers_size(numbers: &[u64]) -> u64
     requires { length numbers.now < 2 ^ 32 }
     ensures size { result ≡ length (numbers_encoding numbers.now) }

@@ -9,7 +9,7 @@ use crate::FORMAT_VERSION;
 use crate::active_file::put_active_file;
 use crate::entry::size::{COUNTERS_SIZE, GENERATOR_SIZE};
 use crate::entry::{ExpireEntry, LogEntry, NO_GENERATOR, SessionEntry, SwapOutEntry};
-use crate::put::{put_numbers, put_u8, put_u16, put_u32, put_u64};
+use flowfile_record::fields::{put_numbers, put_u8, put_u16, put_u32, put_u64};
 use flowfile_record::{ActiveFile, Counted};
 
 #[tactic(auto, unfolding(crate::specs::EntryEncoding::entry))]

@@ -15,7 +15,8 @@ pub struct MemoryInbox {
     files: Vec<(Name, Vec<u8>)>,
     /// Its calls so far.
     pub calls: Calls,
-    ghost ascends: { IsAscending (map (λ file. file.name) (map file_of files.items)) } by { IsAscending-prop (map (λ file. file.name) (map file_of files.items)) },
+    ghost ascends: { IsAscending (map (λ file. file.name) (map file_of files.items)) } by { IsAscending-prop
+        (map (λ file. file.name) (map file_of files.items)) },
 }
 
 impl MemoryInbox {

@@ -1,5 +1,5 @@
 use Rattle.std.proofs.Common.{arith}
-use Rattle.record_codec.proofs.Sizes.{numbers_size}
+use Rattle.flowfile_record.proofs.Sizes.{numbers_size}
 use Rattle.record_codec.proofs.head.size_of.Goals as goal
 
 pub overflow_add-result : goal.overflow_add-result
