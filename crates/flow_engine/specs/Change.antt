@@ -1,0 +1,69 @@
+-- What a session changes: the store's state, and what it sends.
+use Rattle.std.specs.Prelude.{◌≡◌, ◌⊎◌, ◌≢◌, ⊤, ℕ, List, Option, None, Some, Contains, filter, not, bytes_eq}
+use Rattle.flowfile_record.specs.NamedFile.{NamedFile, with_file, without}
+use Rattle.flowfile_record.specs.Stored.{Kept}
+use Rattle.flowfile_record.specs.declared.content.ContentRef.{ContentRef}
+use Rattle.machine_model.specs.declared.flow.Flow.{Flow}
+use Rattle.machine_model.specs.declared.given.Given.{Given}
+use Rattle.machine_model.specs.declared.journal.Step.{Step}
+use Rattle.machine_model.specs.declared.journal.Step.TheVariants.{Session}
+use Rattle.machine_model.specs.Acting.{name_in}
+use Rattle.machine_model.specs.Changing.{state_after}
+use Rattle.machine_model.specs.Files.{queue_at}
+use Rattle.machine_model.specs.State.{Machine, QueuedFile}
+use Rattle.machine_model.specs.Stepping.{step, without_name}
+use Rattle.machine_model.specs.Valid.{IsValid}
+use Rattle.engine_choice.specs.Choice.{coming_of}
+use Rattle.flow_run.specs.Journal.{files_left}
+use Rattle.flow_run.specs.Run.{IsStateOf}
+use Rattle.flow_engine.specs.Job.{StandsIn}
+use Rattle.flow_engine.specs.declared.change.Changed.{Changed}
+use Rattle.flow_engine.specs.declared.change.Sending.{Sending}
+use Rattle.flow_engine.specs.declared.job.Job.{Job}
+
+-- what the outbox has once this was sent
+abbrev pub with_sending : Option Sending → (List ℕ → Option (List ℕ)) → List ℕ → Option (List ℕ)
+with_sending None standing = standing
+with_sending (Some sending) standing = with_file standing sending.name sending.bytes
+
+-- without the file of this name, if there is one
+abbrev pub without_received : Option (List ℕ) → List NamedFile → List NamedFile
+without_received None files = files
+without_received (Some name) files = without name files
+
+abbrev pub names_without : Option (List ℕ) → List (List ℕ) → List (List ℕ)
+names_without None names = names
+names_without (Some name) names = without_name names name
+
+-- the name that a session is given, without the bytes
+abbrev pub without_bytes : Given → Given
+without_bytes given = record given { bytes = None }
+
+-- the step of the machine that the session is
+abbrev pub step_of : Job → Step
+step_of job = Session job.processor job.numbers job.given.moment (without_bytes job.given)
+
+-- what is sent is a file that waits, under its name
+abbrev pub IsSentFrom : Machine → Option Sending → Type 0
+IsSentFrom before None = ⊤
+IsSentFrom before (Some sending) =
+    (place : ℕ) × (file : QueuedFile) × Contains (queue_at before.state place) file
+    × (name_in file.attributes ≡ Some sending.name)
+
+-- There is such a step. Behind it the state is that behind the change; the inbox has lost the file that the session
+-- was given, if one, and the outbox has what it sends.
+pub record IsStepOf (flow : Flow) (contents : ContentRef → List ℕ) (before : Machine) (job : Job) (changed : Changed)
+    : Type 0 where
+  pub after : Machine
+  pub goes : step flow before (step_of job) ≡ Some after
+  pub state : state_after contents before.state changed.settled ≡ after.state
+  pub inbox : files_left after.world ≡ without_received job.given.file (files_left before.world)
+  pub coming : coming_of after.world ≡ names_without job.given.file (coming_of before.world)
+  pub outbox : after.world.outbox ≡ with_sending changed.sending before.world.outbox
+  pub sent : IsSentFrom before changed.sending
+
+-- wherever what the session was handed stands so, it is such a step
+abbrev pub MakesStep : Flow → Kept → Job → Changed → Type 0
+MakesStep flow k job changed =
+    (contents : ContentRef → List ℕ) (before : Machine) → IsStateOf before contents k → IsValid flow before.state
+    → StandsIn flow k contents before job → IsStepOf flow contents before job changed

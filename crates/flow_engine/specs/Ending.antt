@@ -1,0 +1,27 @@
+-- Why a run of an engine ended, on any devices.
+use Rattle.std.specs.Prelude.{◌≡◌, ◌⊎◌, ℕ, ◌+◌, Bool}
+use Rattle.disk_trait.specs.Files.{Files}
+use Rattle.disk_trait.specs.Faults.{CountsFaults}
+use Rattle.kept_state.specs.declared.limit.Limit.{Limit}
+use Rattle.kept_state.specs.declared.limit.Which.TheVariants.{Journal}
+use Rattle.machine_model.specs.declared.flow.Flow.{Flow}
+use Rattle.flow_run.specs.declared.ended.Ended.{Ended}
+use Rattle.flow_run.specs.declared.ended.Ended.TheVariants as ended
+use Rattle.flow_run.specs.declared.ended.Fault.TheVariants as fault
+use Rattle.flow_engine.specs.Work.{IsEndedByLimit}
+
+-- the journal has as many entries as it may
+abbrev pub journal_full : (most : ℕ) → Limit
+journal_full most = record { which = Journal; number = most; wanted = most + 1 }
+
+-- a store at work refused a change by the limit and then was closed, or the journal was full
+abbrev pub IsLimitMet : {D : Type 0} → Flow → (tells : Bool) → (D → Files) → (D → ℕ) → (D → ℕ → Files → Type 0)
+    → (lot start most : ℕ) → Limit → (new : D) → Type 0
+IsLimitMet flow tells held moment images lot start most limit new =
+    IsEndedByLimit flow tells held moment images lot start limit new ⊎ (limit ≡ journal_full most)
+
+-- A device's fault count never falls, and its fault ends a run only where the count rose, or stands at its type's end.
+pub record EndsOnFaults (ended : Ended) (disk_old disk_new inbox_old inbox_new outbox_old outbox_new : ℕ) : Type 0 where
+  pub disk : CountsFaults disk_old disk_new (ended ≡ ended.Fault fault.Disk)
+  pub inbox : CountsFaults inbox_old inbox_new (ended ≡ ended.Fault fault.Inbox)
+  pub outbox : CountsFaults outbox_old outbox_new (ended ≡ ended.Fault fault.Outbox)
