@@ -11,7 +11,7 @@ use Rattle.store_core.specs.Store.{StoreState, kept_by}
 use Rattle.engine_queues.specs.Queues.{AreQueuesOf}
 use Rattle.engine_choice.specs.Listing.{Left, AreDistinct}
 use Rattle.engine_session.specs.Working.{is_built}
-use Rattle.flow_engine.specs.Work.{IsAtWork}
+use Rattle.flow_run.specs.Work.{IsAtWork}
 
 -- The flow that it runs; the store and the queues of what it keeps; the names of the inbox that are to come; the
 -- processor that got the last session; how many entries the journal has, and how many it may have.

@@ -2,7 +2,5 @@ pub mod Change
 pub mod Driving
 pub mod Engine
 pub mod Errors
-pub mod Ending
 pub mod Job
 pub mod Running
-pub mod Work

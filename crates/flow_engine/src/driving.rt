@@ -4,11 +4,11 @@ ghost use Rattle.disk_trait.specs.declared.damage.Damage.{Damage as TheDamage};
 ghost use Rattle.kept_state.specs.declared.limit.Limit.{Limit as TheLimit};
 ghost use Rattle.machine_model.specs.State.{Machine};
 ghost use Rattle.flow_engine.specs.Driving.{IsEnded};
-ghost use Rattle.flow_engine.specs.Ending.{journal_full};
+ghost use Rattle.flow_run.specs.Ending.{journal_full};
 ghost use Rattle.flow_engine.specs.Engine.{AreTakeable, IsOfSameRun, IsReady};
 ghost use Rattle.flow_engine.specs.Errors.{CountsEachFault};
 ghost use Rattle.flow_engine.specs.Running.{IsRunning, Stops};
-ghost use Rattle.flow_engine.specs.Work.{IsAtWork, IsReadDamaged, IsRefused, WritesLog};
+ghost use Rattle.flow_run.specs.Work.{IsAtWork, IsReadDamaged, IsRefused, WritesLog};
 ghost use Rattle.flow_engine.specs.declared.error.EngineError.{EngineError as TheError};
 
 use crate::EngineError;

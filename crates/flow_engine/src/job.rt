@@ -16,7 +16,7 @@ ghost use Rattle.store_core.specs.Store.{kept_by};
 ghost use Rattle.flow_engine.specs.Engine.{AreTakeable, IsReady, IsOfSameRun};
 ghost use Rattle.flow_engine.specs.Errors.{CountsEachFault};
 ghost use Rattle.flow_engine.specs.Job.{MayHand, StandsIn};
-ghost use Rattle.flow_engine.specs.Work.{IsAtWork, IsReadDamaged};
+ghost use Rattle.flow_run.specs.Work.{IsAtWork, IsReadDamaged};
 
 use crate::EngineError;
 use crate::engine::Engine;

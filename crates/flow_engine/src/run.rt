@@ -7,9 +7,9 @@ ghost use Rattle.machine_model.specs.State.{State};
 ghost use Rattle.flow_run.specs.Going.{IsRunningAt};
 ghost use Rattle.flow_run.specs.Run.{HasRun, machine_at};
 ghost use Rattle.flow_run.specs.declared.ended.Fault.TheVariants.{Damaged};
-ghost use Rattle.flow_engine.specs.Ending.{EndsOnFaults, IsLimitMet};
+ghost use Rattle.flow_run.specs.Ending.{EndsOnFaults, IsLimitMet};
 ghost use Rattle.flow_engine.specs.Engine.{AreBuilt};
-ghost use Rattle.flow_engine.specs.Work.{IsAtWork, IsReadDamaged, WritesLog};
+ghost use Rattle.flow_run.specs.Work.{IsAtWork, IsReadDamaged, WritesLog};
 
 use crate::engine::Engine;
 use disk_trait::Disk;

@@ -10,7 +10,7 @@ ghost use Rattle.store_core.specs.Store.{kept_by};
 ghost use Rattle.flow_engine.specs.Engine.{AreTakeable, IsOfSameRun, IsReady};
 ghost use Rattle.flow_engine.specs.Errors.{CountsEachFault};
 ghost use Rattle.flow_engine.specs.Running.{IsRunning, Stops};
-ghost use Rattle.flow_engine.specs.Work.{IsReadDamaged, IsRefused, WritesLog};
+ghost use Rattle.flow_run.specs.Work.{IsReadDamaged, IsRefused, WritesLog};
 ghost use Rattle.flow_engine.specs.declared.error.EngineError.{EngineError as TheError};
 
 use crate::EngineError;

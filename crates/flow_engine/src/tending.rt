@@ -5,10 +5,10 @@ ghost use Rattle.flowfile_record.specs.NamedFile.{NamedFile};
 ghost use Rattle.kept_state.specs.declared.limit.Limit.{Limit as TheLimit};
 ghost use Rattle.machine_model.specs.State.{Machine};
 ghost use Rattle.flow_engine.specs.Driving.{IsNoneExpired};
-ghost use Rattle.flow_engine.specs.Ending.{journal_full};
+ghost use Rattle.flow_run.specs.Ending.{journal_full};
 ghost use Rattle.flow_engine.specs.Engine.{IsOfSameRun, IsReady};
 ghost use Rattle.flow_engine.specs.Running.{IsRunning, Stops};
-ghost use Rattle.flow_engine.specs.Work.{IsAtWork, IsRefused, WritesLog};
+ghost use Rattle.flow_run.specs.Work.{IsAtWork, IsRefused, WritesLog};
 ghost use Rattle.flow_engine.specs.declared.error.EngineError.{EngineError as TheError};
 ghost use Rattle.flow_engine.specs.declared.tending.Tended.TheVariants.{Expired, Nothing};
 

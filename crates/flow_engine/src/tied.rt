@@ -11,7 +11,7 @@ ghost use Rattle.prov_store.specs.State.{AreNumberedFrom};
 ghost use Rattle.store_core.specs.State.{state_with};
 ghost use Rattle.store_core.specs.Store.{Holds, kept_by};
 ghost use Rattle.flow_run.specs.Run.{IsStateOf, StandsFor};
-ghost use Rattle.flow_engine.specs.Work.{IsAtWork};
+ghost use Rattle.flow_run.specs.Work.{IsAtWork};
 
 use disk_trait::Disk;
 use flow_run::memory_is_the_state;

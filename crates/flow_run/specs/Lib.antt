@@ -1,4 +1,6 @@
+pub mod Ending
 pub mod Going
 pub mod Journal
 pub mod Laws
 pub mod Run
+pub mod Work

@@ -8,7 +8,7 @@ use Rattle.machine_model.specs.declared.flow.Flow.{Flow}
 use Rattle.flow_run.specs.declared.ended.Ended.{Ended}
 use Rattle.flow_run.specs.declared.ended.Ended.TheVariants as ended
 use Rattle.flow_run.specs.declared.ended.Fault.TheVariants as fault
-use Rattle.flow_engine.specs.Work.{IsEndedByLimit}
+use Rattle.flow_run.specs.Work.{IsEndedByLimit}
 
 -- the journal has as many entries as it may
 abbrev pub journal_full : (most : ℕ) → Limit
