@@ -3,10 +3,12 @@ pub mod Cases
 pub mod Commits
 pub mod Counts
 pub mod DraftCount
+pub mod DueExpiries
 pub mod Each
 pub mod Encoded
 pub mod Ended
 pub mod Events
+pub mod Expiring
 pub mod FanOut
 pub mod Few
 pub mod Fits

@@ -1,9 +1,10 @@
--- How long the names are that a sound flow has of its processors and of their relationships.
+-- How long the names are that a sound flow has of its processors, of their relationships and of its connections.
 use Rattle.std.proofs.Common.{◌≡◌, ℕ, ◌≤◌, ◌&&◌, true, List, [], ◌∷◌, ◌++◌, length, map, not, arith}
-use Rattle.std.specs.Prelude.{Some, codes, nat_le, slice_get}
+use Rattle.std.specs.Prelude.{Some, codes, nat_le, nat_lt, slice_get}
 use Rattle.std.specs.List.{list_all}
 use Rattle.std.proofs.lemmas.Bool.{and_parts, leb-true}
 use Rattle.flowfile_record.specs.declared.name.TheConstants.{NAME_MAX}
+use Rattle.machine_model.specs.declared.flow.Connection.{Connection}
 use Rattle.machine_model.specs.declared.flow.Flow.{Flow}
 use Rattle.machine_model.specs.declared.flow.Processor.{Processor}
 use Rattle.machine_model.specs.declared.kind.Kind.{Kind}
@@ -11,7 +12,7 @@ use Rattle.machine_model.specs.declared.kind.Kind.TheVariants.{GetFile, Generate
 use Rattle.machine_model.specs.declared.limits.TheConstants.{ID_MAX, OWN_NAME_MAX, OWN_PROPERTIES_MAX, PENALTY_MAX, TASKS_MAX}
 use Rattle.machine_model.specs.Kinds.{is_among, relationships_of}
 use Rattle.machine_model.specs.Placing.{relationship_at}
-use Rattle.machine_model.specs.Sound.{IsSound, IsSoundKind, are_ascending, are_distinct_texts, are_own_names, are_own_relationships, are_within_ranges, is_id, is_id_byte, is_sound_processor, within}
+use Rattle.machine_model.specs.Sound.{IsSound, IsSoundKind, are_ascending, are_distinct_texts, are_own_names, are_own_relationships, are_sound_limits, are_within_ranges, has_relationships, is_id, is_id_byte, is_sound_connection, is_sound_processor, may_be_target, within}
 use Rattle.machine_model.proofs.Tally.{Each, each-append}
 use Rattle.engine_core.proofs.Each.{each_at, each_from_all, each_passes, each_some, each_weaker}
 
@@ -71,3 +72,20 @@ id_short flow place processor sound found =
     let e = and_parts (is_id processor.id) tasks d.0 in
     let long = and_parts (within 1 (length processor.id) ID_MAX) (list_all is_id_byte processor.id) e.0 in
     within_most 1 (length processor.id) ID_MAX long.0
+
+-- ---- of connections
+
+pub connection_short : (flow : Flow) (place : ℕ) (connection : Connection) → IsSound flow → slice_get flow.connections place ≡ Some connection → length connection.id ≤ ID_MAX
+connection_short flow place connection sound found =
+    let passes = each_some (λ (one : Connection). is_sound_connection flow one ≡ true) flow.connections place connection (each_passes (is_sound_connection flow) flow.connections sound.connections) found in
+    let some = nat_lt 0 (length connection.relationships) in
+    let distinct = are_distinct_texts connection.relationships in
+    let source = has_relationships connection (slice_get flow.processors connection.source) in
+    let target = may_be_target (slice_get flow.processors connection.target) in
+    let a = and_parts (is_id connection.id && are_sound_limits connection.limits && some && distinct && source) target passes in
+    let b = and_parts (is_id connection.id && are_sound_limits connection.limits && some && distinct) source a.0 in
+    let d = and_parts (is_id connection.id && are_sound_limits connection.limits && some) distinct b.0 in
+    let e = and_parts (is_id connection.id && are_sound_limits connection.limits) some d.0 in
+    let f = and_parts (is_id connection.id) (are_sound_limits connection.limits) e.0 in
+    let long = and_parts (within 1 (length connection.id) ID_MAX) (list_all is_id_byte connection.id) f.0 in
+    within_most 1 (length connection.id) ID_MAX long.0

@@ -2,8 +2,13 @@
 //! settles.
 #![tactic(auto)]
 
+mod expiry;
 mod identity;
 mod session;
 
+pub use expiry::{
+    ascending_numbers_stay, due_expiries_may_expire, expire_files, expiries_are_steps,
+    held_contents_are_read,
+};
 pub use identity::connection_ids;
 pub use session::settle_session;

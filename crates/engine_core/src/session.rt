@@ -78,7 +78,7 @@ fn sent_name(outcome: &Outcome) -> &str
 }
 
 /// The texts of events are UTF-8.
-fn have_texts(events: &[Event])
+pub(crate) fn have_texts(events: &[Event])
     ensures { All HasTexts events.now }
 {
     for event in events {

@@ -52,13 +52,13 @@ distinct-filter part test (x ∷ items) distinct =
       | inr f ↦ rw f rest
     ]
 
-length-filter_le : {A : Type 0} (test : A → Bool) (items : List A) → length (filter test items) ≤ length items
+pub length-filter_le : {A : Type 0} (test : A → Bool) (items : List A) → length (filter test items) ≤ length items
 length-filter_le test [] = omega arith
 length-filter_le test (x ∷ items) =
     let rest = length-filter_le test items in
     elim (cases_Bool (test x)) [ inl t ↦ rw t (omega (arith, rest)) | inr f ↦ rw f (omega (arith, rest)) ]
 
-sum-filter_le : {A : Type 0} (size : A → ℕ) (test : A → Bool) (items : List A) → sum (map size (filter test items)) ≤ sum (map size items)
+pub sum-filter_le : {A : Type 0} (size : A → ℕ) (test : A → Bool) (items : List A) → sum (map size (filter test items)) ≤ sum (map size items)
 sum-filter_le size test [] = omega arith
 sum-filter_le size test (x ∷ items) =
     let rest = sum-filter_le size test items in
@@ -149,13 +149,13 @@ suits_from k s none suits =
 
 -- ---- limits
 
-not_passed : (w : Which) (number wanted : ℕ) → passed w number wanted ≡ None → wanted ≤ number
+pub not_passed : (w : Which) (number wanted : ℕ) → passed w number wanted ≡ None → wanted ≤ number
 not_passed w number wanted none = elim (cases_Bool (nat_lt number wanted)) [
   | inl t ↦ absurd (let some = rw t at none in cc)
   | inr f ↦ ltb-false number wanted f
 ]
 
-or_none : {A : Type 0} (a b : Option A) → option_or a b ≡ None → (a ≡ None) × (b ≡ None)
+pub or_none : {A : Type 0} (a b : Option A) → option_or a b ≡ None → (a ≡ None) × (b ≡ None)
 or_none None b none = (refl, none)
 or_none (Some x) b none = absurd cc
 

@@ -5,18 +5,19 @@ use Rattle.flowfile_record.specs.declared.change.Change.{Change}
 use Rattle.flowfile_record.specs.declared.change.Change.TheVariants as change
 use Rattle.flowfile_record.specs.declared.change.Settled.{Settled}
 use Rattle.flowfile_record.specs.declared.content.ContentRef.{ContentRef}
+use Rattle.flowfile_record.specs.declared.event.Event.{Event}
 use Rattle.flowfile_record.specs.declared.flow_file.FlowFile.{FlowFile}
 use Rattle.flowfile_record.specs.declared.stored.ActiveFile.{ActiveFile}
 use Rattle.flowfile_record.specs.declared.stored.Placed.{Placed}
 use Rattle.record_codec.specs.ActiveFile.{active}
-use Rattle.record_codec.specs.EntryEncoding.{entry as encoding, IsEntry}
+use Rattle.record_codec.specs.EntryEncoding.{entry as encoding, IsEntry, IsMoment}
 use Rattle.record_codec.specs.Placeless.{placeless}
 use Rattle.record_codec.specs.declared.block.TheConstants.{PAYLOAD_MAX}
 use Rattle.record_codec.specs.declared.entry.SessionEntry.{SessionEntry}
 use Rattle.record_codec.specs.declared.entry.LogEntry.{LogEntry}
 use Rattle.record_codec.specs.declared.entry.LogEntry.TheVariants.{Begin, Session, Expire, SwapOut, SwapIn}
 use Rattle.kept_state.specs.Applied.{session_applied}
-use Rattle.kept_state.specs.Fits.{session_suits}
+use Rattle.kept_state.specs.Fits.{session_suits, fits}
 use Rattle.kept_state.specs.Limits.{numbers_limit}
 
 -- ---- entries
@@ -109,3 +110,29 @@ pub record MaySettle (k : Kept) (s : Settled) : Type 0 where
   pub events : length s.events < 2 ^ 32
   pub encoded : numbers_limit (session_applied k (session_of k s)) ≡ None → IsEntry (Session (session_of k s))
   pub payload : length (encoding (Session (session_of k s))) ≤ PAYLOAD_MAX
+
+-- ---- files that expire
+
+-- files that expire at a moment, each with its event, as a settled session: it takes them and places none, and what
+-- comes next stays
+abbrev pub settled_of_expiry : Kept → (moment : ℕ) → (numbers : List ℕ) → List Event → Settled
+settled_of_expiry k moment numbers events = record {
+  processor = 0;
+  moment = moment;
+  gone = numbers;
+  placed = [];
+  events = events;
+  next_number = k.next_number;
+  next_arrival = k.next_arrival;
+  count = None;
+}
+
+-- the entry of the files of a connection that expire as this settled session
+abbrev pub expiry_entry : Kept → (connection : ℕ) → Settled → LogEntry
+expiry_entry k connection s = entry_of k (change.Expire connection s.moment s.gone s.events)
+
+-- files of a connection may expire as this settled session: their entry fits
+pub record MayExpireAs (k : Kept) (connection : ℕ) (s : Settled) : Type 0 where
+  pub as_session : s ≡ settled_of_expiry k s.moment s.gone s.events
+  pub moment : IsMoment s.moment
+  pub fits : fits no_files k (expiry_entry k connection s) ≡ true

@@ -11,7 +11,7 @@ ghost use Rattle.record_codec.specs.declared.entry.LogEntry.{LogEntry as Entry};
 ghost use Rattle.record_codec.specs.declared.entry.SessionEntry.{SessionEntry as Session};
 ghost use Rattle.checkpoint_store.specs.Consistent.{IsConsistent};
 ghost use Rattle.kept_state.specs.Applied.{number_of, session_applied, applied, swapped_out};
-ghost use Rattle.kept_state.specs.Changes.{session_of, entry_of, no_files, MaySettle};
+ghost use Rattle.kept_state.specs.Changes.{session_of, entry_of, expiry_entry, no_files, MaySettle, MayExpireAs};
 ghost use Rattle.kept_state.specs.Fits.{active_of, fits, replayed};
 ghost use Rattle.kept_state.specs.Limits.{live_limit};
 
@@ -43,6 +43,16 @@ pub fn replays_go_on()
 pub fn settled_sessions_fit()
     ensures { (k : Kept) (s : SettledSession) → MaySettle k s → live_limit (session_applied k (session_of k s)) ≡ None
         → fits no_files k (entry_of k (change.Session s)) ≡ true }
+{}
+
+/// Files that may expire do what their settled session does, which may be handed in and passes no limit of what lives.
+pub fn expiries_are_sessions()
+    ensures same { (k : Kept) (connection : ℕ) (s : SettledSession) → MayExpireAs k connection s
+        → applied no_files k (expiry_entry k connection s) ≡ session_applied k (session_of k s) }
+    ensures may { (k : Kept) (connection : ℕ) (s : SettledSession) → IsConsistent k
+        → MayExpireAs k connection s → MaySettle k s }
+    ensures live { (k : Kept) (connection : ℕ) (s : SettledSession) → IsConsistent k
+        → MayExpireAs k connection s → live_limit (session_applied k (session_of k s)) ≡ None }
 {}
 
 /// Where contents stand doesn't change whether an entry fits.

@@ -9,7 +9,7 @@ ghost use Rattle.record_codec.specs.EntryEncoding.{IsEntry, IsSession, IsExpire}
 ghost use Rattle.record_codec.specs.declared.entry.LogEntry.TheVariants as entries;
 ghost use Rattle.checkpoint_store.specs.Consistent.{IsConsistent, record_size};
 ghost use Rattle.kept_state.specs.Applied.{left_after, session_applied, applied, swapped_out, with_count};
-ghost use Rattle.kept_state.specs.Changes.{session_of, entry_of, placed_in, no_files, MaySettle};
+ghost use Rattle.kept_state.specs.Changes.{session_of, entry_of, expiry_entry, placed_in, no_files, MaySettle, MayExpireAs};
 ghost use Rattle.kept_state.specs.Fits.{are_distinct, fits, has_count};
 ghost use Rattle.kept_state.specs.Limits.{passed, live_limit, numbers_limit};
 ghost use Rattle.kept_state.specs.Moves.{are_active};
@@ -194,6 +194,29 @@ impl KeptState {
             last_event: self.last_event_with(settled),
             generator: settled.count,
         })
+    }
+
+    /// The entry of the files of a connection that expire, with the memory that writing it takes.
+    pub fn prepare_expiry(
+        &self,
+        alloc: Global,
+        connection: u16,
+        settled: &Settled,
+    ) -> Result<PreparedEntry, AllocError>
+        requires may { MayExpireAs self.now.kept connection settled.now }
+        requires numbers { numbers_limit (session_applied self.now.kept (session_of self.now.kept settled.now)) ≡ None }
+        ensures { IfOk result (λ prepared. prepared ≡ expiry_entry self.now.kept connection settled.now) }
+    {
+        // It says of what is kept that it is consistent.
+        let _stored = self.stored();
+        let numbers = Numbers::from_slice(alloc, settled.gone.as_slice())?;
+        let entry = LogEntry::Expire(ExpireEntry {
+            connection,
+            moment: settled.moment,
+            numbers,
+            last_event: self.last_event_with(settled),
+        });
+        PreparedEntry::new(alloc, entry)
     }
 
     /// Makes room for so many more files.

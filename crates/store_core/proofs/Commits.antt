@@ -1,5 +1,5 @@
 -- A session's entry, what a store knows once it is applied, and which files hold it.
-use Rattle.std.proofs.Common.{◌≡◌, ℕ, ◌+◌, ◌≤◌, Bool, true, false, List, [], ◌∷◌, length, map, take, drop, get_or, refl, sym, ap, subst, ◌∙◌, arith, length-set}
+use Rattle.std.proofs.Common.{◌≡◌, ℕ, ◌+◌, ◌≤◌, Bool, true, false, List, [], ◌∷◌, length, map, take, drop, get_or, refl, sym, ap, subst, ◌∙◌, arith, inl, inr, length-set}
 use Rattle.std.specs.List.{AllZip}
 use Rattle.std.specs.Prelude.{Option, None, Some, is_none, Ok, All, Contains}
 use Rattle.std.proofs.lemmas.Bool.{and_from}
@@ -19,6 +19,7 @@ use Rattle.flowfile_record.specs.declared.stored.Placed.{Placed}
 use Rattle.record_codec.specs.Placeless.{placeless_active, placeless_entry}
 use Rattle.record_codec.specs.declared.entry.LogEntry.{LogEntry}
 use Rattle.record_codec.specs.declared.entry.LogEntry.TheVariants.{Begin, Session, Expire, SwapOut, SwapIn}
+use Rattle.record_codec.specs.declared.entry.ExpireEntry.{ExpireEntry}
 use Rattle.record_codec.specs.declared.entry.SessionEntry.{SessionEntry}
 use Rattle.checkpoint_store.specs.Consistent.{IsConsistent}
 use Rattle.content_repo.specs.Claims.{claim, HasSizes}
@@ -26,11 +27,13 @@ use Rattle.content_repo.specs.Slots.{count_of, size_of, held_in, references_to, 
 use Rattle.content_repo.specs.declared.slot.Slot.{Slot}
 use Rattle.flowfile_wal.specs.Steps.{Adds, IsFrame, frame}
 use Rattle.record_codec.specs.EntryEncoding.{entry as encoding, kind_of, IsEntry}
+use Rattle.record_codec.specs.declared.block.TheConstants.{PAYLOAD_MAX}
 use Rattle.record_codec.proofs.Sizes.{placeless_entry_size}
 use Rattle.kept_state.specs.Applied.{left_after, session_applied, applied, swapped_out, with_count}
-use Rattle.kept_state.specs.Changes.{session_of, record_of, no_files, placed_in, MaySettle}
+use Rattle.kept_state.specs.Changes.{session_of, expiry_entry, record_of, no_files, placed_in, MaySettle, MayExpireAs}
 use Rattle.kept_state.specs.Fits.{fits, session_suits}
 use Rattle.kept_state.specs.Limits.{live_limit}
+use Rattle.kept_state.proofs.Expiring.{expiry_payload, same_effect}
 use Rattle.kept_state.proofs.Going.{active_from_one}
 use Rattle.kept_state.proofs.Keeping.{within_limits, session_parts, distinct_of_suits, active_of_suits, length-with_files}
 use Rattle.kept_state.proofs.Placing.{placeless_fits}
@@ -38,7 +41,7 @@ use Rattle.prov_store.specs.Events.{events_file}
 use Rattle.prov_store.specs.State.{HasEvents}
 use Rattle.store_core.specs.Agreement.{SameEventFiles}
 use Rattle.store_core.specs.Change.{IsFresh, IsOldLive, HasLiveContents}
-use Rattle.store_core.specs.Committed.{PreparedChange, IsPrepared}
+use Rattle.store_core.specs.Committed.{PreparedChange, IsPrepared, IsEntryFor}
 use Rattle.store_core.specs.Flow.{Flow, flow_in}
 use Rattle.store_core.specs.Kept.{kept_in}
 use Rattle.store_core.specs.Placing.{contents_of, IsHeldIn, MayPlace, IsPlacedAs, ArePlaced, HoldsMore}
@@ -52,30 +55,26 @@ use Rattle.store_core.proofs.Sound.{IsSoundIn, content_of, each_sound, all_sound
 
 -- ---- the entry
 
--- it is that of a session, which is this one but for where its contents stand
-pub record IsSessionOf (e : LogEntry) (t : SessionEntry) : Type 0 where
+-- it does what that of a session does, which is this one but for where its contents stand
+pub record ActsAs (k : Kept) (e : LogEntry) (t : SessionEntry) : Type 0 where
   pub session : SessionEntry
-  pub is : e ≡ Session session
+  pub act : applied no_files k e ≡ session_applied k session
+  pub puts : placed_in e ≡ session.placed
+  pub alone : swapped_out e ≡ []
+  pub later : kind_of e ≡ 1 → ⊥
+  pub fit : fits no_files k e ≡ true
+  pub suits : session_suits no_files k session ≡ true
+  pub small : length (encoding e) ≤ PAYLOAD_MAX
   pub gone : session.gone ≡ t.gone
   pub placed : map placeless_active session.placed ≡ map placeless_active t.placed
+  pub next_number : session.next_number ≡ t.next_number
+  pub next_arrival : session.next_arrival ≡ t.next_arrival
   pub last_event : session.last_event ≡ t.last_event
+  pub generator : session.generator ≡ t.generator
 
 abbrev part_of : SessionEntry → LogEntry → SessionEntry
 part_of t (Session s) = s
 part_of t _ = t
-
-pub session_from : (e : LogEntry) (t : SessionEntry) → placeless_entry e ≡ placeless_entry (Session t) → IsSessionOf e t
-session_from (Session s) t same = record {
-  session = s;
-  is = refl;
-  gone = ap (λ (e : LogEntry). (part_of t e).gone) same;
-  placed = ap (λ (e : LogEntry). (part_of t e).placed) same;
-  last_event = ap (λ (e : LogEntry). (part_of t e).last_event) same;
-}
-session_from (Begin log) t same = absurd cc
-session_from (Expire e) t same = absurd cc
-session_from (SwapOut s) t same = absurd cc
-session_from (SwapIn connection batch) t same = absurd cc
 
 pub fits_placed : (k : Kept) (s : Settled) (e : LogEntry) → MaySettle k s → live_limit (session_applied k (session_of k s)) ≡ None
     → placeless_entry e ≡ placeless_entry (Session (session_of k s)) → fits no_files k e ≡ true
@@ -84,8 +83,62 @@ fits_placed k s e may none same =
     and_from (session_suits no_files k (session_of k s)) (is_none (live_limit (session_applied k (session_of k s)))) may.suits (ap is_none none) in
     sym (placeless_fits no_files k e) ∙ ap (fits no_files k) same ∙ placeless_fits no_files k (Session (session_of k s)) ∙ fit
 
-pub as_many : (e : LogEntry) (t : SessionEntry) (is : IsSessionOf e t) → length is.session.placed ≡ length t.placed
-as_many e t is = sym (length-map is.session.placed placeless_active) ∙ ap length is.placed ∙ length-map t.placed placeless_active
+session_acts : (k : Kept) (s : Settled) (e : LogEntry) → MaySettle k s → live_limit (session_applied k (session_of k s)) ≡ None → placeless_entry e ≡ placeless_entry (Session (session_of k s))
+    → ActsAs k e (session_of k s)
+session_acts k s (Session t) may none same =
+    let fit = fits_placed k s (Session t) may none same in
+    record {
+      session = t;
+      act = refl;
+      puts = refl;
+      alone = refl;
+      later = λ (one : kind_of (Session t) ≡ 1). omega (arith, one);
+      fit = fit;
+      suits = (session_parts k t fit).0;
+      small =
+          omega (
+            arith,
+            may.payload,
+            placeless_entry_size (Session t),
+            placeless_entry_size (Session (session_of k s)),
+            ap {B = ℕ} (λ (l : LogEntry). length (encoding l)) same,
+          );
+      gone = ap (λ (l : LogEntry). (part_of t l).gone) same;
+      placed = ap (λ (l : LogEntry). (part_of t l).placed) same;
+      next_number = ap (λ (l : LogEntry). (part_of t l).next_number) same;
+      next_arrival = ap (λ (l : LogEntry). (part_of t l).next_arrival) same;
+      last_event = ap (λ (l : LogEntry). (part_of t l).last_event) same;
+      generator = ap (λ (l : LogEntry). (part_of t l).generator) same;
+    }
+session_acts k s (Begin log) may none same = absurd cc
+session_acts k s (Expire e) may none same = absurd cc
+session_acts k s (SwapOut e) may none same = absurd cc
+session_acts k s (SwapIn connection batch) may none same = absurd cc
+
+expiry_same : (e : LogEntry) (x : ExpireEntry) → placeless_entry e ≡ Expire x → e ≡ Expire x
+expiry_same (Expire e) x same = same
+expiry_same (Begin log) x same = absurd cc
+expiry_same (Session e) x same = absurd cc
+expiry_same (SwapOut e) x same = absurd cc
+expiry_same (SwapIn connection batch) x same = absurd cc
+
+expiry_acts : (k : Kept) (connection : ℕ) (s : Settled) (e : LogEntry) → IsConsistent k → MaySettle k s → MayExpireAs k connection s → e ≡ expiry_entry k connection s → ActsAs k e (session_of k s)
+expiry_acts k connection s e was settles may is = record {
+  session = session_of k s;
+  act = ap (applied no_files k) is ∙ same_effect k connection s may;
+  puts = ap placed_in is ∙ sym (ap (λ (t : Settled). map record_of t.placed) may.as_session);
+  alone = ap swapped_out is;
+  later = λ (one : kind_of e ≡ 1). let other : kind_of (expiry_entry k connection s) ≡ 1 = ap kind_of (sym is) ∙ one in omega (arith, other);
+  fit = ap (fits no_files k) is ∙ may.fits;
+  suits = settles.suits;
+  small = omega (arith, expiry_payload k connection s was may, ap {B = ℕ} (λ (l : LogEntry). length (encoding l)) is);
+  gone = refl;
+  placed = refl;
+  next_number = refl;
+  next_arrival = refl;
+  last_event = refl;
+  generator = refl;
+}
 
 -- ---- the contents may be placed
 
@@ -231,18 +284,18 @@ pub events_beside_log : (number : ℕ) (e : LogEntry) (old new : Files) → Adds
 events_beside_log number e old new added k =
     added.others (events_file k) (λ (x : events_file k ≡ named Log number). let kinds : Events ≡ Log = ap (λ (f : FileName). f.kind) x in absurd cc)
 
--- files that held what is kept, and got the session's entry, hold what is kept after it
-pub holds_added : (s new : StoreState) (number : ℕ) (e : LogEntry) (se : SessionEntry) (old files : Files) → HasLog s old → Holds s old → s.log.number ≡ Some number → e ≡ Session se → fits no_files (kept_by s) e ≡ true
-    → Adds number e old files → All (IsSoundIn old) (map content_of se.placed) → kept_by new ≡ applied no_files (kept_by s) e → new.lot ≡ s.lot → HasEvents new.events old → Holds new files
-holds_added s new number e se old files has holds numbered is fit added placed kept lot events =
+-- files that held what is kept, and got an entry that does what a session's does, hold what is kept after it
+pub holds_added : (s new : StoreState) (number : ℕ) (e : LogEntry) (se : SessionEntry) (old files : Files) → HasLog s old → Holds s old → s.log.number ≡ Some number → applied no_files (kept_by s) e ≡ session_applied (kept_by s) se → swapped_out e ≡ []
+    → fits no_files (kept_by s) e ≡ true → Adds number e old files → All (IsSoundIn old) (map content_of se.placed) → kept_by new ≡ applied no_files (kept_by s) e → new.lot ≡ s.lot → HasEvents new.events old → Holds new files
+holds_added s new number e se old files has holds numbered act alone fit added placed kept lot events =
     let k = kept_by s in
     let log = has.ready.log in
     let both : Some number ≡ Some log.number = sym numbered ∙ has.ready.number in
     let same : number ≡ log.number = cc in
-    let kept_as : kept_by new ≡ session_applied k se = kept ∙ ap (applied no_files k) is in
+    let kept_as : kept_by new ≡ session_applied k se = kept ∙ act in
     let flow : flow_in (kept_by new) ≡ flow_in k = ap flow_in kept_as ∙ same_flow k se in
     let live : live_in new ≡ live_contents (session_applied k se) = ap live_contents kept_as in
-    let now = kept_with_entry (flow_in k) s.lot old files log k e has.ready.ready (subst (λ (n : ℕ). Adds n e old files) same added) (ap swapped_out is) fit holds.kept in
+    let now = kept_with_entry (flow_in k) s.lot old files log k e has.ready.ready (subst (λ (n : ℕ). Adds n e old files) same added) alone fit holds.kept in
     record {
       kept = ap (λ (f : Flow). kept_in f new.lot files) flow ∙ ap (λ (l : ℕ). kept_in (flow_in k) l files) lot ∙ now ∙ ap (λ (l : Kept). Ok l) (sym kept);
       contents =
@@ -255,54 +308,39 @@ holds_added s new number e se old files has holds numbered is fit added placed k
 
 -- ---- the entry of a prepared change, once its contents are placed
 
-module _ (s : StoreState) (p : PreparedChange) (e : LogEntry) (prepared : IsPrepared s p) (same : placeless_entry e ≡ placeless_entry p.entry) where
-  pub entry_as : placeless_entry e ≡ placeless_entry (Session (session_of (kept_by s) p.settled))
-  entry_as = same ∙ ap placeless_entry prepared.entry
-
-  pub entry_is : IsSessionOf e (session_of (kept_by s) p.settled)
-  entry_is = session_from e (session_of (kept_by s) p.settled) entry_as
-
-  pub entry_fits : fits no_files (kept_by s) e ≡ true
-  entry_fits = fits_placed (kept_by s) p.settled e prepared.may.settles prepared.within.live entry_as
-
-  pub entry_alone : swapped_out e ≡ []
-  entry_alone = ap swapped_out entry_is.is
+module _ (s : StoreState) (p : PreparedChange) (e : LogEntry) (was : IsConsistent (kept_by s)) (prepared : IsPrepared s p) (same : placeless_entry e ≡ placeless_entry p.entry) where
+  pub entry_acts : ActsAs (kept_by s) e (session_of (kept_by s) p.settled)
+  entry_acts = by prepared.entry
+    where
+      by : IsEntryFor (kept_by s) p.settled p.entry → ActsAs (kept_by s) e (session_of (kept_by s) p.settled)
+      by (inl is) = session_acts (kept_by s) p.settled e prepared.may.settles prepared.within.live (same ∙ ap placeless_entry is)
+      by (inr expiry) =
+          let is = expiry_same e _ (same ∙ ap placeless_entry expiry.is) in
+          expiry_acts (kept_by s) expiry.connection p.settled e was prepared.may.settles expiry.may is
 
   pub entry_room : length (placed_in e) ≤ s.memory.room
   entry_room =
       omega (
         arith,
         prepared.room,
-        ap (λ (l : LogEntry). length (placed_in l)) entry_is.is,
-        as_many e (session_of (kept_by s) p.settled) entry_is,
+        ap {B = ℕ} length entry_acts.puts,
+        length-map entry_acts.session.placed placeless_active,
+        ap {B = ℕ} length entry_acts.placed,
+        length-map (session_of (kept_by s) p.settled).placed placeless_active,
         length-map p.settled.placed record_of,
       )
 
-  pub entry_suits : session_suits no_files (kept_by s) entry_is.session ≡ true
-  entry_suits = (session_parts (kept_by s) entry_is.session (sym (ap (fits no_files (kept_by s)) entry_is.is) ∙ entry_fits)).0
-
-  pub entry_events : entry_is.session.last_event ≡ (kept_by s).last_event + length p.settled.events
-  entry_events = entry_is.last_event
-
 -- the placed files of the entry that was prepared
 pub recorded_first : (s : StoreState) (p : PreparedChange) → IsPrepared s p → placed_in p.entry ≡ map record_of p.settled.placed
-recorded_first s p prepared = ap placed_in prepared.entry
+recorded_first s p prepared = by prepared.entry
+  where
+    by : IsEntryFor (kept_by s) p.settled p.entry → placed_in p.entry ≡ map record_of p.settled.placed
+    by (inl is) = ap placed_in is
+    by (inr expiry) = ap placed_in expiry.is ∙ sym (ap (λ (t : Settled). map record_of t.placed) expiry.may.as_session)
 
 -- the block of the entry of a prepared change may be appended
-pub entry_frame : (s : StoreState) (p : PreparedChange) (e : LogEntry) (bytes : List ℕ) → IsPrepared s p → placeless_entry e ≡ placeless_entry p.entry → IsEntry e → bytes ≡ frame e → IsFrame e bytes
-entry_frame s p e bytes prepared same encodes is =
-    let t = session_of (kept_by s) p.settled in
-    let session = entry_is s p e prepared same in
-    record {
-      encodes = encodes;
-      small =
-          omega (
-            arith,
-            prepared.may.settles.payload,
-            placeless_entry_size e,
-            placeless_entry_size (Session t),
-            ap {B = ℕ} (λ (l : LogEntry). length (encoding l)) (entry_as s p e prepared same),
-          );
-      later = λ (one : kind_of e ≡ 1). let other : kind_of (Session session.session) ≡ 1 = ap kind_of (sym session.is) ∙ one in omega (arith, other);
-      is = is;
-    }
+pub entry_frame : (s : StoreState) (p : PreparedChange) (e : LogEntry) (bytes : List ℕ) → IsConsistent (kept_by s) → IsPrepared s p → placeless_entry e ≡ placeless_entry p.entry → IsEntry e → bytes ≡ frame e
+    → IsFrame e bytes
+entry_frame s p e bytes was prepared same encodes is =
+    let acts = entry_acts s p e was prepared same in
+    record { encodes = encodes; small = acts.small; later = acts.later; is = is }

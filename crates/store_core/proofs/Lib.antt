@@ -11,6 +11,7 @@ pub mod Cutting
 pub mod Discarding
 pub mod EventsAlone
 pub mod EventsStay
+pub mod Expiring
 pub mod Finding
 pub mod Following
 pub mod Giving

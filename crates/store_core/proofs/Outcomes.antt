@@ -6,6 +6,8 @@ use Rattle.disk_trait.specs.declared.damage.Damage.{Damage}
 use Rattle.flowfile_record.specs.declared.event.Event.{Event}
 use Rattle.disk_trait.specs.Images.{After, Since}
 use Rattle.disk_trait.proofs.Moments.{wider, wider_where_left}
+use Rattle.flowfile_record.specs.declared.stored.ActiveFile.{ActiveFile}
+use Rattle.flowfile_record.specs.declared.stored.Placed.{Placed}
 use Rattle.record_codec.specs.Placeless.{placeless_entry}
 use Rattle.record_codec.specs.declared.entry.LogEntry.{LogEntry}
 use Rattle.record_codec.specs.declared.entry.LogEntry.TheVariants.{Session}
@@ -17,7 +19,7 @@ use Rattle.content_repo.specs.declared.slot.Slot.{Slot}
 use Rattle.flowfile_wal.specs.Calls.{InEach, WithOrWithout}
 use Rattle.flowfile_wal.specs.Steps.{Adds, IsReadyIn}
 use Rattle.kept_state.specs.Applied.{applied, session_applied}
-use Rattle.kept_state.specs.Changes.{no_files, placed_in, session_of}
+use Rattle.kept_state.specs.Changes.{no_files, placed_in}
 use Rattle.machine_model.specs.State.{State}
 use Rattle.machine_model.specs.Changing.{state_after}
 use Rattle.prov_store.specs.Events.{events_in}
@@ -26,11 +28,11 @@ use Rattle.store_core.specs.Change.{HasLiveContents}
 use Rattle.store_core.specs.Committed.{PreparedChange, IsPrepared, HasChange, HoldsEither}
 use Rattle.store_core.specs.Touched.{MayTouch, TouchesOnly}
 use Rattle.store_core.specs.Flow.{flow_in}
-use Rattle.store_core.specs.Placing.{contents_of, GrowsAhead, AddsEvents, ArePlaced, PlacesAll}
+use Rattle.store_core.specs.Placing.{contents_of, GrowsAhead, AddsEvents, ArePlaced, HoldsMore, PlacesAll}
 use Rattle.store_core.specs.State.{stands_for}
 use Rattle.store_core.specs.Store.{StoreState, IsWorking, IsKeptOn, EachStandsFor, Holds, kept_by}
 use Rattle.store_core.proofs.Agreeing.{of_state}
-use Rattle.store_core.proofs.Commits.{entry_as, entry_is, entry_suits, entry_events, referred_gone, events_beside_log, working_after}
+use Rattle.store_core.proofs.Commits.{entry_acts, referred_gone, events_beside_log, working_after}
 use Rattle.store_core.proofs.EventsStay.{same_events}
 use Rattle.store_core.proofs.Following.{Follows, follows_ahead, state_following}
 use Rattle.store_core.proofs.States.{IsSame, state_added}
@@ -146,22 +148,19 @@ has_logged tells held moment images inside s new change p e e2 old mid end numbe
 abbrev events_are : List Event → Result (List Event) Damage
 events_are events = Ok events
 
-abbrev session_part : SessionEntry → LogEntry → SessionEntry
-session_part t (Session s) = s
-session_part t _ = t
+-- the same by the placed files alone
+as_session_places : (tells : Bool) (files : Files) (all : List Placed) (old new : List Slot) (e : LogEntry) (t : SessionEntry) → placed_in e ≡ t.placed → PlacesAll tells files all old new e
+    → PlacesAll tells files all old new (Session t)
+as_session_places tells files all old new e t puts places = record {
+  placed = subst (λ (l : List ActiveFile). ArePlaced tells new files all l) puts places.placed;
+  holds = subst (λ (l : List ActiveFile). HoldsMore l old new) puts places.holds;
+}
 
-same_session : (s : StoreState) (p : PreparedChange) (e : LogEntry) (prepared : IsPrepared s p) (same : placeless_entry e ≡ placeless_entry p.entry)
-    → IsSame p.settled (entry_is s p e prepared same).session
-same_session s p e prepared same =
-    let is = entry_is s p e prepared same in
-    let t = session_of (kept_by s) p.settled in
-    let both : placeless_entry (Session is.session) ≡ placeless_entry (Session t) = ap placeless_entry (sym is.is) ∙ entry_as s p e prepared same in
-    record {
-      gone = is.gone;
-      number = ap (λ (l : LogEntry). (session_part t l).next_number) both;
-      arrival = ap (λ (l : LogEntry). (session_part t l).next_arrival) both;
-      count = ap (λ (l : LogEntry). (session_part t l).generator) both;
-    }
+same_session : (s : StoreState) (p : PreparedChange) (e : LogEntry) (was : IsConsistent (kept_by s)) (prepared : IsPrepared s p) (same : placeless_entry e ≡ placeless_entry p.entry)
+    → IsSame p.settled (entry_acts s p e was prepared same).session
+same_session s p e was prepared same =
+    let is = entry_acts s p e was prepared same in
+    record { gone = is.gone; number = is.next_number; arrival = is.next_arrival; count = is.generator }
 
 module _ {D : Type 0} (tells : Bool) (held : D → Files) (moment : D → ℕ) (images : D → ℕ → Files → Type 0) (s new : StoreState) (p : PreparedChange) (e : LogEntry) (old mid end : D) (number : ℕ)
     (slots : List Slot) (has : HasPlaced tells held moment images s p e old mid) (logged : HasLogged tells held moment images s new p e old mid end number slots) where
@@ -169,11 +168,11 @@ module _ {D : Type 0} (tells : Bool) (held : D → Files) (moment : D → ℕ) (
   really_placed told = subst (λ (t : Bool). ArePlaced t slots (held mid) p.settled.placed (placed_in e)) told logged.placed.placed
 
   -- the last event of the entry is the last one that is known now
-  last_known : (entry_is s p e has.prepared has.same).session.last_event ≡ new.events.end
+  last_known : (entry_acts s p e has.consistent has.prepared has.same).session.last_event ≡ new.events.end
   last_known =
       omega (
         arith,
-        entry_events s p e has.prepared has.same,
+        (entry_acts s p e has.consistent has.prepared has.same).last_event,
         has.works.last_event,
         logged.events.appended.end,
         ap {B = ℕ} (λ (l : List Event). length l) has.prepared.events,
@@ -181,7 +180,7 @@ module _ {D : Type 0} (tells : Bool) (held : D → Files) (moment : D → ℕ) (
 
   added_entry : IsTrue tells → IsAdded s new e (held mid)
   added_entry told =
-      is_added moment images held s new p e old mid slots has.works (has.kept.log has.unfailed) (has.kept.holds has.unfailed) has.grows has.prepared has.same has.live
+      is_added moment images held s new p e old mid slots has.works (has.kept.log has.unfailed) (has.kept.holds has.unfailed) has.grows has.consistent has.prepared has.same has.live
       (logged.left mid told) (logged.sizes told) (really_placed told) logged.kept logged.lot (logged.events.ready told).has
 
   added_holds : (c : Files) → IsTrue tells → Adds number e (held mid) c → Holds new c
@@ -200,7 +199,7 @@ module _ {D : Type 0} (tells : Bool) (held : D → Files) (moment : D → ℕ) (
   behind state = state_after (content_in (held old)) state p.settled
 
   events_behind : (c : Files) → IsTrue tells → Adds number e (held mid) c → (events : List Event) → events_in (held old) (kept_by s).last_event ≡ Ok events
-      → events_in c (entry_is s p e has.prepared has.same).session.last_event ≡ Ok (events ++ p.settled.events)
+      → events_in c (entry_acts s p e has.consistent has.prepared has.same).session.last_event ≡ Ok (events ++ p.settled.events)
   events_behind c told added events are =
       ap (events_in c) last_known
       ∙ same_events new.events.end (held mid) c (events_beside_log number e (held mid) c added)
@@ -210,14 +209,14 @@ module _ {D : Type 0} (tells : Bool) (held : D → Files) (moment : D → ℕ) (
   pub state_logged : (state : State) (c : Files) → EachStandsFor (flow_in (kept_by s)) s.lot state (images old (moment old)) → IsTrue tells → Adds number e (held mid) c
       → stands_for (flow_in (kept_by s)) s.lot c ≡ of_state (behind state)
   state_logged state c stands told added =
-      let is = entry_is s p e has.prepared has.same in
+      let is = entry_acts s p e has.consistent has.prepared has.same in
       let placed : ArePlaced true slots (held mid) p.settled.placed is.session.placed =
-      subst (λ (l : LogEntry). ArePlaced true slots (held mid) p.settled.placed (placed_in l)) is.is (really_placed told) in
+      subst (λ (l : List ActiveFile). ArePlaced true slots (held mid) p.settled.placed l) is.puts (really_placed told) in
       let before = logged.left old told in
-      let kept : kept_by new ≡ session_applied (kept_by s) is.session = logged.kept ∙ ap (applied no_files (kept_by s)) is.is in
+      let kept : kept_by new ≡ session_applied (kept_by s) is.session = logged.kept ∙ is.act in
       let held_then = has.kept.holds has.unfailed (held old) before in
-      state_added s new p.settled is.session number e slots (held old) (held mid) c state has.batches (entry_suits s p e has.prepared has.same)
-      (same_session s p e has.prepared has.same) (events_behind c told added) held_then (stands (held old) before)
+      state_added s new p.settled is.session number e slots (held old) (held mid) c state has.batches is.suits
+      (same_session s p e has.consistent has.prepared has.same) (events_behind c told added) held_then (stands (held old) before)
       (follows_ahead s (held old) (held mid) has.works held_then.events (has.held_grows told)) added placed has.live (added_holds c told added) kept logged.lot
 
   pub logged_states : (state : State) → EachStandsFor (flow_in (kept_by s)) s.lot state (images old (moment old))
@@ -249,11 +248,11 @@ module _ {D : Type 0} (tells : Bool) (held : D → Files) (moment : D → ℕ) (
       → held_in given + length (contents_of (kept_by s).files p.settled.gone) ≡ held_in slots
       → ((k : ℕ) → size_of given k ≡ size_of slots k) → new.log.failed ≡ false → new.opened ≡ s.opened → IsWorking new
   acknowledged_works given slots_are counts held_less sizes log opened =
-      let is = entry_is s p e has.prepared has.same in
+      let is = entry_acts s p e has.consistent has.prepared has.same in
       let gone : is.session.gone ≡ p.settled.gone = is.gone in
-      let kept : kept_by new ≡ session_applied (kept_by s) is.session = logged.kept ∙ ap (applied no_files (kept_by s)) is.is in
-      let placed : PlacesAll tells (held mid) p.settled.placed s.slots slots (Session is.session) = subst (λ (l : LogEntry). PlacesAll tells (held mid) p.settled.placed s.slots slots l) is.is logged.placed in
-      working_after s is.session p.settled.placed slots given tells (held mid) new has.works has.consistent (entry_suits s p e has.prepared has.same)
+      let kept : kept_by new ≡ session_applied (kept_by s) is.session = logged.kept ∙ is.act in
+      let placed : PlacesAll tells (held mid) p.settled.placed s.slots slots (Session is.session) = as_session_places tells (held mid) p.settled.placed s.slots slots e is.session is.puts logged.placed in
+      working_after s is.session p.settled.placed slots given tells (held mid) new has.works has.consistent is.suits
       last_known placed.placed placed.holds
       (λ k. ap (λ (n : List ℕ). count_of given k + references_to k (contents_of (kept_by s).files n)) gone ∙ counts k)
       (ap (λ (n : List ℕ). held_in given + length (contents_of (kept_by s).files n)) gone ∙ held_less)
@@ -271,8 +270,8 @@ pub may_give_up : {D : Type 0} (tells : Bool) (held : D → Files) (moment : D �
     → HasPlaced tells held moment images s p e old mid → PlacesAll tells (held mid) p.settled.placed s.slots slots e
     → (k : ℕ) → references_to k (contents_of (kept_by s).files p.settled.gone) ≤ count_of slots k
 may_give_up tells held moment images s p e old mid slots has places k =
-    let is = entry_is s p e has.prepared has.same in
-    let placed : PlacesAll tells (held mid) p.settled.placed s.slots slots (Session is.session) = subst (λ (l : LogEntry). PlacesAll tells (held mid) p.settled.placed s.slots slots l) is.is places in
+    let is = entry_acts s p e has.consistent has.prepared has.same in
+    let placed : PlacesAll tells (held mid) p.settled.placed s.slots slots (Session is.session) = as_session_places tells (held mid) p.settled.placed s.slots slots e is.session is.puts places in
     let gone : is.session.gone ≡ p.settled.gone = is.gone in
     subst (λ (n : List ℕ). references_to k (contents_of (kept_by s).files n) ≤ count_of slots k) gone
-    (referred_gone s is.session slots has.works has.consistent (entry_suits s p e has.prepared has.same) placed.holds k)
+    (referred_gone s is.session slots has.works has.consistent is.suits placed.holds k)

@@ -6,8 +6,8 @@ use Rattle.disk_trait.specs.Images.{After, Since}
 use Rattle.disk_trait.specs.declared.file_name.FileKind.TheVariants.{Log, Claim, Events}
 use Rattle.disk_trait.specs.declared.file_name.FileName.{FileName}
 use Rattle.disk_trait.proofs.Moments.{wider, wider_where_left, at_the_end, one_after_another}
+use Rattle.flowfile_record.specs.declared.stored.ActiveFile.{ActiveFile}
 use Rattle.record_codec.specs.declared.entry.LogEntry.{LogEntry}
-use Rattle.record_codec.specs.declared.entry.LogEntry.TheVariants.{Session}
 use Rattle.record_codec.specs.declared.entry.SessionEntry.{SessionEntry}
 use Rattle.content_repo.specs.Claims.{claim}
 use Rattle.content_repo.specs.declared.slot.Slot.{Slot}
@@ -15,7 +15,8 @@ use Rattle.flowfile_wal.specs.Calls.{InEach, WithOrWithout}
 use Rattle.flowfile_wal.specs.Current.{CurrentLog, current_log}
 use Rattle.flowfile_wal.specs.Steps.{Adds, IsReadyIn, with_entry}
 use Rattle.flowfile_wal.proofs.Files.{with_one_more}
-use Rattle.kept_state.specs.Applied.{applied}
+use Rattle.checkpoint_store.specs.Consistent.{IsConsistent}
+use Rattle.kept_state.specs.Applied.{applied, session_applied, swapped_out}
 use Rattle.kept_state.specs.Changes.{no_files}
 use Rattle.kept_state.specs.Fits.{fits}
 use Rattle.prov_store.specs.State.{EventsState, HasEvents, IsTrimmed}
@@ -27,7 +28,7 @@ use Rattle.disk_trait.specs.declared.damage.Damage.{Damage}
 use Rattle.content_repo.specs.Slots.{size_of}
 use Rattle.store_core.proofs.ClaimsAlone.{has_log_same}
 use Rattle.store_core.proofs.EventsStay.{trimmed_same}
-use Rattle.store_core.proofs.Commits.{holds_added, events_beside_log, placed_sound, entry_is, entry_fits}
+use Rattle.store_core.proofs.Commits.{holds_added, events_beside_log, placed_sound, entry_acts}
 use Rattle.record_codec.specs.Placeless.{placeless_entry}
 use Rattle.content_repo.specs.Claims.{HasSizes}
 use Rattle.store_core.specs.Change.{HasLiveContents}
@@ -63,7 +64,8 @@ module _ {D : Type 0} (moment : D → ℕ) (images : D → ℕ → Files → Typ
 -- the entry, as it is added behind the contents that were placed
 pub record IsAdded (s new : StoreState) (e : LogEntry) (held : Files) : Type 0 where
   pub session : SessionEntry
-  pub is : e ≡ Session session
+  pub act : applied no_files (kept_by s) e ≡ session_applied (kept_by s) session
+  pub alone : swapped_out e ≡ []
   pub fit : fits no_files (kept_by s) e ≡ true
   pub contents : All (IsSoundIn held) (map content_of session.placed)
   pub kept : kept_by new ≡ applied no_files (kept_by s) e
@@ -96,7 +98,7 @@ module _ {D : Type 0} (moment : D → ℕ) (images : D → ℕ → Files → Typ
         let before = at_the_end moment images old mid (After (GrowsAhead s.slots s.events) (images old (moment old))) first (held mid) left in
         let has_mid = has_log_same s before.0 (held mid) (logs_ahead s before.0 (held mid) before.2) (has before.0 before.1) in
         let holds_mid = holds_ahead s before.0 (held mid) works (has before.0 before.1) (holds before.0 before.1) before.2 in
-        holds_added s new number e is.session (held mid) c has_mid holds_mid numbered is.is is.fit added is.contents is.kept is.lot is.events
+        holds_added s new number e is.session (held mid) c has_mid holds_mid numbered is.act is.alone is.fit added is.contents is.kept is.lot is.events
 
     pub since_holds : (tells : Bool) → ((k : ℕ) (c : Files) → images end k c → IsTrue tells) → (IsTrue tells → images mid (moment mid) (held mid)) → (IsTrue tells → IsAdded s new e (held mid))
         → Since moment images mid end (WithOrWithout number e (images mid (moment mid)) (held mid)) → Since moment images old end (HoldsEither s new)
@@ -156,20 +158,21 @@ module _ {D : Type 0} (moment : D → ℕ) (images : D → ℕ → Files → Typ
 module _ {D : Type 0} (moment : D → ℕ) (images : D → ℕ → Files → Type 0) (held : D → Files) (s new : StoreState) (p : PreparedChange) (e : LogEntry) (old mid : D) (slots : List Slot) where
   pub is_added : (works : IsWorking s) → InEach (images old (moment old)) (HasLog s) → InEach (images old (moment old)) (Holds s)
       → Since moment images old mid (After (GrowsAhead s.slots s.events) (images old (moment old)))
-      → (prepared : IsPrepared s p) → (same : placeless_entry e ≡ placeless_entry p.entry) → HasLiveContents s p.settled
+      → IsConsistent (kept_by s) → (prepared : IsPrepared s p) → (same : placeless_entry e ≡ placeless_entry p.entry) → HasLiveContents s p.settled
       → images mid (moment mid) (held mid) → HasSizes slots (held mid) → ArePlaced true slots (held mid) p.settled.placed (placed_in e)
       → kept_by new ≡ applied no_files (kept_by s) e → new.lot ≡ s.lot → HasEvents new.events (held mid) → IsAdded s new e (held mid)
-  is_added works has holds first prepared same live left sizes placed kept lot events =
-      let is = entry_is s p e prepared same in
+  is_added works has holds first consistent prepared same live left sizes placed kept lot events =
+      let is = entry_acts s p e consistent prepared same in
       let before = at_the_end moment images old mid (After (GrowsAhead s.slots s.events) (images old (moment old))) first (held mid) left in
       let holds_mid = holds_ahead s before.0 (held mid) works (has before.0 before.1) (holds before.0 before.1) before.2 in
       record {
         session = is.session;
-        is = is.is;
-        fit = entry_fits s p e prepared same;
+        act = is.act;
+        alone = is.alone;
+        fit = is.fit;
         contents =
             placed_sound (held mid) slots s p.settled.placed is.session.placed sizes holds_mid.contents prepared.may.fresh live
-            (subst (λ (l : LogEntry). ArePlaced true slots (held mid) p.settled.placed (placed_in l)) is.is placed);
+            (subst (λ (l : List ActiveFile). ArePlaced true slots (held mid) p.settled.placed l) is.puts placed);
         kept = kept;
         lot = lot;
         events = events;

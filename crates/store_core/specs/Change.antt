@@ -1,4 +1,4 @@
--- What a settled session asks of a store.
+-- What a settled session asks of a store, and what files do that expire.
 use Rattle.std.specs.Prelude.{◌≡◌, ◌⊎◌, ℕ, ◌+◌, ◌≤◌, List, length, map, All, Contains, None, Some}
 use Rattle.std.specs.List.{filter_map}
 use Rattle.sha2.specs.Sha256.{sha256}
@@ -9,12 +9,13 @@ use Rattle.flowfile_record.specs.declared.stored.Placed.{Placed}
 use Rattle.content_repo.specs.Slots.{HasRoom}
 use Rattle.content_repo.specs.declared.slot_set.TheConstants.{SLOTS}
 use Rattle.kept_state.specs.Applied.{session_applied}
-use Rattle.kept_state.specs.Changes.{session_of, MaySettle}
+use Rattle.kept_state.specs.Changes.{session_of, MaySettle, MayExpireAs}
 use Rattle.kept_state.specs.Limits.{live_limit, numbers_limit}
 use Rattle.kept_state.specs.declared.limit.Limit.{Limit}
 use Rattle.kept_state.specs.declared.limit.Which.TheVariants.{Claims}
 use Rattle.prov_store.specs.State.{AreNumberedFrom, HasBlock}
 use Rattle.store_core.specs.Store.{StoreState, kept_by, live_in}
+use Rattle.store_core.specs.declared.prepared.SettledExpiry.{SettledExpiry}
 
 -- ---- what may be handed in
 
@@ -43,6 +44,13 @@ pub record MayChange (k : Kept) (s : Settled) : Type 0 where
   pub numbered : AreNumberedFrom (k.last_event + 1) s.events
   pub events : numbers_limit (session_applied k (session_of k s)) ≡ None → All HasBlock s.events
   pub fresh : All IsFresh s.placed
+
+-- Files of a connection may expire: their entry fits. Their events are numbered behind the last one, and each has a
+-- block unless a number passes its limit.
+pub record MayExpire (k : Kept) (e : SettledExpiry) : Type 0 where
+  pub expires : MayExpireAs k e.connection e.settled
+  pub numbered : AreNumberedFrom (k.last_event + 1) e.settled.events
+  pub events : numbers_limit (session_applied k (session_of k e.settled)) ≡ None → All HasBlock e.settled.events
 
 -- each placed file without a new content has that of a live file
 abbrev pub IsOldLive : StoreState → Placed → Type 0

@@ -1,12 +1,13 @@
 -- A change that is on its way into the store, and what its commit leaves.
-use Rattle.std.specs.Prelude.{◌≡◌, ◌⊎◌, ◌+◌, ◌≤◌, length, All}
+use Rattle.std.specs.Prelude.{◌≡◌, ◌⊎◌, ℕ, ◌+◌, ◌≤◌, length, All}
 use Rattle.disk_trait.specs.Files.{Files}
+use Rattle.flowfile_record.specs.Stored.{Kept}
 use Rattle.flowfile_record.specs.declared.change.Change.TheVariants as change
 use Rattle.flowfile_record.specs.declared.change.Settled.{Settled}
 use Rattle.record_codec.specs.Placeless.{placeless_entry}
 use Rattle.record_codec.specs.declared.entry.LogEntry.{LogEntry}
 use Rattle.kept_state.specs.Applied.{applied}
-use Rattle.kept_state.specs.Changes.{entry_of, no_files}
+use Rattle.kept_state.specs.Changes.{entry_of, expiry_entry, no_files, MayExpireAs}
 use Rattle.prov_store.specs.State.{HasBlock, NumberedEvents}
 use Rattle.store_core.specs.Change.{MayChange, IsWithinLimits}
 use Rattle.store_core.specs.Store.{StoreState, kept_by, Holds}
@@ -17,11 +18,21 @@ pub record PreparedChange : Type 0 where
   pub settled : Settled
   pub events : NumberedEvents
 
+-- the entry is that of the files of a connection that expire as this settled session
+pub record IsExpiryEntry (k : Kept) (s : Settled) (entry : LogEntry) : Type 0 where
+  pub connection : ℕ
+  pub may : MayExpireAs k connection s
+  pub is : entry ≡ expiry_entry k connection s
+
+-- the entry is that of the settled session, or of the files that expire as it
+abbrev pub IsEntryFor : Kept → Settled → LogEntry → Type 0
+IsEntryFor k s entry = (entry ≡ entry_of k (change.Session s)) ⊎ IsExpiryEntry k s entry
+
 -- It was prepared by this store, as it is: all that its commit takes is there.
 pub record IsPrepared (store : StoreState) (p : PreparedChange) : Type 0 where
   pub may : MayChange (kept_by store) p.settled
   pub within : IsWithinLimits store p.settled
-  pub entry : p.entry ≡ entry_of (kept_by store) (change.Session p.settled)
+  pub entry : IsEntryFor (kept_by store) p.settled p.entry
   pub room : length p.settled.placed ≤ store.memory.room
   pub first : p.events.first ≡ (kept_by store).last_event + 1
   pub events : p.events.events ≡ p.settled.events

@@ -22,5 +22,5 @@ pub use law::{
     files_of_no_store_stand_for_a_new_one, files_that_agree_stand_for_the_same,
     what_is_kept_is_a_state,
 };
-pub use prepared::Prepared;
+pub use prepared::{Prepared, SettledExpiry};
 pub use store::Store;

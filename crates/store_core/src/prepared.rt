@@ -4,8 +4,16 @@ use kept_state::PreparedEntry;
 use prov_store::EventBlocks;
 use std::marker::Model;
 
-/// A settled session with the entry that it makes, and all memory that its commit takes. Its new contents stay where
-/// they were handed in.
+/// Files of a connection that expire, each with its event, as a settled session: it takes them and places none, and what
+/// comes next stays.
+#[derive(Debug, Drop)]
+pub struct SettledExpiry {
+    pub connection: u16,
+    pub settled: Settled,
+}
+
+/// A settled session, or files that expire as one, with the entry that it makes, and all memory that its commit
+/// takes. Its new contents stay where they were handed in.
 #[derive(Drop)]
 pub struct Prepared<'a> {
     pub(crate) entry: PreparedEntry,

@@ -7,10 +7,12 @@ ghost use Rattle.flowfile_record.specs.declared.change.Change.TheVariants as cha
 ghost use Rattle.checkpoint_store.specs.Consistent.{IsConsistent};
 ghost use Rattle.content_repo.specs.Claims.{IsRead, IdleShortened, claim};
 ghost use Rattle.content_repo.specs.Slots.{references_to};
+ghost use Rattle.kept_state.specs.Changes.{entry_of, expiry_entry};
+ghost use Rattle.kept_state.specs.Limits.{numbers_limit};
 ghost use Rattle.kept_state.specs.declared.limit.Limit.{Limit as TheLimit};
 ghost use Rattle.machine_model.specs.State.{State};
 ghost use Rattle.store_core.specs.Calls.{RefusesOnFault, IsDiskOrReopen, IsReadRefusal};
-ghost use Rattle.store_core.specs.Change.{MayChange, IsWithinLimits, IsLimitOf};
+ghost use Rattle.store_core.specs.Change.{MayChange, MayExpire, IsWithinLimits, IsLimitOf, kept_with};
 ghost use Rattle.store_core.specs.Committed.{IsPrepared};
 ghost use Rattle.store_core.specs.Flow.{flow_in};
 ghost use Rattle.store_core.specs.State.{stands_for};
@@ -18,7 +20,7 @@ ghost use Rattle.store_core.specs.Store.{kept_by, live_in, EachStandsFor, Holds,
 ghost use Rattle.store_core.specs.Touched.{Frees};
 
 use crate::contents::{fresh_sizes, let_go};
-use crate::{Prepared, StoreError};
+use crate::{Prepared, SettledExpiry, StoreError};
 use content_repo::{Content, ContentError, Reclaimed};
 use disk_trait::Disk;
 use flowfile_record::{ContentRef, EventCounts, Settled, Stored};
@@ -108,6 +110,8 @@ impl Store {
     pub fn prepare<'a>(&mut self, settled: &'a Settled) -> Result<Prepared<'a>, StoreError>
         requires { MayChange (kept_by self.old) settled.now }
         ensures prepared { IfOk result (λ prepared. (prepared.settled ≡ settled.now) × IsPrepared self.new prepared) }
+        ensures entry { IfOk result (λ prepared.
+            prepared.entry ≡ entry_of (kept_by self.old) (change.Session settled.now)) }
         // Limit comes exactly where a limit would be passed, and it is the first.
         ensures within { OnOk result (IsWithinLimits self.old settled.now) }
         ensures limit { (limit : TheLimit) → IsErrOf result (StoreError.Limit limit)
@@ -133,6 +137,37 @@ impl Store {
             entry,
             settled,
             events,
+        })
+    }
+
+    /// Takes all memory that the commit of files that expire wants, and makes no call of the disk.
+    pub fn prepare_expiry<'a>(&self, expiry: &'a SettledExpiry) -> Result<Prepared<'a>, StoreError>
+        requires { MayExpire (kept_by self.now) expiry.now }
+        ensures prepared { IfOk result (λ prepared. (prepared.settled ≡ expiry.now.settled)
+            × IsPrepared self.now prepared) }
+        ensures entry { IfOk result (λ prepared. prepared.entry
+            ≡ expiry_entry (kept_by self.now) expiry.now.connection expiry.now.settled) }
+        // Limit comes exactly where the last event would pass its limit.
+        ensures within { OnOk result (IsWithinLimits self.now expiry.now.settled) }
+        ensures limit { (limit : TheLimit) → IsErrOf result (StoreError.Limit limit)
+            → numbers_limit (kept_with self.now expiry.now.settled) ≡ Some limit }
+        ensures others { IfErr result (λ error. (error ≡ StoreError.Memory)
+            ⊎ ((limit : TheLimit) × (error ≡ StoreError.Limit limit))) }
+    {
+        let settled = &expiry.settled;
+        let first = self.state.stored().last_event + 1;
+        if let Some(limit) = self.state.numbers_limit(settled) {
+            return Err(StoreError::Limit(limit));
+        }
+        let entry = self
+            .state
+            .prepare_expiry(self.alloc, expiry.connection, settled)?;
+        let events = settled.events.as_slice();
+        let blocks = EventBlocks::new(self.alloc, first, events)?;
+        Ok(Prepared {
+            entry,
+            settled,
+            events: blocks,
         })
     }
 
