@@ -1,6 +1,7 @@
 pub mod Agreeing
 pub mod Ahead
 pub mod ByKey
+pub mod Checkpointing
 pub mod ClaimsAlone
 pub mod Closing
 pub mod Commits
@@ -21,6 +22,7 @@ pub mod Machine
 pub mod Made
 pub mod MadeSteps
 pub mod Making
+pub mod NextLog
 pub mod Opening
 pub mod Outcomes
 pub mod Placing
@@ -36,6 +38,7 @@ pub mod Reviving
 pub mod Rooms
 pub mod Sound
 pub mod States
+pub mod TakingOver
 pub mod Tidying
 pub mod Touching
 pub mod Validity

@@ -130,7 +130,7 @@ fn cut_unless_spared<D: Disk>(
 }
 
 // Cuts a file to a size, unless it is no longer.
-fn cut_file<D: Disk>(disk: &mut D, file: FileName, size: u64) -> Result<(), Failed>
+pub fn cut_file<D: Disk>(disk: &mut D, file: FileName, size: u64) -> Result<(), Failed>
     ensures cut { OnOk result (IsTrue D.tells → At file (Shortened size) (D.held disk.old) (D.held disk.new)) }
     ensures short { OnOk result (IsTrue D.tells → length (D.held disk.new file) ≤ size) }
     ensures images { Since D.moment D.images disk.old disk.new

@@ -3,6 +3,7 @@
 //! Whatever a stop leaves of its files stands for one state: that before the change that was under way, or that after.
 #![tactic(auto)]
 
+mod checkpoint;
 mod commit;
 mod contents;
 mod discard;
