@@ -21,7 +21,7 @@ use world_io::{Inbox, WorldError};
 #[derive(Drop)]
 pub struct InboxFolder<'r, R> {
     place: Place<'r, R>,
-    /// The file that `size` looked at since the last listing: to read and to remove it takes no other look.
+    /// The file that was read last since the last listing: to remove it takes no other look.
     seen: Option<SeenFile>,
     faults: u64,
 }
@@ -66,7 +66,7 @@ impl<'r, R: Files<File = File> + Alloc + Sync> Inbox for InboxFolder<'r, R> {
     }
 
     fn size(&mut self, name: &Name) -> Result<u64, Failed> {
-        let answer = look_at(&self.place, &mut self.seen, name);
+        let answer = size_at(&self.place, name);
         counted(&mut self.faults, answer)
     }
 
@@ -141,17 +141,14 @@ fn follows(names: &Vec<Name>, name: &Name) -> bool
     }
 }
 
-/// Opens a file, and answers its size.
-fn look_at<R: Files<File = File>>(
-    place: &Place<'_, R>,
-    seen: &mut Option<SeenFile>,
-    name: &Name,
-) -> io::Result<u64> {
-    *seen = None;
-    let mut file = open_at(place, name)?;
-    let size = file.size()?;
-    keep(seen, name, file);
-    Ok(size)
+/// The size of a file, which isn't opened for that: a listing of many files asks it of each.
+fn size_at<R: Files>(place: &Place<'_, R>, name: &Name) -> io::Result<u64> {
+    let path = place.entry(name.text())?;
+    match entry_at(place.rt, path.as_str())? {
+        Entry::File(found) => Ok(found.len()),
+        Entry::Nothing => Err(ErrorKind::NotFound.into()),
+        Entry::Folder | Entry::Other => Err(ErrorKind::Unsupported.into()),
+    }
 }
 
 fn open_at<R: Files<File = File>>(place: &Place<'_, R>, name: &Name) -> io::Result<OpenFile> {
@@ -184,10 +181,8 @@ fn read_whole<R: Files<File = File>>(
     requires { into.old.items ≡ [] }
     ensures { OnOk result (length into.new.items ≤ CONTENT_MAX) }
 {
-    let mut file = match take_seen(seen, name) {
-        Some(file) => file,
-        None => open_at(place, name)?,
-    };
+    *seen = None;
+    let mut file = open_at(place, name)?;
     let size = file.size()?;
     if size > CONTENT_MAX {
         return Err(ErrorKind::FileTooLarge.into());
