@@ -1,12 +1,11 @@
 -- What the machine has due may expire in a store, and there is a step for it.
-use Rattle.std.proofs.Common.{◌≡◌, ◌≢◌, ℕ, zero, suc, ◌+◌, ◌<◌, ◌==◌, ◌&&◌, Bool, true, false, cond, List, [], ◌∷◌, length, map, refl, sym, ap, subst, ◌∙◌, inl, inr, arith}
-use Rattle.std.specs.Prelude.{Contains, IfSome, filter, IsSome, Option, None, Some, find, is_some, nat_lt, option_and_then, option_map, slice_get}
+use Rattle.std.proofs.Common.{◌≡◌, ℕ, zero, suc, ◌<◌, ◌==◌, ◌&&◌, Bool, true, false, cond, List, [], ◌∷◌, length, map, refl, sym, ap, subst, ◌∙◌, inl, inr, arith}
+use Rattle.std.specs.Prelude.{IfSome, filter, IsSome, Option, None, Some, find, is_some, nat_lt, option_and_then, option_map, slice_get}
 use Rattle.std.specs.List.{cons_option, enumerate_from, filter_map, list_all}
 use Rattle.std.proofs.lemmas.Bool.{and_from, and_parts, cases_Bool, eq-eqb, eqb-true, false≢true, ltb-true}
 use Rattle.flowfile_record.specs.Stored.{Kept}
 use Rattle.flowfile_record.specs.declared.content.ContentRef.{ContentRef}
 use Rattle.flowfile_record.specs.declared.event.Event.{Event}
-use Rattle.checkpoint_store.specs.Consistent.{IsConsistent}
 use Rattle.kept_state.specs.Applied.{number_of}
 use Rattle.kept_state.specs.Fits.{active_of, are_active_in, is_in}
 use Rattle.machine_model.specs.declared.flow.Connection.{Connection}
@@ -21,11 +20,9 @@ use Rattle.machine_model.specs.Stepping.{expire_step, expired, files_of, same_wo
 use Rattle.machine_model.specs.View.{QueueView, at_rest, is_expired}
 use Rattle.machine_model.proofs.Among.{Among, among_contained, contains_among, kept_by}
 use Rattle.machine_model.proofs.Tally.{find-passes}
-use Rattle.store_core.specs.Flow.{flow_in}
 use Rattle.store_core.specs.State.{state_with}
 use Rattle.store_core.specs.Valid.{KeptIsValid, LiveFilesAreQueued, QueuedFilesAreLive}
-use Rattle.engine_core.specs.Committing.{AreEventsUpTo, identity_of}
-use Rattle.engine_core.specs.Expiring.{DueExpiriesMayExpire, HasExpiryStep, MayExpireIn}
+use Rattle.engine_core.specs.Expiring.{DueExpiriesMayExpire, HasExpiryStep}
 use Rattle.engine_core.proofs.Expiring.{Seen, ascending_stay, connections_same, counts_same, distinct_same, found_active, seen_by}
 
 -- ---- their numbers ascend

@@ -1,14 +1,14 @@
 -- Files that expire: the live files of their numbers, their events, the state behind them, and the machine's step.
-use Rattle.std.proofs.Common.{length-drop, append_assoc, get_or, ◌≡◌, ◌≢◌, ℕ, zero, suc, ◌+◌, ◌^◌, ◌<◌, ◌≤◌, ◌==◌, ◌&&◌, not, Bool, true, false, cond, List, [], ◌∷◌, ◌++◌, length, map, take, drop, refl, sym, ap, subst, ◌∙◌, inl, inr, arith}
-use Rattle.std.specs.Prelude.{All, Contains, Option, None, Some, filter, find, is_some, nat_le, nat_lt, option_and_then, slice_get, slice_set, unwrap_or}
+use Rattle.std.proofs.Common.{length-drop, append_assoc, ◌≡◌, ◌≢◌, ℕ, zero, suc, ◌+◌, ◌^◌, ◌<◌, ◌≤◌, ◌==◌, ◌&&◌, not, Bool, true, false, cond, List, [], ◌∷◌, ◌++◌, length, map, drop, refl, sym, ap, subst, ◌∙◌, inl, inr, arith}
+use Rattle.std.specs.Prelude.{All, Contains, Option, None, Some, filter, is_some, nat_le, nat_lt, option_and_then, slice_get, slice_set, unwrap_or}
 use Rattle.std.specs.FinSet.{from_list, union}
-use Rattle.std.specs.List.{cons_option, enumerate_from, list_all, list_any, range_with_len}
+use Rattle.std.specs.List.{cons_option, enumerate_from, list_all, list_any}
 use Rattle.std.proofs.lemmas.Bool.{and_from, and_parts, cases_Bool, eq-eqb, eqb-true, false≢true, le-leb, leb-false, leb-true, lt-ltb, ne_eqb}
 use Rattle.std.proofs.lemmas.List.{append-nil, length-map, length-take-le}
 use Rattle.std.proofs.lemmas.List.Elements.{All-weaker}
 use Rattle.disk_trait.specs.Files.{Files}
 use Rattle.sha2.specs.Sha256.{sha256}
-use Rattle.flowfile_record.specs.Kin.{kin_of, kin_of_all}
+use Rattle.flowfile_record.specs.Kin.{kin_of_all}
 use Rattle.flowfile_record.specs.NumberedItems.{AscendsByNumber}
 use Rattle.flowfile_record.specs.Stored.{Kept}
 use Rattle.flowfile_record.specs.declared.change.Settled.{Settled}

@@ -19,7 +19,7 @@ use Rattle.machine_model.specs.Changing.{state_after}
 use Rattle.machine_model.specs.Due.{due_expiry}
 use Rattle.machine_model.specs.Events.{Draft, ascending, numbered_from}
 use Rattle.machine_model.specs.Files.{queue_at, queues_of, view_of}
-use Rattle.machine_model.specs.State.{State, World, Machine}
+use Rattle.machine_model.specs.State.{World}
 use Rattle.machine_model.specs.Stepping.{expired, files_of, step}
 use Rattle.machine_model.specs.View.{is_expired}
 use Rattle.store_core.specs.Flow.{flow_in}
@@ -95,7 +95,7 @@ ExpiriesAreSteps =
     → slice_get flow.connections place ≡ Some connection
     → MayExpireIn flow k place numbers → 0 < length numbers
     → list_all (is_expired connection.limits.expiration moment)
-        (map view_of (files_of (queue_at (state_with contents events k) place) numbers)) ≡ true
+    (map view_of (files_of (queue_at (state_with contents events k) place) numbers)) ≡ true
     → step flow (record { state = state_with contents events k; world = world }) (Expire place numbers moment)
     ≡ Some (record {
       state = expired (state_with contents events k) place connection numbers moment;

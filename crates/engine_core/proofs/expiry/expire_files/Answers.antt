@@ -1,10 +1,9 @@
-use Rattle.std.proofs.Common.{◌≡◌, ◌^◌, ◌<◌, ◌≤◌, ℕ, true, List, length, get_or, refl, sym, ap, subst, ◌∙◌, arith}
+use Rattle.std.proofs.Common.{◌≡◌, ◌^◌, ◌<◌, ℕ, List, length, get_or, refl, sym, ap, subst, ◌∙◌, arith}
 use Rattle.std.specs.Prelude.{All, Some, slice_get}
 use Rattle.std.proofs.lemmas.Option.{get_or_from_slice_get, slice_get_read}
 use Rattle.flowfile_record.specs.Stored.{Kept, kept_of}
 use Rattle.flowfile_record.specs.declared.change.Settled.{Settled}
 use Rattle.flowfile_record.specs.declared.event.Event.{Event}
-use Rattle.checkpoint_store.specs.Consistent.{IsConsistent}
 use Rattle.kept_state.specs.Moves.{are_active}
 use Rattle.kept_state.proofs.Going.{active_from_in}
 use Rattle.machine_model.specs.declared.flow.Connection.{Connection}
