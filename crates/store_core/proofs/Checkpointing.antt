@@ -1,20 +1,18 @@
 -- A store makes a checkpoint: whatever a stop leaves holds what it did, and stands for it.
-use Rattle.std.proofs.Common.{◌≡◌, ◌≢◌, ◌⊎◌, ℕ, ◌+◌, ◌^◌, ◌≤◌, Bool, true, false, IsTrue, List, [], length, refl, sym, ap, subst, ◌∙◌, inl, inr, arith}
-use Rattle.std.specs.Prelude.{Option, Some, Ok, Result, All, min}
-use Rattle.disk_trait.specs.Files.{Files, named}
+use Rattle.std.proofs.Common.{◌≡◌, ◌⊎◌, ℕ, ◌+◌, ◌^◌, ◌≤◌, Bool, true, false, IsTrue, [], length, refl, sym, ap, subst, ◌∙◌, inl, inr, arith}
+use Rattle.std.specs.Prelude.{Option, Some, Ok, Result, All}
+use Rattle.disk_trait.specs.Files.{Files}
 use Rattle.disk_trait.specs.Images.{After, Since}
 use Rattle.disk_trait.specs.declared.damage.Damage.{Damage}
 use Rattle.disk_trait.specs.declared.file_name.FileKind.TheVariants.{Log, Snapshot, Claim, Events}
 use Rattle.disk_trait.specs.declared.file_name.FileName.{FileName}
-use Rattle.disk_trait.proofs.Moments.{wider, one_after_another, at_the_end, nothing}
+use Rattle.disk_trait.proofs.Moments.{wider, one_after_another, at_the_end}
 use Rattle.flowfile_record.specs.Encoding.{IsNumber}
 use Rattle.flowfile_record.specs.Stored.{Kept}
-use Rattle.checkpoint_store.specs.Begun.{log_file}
 use Rattle.checkpoint_store.specs.Consistent.{IsConsistent}
-use Rattle.checkpoint_store.specs.Snapshot.{snapshot_file}
 use Rattle.content_repo.specs.Claims.{claim, content_in, HasSizes}
 use Rattle.flowfile_wal.specs.Calls.{InEach}
-use Rattle.flowfile_wal.specs.Current.{CurrentLog, current_log}
+use Rattle.flowfile_wal.specs.Current.{CurrentLog}
 use Rattle.flowfile_wal.specs.Steps.{LogState}
 use Rattle.machine_model.specs.State.{State}
 use Rattle.prov_store.specs.Events.{events_file}
@@ -23,8 +21,8 @@ use Rattle.store_core.specs.Agreement.{SameContent, SameEventFiles}
 use Rattle.store_core.specs.Checkpoint.{IsOfNumber, ArePassedOver, HasTakenOver, TakesOver, Drops, Checkpoints}
 use Rattle.store_core.specs.Flow.{flow_in}
 use Rattle.store_core.specs.Kept.{kept_in}
-use Rattle.store_core.specs.State.{stands_for, contents_damage, live_contents}
-use Rattle.store_core.specs.Store.{StoreState, IsWorking, IsSound, IsKeptOn, EachStandsFor, kept_by, live_in, Holds, HasLog}
+use Rattle.store_core.specs.State.{stands_for, live_contents}
+use Rattle.store_core.specs.Store.{StoreState, IsSound, IsKeptOn, EachStandsFor, kept_by, live_in, Holds, HasLog}
 use Rattle.store_core.specs.Touched.{TouchesOnly}
 use Rattle.store_core.proofs.Agreeing.{contents_sound, sound_of, state_of_sound, stands_by_kept, same_state, of_state}
 use Rattle.store_core.proofs.Cutting.{shortened_as, shortened_same, shortened_in_turn}

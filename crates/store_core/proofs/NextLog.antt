@@ -1,9 +1,9 @@
 -- The next log takes over from the current one: what the files keep, by their logs and snapshots alone.
 use Rattle.std.proofs.Common.{◌≡◌, ◌≢◌, ◌⊎◌, ⊎_elim, inl, inr, ℕ, ◌+◌, ◌^◌, ◌<◌, ◌≤◌, ◌==◌, ltb, Bool, true, false, List, [], ◌++◌, length, map, refl, sym, ap, subst, ◌∙◌, arith, eq-eqb}
-use Rattle.std.specs.Prelude.{Option, Some, Ok, nat_lt, ◌&&◌, slice_index}
+use Rattle.std.specs.Prelude.{Some, Ok, nat_lt, ◌&&◌, slice_index}
 use Rattle.std.proofs.lemmas.Bool.{false≢true, cases_eq, cases_lt}
 use Rattle.std.proofs.lemmas.List.{length-replicate}
-use Rattle.disk_trait.specs.Files.{Files, At, Shortened, named}
+use Rattle.disk_trait.specs.Files.{Files, At, named}
 use Rattle.disk_trait.specs.declared.file_name.FileKind.TheVariants.{Log, Snapshot}
 use Rattle.disk_trait.specs.declared.file_name.FileName.{FileName}
 use Rattle.disk_trait.proofs.Search.{greatest_found, greatest_is}
@@ -11,7 +11,7 @@ use Rattle.flowfile_record.specs.Encoding.{IsNumber}
 use Rattle.flowfile_record.specs.Stored.{Kept}
 use Rattle.flowfile_record.specs.declared.stored.SwapBatch.{SwapBatch}
 use Rattle.record_codec.specs.declared.log.TheConstants.{OPEN_GATE}
-use Rattle.checkpoint_store.specs.Begun.{IsBegun, IsBegunOrNot, IsPassedOver, MayBegin, log_file}
+use Rattle.checkpoint_store.specs.Begun.{IsBegunOrNot, IsPassedOver, MayBegin, log_file}
 use Rattle.checkpoint_store.specs.Consistent.{IsConsistent}
 use Rattle.checkpoint_store.specs.Reading.{snapshot_of}
 use Rattle.checkpoint_store.specs.Snapshot.{snapshot, snapshot_file}

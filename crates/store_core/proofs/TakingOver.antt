@@ -1,5 +1,5 @@
 -- The calls by which the next log takes over: its snapshot is written, its log is emptied and then begun.
-use Rattle.std.proofs.Common.{◌≡◌, ℕ, Bool, IsTrue, List, [], length, refl, ap, sym, subst, ◌∙◌, inl, inr, arith, ◌≤◌}
+use Rattle.std.proofs.Common.{◌≡◌, ℕ, Bool, IsTrue, List, [], length, sym, subst, ◌∙◌, inl, inr, arith, ◌≤◌}
 use Rattle.std.proofs.lemmas.List.{nil_from_length}
 use Rattle.disk_trait.specs.Files.{Files, At, Overwritten, Shortened}
 use Rattle.disk_trait.specs.Images.{After, Since, IsOnly}

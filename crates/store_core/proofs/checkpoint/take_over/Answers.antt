@@ -1,5 +1,5 @@
 use Rattle.std.proofs.Common.{length}
-use Rattle.disk_trait.specs.Files.{Files, Torn}
+use Rattle.disk_trait.specs.Files.{Torn}
 use Rattle.disk_trait.specs.Images.{Since}
 use Rattle.flowfile_record.specs.Stored.{kept_of}
 use Rattle.checkpoint_store.specs.Snapshot.{snapshot}
