@@ -177,7 +177,7 @@ class Cases:
         return +wanted
 
     def widest(self):
-        """A relationship that leads into eight queues: eight copies, of which each goes its way."""
+        """A relationship that leads into eight queues: the file and seven clones, of which each goes its way."""
         text = flow([source("get"), *(let_go(f"put-{n}", "replace") for n in range(8))],
                     [queue(f"c{n}", "get", f"put-{n}") for n in range(8)])
         files = {f"{n}": random.randbytes(n * 100) for n in range(20)}
