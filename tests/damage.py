@@ -155,7 +155,7 @@ def of_flow(flow):
 
 def other_flow(program, parent):
     """A store of a flow with another text, be it by one blank; also where files wait in it. The program that ran one
-    flow alone had the empty text."""
+    fixed flow had the empty text."""
     blank = store_format.flow_of(THE_TEXT + b" ")
     for flow in (store_format.FIXED_FLOW, blank, blank._replace(digest=bytes(32)),
                  blank._replace(connections=("in", "out"), processors=3)):

@@ -187,21 +187,36 @@ class Cases:
             kinds = collections.Counter(event.kind for event in state.events)
             need(kinds == {RECEIVE: 20, CLONE: 140, SEND: 160, DROP: 160}, f"the events tell {kinds}")
 
+    def goes_on(self):
+        """What a put sent goes on to another one, which finds the name there."""
+        text = flow([source("get"), put("first", "replace", "failure"), let_go("second", "fail")],
+                    [queue("c1", "get", "first"), queue("c2", "first", "second")])
+        with self.folder(text) as folder:
+            write_files(folder / "in", {"a": b"one"})
+            state = self.ends_with(folder, {"a": b"one"})
+            need(told(state) == {(RECEIVE, "get", "a"): 1, (SEND, "first", "a"): 1, (DROP, "second", "failure"): 1},
+                 f"the events tell {told(state)}")
+
     def order(self):
-        """A queue gives its files by its prioritizers: the newest first, where that is asked for."""
-        for prioritizer, wanted in (("NewestFlowFileFirst", "cba"), ("OldestFlowFileFirst", "abc"),
-                                    ("FirstInFirstOut", "abc")):
+        """A queue gives its files by its prioritizers. The first came last."""
+        priorities = {"d": "A-99", "e": None, "b": "100", "c": "A-100", "a": "99"}
+        for prioritizers, wanted in ((["NewestFlowFileFirst"], "debca"), (["OldestFlowFileFirst"], "acbed"),
+                                     (["FirstInFirstOut"], "debca"), ([], "acbed"), (["PriorityAttribute"], "abcde")):
             text = flow([source("get"), let_go("put", "replace")],
-                        [queue("c1", "get", "put", prioritizers=[prioritizer])])
+                        [queue("c1", "get", "put", prioritizers=prioritizers)])
             writer = Writer(state=store_format.new_state(1, store_format.flow_of(text)))
-            for name in "abc":
-                writer.made(name, name.encode())
-                writer.moment += 1
+            for name, priority in priorities.items():
+                file = writer.made(name, name.encode())
+                if priority is not None:
+                    attributes = sorted([*file.attributes, ("priority", priority)])
+                    writer.state.files[file.number] = file._replace(attributes=tuple(attributes))
+                # Each one's data entered before that of the one before.
+                writer.moment -= 1
             with self.folder(text) as folder:
                 write_files(folder / "store", writer.start().files())
                 self.run(folder)
                 sent = "".join(event.detail for event in state_of_written(folder).events if event.kind == SEND)
-                need(sent == wanted, f"{prioritizer}: {sent}")
+                need(sent == wanted, f"{prioritizers}: {sent}")
 
     # Expiries, penalties, full queues.
 
@@ -374,7 +389,7 @@ class Cases:
     # What isn't run.
 
     def other_text(self):
-        """The store is of another text, be it by one blank, or of the flow of programs that ran one alone: 3, and
+        """The store is of another text, be it by one line feed, or of the program that ran one fixed flow: 3, and
         nothing is written. With its own text the store is as before."""
         with self.folder() as folder:
             write_files(folder / "in", {"a": b"one"})
@@ -464,7 +479,7 @@ class Cases:
                 standing = {name: b"before " + name.encode() for name in random.sample(sorted(files), 40)}
                 write_files(folder / "in", files)
                 write_files(folder / "out", standing)
-                kills += self.until_done(folder, files, standing)
+                kills += self.until_done(folder, lambda: self.nothing_is_lost(folder, files, standing))
                 wanted = {**files, **{name: data for name, data in standing.items() if name.startswith("keep")}}
                 state = self.ends_with(folder, wanted)
                 family = collections.Counter(event.parents[0] for event in state.events if event.kind == CLONE)
@@ -474,7 +489,20 @@ class Cases:
             need(rounds < self.count, "no run is killed")
         return f"{kills} kills in {rounds} folders"
 
-    def until_done(self, folder, files, standing):
+    def generates_killed(self):
+        """A generator makes each of its files once, however often it is killed."""
+        count, kills = 300, 0
+        text = flow([generator("beat", count, "${generate.index}"), let_go("put", "replace")],
+                    [queue("beats", "beat", "put", objects=7)])
+        with self.folder(text) as folder:
+            kills = self.until_done(folder, lambda: state_of(folder))
+            state = state_of(folder)
+            wanted = {store_format.uuid_of(state.store, n): str(n).encode() for n in range(1, count + 1)}
+            self.ends_with(folder, wanted)
+            need(told(state)[CREATE, "beat", ""] == count and state.counts == (count, 0), f"it made {state.counts}")
+            return f"{kills} kills"
+
+    def until_done(self, folder, check):
         """Starts and kills until a run ends by itself. How often it was killed."""
         kills, most = 0, 0.04
         while True:
@@ -484,7 +512,7 @@ class Cases:
                 return kills
             kills += 1
             most *= 1.03
-            self.nothing_is_lost(folder, files, standing)
+            check()
 
     def nothing_is_lost(self, folder, files, standing):
         """Each file is in the inbox, or in the outbox, or waits with its bytes; what stays there is as it was."""
@@ -524,6 +552,7 @@ def main():
             ("a thousand files of an expression", cases.generates),
             ("one source into three queues, and a put of each strategy", cases.clones),
             ("one source into eight queues", cases.widest),
+            ("a put behind a put", cases.goes_on),
             ("the orders of a queue", cases.order),
             ("files that are too old go, with their events", cases.expires),
             ("a file that fails expires before its penalty ends", cases.expires_meanwhile),
@@ -535,11 +564,12 @@ def main():
             ("a ring that is full: 10, again and again, nothing lost", cases.blocks),
             ("a ring whose file expires goes on", cases.unblocks),
             ("a ring that would have to swap: 12, nothing lost", cases.would_swap),
-            ("a changed text, or a store of the one fixed flow: 3, nothing written", cases.other_text),
+            ("a changed text, or a store of the fixed flow of before: 3, nothing written", cases.other_text),
             ("no flow.json: 8, nothing touched", cases.no_text),
             ("texts that break a rule: 3, nothing touched", cases.refused_texts),
             ("which of several causes is told", cases.which_is_told),
-            ("a flow with clones, killed at random moments", cases.killed)):
+            ("a flow with clones, killed at random moments", cases.killed),
+            ("a generator, killed at random moments", cases.generates_killed)):
         report.case(text, body)
     if given.whole:
         report.case("a run whose journal is full: 11, nothing lost", cases.journal_is_full)

@@ -155,7 +155,7 @@ def flow_of(text):
 
 # The standard flow.
 THE_FLOW = flow_of(THE_TEXT)
-# The flow of programs that ran one flow alone: the same, of an empty text.
+# That of the program that ran one fixed flow: the same, of the empty text.
 FIXED_FLOW = THE_FLOW._replace(digest=hashlib.sha256(b"").digest())
 
 
