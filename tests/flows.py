@@ -14,7 +14,7 @@ import store_format
 from store_format import CLONE, CREATE, DROP, EXPIRED, RECEIVE, SEND, Expire, Writer
 from support import (BLOCKED, DAMAGED, DONE, LIMIT, MEMORY, REFUSED, SOURCE, THE_TEXT, USAGE, Report, find_program,
                      in_memory, names, need, need_status, new_folder, options, parse_seeded, photo, put_flow,
-                     read_files, run, run_for, start, work_folder, write_files)
+                     read_files, run, run_for, start, wait_for, work_folder, write_files)
 
 STRATEGIES = ("replace", "ignore", "fail")
 
@@ -277,9 +277,8 @@ class Cases:
             write_files(folder / "out", {"a": b"before"})
             child = start(self.program, folder)
             try:
-                # So long, that it failed twice at least.
-                time.sleep(0.6)
-                need(child.poll() is None, f"it ended with {child.returncode}")
+                # The entry that took it, and two that it failed in.
+                wait_for(lambda: entries_now(folder) >= 3, child)
                 (folder / "out" / "a").unlink()
                 status = child.wait(60)
                 need(status == DONE, f"status {status}")
@@ -353,14 +352,14 @@ class Cases:
 
     def unblocks(self):
         """Where the full queue lets its files go after a time, a later run goes on."""
-        text = ring(objects=1, expiration=1500)
+        text = ring(objects=1, expiration=2500)
         with self.folder(text) as folder:
             write_files(folder / "in", {"a": b"new", "b": b"free"})
             write_files(folder / "out", {"a": b"before"})
             began = time.monotonic()
             self.run(folder, BLOCKED)
-            need(time.monotonic() - began < 1.5, "this machine is too busy for this case")
-            time.sleep(1.6)
+            need(time.monotonic() - began < 2.5, "this machine is too busy for this case")
+            time.sleep(2.6)
             state = self.ends_with(folder, {"a": b"before", "b": b"free"})
             need(told(state)[EXPIRED, "back", ""] == 1, f"the events tell {told(state)}")
 
@@ -528,6 +527,14 @@ class Cases:
 
 def names_in(folder):
     return names(folder) if folder.exists() else []
+
+
+def entries_now(folder):
+    """How many entries the log has, while a run may be writing it."""
+    try:
+        return len(store_format.entries_of(1, (folder / "store" / "log-1").read_bytes())[0])
+    except (OSError, store_format.Damaged):
+        return 0
 
 
 def state_of_written(folder):
