@@ -1,16 +1,18 @@
 #!/usr/bin/env python3
 """What the built program costs, beside a plain durable copy of the same files made in the same run.
 
-It times many small files and a few large ones, counts the syncs and the system's calls for each further file (by
-strace), and shows that twice the files cost about twice as much, and how memory grows. The plain copy is timed twice:
-by the commands `cp` and `sync` for each file and its folder, and by the same calls within one process, which is the
-harder measure, since it starts no process for each file. Ratios are of figures of one run, and so are the megabytes
-that each second of the processor moves.
+It times many small files and a few large ones through the standard flow, counts the syncs and the system's calls for
+each further file (by strace), and shows that twice the files cost about twice as much, that a file of 16,384 costs
+about what one of 1,024 does, and how memory grows. The plain copy is timed twice: by the commands `cp` and `sync` for
+each file and its folder, and by the same calls within one process, which is the harder measure, since it starts no
+process for each file. Ratios are of figures of one run, and so are the megabytes that each second of the processor
+moves. Two other flows are timed: a put whose failures come back to it, and a source that leads into eight queues.
 
 Figures depend on the machine: this is no test, and isn't run by one. It ends with 1 where a count or a growth isn't
 what is demanded.
 """
 
+import json
 import os
 import pathlib
 import platform
@@ -25,13 +27,23 @@ import time
 sys.path.insert(0, str(pathlib.Path(__file__).resolve().parent.parent / "tests"))
 sys.dont_write_bytecode = True
 
-from support import DONE, find_program, need, need_status, new_folder, options, read_files, run, write_files
+import store_format
+from support import (DONE, THE_TEXT, find_program, need, need_status, new_folder, options, read_files, run, work_folder,
+                     write_files)
 
 SYNCS = "fsync,fdatasync,sync,syncfs,sync_file_range,msync"
 
-# For each further file: one for the content and two for the entry that takes it, two for the outbox, two for the entry
-# that lets it go.
+# For each further file: one for the content and three for the entry that takes it, two for the outbox, three for the
+# entry that lets it go.
 SYNCS_OF_A_FILE = 9
+
+# Where a source leads into so many queues: four for the entry that takes a file, and five for each of
+# the file and its clones.
+QUEUES = 8
+SYNCS_OF_CLONES = 4 + 5 * QUEUES
+
+# Within so few files no claim is emptied on the way. Each one that is asks for one sync more, as it is made anew.
+FEW, MORE = 20, 120
 
 # Each further file may ask the system so many times.
 CALLS_OF_A_FILE = 36
@@ -42,6 +54,13 @@ SMALL = 64
 # Twice the files may take so many times as long, and a file's name so many bytes of memory.
 LEAST_TIME, MOST_TIME = 1.6, 2.5
 MEMORY_OF_A_NAME = 300
+
+# A file among 16,384 may take so many times as long as one among 1,024, and a try of a put behind many others so many
+# times as long as one behind a quarter of them.
+MOST_PER_FILE = 1.5
+
+# For how many milliseconds a put tries again.
+TRIES = 1000
 
 
 def many(count, size):
@@ -80,8 +99,34 @@ def timed(parent, files, body):
         return seconds
 
 
-def flow(program, parent, files):
-    with new_folder(parent) as folder:
+def processor(name, kind, *terminated, **properties):
+    return {"id": name, "type": kind, "properties": properties, "terminated": list(terminated)}
+
+
+def queue(name, origin, to, relationship="success", **fields):
+    return {"id": name, "from": origin, "to": to, "relationships": [relationship], **fields}
+
+
+def text_of(processors, queues):
+    return json.dumps({"processors": processors, "connections": queues}).encode()
+
+
+def ring(milliseconds):
+    """A put that fails where its name stands, and to which its failures come back for so long, without a penalty."""
+    put = processor("put", "PutFile", "success") | {"penalty": 0}
+    return text_of([processor("get", "GetFile"), put],
+                   [queue("c1", "get", "put"), queue("back", "put", "put", "failure", expiration=milliseconds)])
+
+
+def fan(queues):
+    """A source that leads into so many queues, each with a put behind it."""
+    strategy = {"Conflict Resolution Strategy": "replace"}
+    puts = [processor(f"put-{n}", "PutFile", "success", "failure", **strategy) for n in range(queues)]
+    return text_of([processor("get", "GetFile"), *puts], [queue(f"c{n}", "get", f"put-{n}") for n in range(queues)])
+
+
+def flow(program, parent, files, text=THE_TEXT):
+    with work_folder(parent, text) as folder:
         write_files(folder / "in", files)
         os.sync()
         ended = run(program, folder)
@@ -128,9 +173,9 @@ def traced(program, folder, *asked):
     return trace.read_text()
 
 
-def syncs(program, parent, count):
+def syncs(program, parent, count, text=THE_TEXT):
     """How many syncs a run over so many files asks of the system, by kind."""
-    with new_folder(parent) as folder:
+    with work_folder(parent, text) as folder:
         write_files(folder / "in", many(count, SMALL))
         lines = traced(program, folder, "-e", f"trace={SYNCS}").splitlines()
         need(all(line.endswith("= 0") for line in lines), "a sync failed, or was cut in two")
@@ -143,7 +188,7 @@ def syncs(program, parent, count):
 
 def calls(program, parent, count):
     """How many calls a run over so many files makes, by name, as strace counts them."""
-    with new_folder(parent) as folder:
+    with work_folder(parent) as folder:
         write_files(folder / "in", many(count, SMALL))
         table = traced(program, folder, "-c")
         rows = re.findall(r"^ *[\d.]+ +[\d.]+ +\d+ +(\d+) (?: *\d+)? *(\w+)$", table, re.MULTILINE)
@@ -153,14 +198,20 @@ def calls(program, parent, count):
 def count_syncs(program, parent):
     none, kinds = syncs(program, parent, 0)
     print(f"syncs with no file: {none} ({told(kinds)}): three folders made, a store made", flush=True)
+    few, _ = syncs(program, parent, FEW)
+    more, _ = syncs(program, parent, MORE)
+    slope = (more - few) / (MORE - FEW)
+    print(f"syncs with {FEW} files: {few}; with {MORE} files: {more}")
+    print(f"  for each further file: {slope:g}, {SYNCS_OF_A_FILE} are demanded; beside them "
+          f"{few - FEW * SYNCS_OF_A_FILE}: {none} for the opening, and for the first claim and the closing "
+          f"{few - FEW * SYNCS_OF_A_FILE - none}", flush=True)
     one, _ = syncs(program, parent, 1000)
     two, kinds = syncs(program, parent, 2000)
-    slope = (two - one) / 1000
-    print(f"syncs with 1,000 files: {one}; with 2,000 files: {two} ({told(kinds)})")
-    print(f"  for each further file: {slope:g}, {SYNCS_OF_A_FILE} are demanded; beside them "
-          f"{one - 1000 * SYNCS_OF_A_FILE}: {none} for the opening, and for the first claim and the closing "
-          f"{one - 1000 * SYNCS_OF_A_FILE - none}", flush=True)
-    return slope == SYNCS_OF_A_FILE
+    print(f"syncs with 1,000 files: {one}; with 2,000 files: {two} ({told(kinds)}): "
+          f"{(two - one) / 1000:g} for each further file, with the claims that are made anew", flush=True)
+    clones = (syncs(program, parent, 2 * FEW, fan(QUEUES))[0] - syncs(program, parent, FEW, fan(QUEUES))[0]) / FEW
+    print(f"syncs of a file that goes into {QUEUES} queues: {clones:g}, {SYNCS_OF_CLONES} are demanded", flush=True)
+    return slope == SYNCS_OF_A_FILE and clones == SYNCS_OF_CLONES
 
 
 def count_calls(program, parent):
@@ -194,6 +245,53 @@ def grows(program, parent, times):
     return LEAST_TIME <= ratio <= MOST_TIME and name <= MEMORY_OF_A_NAME
 
 
+def grows_far(program, parent, times):
+    """The time of a file among few and among many."""
+    few, much = many(1024, SMALL), many(16_384, SMALL)
+    one = middle([flow(program, parent, few) for _ in range(times)])
+    two = flow(program, parent, much)
+    each, later = one.seconds / len(few), two.seconds / len(much)
+    busy = (two.busy / len(much)) / (one.busy / len(few))
+    print(f"1,024 files take {one.seconds:.2f} s, {each * 1e3:.2f} ms each; 16,384 take {two.seconds:.2f} s, "
+          f"{later * 1e3:.2f} ms each: ratio {later / each:.2f}, of the processor {busy:.2f}; "
+          f"peak of memory {one.peak / 1e6:.2f} and {two.peak / 1e6:.2f} MB", flush=True)
+    return later / each <= MOST_PER_FILE
+
+
+def tries(program, parent, milliseconds):
+    """How often a put tried in this time, and the run."""
+    with work_folder(parent, ring(milliseconds)) as folder:
+        write_files(folder / "in", {"a": b"new"})
+        write_files(folder / "out", {"a": b"before"})
+        os.sync()
+        ended = run(program, folder)
+        need_status(ended, DONE)
+        need(read_files(folder / "out") == {"a": b"before"}, "out changed")
+        state = store_format.state_of(store_format.files_in(folder / "store"))
+        # The first entry took the file, the last one let it expire.
+        return len(state.entries) - 2, ended
+
+
+def comes_back(program, parent):
+    """The time of a try of a put whose failures come back to it."""
+    (few, one), (much, two) = tries(program, parent, TRIES), tries(program, parent, 4 * TRIES)
+    each, later = one.busy / few, two.busy / much
+    print(f"a put whose failures come back to it: {few} tries in {one.seconds:.2f} s, {much} in {two.seconds:.2f} s; "
+          f"{each * 1e6:.0f} and {later * 1e6:.0f} microseconds of the processor each: ratio {later / each:.2f}",
+          flush=True)
+    return later / each <= MOST_PER_FILE
+
+
+def fans_out(program, parent, times):
+    """The time of a file that goes into one queue, and into eight."""
+    files = many(500, 4096)
+    one = middle([flow(program, parent, files, fan(1)) for _ in range(times)])
+    eight = middle([flow(program, parent, files, fan(QUEUES)) for _ in range(times)])
+    print(f"500 files into one queue take {one.seconds:.2f} s, into {QUEUES} queues {eight.seconds:.2f} s: "
+          f"{one.seconds / 500 / 2 * 1e3:.2f} and {eight.seconds / 500 / (1 + QUEUES) * 1e3:.2f} ms for each session; "
+          f"of the processor {one.busy:.2f} and {eight.busy:.2f} s", flush=True)
+
+
 def machine(parent):
     model = re.search(r"^model name\s*: (.*)$", pathlib.Path("/proc/cpuinfo").read_text(), re.MULTILINE)
     with new_folder(parent) as folder:
@@ -217,6 +315,9 @@ def main():
     compare(program, given.folder, given.times, "small files", many(2000, 4096))
     compare(program, given.folder, given.times, "large files", many(12, 16 * 1024 * 1024))
     good &= grows(program, given.folder, given.times)
+    good &= grows_far(program, given.folder, given.times)
+    good &= comes_back(program, given.folder)
+    fans_out(program, given.folder, given.times)
     if not given.no_strace:
         good &= count_syncs(program, given.folder)
         good &= count_calls(program, given.folder)

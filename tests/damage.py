@@ -7,17 +7,18 @@ flow's store, and then nothing was written anywhere; or with 0, and then it deli
 bytes stand for. Since a digest tells a changed byte, each byte that a digest covers is changed once more with the
 digest made anew: so the fields themselves are tried.
 
-Beside that: a store of the first path, one of another flow, and stores at their limits.
+Beside that: a store of the first path, stores of other flows, and stores at their limits.
 """
 
 import hashlib
+import json
 import os
 import random
 
 import store_format
 from store_format import CLAIM_OPEN, NUMBER_LIMIT, SLOTS, Content, Damage, FlowFile, Writer, state_of
-from support import (DAMAGED, DONE, LIMIT, OTHER_FLOW, Report, find_program, names, need, need_status, new_folder,
-                     options, parse_seeded, photo, read_files, run, write_files)
+from support import (DAMAGED, DONE, LIMIT, REFUSED, THE_TEXT, Report, find_program, in_memory, names, need, need_status,
+                     options, parse_seeded, photo, read_files, run, work_folder, write_files)
 
 # In the quick form every so many of the cases.
 STEP = 7
@@ -81,14 +82,14 @@ def refusal(said):
     """The status of a store that isn't opened, and None for one that is."""
     if isinstance(said, Damage):
         return DAMAGED
-    return None if said.flow == store_format.THE_FLOW.digest else OTHER_FLOW
+    return None if said.flow == store_format.THE_FLOW.digest else REFUSED
 
 
 def ends_as_said(program, parent, what, files):
     """Runs the program over these files. Whether they are opened."""
     said = state_of(files)
     refused = refusal(said)
-    with new_folder(parent) as folder:
+    with work_folder(parent) as folder:
         put_store(folder, files)
         before = photo(folder)
         ended = run(program, folder)
@@ -127,7 +128,7 @@ def all_cases(program, parent, cases, step):
 
 def is_refused(program, parent, files, status):
     """The program ends with this status, and nothing is written, also when it is tried again."""
-    with new_folder(parent) as folder:
+    with work_folder(parent) as folder:
         put_store(folder, files)
         write_files(folder / "in", {"waits": b"untouched"})
         write_files(folder / "out", {"other": b"stays"})
@@ -147,28 +148,31 @@ def first_path(program, parent):
         is_refused(program, parent, files, DAMAGED)
 
 
+def of_flow(flow):
+    """A writer of a new store of another flow."""
+    return Writer(state=store_format.new_state(1, flow))
+
+
 def other_flow(program, parent):
-    """A store of a flow with another text; also where files wait in it."""
-    for flow in (hashlib.sha256(b"{}").digest(), bytes(32)):
-        for connections, counts in ((("c1",), (0, 0)), (("in", "out"), (0, 3, 0))):
-            writer = Writer()
-            writer.state.flow, writer.state.connections, writer.state.counts = flow, connections, counts
-            writer.start()
-            is_refused(program, parent, writer.files(), OTHER_FLOW)
-            is_refused(program, parent, writer.get("a", b"one").files(), OTHER_FLOW)
+    """A store of a flow with another text, be it by one blank; also where files wait in it. The program that ran one
+    fixed flow had the empty text."""
+    blank = store_format.flow_of(THE_TEXT + b" ")
+    for flow in (store_format.FIXED_FLOW, blank, blank._replace(digest=bytes(32)),
+                 blank._replace(connections=("in", "out"), processors=3)):
+        is_refused(program, parent, of_flow(flow).files(), REFUSED)
+        is_refused(program, parent, of_flow(flow).get("a", b"one").files(), REFUSED)
 
 
 def damaged_and_other(program, parent):
     """A store of another flow that is damaged too: the damage is told."""
-    writer = Writer()
-    writer.state.flow = bytes(32)
-    files = writer.start().get("a", b"one").files()
+    files = of_flow(store_format.FIXED_FLOW).get("a", b"one").files()
     is_refused(program, parent, {**files, "claim-0": b"onf"}, DAMAGED)
     is_refused(program, parent, {**files, "snapshot-1": files["snapshot-1"][:-1]}, DAMAGED)
 
 
 def numbers_are_used_up(program, parent):
-    """Where no number or no arrival is left the run ends with 11; what waits is delivered, what is in `in` stays."""
+    """Where no number or no arrival is left the run ends with 11 as the next file is to be taken, and nothing is done.
+    With an empty inbox what waits is delivered."""
     last = NUMBER_LIMIT - 1
     for fields in ({"next_number": last}, {"next_arrival": last}, {"next_number": last, "next_arrival": last}):
         writer = Writer()
@@ -176,18 +180,20 @@ def numbers_are_used_up(program, parent):
         for name, value in fields.items():
             setattr(writer.state, name, value)
         writer.start()
-        with new_folder(parent) as folder:
+        with work_folder(parent) as folder:
             put_store(folder, writer.files())
             write_files(folder / "in", {"a": b"one", "b": b"two"})
-            before = photo(folder / "in")
-            need_status(run(program, folder), LIMIT)
-            need(photo(folder / "in") == before, "in changed")
+            before = photo(folder / "in", folder / "out", folder / "store" / "log-1")
+            for _ in range(2):
+                need_status(run(program, folder), LIMIT)
+                need(photo(folder / "in", folder / "out", folder / "store" / "log-1") == before, "something changed")
+            for name in ("a", "b"):
+                (folder / "in" / name).unlink()
+            need_status(run(program, folder), DONE)
             need(read_files(folder / "out") == {"waits": b"delivered"}, f"out holds {names(folder / 'out')}")
             state = state_of(store_format.files_in(folder / "store"))
             need(not isinstance(state, Damage) and not state.files, f"the store holds {state}")
             need(all(getattr(state, name) == value for name, value in fields.items()), "a counter changed")
-            need_status(run(program, folder), LIMIT)
-            need(photo(folder / "in") == before, "in changed in the second run")
 
 
 def one_number_is_left(program, parent):
@@ -195,7 +201,7 @@ def one_number_is_left(program, parent):
     writer = Writer()
     writer.state.next_number = NUMBER_LIMIT - 2
     writer.start()
-    with new_folder(parent) as folder:
+    with work_folder(parent) as folder:
         put_store(folder, writer.files())
         write_files(folder / "in", {"a": b"one", "b": b"two"})
         need_status(run(program, folder), LIMIT)
@@ -203,9 +209,18 @@ def one_number_is_left(program, parent):
         need(read_files(folder / "in") == {"b": b"two"}, f"in holds {names(folder / 'in')}")
 
 
+def roomy():
+    """The standard flow with a queue that is never full, and of which no part has to be swapped out too early."""
+    read = json.loads(THE_TEXT)
+    read["connections"][0] |= {"objects": 0, "swap": 40_000}
+    return json.dumps(read).encode()
+
+
 def claims_are_used_up(program, parent):
-    """Every claim is full: each has an empty content at its end. What waits is delivered, and the inbox stays."""
-    writer = Writer()
+    """Every claim is full: each has an empty content at its end. The next file isn't taken; with an empty inbox what
+    waits is delivered, and then there is room."""
+    text = roomy()
+    writer = of_flow(store_format.flow_of(text))
     state, empty = writer.state, hashlib.sha256(b"").digest()
     for slot in range(SLOTS):
         number = slot + 1
@@ -213,7 +228,7 @@ def claims_are_used_up(program, parent):
                                        1, 0, number)
     state.next_number = state.next_arrival = SLOTS + 1
     writer.start()
-    with new_folder(parent) as folder:
+    with work_folder(parent, text) as folder:
         put_store(folder, {"log-1": writer.log(), "snapshot-1": writer.first})
         for slot in range(SLOTS):
             path = folder / "store" / f"claim-{slot}"
@@ -221,8 +236,11 @@ def claims_are_used_up(program, parent):
             os.truncate(path, CLAIM_OPEN)
         write_files(folder / "in", {"a": b"one"})
         need_status(run(program, folder), LIMIT)
-        need(read_files(folder / "in") == {"a": b"one"}, "in changed")
+        need(read_files(folder / "in") == {"a": b"one"} and not names(folder / "out"), "in or out changed")
+        (folder / "in" / "a").unlink()
+        need_status(run(program, folder), DONE)
         need(len(names(folder / "out")) == 10, f"out holds {len(names(folder / 'out'))} files")
+        write_files(folder / "in", {"a": b"one"})
         need_status(run(program, folder), DONE)
         need(read_files(folder / "out")["a"] == b"one", "the next run doesn't deliver it")
         holds_nothing(folder)
@@ -233,9 +251,8 @@ def main():
     parser.add_argument("--whole", action="store_true", help="all cases, and each byte changed to three other values")
     given, seed = parse_seeded(parser)
     program = find_program(given.program)
-    # What a disk leaves is nothing here, so a folder in memory does, and is much faster.
-    if given.folder is None and os.access("/dev/shm", os.W_OK):
-        given.folder = "/dev/shm"
+    # What a disk leaves is nothing here.
+    given.folder = in_memory(given.folder)
     step, values = (1, 3) if given.whole else (STEP, 1)
     print(f"damage: {'all' if step == 1 else f'every {step}th'} of the cases, seed {seed}", flush=True)
     files = small_store()
@@ -249,11 +266,12 @@ def main():
     for text, body in (("a store of the first path: 4, nothing written", first_path),
                        ("a store of another flow: 3, nothing written", other_flow),
                        ("a store of another flow that is damaged: 4, nothing written", damaged_and_other),
-                       ("no number is left: 11, what waits is delivered", numbers_are_used_up),
+                       ("no number is left: 11, and with an empty inbox what waits is delivered", numbers_are_used_up),
                        ("one number is left: one file, and then 11", one_number_is_left)):
         report.case(text, body, program, given.folder)
     if given.whole:
-        report.case("no claim is left: 11, what waits is delivered", claims_are_used_up, program, given.folder)
+        report.case("no claim is left: 11, and with an empty inbox what waits goes", claims_are_used_up, program,
+                    given.folder)
     report.end()
 
 

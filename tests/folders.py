@@ -10,8 +10,9 @@ import subprocess
 import time
 
 import store_format
-from support import (DISK, DONE, INBOX, MEMORY, OUTBOX, USAGE, Report, Wrong, find_program, names, need, need_status,
-                     new_folder, options, parse_seeded, photo, read_files, run, write_files)
+from support import (DISK, DONE, INBOX, MEMORY, OUTBOX, THE_TEXT, USAGE, Report, find_program, names, need, need_status,
+                     new_folder, options, parse_seeded, photo, put_flow, read_files, run, start, wait_for, work_folder,
+                     write_files)
 
 CONTENT_MAX = 16_777_216
 
@@ -25,7 +26,7 @@ class Cases:
         self.count = count
 
     def folder(self):
-        return new_folder(self.parent)
+        return work_folder(self.parent)
 
     def run(self, folder, *words, limits=None):
         return run(self.program, folder, words or ("run",), limits)
@@ -57,7 +58,7 @@ class Cases:
     def no_files(self):
         with self.folder() as folder:
             self.delivers(folder, {})
-            need(names(folder) == ["in", "out", "store"], "the three folders aren't made")
+            need(names(folder) == ["flow.json", "in", "out", "store"], "the three folders aren't made")
             files = store_format.files_in(folder / "store")
             state = state_of(folder)
             need(files == store_format.Writer(state.store).files(), "the store isn't a new one")
@@ -86,8 +87,17 @@ class Cases:
         files = {"größe-水.txt": b"1", " ": b"2", "a\nb": b"3", "-rf": b"4", "\\": b"5", "...": b"6",
                  "n" * 255: b"7", ".flow-aside-0": b"8", ".flow-aside-1": b"9", ".hidden": b"10"}
         with self.folder() as folder:
+            put_flow(folder, THE_TEXT.replace(b'"GetFile"', b'"GetFile", "properties": {"File Filter": "[^/]+"}'))
             write_files(folder / "in", files)
             self.delivers(folder, files)
+
+    def hidden(self):
+        """Names that begin with a dot, or have a line feed, are passed by no filter that isn't given."""
+        others = {".hidden": b"1", "...": b"2", ".flow-aside-0": b"3", "a\nb": b"4"}
+        with self.folder() as folder:
+            write_files(folder / "in", {**THREE, **others})
+            self.delivers(folder, THREE)
+            need(read_files(folder / "in") == others, f"in holds {names(folder / 'in')}")
 
     def replaces(self):
         with self.folder() as folder:
@@ -163,12 +173,13 @@ class Cases:
         with self.folder() as folder:
             write_files(folder / "in", THREE)
             write_files(folder, {"out": b"no folder"})
-            need_status(self.run(folder), OUTBOX)
-            need((folder / "out").read_bytes() == b"no folder", "out changed")
-            need(waiting(folder) == [("a.txt", THREE["a.txt"])], "the store doesn't hold the first file's bytes")
-            need(names(folder / "in") == ["b.csv", "c"], f"in holds {names(folder / 'in')}")
-            need_status(self.run(folder), OUTBOX)
-            need(waiting(folder) == [("a.txt", THREE["a.txt"])], "the second run lost it")
+            # Each run takes one file more before it puts one.
+            for count in (1, 2, 3, 3):
+                need_status(self.run(folder), OUTBOX)
+                need((folder / "out").read_bytes() == b"no folder", "out changed")
+                taken = sorted(THREE)[:count]
+                need(waiting(folder) == [(name, THREE[name]) for name in taken], f"{waiting(folder)} wait")
+                need(names(folder / "in") == sorted(set(THREE) - set(taken)), f"in holds {names(folder / 'in')}")
             (folder / "out").unlink()
             self.delivers(folder, THREE)
 
@@ -241,7 +252,7 @@ class Cases:
             self.delivers(folder, THREE)
 
     def other_words_make_nothing(self):
-        with self.folder() as folder:
+        with new_folder(self.parent) as folder:
             need_status(run(self.program, folder, ("runs",)), USAGE)
             need(names(folder) == [], f"it made {names(folder)}")
 
@@ -356,23 +367,8 @@ def claims(folder):
     return store_format.claims_in(store_format.files_in(folder / "store"))
 
 
-def start(program, folder):
-    return subprocess.Popen([program, "run"], cwd=folder, stdin=subprocess.DEVNULL,
-                            stdout=subprocess.DEVNULL, stderr=subprocess.DEVNULL)
-
-
 def process_state(pid):
     return pathlib.Path(f"/proc/{pid}/stat").read_text().rpartition(")")[2].split()[0]
-
-
-def wait_for(holds, child):
-    for _ in range(60_000):
-        if holds():
-            return
-        if child.poll() is not None:
-            raise Wrong(f"the process ended early, with {child.returncode}")
-        time.sleep(0.001)
-    raise Wrong("it took more than a minute")
 
 
 def main():
@@ -389,13 +385,14 @@ def main():
             ("a file of 16,777,216 bytes is delivered, and one of 16,777,217 stays", cases.largest),
             ("a folder, two links and a pipe stay, and the files beside them are delivered", cases.others_stay),
             ("names that need care are delivered", cases.odd_names),
+            ("names that begin with a dot stay, where no filter is given", cases.hidden),
             ("a file of the same name in out is replaced, and another one stays", cases.replaces),
             ("files are taken in the order of their names' bytes", cases.order),
             ("each store has an id of its own", cases.other_ids),
             ("contents share claims, which go at the end", cases.claims_grow),
             ("a second run after status 0 ends with 0 and changes nothing", cases.twice),
             ("other entries in store are left alone", cases.other_entries),
-            ("out is a file: 7, the store holds the bytes, and the next run delivers them", cases.out_is_a_file),
+            ("out is a file: 7, the store holds the bytes, and a later run delivers them", cases.out_is_a_file),
             ("a folder stands under the name in out: 7, and later delivered", cases.out_has_a_folder),
             ("store is a file: 5, in untouched", cases.store_is_a_file),
             ("a folder stands under the name of a file of the store: 5, in untouched", cases.log_is_a_folder),

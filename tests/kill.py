@@ -8,15 +8,12 @@ were so many kills. A kill ends the process and not the machine, so this tries t
 not what a power cut leaves of pending writes.
 """
 
-import os
 import random
-import signal
 import statistics
-import subprocess
 import time
 
 import store_format
-from support import (DONE, Report, find_program, names, need, new_folder, options, parse_seeded, read_files,
+from support import (DONE, Report, find_program, names, need, options, parse_seeded, read_files, run_for, work_folder,
                      write_files)
 
 LARGEST = 200_000
@@ -26,18 +23,6 @@ def sizes(count):
     """A few small and empty files, one that fills a claim, and most of any size up to the largest."""
     few = [0, 0, 1, 4095, 4096, 4097, store_format.CLAIM_OPEN]
     return [few[n] if n < len(few) else random.randint(0, LARGEST) for n in range(count)]
-
-
-def run_for(program, folder, seconds):
-    """Runs the program for so long at most. Its status, or None where it was killed."""
-    child = subprocess.Popen([program, "run"], cwd=folder, stdin=subprocess.DEVNULL,
-                             stdout=subprocess.DEVNULL, stderr=subprocess.DEVNULL)
-    try:
-        return child.wait(seconds)
-    except subprocess.TimeoutExpired:
-        os.kill(child.pid, signal.SIGKILL)
-        status = child.wait()
-        return None if status == -signal.SIGKILL else status
 
 
 def held(folder):
@@ -86,7 +71,7 @@ class Rounds:
                 most, stuck = most * 1.5, 0
 
     def one(self):
-        with new_folder(self.parent) as folder:
+        with work_folder(self.parent) as folder:
             files = {f"file-{n:05}": random.randbytes(size) for n, size in enumerate(sizes(self.files))}
             write_files(folder / "in", files)
             self.drive(folder, files)

@@ -12,7 +12,7 @@ import hashlib
 
 import store_format
 from store_format import GET, PUT, Content, Event, FlowFile, Session
-from support import DONE, Report, find_program, names, need, need_status, new_folder, options, run
+from support import DONE, Report, find_program, names, need, need_status, options, run, work_folder
 
 CONTENT = bytes(200)
 DIGEST = hashlib.sha256(CONTENT).digest()
@@ -169,7 +169,7 @@ class Opening:
 
 def grows(program, parent, entries, shape):
     made, waits = SHAPES[shape]
-    with new_folder(parent) as idle, new_folder(parent) as small, new_folder(parent) as large:
+    with work_folder(parent) as idle, work_folder(parent) as small, work_folder(parent) as large:
         none = Opening(program, idle, empty(0))
         one = Opening(program, small, made(entries))
         two = Opening(program, large, made(TIMES * entries))

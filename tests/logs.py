@@ -12,8 +12,8 @@ import struct
 import store_format
 from store_format import (CLOSED, EVENT, GET, OPEN, PUT, SWAP_IN, Batch, Begin, Content, Damage, Expire, Session,
                           SwapOut, Writer, block, event_payload, events_files, frame, log, snapshot, state_of)
-from support import (DAMAGED, DONE, ROOT, Report, find_program, names, need, need_status, new_folder, options, photo,
-                     read_files, run, write_files)
+from support import (DAMAGED, DONE, ROOT, Report, find_program, names, need, need_status, options, photo, read_files,
+                     run, work_folder, write_files)
 
 ABC = {"a": b"one", "b": b"", "größe": "drei".encode()}
 
@@ -401,7 +401,7 @@ def sound(program, parent, case):
     state = state_of(files)
     need(not isinstance(state, Damage), f"the reader says {state}")
     need(state.delivered() == delivered, f"the reader says {state.queued()}")
-    with new_folder(parent) as folder:
+    with work_folder(parent) as folder:
         put_store(folder, files)
         need_status(run(program, folder), DONE)
         need(read_files(folder / "out") == delivered, f"out holds {read_files(folder / 'out')}")
@@ -419,14 +419,14 @@ def damaged(program, parent, case):
     files, damage = DAMAGE[case]
     found = state_of(files)
     need(found == damage, f"the reader says {found}")
-    with new_folder(parent) as folder:
+    with work_folder(parent) as folder:
         put_store(folder, files)
         write_files(folder / "in", {"waits": b"untouched"})
         write_files(folder / "out", {"a": b"from before"})
         before = photo(folder)
         need_status(run(program, folder), DAMAGED)
         need(photo(folder) == before, "something was written")
-        need(names(folder) == ["in", "out", "store"], f"it made {names(folder)}")
+        need(names(folder) == ["flow.json", "in", "out", "store"], f"it made {names(folder)}")
 
 
 def dumps():
@@ -445,7 +445,7 @@ def example(program, parent):
     """The worked example of the docs is what the format says, and what the program writes but for id and moments."""
     writer = Writer(EXAMPLE_STORE, EXAMPLE_MOMENT).get("a.txt", b"hi").put()
     need(dumps() == [writer.first, writer.log(), writer.files()["events-0"]], "it isn't what the format says")
-    with new_folder(parent) as folder:
+    with work_folder(parent) as folder:
         write_files(folder / "in", {"a.txt": b"hi"})
         need_status(run(program, folder), DONE)
         state = is_at_rest(folder)
@@ -472,7 +472,7 @@ def changed_bits(program, parent):
     data = BEGIN + A + B + CLOSED
     gates = {ATS[1]: NONE, ATS[2]: first("a"), ATS[3]: first("a", "b")}
     for at in range(len(data)):
-        with new_folder(parent) as folder:
+        with work_folder(parent) as folder:
             put_store(folder, store(flipped(data, at, at % 8)))
             ended = run(program, folder)
             what = f"byte {at}, bit {at % 8}"

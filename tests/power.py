@@ -18,8 +18,8 @@ import shutil
 import subprocess
 
 import store_format
-from support import (DONE, Report, Wrong, find_program, names, need, new_folder, options, parse_seeded, read_files, run,
-                     write_files)
+from support import (DONE, Report, Wrong, find_program, in_memory, names, need, new_folder, options, parse_seeded,
+                     put_flow, read_files, run, write_files)
 
 FILES = {"a.txt": b"hi", "b": b"", "größe": bytes(range(256)) * 9}
 
@@ -294,6 +294,7 @@ def recorded(program, parent, body, store=None):
     """Makes a folder with the files in its inbox, records a run, and goes on with both."""
     with new_folder(parent) as folder, new_folder(parent) as start:
         for made in (folder, start):
+            put_flow(made)
             write_files(made / "in", FILES)
             if store is not None:
                 write_files(made / "store", store)
@@ -387,9 +388,8 @@ def main():
     parser.add_argument("--picks", type=int, default=20, help="stops at each call (default 20)")
     given, seed = parse_seeded(parser)
     program = find_program(given.program)
-    # What is on a disk is a model here, so a folder in memory does, and is much faster.
-    if given.folder is None and os.access("/dev/shm", os.W_OK):
-        given.folder = "/dev/shm"
+    # What is on a disk is a model here.
+    given.folder = in_memory(given.folder)
     print(f"power: {given.picks} stops at each call, seed {seed}", flush=True)
     report = Report()
     report.case("the power is cut at each call, and nothing is lost", nothing_is_lost, program, given.folder,

@@ -9,10 +9,14 @@ No store swaps batches out yet. Where a batch matters, the file that is wanted c
 import collections
 import dataclasses
 import hashlib
+import json
 import pathlib
 import re
 import struct
 import typing
+import uuid
+
+from support import THE_TEXT
 
 OPEN, CLOSED = b"\x5a", b"\x00"
 VERSION = 1
@@ -47,7 +51,7 @@ CLAIM_OPEN = 1_048_576
 # How many events a file of them has, at most.
 EVENTS_PER_FILE = 10_000
 
-# The places of the processors in the flow of today, and their ids.
+# The places of the processors in the standard flow, and their ids.
 GET, PUT = 0, 1
 IDS = ("get", "put")
 
@@ -142,8 +146,17 @@ class Flow(typing.NamedTuple):
     processors: int
 
 
-# The flow of today, whose text is empty.
-THE_FLOW = Flow(hashlib.sha256(b"").digest(), ("c1",), 2)
+def flow_of(text):
+    """What a store keeps of the flow of a text."""
+    read = json.loads(text)
+    return Flow(hashlib.sha256(text).digest(), tuple(connection["id"] for connection in read["connections"]),
+                len(read["processors"]))
+
+
+# The standard flow.
+THE_FLOW = flow_of(THE_TEXT)
+# That of the program that ran one fixed flow: the same, of the empty text.
+FIXED_FLOW = THE_FLOW._replace(digest=hashlib.sha256(b"").digest())
 
 
 @dataclasses.dataclass
@@ -172,8 +185,11 @@ class State:
                 for file in sorted(self.files.values(), key=lambda file: file.arrival)]
 
     def delivered(self):
-        """What the flow of today delivers of them: a file under no name, or under a bad one, is dropped."""
-        return {name: content for name, content in self.queued() if is_name(name)}
+        """What the standard flow delivers of them, the oldest first: a file under no name, or under a bad one, is
+        dropped."""
+        return {file.name: self.contents[file.number]
+                for file in sorted(self.files.values(), key=lambda file: (file.entered, file.arrival))
+                if is_name(file.name)}
 
 
 def is_name(text):
@@ -188,6 +204,12 @@ class Damage(typing.NamedTuple):
     number: int
     offset: int
     cause: str
+
+
+def uuid_of(store, number):
+    """The text of a flow file's identifier."""
+    high, low = divmod(store, 2**12)
+    return str(uuid.UUID(int=(high << 80) | (8 << 76) | (low << 64) | (2 << 62) | number))
 
 
 def new_state(store, flow=THE_FLOW):
@@ -318,7 +340,7 @@ class Claims:
 
 
 class Writer:
-    """A store of the flow of today, written session by session. It keeps the state that its files stand for."""
+    """A store of the standard flow, written session by session. It keeps the state that its files stand for."""
 
     def __init__(self, store=1, moment=1000, state=None):
         self.state = state or new_state(store)
@@ -771,10 +793,11 @@ def state_of(files, flow=THE_FLOW, lot=0):
 
 
 def untold(state):
-    """The numbers of the files that the events of the flow of today tell nothing of, or too much. Of each file one
-    event tells that it came, and once it isn't live any more one that it went."""
-    came = collections.Counter(event.file for event in state.events if event.kind == RECEIVE)
-    went = collections.Counter(event.file for event in state.events if event.kind == DROP)
+    """The numbers of the files that the events of a flow tell nothing of, or too much. Of each file one event tells
+    that it came, and once it isn't live any more one that it went."""
+    came = collections.Counter(event.file for event in state.events if event.kind in (CREATE, RECEIVE))
+    came.update(child for event in state.events if event.kind in (FORK, JOIN, CLONE) for child in event.children)
+    went = collections.Counter(event.file for event in state.events if event.kind in (DROP, EXPIRED))
     return [number for number in range(1, state.next_number)
             if came[number] != 1 or went[number] != (number not in state.files)]
 

@@ -1,4 +1,5 @@
-"""What the tests of the built program share: finding it, running it, and counting what passed."""
+"""What the tests of the built program share: finding it, the flow that most of them run, running it, and counting what
+passed."""
 
 import argparse
 import contextlib
@@ -17,8 +18,11 @@ import time
 
 ROOT = pathlib.Path(__file__).resolve().parent.parent
 
-# Statuses of the program.
-DONE, USAGE, OTHER_FLOW, DAMAGED, DISK, INBOX, OUTBOX, LIMIT, MEMORY = 0, 2, 3, 4, 5, 6, 7, 11, 12
+# Statuses of the program. A text that is no flow and a store of another flow have the same.
+DONE, USAGE, REFUSED, DAMAGED, DISK, INBOX, OUTBOX, SOURCE, BLOCKED, LIMIT, MEMORY = 0, 2, 3, 4, 5, 6, 7, 8, 10, 11, 12
+
+# The text of the standard flow: get, a queue, put in place of what stands there.
+THE_TEXT = (ROOT / "examples" / "first" / "flow.json").read_bytes()
 
 # The longest that a single run may take, in seconds.
 LONGEST = 600
@@ -61,6 +65,24 @@ def new_folder(parent=None):
         shutil.rmtree(path)
 
 
+def put_flow(folder, text=THE_TEXT):
+    """Writes a flow for the program to run there."""
+    (folder / "flow.json").write_bytes(text)
+
+
+@contextlib.contextmanager
+def work_folder(parent=None, text=THE_TEXT):
+    """A new folder with a flow in it, the standard one where none is given."""
+    with new_folder(parent) as folder:
+        put_flow(folder, text)
+        yield folder
+
+
+def in_memory(parent):
+    """Where folders are made for what no disk matters to: in memory, which is much faster, if none is named."""
+    return "/dev/shm" if parent is None and os.access("/dev/shm", os.W_OK) else parent
+
+
 class Run:
     """How a run ended: its status, its time by the clock and by the processor (in seconds), the peak of
     its memory (in bytes), and what it printed."""
@@ -89,6 +111,34 @@ def run(program, folder, words=("run",), limits=None):
         child.returncode = os.waitstatus_to_exitcode(ended)
         said.seek(0)
         return Run(child.returncode, seconds, used.ru_utime + used.ru_stime, memory.peak, said.read())
+
+
+def start(program, folder):
+    """Starts the program, and doesn't wait for it."""
+    return subprocess.Popen([program, "run"], cwd=folder, stdin=subprocess.DEVNULL, stdout=subprocess.DEVNULL,
+                            stderr=subprocess.DEVNULL)
+
+
+def run_for(program, folder, seconds):
+    """Runs the program for so long at most. Its status, or None where it was killed."""
+    child = start(program, folder)
+    try:
+        return child.wait(seconds)
+    except subprocess.TimeoutExpired:
+        os.kill(child.pid, signal.SIGKILL)
+        status = child.wait()
+        return None if status == -signal.SIGKILL else status
+
+
+def wait_for(holds, child):
+    """Waits until something holds of a process that goes on."""
+    for _ in range(60_000):
+        if holds():
+            return
+        if child.poll() is not None:
+            raise Wrong(f"the process ended early, with {child.returncode}")
+        time.sleep(0.001)
+    raise Wrong("it took more than a minute")
 
 
 class Memory(threading.Thread):

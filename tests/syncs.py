@@ -12,8 +12,8 @@ import re
 import subprocess
 
 import store_format
-from support import (DAMAGED, DISK, DONE, INBOX, OTHER_FLOW, OUTBOX, Report, find_program, names, need, need_status,
-                     new_folder, options, photo, read_files, run, write_files)
+from support import (DAMAGED, DISK, DONE, INBOX, OUTBOX, REFUSED, Report, find_program, names, need, need_status,
+                     new_folder, options, photo, read_files, run, work_folder, write_files)
 
 FILES = {"a": b"first", "b": b"", "c": bytes(range(256)) * 9}
 
@@ -42,6 +42,9 @@ FILE_EMPTY = [*ENTRY, *PUT, *ENTRY]
 
 # At the end the claims go.
 CLOSING = [STORE]
+
+# After so many files, two entries each, the claims go too; the next content makes one anew.
+RECLAIMED = 128
 
 # What FILES asks for, by name.
 ALL = [*FILE_FIRST, *FILE_EMPTY, *FILE, *CLOSING]
@@ -121,7 +124,7 @@ class Cases:
         self.parent = parent
 
     def folder(self):
-        return new_folder(self.parent)
+        return work_folder(self.parent)
 
     # How many there are.
 
@@ -129,14 +132,21 @@ class Cases:
         for count in (0, 1, 5):
             self.asks_for(count, OPENING_NEW)
 
+    def of_many(self):
+        """The claims are emptied on the way."""
+        for count in (RECLAIMED, RECLAIMED + 1, 2 * RECLAIMED + 3):
+            self.asks_for(count, OPENING_NEW)
+
     def asks_for(self, count, opening, before=lambda folder: None):
         with self.folder() as folder:
             before(folder)
-            write_files(folder / "in", {f"{number}": b"x" for number in range(count)})
+            write_files(folder / "in", {f"{number:03}": b"x" for number in range(count)})
             status, syncs = traced(self.program, folder)
             need(status == DONE, f"status {status}")
-            each = [*FILE_FIRST, *FILE * (count - 1), *CLOSING] if count else []
-            need(in_any_order(syncs) == in_any_order([*opening, *each]), f"{count} files: {syncs}")
+            each = [sync for number in range(count) for sync in (FILE if number % RECLAIMED else FILE_FIRST)]
+            wanted = [*opening, *each, *(CLOSING if count else [])]
+            need(in_any_order(syncs) == in_any_order(wanted),
+                 f"{count} files: {syncs if count < 9 else f'{len(syncs)} syncs, and not {len(wanted)}'}")
 
     def of_a_store(self):
         for count in (0, 1, 5):
@@ -181,7 +191,7 @@ class Cases:
         other = store_format.Writer()
         other.state.flow = bytes(32)
         torn = store_format.Writer().get("a", b"one").files() | {"claim-0": b"two"}
-        for files, wanted in ((other.start().files(), OTHER_FLOW), (torn, DAMAGED)):
+        for files, wanted in ((other.start().files(), REFUSED), (torn, DAMAGED)):
             with self.folder() as folder:
                 write_files(folder / "store", files)
                 status, syncs = traced(self.program, folder)
@@ -315,6 +325,7 @@ def main():
     for text, body in (
             ("the syncs of a run in a new folder: the opening's, nine for each further file, and the end's",
              cases.of_a_new_store),
+            ("the syncs of a run over so many files that claims are emptied on the way", cases.of_many),
             ("the syncs of a run over a store that stands", cases.of_a_store),
             ("the syncs of an empty file, and of the first content of a claim", cases.of_all_kinds),
             ("the syncs of a run over a store in which files wait", cases.of_a_queue),
