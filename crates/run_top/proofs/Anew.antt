@@ -9,7 +9,7 @@ use Rattle.std.proofs.lemmas.List.Elements.{All-nil, All-cons, All-replicate}
 use Rattle.std.proofs.lemmas.Slice.Eq.{bytes_eq-Decides}
 use Rattle.std.proofs.lemmas.Str.{IsUtf8-from_ascii}
 use Rattle.std.proofs.lemmas.Str.Ascii.{IsAscii-from_all}
-use Rattle.std.specs.Int.{w16, w64, to_be_bytes}
+use Rattle.std.specs.Int.{w16, w32, w64, to_be_bytes}
 use Rattle.std.specs.List.{flat_map, list_all, list_any}
 use Rattle.std.specs.Prelude.{◌&&◌, ◌||◌, nat_lt, replicate, slice_get}
 use Rattle.flowfile_record.specs.Encoding.{IsDigest, IsNumber, IsText, numbers, text}
@@ -116,15 +116,15 @@ counts_size (suc n) =
 -- ---- the store
 
 module _ (flow : Flow) (lot : ℕ) (sound : IsSound flow) (digest : IsDigest flow.digest) where
-  count : ℕ
-  count = length flow.processors
+  abbrev counts : List ℕ
+  counts = replicate (length flow.processors) 0
 
   has_head : IsHead (head_in (kept_anew (identity_of flow) lot))
   has_head =
       let few = sound.connection_count in
       let some = sound.processor_count in
       let named = length-map flow.connections (λ (connection : Connection). connection.id) in
-      let counted = length-replicate (length flow.processors) 0 in
+      let counted = length-replicate {A = ℕ} (length flow.processors) 0 in
       record {
         store = mod-lt lot (omega arith);
         flow = digest;
@@ -144,10 +144,9 @@ module _ (flow : Flow) (lot : ℕ) (sound : IsSound flow) (digest : IsDigest flo
         let some = sound.processor_count in
         let size = head_size (head_in (kept_anew (identity_of flow) lot)) digest in
         let named = ids_size flow flow.connections sound.connections in
-        let names = length-append (to_be_bytes w64 0) (flat_map text (ids flow.connections)) in
         let counted = counts_size (length flow.processors) in
-        let texts_are : length (texts (ids flow.connections)) ≡ 4 + length (flat_map text (ids flow.connections)) = refl in
-        let counts_are : length (numbers (replicate (length flow.processors) 0)) ≡ 4 + length (flat_map (to_be_bytes w64) (replicate (length flow.processors) 0)) = refl in
+        let texts_are = length-append (to_be_bytes w32 (length (ids flow.connections))) (flat_map text (ids flow.connections)) in
+        let counts_are = length-append (to_be_bytes w32 (length counts)) (flat_map (to_be_bytes w64) counts) in
         omega (arith, few, some, size, named, counted, texts_are, counts_are);
     connections = are_distinct (ids flow.connections) sound.connection_ids;
     counters = record { next_number = omega arith; next_arrival = omega arith; next_batch = omega arith };

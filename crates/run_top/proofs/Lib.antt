@@ -1,8 +1,10 @@
 pub mod Anew
 pub mod Built
 pub mod Opened
+pub mod Over
 pub mod Reading
 pub mod Started
 pub mod Statuses
 pub mod Texts
+pub mod Whole
 pub mod Writing

@@ -1,18 +1,19 @@
 -- Why a store wasn't opened.
-use Rattle.std.proofs.Common.{◌≡◌, inl, inr, ⊎_elim, ℕ, Bool, List, refl, sym, ◌∙◌, ap, subst, arith}
+use Rattle.std.proofs.Common.{◌≡◌, ◌⊎◌, inl, inr, ⊎_elim, ℕ, Bool, List, refl, sym, ◌∙◌, ap, subst, arith}
 use Rattle.std.specs.Prelude.{Err, IsErrOf, IsTrue, Ok, Result}
 use Rattle.disk_trait.specs.Files.{Files}
 use Rattle.disk_trait.specs.declared.damage.Damage.{Damage}
 use Rattle.flowfile_record.specs.Stored.{Kept}
 use Rattle.machine_model.specs.declared.flow.Flow.{Flow as TheFlow}
 use Rattle.machine_model.specs.State.{State}
-use Rattle.store_core.specs.Calls.{IsUnwritten}
+use Rattle.disk_trait.specs.Images.{Since}
+use Rattle.store_core.specs.Calls.{IsUnsynced, IsUnwritten}
 use Rattle.store_core.specs.Flow.{Flow}
 use Rattle.store_core.specs.Opened.{IsOfOther, IsShut}
 use Rattle.store_core.specs.State.{stands_for}
 use Rattle.store_core.specs.declared.error.StoreError.{StoreError}
 use Rattle.engine_core.specs.Committing.{identity_of}
-use Rattle.run_top.specs.Opening.{IsOfFlow, IsShutStatus, IsToldBy, IsUnopened}
+use Rattle.run_top.specs.Opening.{IsLeftUnwritten, IsOfFlow, IsShutStatus, IsToldBy, IsUnopened}
 use Rattle.run_top.specs.Run.{IsLeftShut, IsNotOpened}
 use Rattle.run_top.specs.Status.{error_of, status_of}
 use Rattle.run_top.specs.declared.status.RunError.{RunError}
@@ -34,6 +35,9 @@ other_of (StoreError.Limit limit) is = absurd (cc)
 other_of (StoreError.Damaged found) is = absurd (cc)
 other_of (StoreError.OtherFlow kept found) is = (kept, (found, refl))
 
+err_is : {A E : Type 0} {a b : E} → ◌≡◌ {A = Result A E} (Err a) (Err b) → a ≡ b
+err_is is = cc
+
 module _ (tells : Bool) {D : Type 0} (held : D → Files) (moment : D → ℕ) (flow other : Flow) (same : flow ≡ other) (lot : ℕ) (old new : D) where
   pub told_damage : (damage : Damage) → (IsTrue tells → stands_for flow lot (held old) ≡ Err damage) → IsUnwritten held moment old new → IsToldBy other DAMAGED tells held moment lot old new
   told_damage damage stands unwritten = record {
@@ -47,6 +51,15 @@ module _ (tells : Bool) {D : Type 0} (held : D → Files) (moment : D → ℕ) (
     unwritten = unwritten;
   }
 
+  -- what may not be opened is only read
+  pub shut_stays : {A B : Type 0} (images : D → ℕ → Files → Type 0) (loaded : Result A StoreError) (result : Result B RunError) (error : StoreError) → loaded ≡ Err error → result ≡ Err (error_of error)
+      → (IsTrue tells → IsShut flow lot (held old) → IsUnwritten held moment old new ⊎ IsUnsynced moment images old new loaded)
+      → IsTrue tells → IsShut other lot (held old) → IsLeftUnwritten held moment images old new result
+  shut_stays images loaded result error was is left told shut = ⊎_elim
+      (λ (unwritten : IsUnwritten held moment old new). inl unwritten)
+      (λ (failed : IsUnsynced moment images old new loaded). inr (record { told = inl (is ∙ ap (λ (e : StoreError). Err (error_of e)) (err_is (sym was ∙ failed.told))); left = failed.left }))
+      (left told (subst (λ (f : Flow). IsShut f lot (held old)) (sym same) shut))
+
 -- files of this flow's state are of no other
 pub not_other : (flow : TheFlow) (lot : ℕ) (files : Files) (state : State) → IsOfFlow flow lot files state → IsShutStatus (identity_of flow) lot files FLOW_REFUSED → ⊥
 not_other flow lot files state of shut = ⊎_elim
@@ -59,9 +72,6 @@ not_other flow lot files state of shut = ⊎_elim
   where
     ok_is : {a b : Kept} → ◌≡◌ {A = Result Kept Damage} (Ok a) (Ok b) → a ≡ b
     ok_is is = cc
-
-err_is : {A E : Type 0} {a b : E} → ◌≡◌ {A = Result A E} (Err a) (Err b) → a ≡ b
-err_is is = cc
 
 -- the first sync failed, or memory was wanting before it
 pub not_opened : {A D I O : Type 0} (moment : D → ℕ) (images : D → ℕ → Files → Type 0) (old new : D) (inbox : I) (outbox : O) (opened : Result A RunError) (error : RunError)

@@ -1,5 +1,6 @@
 -- A store that was opened, as the beginning of a run.
 use Rattle.std.proofs.Common.{◌≡◌, ℕ, Bool, List, [], length, refl, sym, ◌∙◌, ap, subst, arith}
+use Rattle.std.proofs.lemmas.List.{length-map}
 use Rattle.std.specs.Prelude.{Option, Ok, Result}
 use Rattle.disk_trait.specs.Files.{Files}
 use Rattle.disk_trait.specs.declared.damage.Damage.{Damage}
@@ -7,6 +8,7 @@ use Rattle.flowfile_record.specs.NamedFile.{NamedFile}
 use Rattle.flowfile_record.specs.declared.event.Event.{Event}
 use Rattle.checkpoint_store.specs.Consistent.{IsConsistent}
 use Rattle.content_repo.specs.Claims.{content_in}
+use Rattle.machine_model.specs.declared.flow.Connection.{Connection}
 use Rattle.machine_model.specs.declared.flow.Flow.{Flow}
 use Rattle.machine_model.specs.State.{State}
 use Rattle.machine_model.specs.Valid.{IsValid}
@@ -53,7 +55,7 @@ module _ {D : Type 0} (moment : D → ℕ) (images : D → ℕ → Files → Typ
       let kept : state ≡ state_with (content_in (held new)) events (kept_by s) = state_is_kept law flow s lot (held new) state events work.flow_is is told holds (same.state ∙ stands) in
       let row = rows (held new) (kept_by s).last_event events told in
       let sound : IsValid flow (state_with (content_in (held new)) events (kept_by s)) = valid flow (content_in (held new)) events (kept_by s) consistent none row.0
-          (ap (λ (f : store.Flow). length f.connections) work.flow_is) (ap (λ (f : store.Flow). f.processors) work.flow_is)
+          (ap (λ (f : store.Flow). length f.connections) work.flow_is ∙ length-map flow.connections (λ (connection : Connection). connection.id)) (ap (λ (f : store.Flow). f.processors) work.flow_is)
       in
       subst (λ (l : ℕ). IsRunningAt flow moment images l (machine_at state left standing) old new [] (machine_at state left standing) left standing) (sym is)
       (begins flow lot (held old) old new state left standing (subst (λ (x : State). IsValid flow x) (sym kept) sound) stands since)

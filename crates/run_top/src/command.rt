@@ -26,7 +26,7 @@ use crate::{
 };
 use disk_trait::Disk;
 use flow_definition::Patterns;
-use flow_run::{Ended, run_begins};
+use flow_run::{Ended, failed_openings_end_a_run, run_begins};
 use machine_model::Flow;
 use prov_store::events_up_to_the_last_are_in_a_row;
 use std::alloc::Global;
@@ -187,6 +187,7 @@ fn run_over<D: Disk, I: Inbox, O: Outbox, C: Clock>(
         (I.faults inbox.old) (I.faults inbox.new) (O.faults outbox.old) (O.faults outbox.new) }
     ensures source { status_at result ≡ SOURCE_FAULT → ⊥ }
 {
+    failed_openings_end_a_run::<D>();
     let store = open(alloc, lot, disk, flow)?;
     run_begins::<D>();
     what_is_kept_is_a_state();
