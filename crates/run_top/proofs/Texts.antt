@@ -62,14 +62,18 @@ module _ (R : Type 0) (bytes : List ℕ) (flow : Flow) where
 small_front : (rest : List ℕ) → length (take (TEXT_MAX + 1) rest) ≤ TEXT_MAX → take (TEXT_MAX + 1) rest ≡ rest
 small_front rest small = take_all (TEXT_MAX + 1) rest (omega (arith, small, length-take (TEXT_MAX + 1) rest))
 
+pub is_whole : (R : Type 0) (tells : Bool) (rest bytes : List ℕ) (flow : Flow) → (IsTrue tells → bytes ≡ take (TEXT_MAX + 1) rest) → IsAccepted R bytes flow → IsTrue tells → bytes ≡ rest
+is_whole R tells rest bytes flow front accept told =
+    let small : length bytes ≤ TEXT_MAX = ltb-false TEXT_MAX (length bytes) accept.small in
+    front told ∙ small_front rest (subst (λ (b : List ℕ). length b ≤ TEXT_MAX) (front told) small)
+
 pub is_read : (R : Type 0) (tells : Bool) (rest bytes : List ℕ) (flow : Flow) → (IsTrue tells → bytes ≡ take (TEXT_MAX + 1) rest) → IsAnswer R bytes (Ok flow) → IsSound flow → IsRead tells rest flow
 is_read R tells rest bytes flow front answer sound =
     let accept = accepted R bytes flow answer in
-    let small : length bytes ≤ TEXT_MAX = ltb-false TEXT_MAX (length bytes) accept.small in
     record {
       bytes = bytes;
-      whole = λ told. front told ∙ small_front rest (subst (λ (b : List ℕ). length b ≤ TEXT_MAX) (front told) small);
-      size = small;
+      whole = is_whole R tells rest bytes flow front accept;
+      size = ltb-false TEXT_MAX (length bytes) accept.small;
       is = record { top = accept.top; object = accept.object; is = accept.is };
       sound = sound;
     }

@@ -12,7 +12,7 @@ use Rattle.run_top.proofs.Whole.{IsOfText, alone_or, error_is_status, has_run, i
 use Rattle.run_top.proofs.command.run.Goals as goal
 
 pub run_over-requires-clause-built : goal.run_over-requires-clause-built
-run_over-requires-clause-built g c = are_built c.in-Ok.ensures.accepted.bytes c.in-Ok.flow c.in-Ok.ensures.accepted.is
+run_over-requires-clause-built g c κs within = are_built c.in-Ok.ensures.accepted.bytes c.in-Ok.flow c.in-Ok.ensures.accepted.is
 
 pub returns-in-Ok-clause-headline : goal.returns-in-Ok-clause-headline
 returns-in-Ok-clause-headline g c disk_told in_told out_told told run any in_any state of =
