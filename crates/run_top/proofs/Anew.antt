@@ -109,7 +109,7 @@ counts_size zero = refl
 counts_size (suc n) =
     let rest = counts_size n in
     let here : length (flat_map (to_be_bytes w64) (0 ∷ replicate n 0)) ≡ 8 + length (flat_map (to_be_bytes w64) (replicate n 0)) =
-        ap length (flat_map-cons (to_be_bytes w64) 0 (replicate n 0)) ∙ length-append (to_be_bytes w64 0) (flat_map (to_be_bytes w64) (replicate n 0))
+    ap length (flat_map-cons (to_be_bytes w64) 0 (replicate n 0)) ∙ length-append (to_be_bytes w64 0) (flat_map (to_be_bytes w64) (replicate n 0))
     in
     omega (arith, here, rest)
 

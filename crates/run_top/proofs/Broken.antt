@@ -143,11 +143,11 @@ module _ (R : Type 0) (bytes : List ℕ) (flow : Flow) (is : IsAccepted R bytes 
   contradicts : (rule : Rule) (place : List ℕ) → IsAnswer ⊥ bytes (Err (error.Rule rule place)) → ⊥
   contradicts rule place answer =
       let to : IsAnswerTo ⊥ bytes (object_in bytes) (Err (error.Rule rule place)) =
-          subst (λ (b : Bool). MatchBool b (Refuses (TooMany, []) (Err (error.Rule rule place))) (IsAnswerTo ⊥ bytes (object_in bytes) (Err (error.Rule rule place)))) is.small answer
+      subst (λ (b : Bool). MatchBool b (Refuses (TooMany, []) (Err (error.Rule rule place))) (IsAnswerTo ⊥ bytes (object_in bytes) (Err (error.Rule rule place)))) is.small answer
       in
       let of : IsAnswerOf ⊥ bytes is.top (Err (error.Rule rule place)) = subst (λ (o : Option Data). IsAnswerTo ⊥ bytes o (Err (error.Rule rule place))) is.object to in
       let behind : IsSettled ⊥ bytes is.top (Err (error.Rule rule place)) =
-          subst (λ (o : Option (Rule × Path)). MatchOption o (IsAnswerBehind ⊥ bytes is.top (Err (error.Rule rule place))) (λ broken. Refuses broken (Err (error.Rule rule place)))) is.first of
+      subst (λ (o : Option (Rule × Path)). MatchOption o (IsAnswerBehind ⊥ bytes is.top (Err (error.Rule rule place))) (λ broken. Refuses broken (Err (error.Rule rule place)))) is.first of
       in
       subst (λ (o : Option (Rule × Path)). MatchOption o (Accepts bytes is.top (Err (error.Rule rule place))) (λ broken. Refuses broken (Err (error.Rule rule place))))
       (none_behind behind.0 behind.1) behind.2

@@ -58,8 +58,8 @@ module _ (bytes : List ℕ) (a b : Flow) (one : IsFlowIn bytes a) (other : IsFlo
   same_identity =
       let connections : a.connections ≡ b.connections = same_top.connections ∙ sym other.is.connections in
       let count : length a.processors ≡ length b.processors =
-          processors_length (items_at Processors other.top) a.processors same_top.processors
-          ∙ sym (processors_length (items_at Processors other.top) b.processors other.is.processors)
+      processors_length (items_at Processors other.top) a.processors same_top.processors
+      ∙ sym (processors_length (items_at Processors other.top) b.processors other.is.processors)
       in
       λ i. record { digest = same_digest i; connections = map (λ (c : Connection). c.id) (connections i); processors = count i }
 

@@ -55,7 +55,7 @@ module _ {D : Type 0} (moment : D → ℕ) (images : D → ℕ → Files → Typ
       let kept : state ≡ state_with (content_in (held new)) events (kept_by s) = state_is_kept law flow s lot (held new) state events work.flow_is is told holds (same.state ∙ stands) in
       let row = rows (held new) (kept_by s).last_event events told in
       let sound : IsValid flow (state_with (content_in (held new)) events (kept_by s)) = valid flow (content_in (held new)) events (kept_by s) consistent none row.0
-          (ap (λ (f : store.Flow). length f.connections) work.flow_is ∙ length-map flow.connections (λ (connection : Connection). connection.id)) (ap (λ (f : store.Flow). f.processors) work.flow_is)
+      (ap (λ (f : store.Flow). length f.connections) work.flow_is ∙ length-map flow.connections (λ (connection : Connection). connection.id)) (ap (λ (f : store.Flow). f.processors) work.flow_is)
       in
       subst (λ (l : ℕ). IsRunningAt flow moment images l (machine_at state left standing) old new [] (machine_at state left standing) left standing) (sym is)
       (begins flow lot (held old) old new state left standing (subst (λ (x : State). IsValid flow x) (sym kept) sound) stands since)

@@ -131,16 +131,34 @@ pub record IsOfText (status : ℕ) (Refused : Type 0) : Type 0 where
 module _ {Refused : Type 0} where
   of_error : (error : RunError) → IsReadError error → ((rule : Rule) → error ≡ RunError.Refused rule → Refused) → IsOfText (status_of error) Refused
   of_error RunError.Source kinds to = record {
-    told = inl refl; refused = λ is. absurd (omega arith); damaged = λ is. omega arith; limit = λ is. omega arith;
-    usage = λ is. omega arith; disk = λ is. omega arith; inbox = λ is. omega arith; outbox = λ is. omega arith;
+    told = inl refl;
+    refused = λ is. absurd (omega arith);
+    damaged = λ is. omega arith;
+    limit = λ is. omega arith;
+    usage = λ is. omega arith;
+    disk = λ is. omega arith;
+    inbox = λ is. omega arith;
+    outbox = λ is. omega arith;
   }
   of_error (RunError.Refused rule) kinds to = record {
-    told = inr (inr (refl, to rule refl)); refused = λ is. to rule refl; damaged = λ is. omega arith; limit = λ is. omega arith;
-    usage = λ is. omega arith; disk = λ is. omega arith; inbox = λ is. omega arith; outbox = λ is. omega arith;
+    told = inr (inr (refl, to rule refl));
+    refused = λ is. to rule refl;
+    damaged = λ is. omega arith;
+    limit = λ is. omega arith;
+    usage = λ is. omega arith;
+    disk = λ is. omega arith;
+    inbox = λ is. omega arith;
+    outbox = λ is. omega arith;
   }
   of_error RunError.Memory kinds to = record {
-    told = inr (inl refl); refused = λ is. absurd (omega arith); damaged = λ is. omega arith; limit = λ is. omega arith;
-    usage = λ is. omega arith; disk = λ is. omega arith; inbox = λ is. omega arith; outbox = λ is. omega arith;
+    told = inr (inl refl);
+    refused = λ is. absurd (omega arith);
+    damaged = λ is. omega arith;
+    limit = λ is. omega arith;
+    usage = λ is. omega arith;
+    disk = λ is. omega arith;
+    inbox = λ is. omega arith;
+    outbox = λ is. omega arith;
   }
   of_error RunError.OtherFlow kinds to = absurd (⊎_elim (λ is. cc) (λ more. ⊎_elim (λ is. cc) (λ is. cc (is.1)) more) kinds)
   of_error (RunError.Damaged damage) kinds to = absurd (⊎_elim (λ is. cc) (λ more. ⊎_elim (λ is. cc) (λ is. cc (is.1)) more) kinds)

@@ -52,4 +52,3 @@ module _ {D : Type 0} (moment : D → ℕ) (images : D → ℕ → Files → Typ
       both_shorten files after.0 c
       (left_at_the_end moment images (moment old + 1) old mid (λ k c. Revives (current_number files) files c) first after.0 after.1)
       (subst (λ (l : Option ℕ). TouchesOnly (MayTouch l) after.0 c) (is (told new k c left)) after.2))
-

@@ -15,7 +15,8 @@ pub record IsFlowIn (bytes : List ℕ) (flow : Flow) : Type 0 where
   pub object : object_in bytes ≡ Some top
   pub is : IsFlowOf bytes top flow
 
--- The text breaks no rule, and the flow, which is sound, is one of it. Where the source tells, it is all that was there.
+-- The text breaks no rule, and the flow, which is sound, is one of it. Where the source tells, the text is all that it
+-- held.
 pub record IsRead (tells : Bool) (rest : List ℕ) (flow : Flow) : Type 0 where
   pub bytes : List ℕ
   pub whole : IsTrue tells → bytes ≡ rest
@@ -31,7 +32,7 @@ pub record IsRefused (Risen : Type 0) (tells : Bool) (rest : List ℕ) : Type 0 
   pub place : List ℕ
   pub answer : IsAnswer Risen bytes (Err (error.Rule rule place))
 
--- the text breaks a rule, whatever size a pattern may have
+-- The text breaks a rule, with no pattern too big.
 pub record IsBroken (bytes : List ℕ) : Type 0 where
   pub rule : Rule
   pub place : List ℕ

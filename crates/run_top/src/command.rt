@@ -39,20 +39,10 @@ pub const MAX_COMMITS: u64 = 1_048_576;
 /// Runs the command that the words say, and answers its status.
 ///
 /// The one command is `run`: it reads the flow's text from its source, and opens the flow's store on the disk, or makes
-/// one, whose id is then the low 60 bits of the lot. Then the flow runs over it, session after session, until nothing is
-/// left to do, all of it is held back by full connections, or the journal has [`MAX_COMMITS`] entries. The clock tells
-/// the moments of sessions. A run prints nothing: the sink is left alone, and no gate is asked.
-pub fn run<
-    R,
-    D: Disk,
-    I: Inbox,
-    O: Outbox,
-    F: Source,
-    P: Patterns,
-    S: Sink,
-    C: Clock,
-    G: Gate,
->(
+/// one, whose id is then the low 60 bits of the lot. Then the flow runs over it, session after session, until nothing
+/// is left to do, all of it is held back by full connections, or the journal has [`MAX_COMMITS`] entries. The clock
+/// tells the moments of sessions. A run prints nothing: the sink is left alone, and no gate is asked.
+pub fn run<R, D: Disk, I: Inbox, O: Outbox, F: Source, P: Patterns, S: Sink, C: Clock, G: Gate>(
     _rt: &R,
     alloc: Global,
     words: &[String],
@@ -66,9 +56,9 @@ pub fn run<
     clock: &mut C,
     _gate: &G,
 ) -> u8
-    // The headline. Where the devices tell and the files stand for a state of the flow of the text, there is a journal of
-    // which all that HasRun says is true, whatever the status; or the opening's first sync failed; or there was no flow
-    // to run.
+    // The headline. Where the devices tell and the files stand for a state of the flow of the text, there is a journal
+    // of which all that HasRun says is true, whatever the status; or the opening's first sync failed; or there was no
+    // flow to run.
     ensures headline { IsTrue D.tells → IsTrue I.tells → IsTrue O.tells → IsTrue F.tells → is_run words.now ≡ true
         → (any : TheFlow) → IsFlowIn (F.rest flow.old) any → (state : State) → IsOfFlow any lot (D.held disk.old) state
         → HasRunText (F.rest flow.old) result (C.time clock.new) D.tells D.held D.moment D.images lot
@@ -193,14 +183,5 @@ fn run_over<D: Disk, I: Inbox, O: Outbox, C: Clock>(
     what_is_kept_is_a_state();
     events_up_to_the_last_are_in_a_row();
     let _stored = store.state();
-    Ok(run_flow(
-        alloc,
-        flow,
-        store,
-        MAX_COMMITS,
-        disk,
-        inbox,
-        outbox,
-        clock,
-    ))
+    Ok(run_flow(alloc, flow, store, MAX_COMMITS, disk, inbox, outbox, clock))
 }

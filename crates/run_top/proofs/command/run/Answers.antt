@@ -35,16 +35,23 @@ pub returns-in-Ok-clause-usage_untouched : goal.returns-in-Ok-clause-usage_untou
 returns-in-Ok-clause-usage_untouched g c is = absurd (isnt_usage c.run_over.result c.status_of_run.result c.status_of_run.ensures is)
 
 pub returns-in-Ok-clause-refused : goal.returns-in-Ok-clause-refused
-returns-in-Ok-clause-refused g c is = inr (c.in-Ok.flow, c.in-Ok.ensures.accepted,
-    subst (λ (n : ℕ). IsToldShut (identity_of c.in-Ok.flow) n g.D.Disk.tells g.D.Disk.held g.D.Disk.moment c.args.lot c.args.disk.now c.run_over.new.disk c.args.inbox.now c.run_over.new.inbox c.args.outbox.now c.run_over.new.outbox)
-    (sym c.status_of_run.ensures) (c.run_over.ensures.refused (sym c.status_of_run.ensures ∙ is)))
+returns-in-Ok-clause-refused g c is = inr (
+  c.in-Ok.flow,
+  c.in-Ok.ensures.accepted,
+  subst (λ (n : ℕ). IsToldShut (identity_of c.in-Ok.flow) n g.D.Disk.tells g.D.Disk.held g.D.Disk.moment c.args.lot c.args.disk.now c.run_over.new.disk c.args.inbox.now c.run_over.new.inbox c.args.outbox.now c.run_over.new.outbox)
+      (sym c.status_of_run.ensures) (c.run_over.ensures.refused (sym c.status_of_run.ensures ∙ is)),
+)
 
 pub returns-in-Ok-clause-damaged : goal.returns-in-Ok-clause-damaged
-returns-in-Ok-clause-damaged g c is = (c.in-Ok.flow, c.in-Ok.ensures.accepted, ⊎_elim
-    (λ shut. inl (subst (λ (n : ℕ). IsToldShut (identity_of c.in-Ok.flow) n g.D.Disk.tells g.D.Disk.held g.D.Disk.moment c.args.lot c.args.disk.now c.run_over.new.disk c.args.inbox.now c.run_over.new.inbox c.args.outbox.now c.run_over.new.outbox)
-    (sym c.status_of_run.ensures) shut))
-    (λ read. inr read)
-    (c.run_over.ensures.damaged (sym c.status_of_run.ensures ∙ is)))
+returns-in-Ok-clause-damaged g c is = (
+  c.in-Ok.flow,
+  c.in-Ok.ensures.accepted,
+  ⊎_elim
+      (λ shut. inl (subst (λ (n : ℕ). IsToldShut (identity_of c.in-Ok.flow) n g.D.Disk.tells g.D.Disk.held g.D.Disk.moment c.args.lot c.args.disk.now c.run_over.new.disk c.args.inbox.now c.run_over.new.inbox c.args.outbox.now c.run_over.new.outbox)
+      (sym c.status_of_run.ensures) shut))
+      (λ read. inr read)
+      (c.run_over.ensures.damaged (sym c.status_of_run.ensures ∙ is)),
+)
 
 pub returns-in-Ok-clause-source : goal.returns-in-Ok-clause-source
 returns-in-Ok-clause-source g c is = absurd (c.run_over.ensures.source (sym c.status_of_run.ensures ∙ is))
