@@ -1,35 +1,46 @@
--- The statuses of a run's errors.
-use Rattle.std.specs.Prelude.{ℕ, Bool, true, false}
+-- The statuses of how a run ends, and of why it didn't begin.
+use Rattle.std.specs.Prelude.{ℕ, Result, Ok, Err}
+use Rattle.flow_run.specs.declared.ended.Ended.{Ended}
+use Rattle.flow_run.specs.declared.ended.Ended.TheVariants as ending
+use Rattle.flow_run.specs.declared.ended.Fault.{Fault}
+use Rattle.flow_run.specs.declared.ended.Fault.TheVariants as fault
 use Rattle.store_core.specs.declared.error.StoreError.{StoreError}
-use Rattle.world_io.specs.declared.error.WorldError.{WorldError}
+use Rattle.store_core.specs.declared.error.StoreError.TheVariants as store
 use Rattle.run_top.specs.declared.status.RunError.{RunError}
-use Rattle.run_top.specs.declared.status.RunError.TheVariants.{Damaged, OtherFlow, Disk, Inbox, Outbox, Limit, Memory}
-use Rattle.run_top.specs.declared.status.TheConstants.{OTHER_FLOW, DAMAGED, DISK_FAULT, INBOX_FAULT, OUTBOX_FAULT, LIMIT, OUT_OF_MEMORY}
+use Rattle.run_top.specs.declared.status.RunError.TheVariants.{Source, Refused, OtherFlow, Damaged, Disk, Memory}
+use Rattle.run_top.specs.declared.status.TheConstants.{DONE, FLOW_REFUSED, DAMAGED, DISK_FAULT, INBOX_FAULT, OUTBOX_FAULT, SOURCE_FAULT, BLOCKED, LIMIT, OUT_OF_MEMORY}
 
 abbrev pub status_of : RunError → ℕ
+status_of Source = SOURCE_FAULT
+status_of (Refused rule) = FLOW_REFUSED
+status_of OtherFlow = FLOW_REFUSED
 status_of (Damaged damage) = DAMAGED
-status_of OtherFlow = OTHER_FLOW
 status_of Disk = DISK_FAULT
-status_of Inbox = INBOX_FAULT
-status_of Outbox = OUTBOX_FAULT
-status_of (Limit limit) = LIMIT
 status_of Memory = OUT_OF_MEMORY
 
--- whether it is that of a limit
-abbrev pub is_limit : RunError → Bool
-is_limit (Limit limit) = true
-is_limit error = false
+abbrev pub status_of_fault : Fault → ℕ
+status_of_fault fault.Disk = DISK_FAULT
+status_of_fault fault.Inbox = INBOX_FAULT
+status_of_fault fault.Outbox = OUTBOX_FAULT
+status_of_fault (fault.Damaged damage) = DAMAGED
+status_of_fault fault.Memory = OUT_OF_MEMORY
 
--- what a refusal of the store means for the run
+abbrev pub status_of_end : Ended → ℕ
+status_of_end ending.Quiet = DONE
+status_of_end (ending.Blocked place) = BLOCKED
+status_of_end (ending.Limit limit) = LIMIT
+status_of_end (ending.Fault cause) = status_of_fault cause
+
+-- the status of a run that ended so, or that didn't begin
+abbrev pub status_at : Result Ended RunError → ℕ
+status_at (Ok ended) = status_of_end ended
+status_at (Err error) = status_of error
+
+-- what a refusal of the store to open means. No opening is refused by a limit
 abbrev pub error_of : StoreError → RunError
-error_of StoreError.Disk = Disk
-error_of StoreError.MustReopen = Disk
-error_of StoreError.Memory = Memory
-error_of (StoreError.Limit limit) = Limit limit
-error_of (StoreError.Damaged damage) = Damaged damage
-error_of (StoreError.OtherFlow kept found) = OtherFlow
-
--- what a refusal of the inbox means for the run
-abbrev pub inbox_error_of : WorldError → RunError
-inbox_error_of WorldError.Failed = Inbox
-inbox_error_of WorldError.Memory = Memory
+error_of store.Disk = Disk
+error_of store.MustReopen = Disk
+error_of store.Memory = Memory
+error_of (store.Limit limit) = Memory
+error_of (store.Damaged damage) = Damaged damage
+error_of (store.OtherFlow kept found) = OtherFlow

@@ -1,17 +1,16 @@
-//! The whole run of a flow: from the inbox through the store to the outbox.
+//! The whole run of a flow: its text, its store, and from the inbox through the store to the outbox.
 #![tactic(auto)]
 
-mod coming;
 mod command;
-mod going;
-mod moving;
+mod flow_engine;
+mod opening;
 mod status;
-mod tied;
+mod text;
 
-pub use command::{are_run, run};
+pub use command::{MAX_COMMITS, are_run, run};
 pub use status::{
-    DAMAGED, DISK_FAULT, DONE, INBOX_FAULT, LIMIT, OTHER_FLOW, OUT_OF_MEMORY, OUTBOX_FAULT,
-    RunError, USAGE,
+    BLOCKED, DAMAGED, DISK_FAULT, DONE, FLOW_REFUSED, INBOX_FAULT, LIMIT, OUT_OF_MEMORY,
+    OUTBOX_FAULT, RunError, SOURCE_FAULT, USAGE,
 };
 
 #[cfg(test)]

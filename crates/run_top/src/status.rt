@@ -1,13 +1,14 @@
 //! How a run ends, and the status that says so.
 ghost use Rattle.std.specs.Prelude.{◌≡◌};
-ghost use Rattle.run_top.specs.Status.{status_of, is_limit, error_of, inbox_error_of};
+ghost use Rattle.run_top.specs.Status.{error_of, status_at, status_of, status_of_end, status_of_fault};
 ghost use Rattle.run_top.specs.declared.status.RunError.TheVariants.{Memory};
 
 use disk_trait::Damage;
+use flow_definition::Rule;
+use flow_run::{Ended, Fault};
 use std::alloc::AllocError;
-use store_core::{Limit, StoreError};
+use store_core::StoreError;
 use thiserror::Error;
-use world_io::WorldError;
 
 /// The status of a run that left nothing to do.
 pub const DONE: u8 = 0;
@@ -15,8 +16,8 @@ pub const DONE: u8 = 0;
 /// The status of words that say no command.
 pub const USAGE: u8 = 2;
 
-/// The status of a store that was made for another flow.
-pub const OTHER_FLOW: u8 = 3;
+/// The status of a flow's text that breaks a rule, and of a store that was made for another flow.
+pub const FLOW_REFUSED: u8 = 3;
 
 /// The status of a store whose files stand for no state.
 pub const DAMAGED: u8 = 4;
@@ -30,27 +31,31 @@ pub const INBOX_FAULT: u8 = 6;
 /// The status of an outbox that failed.
 pub const OUTBOX_FAULT: u8 = 7;
 
+/// The status of a source of the flow's text that failed.
+pub const SOURCE_FAULT: u8 = 8;
+
+/// The status of a run whose sessions were all held back by full connections.
+pub const BLOCKED: u8 = 10;
+
 /// The status of a run that a limit ended.
 pub const LIMIT: u8 = 11;
 
 /// The status of a want of memory.
 pub const OUT_OF_MEMORY: u8 = 12;
 
-/// Why a run stopped before it was done.
+/// Why a flow didn't begin to run.
 #[derive(Clone, Copy, Debug, PartialEq, Eq, Error)]
 pub enum RunError {
-    #[error("{0}")]
-    Damaged(Damage),
+    #[error("the flow's text can't be read")]
+    Source,
+    #[error("the flow's text breaks rule {}", .0.number())]
+    Refused(Rule),
     #[error("the store is of another flow")]
     OtherFlow,
+    #[error("{0}")]
+    Damaged(Damage),
     #[error("the disk failed")]
     Disk,
-    #[error("the inbox failed")]
-    Inbox,
-    #[error("the outbox failed")]
-    Outbox,
-    #[error("{} are wanted, and the limit is {}", .0.wanted, .0.number)]
-    Limit(Limit),
     #[error("out of memory")]
     Memory,
 }
@@ -60,24 +65,11 @@ impl RunError {
         ensures { result ≡ status_of self.now }
     {
         match self {
+            RunError::Source => SOURCE_FAULT,
+            RunError::Refused(_) | RunError::OtherFlow => FLOW_REFUSED,
             RunError::Damaged(_) => DAMAGED,
-            RunError::OtherFlow => OTHER_FLOW,
             RunError::Disk => DISK_FAULT,
-            RunError::Inbox => INBOX_FAULT,
-            RunError::Outbox => OUTBOX_FAULT,
-            RunError::Limit(_) => LIMIT,
             RunError::Memory => OUT_OF_MEMORY,
-        }
-    }
-
-    /// Whether a limit was met.
-    pub fn is_limit(&self) -> bool
-        ensures { result ≡ is_limit self.now }
-    {
-        match self {
-            RunError::Limit(_) => true,
-            RunError::Damaged(_) | RunError::OtherFlow | RunError::Disk => false,
-            RunError::Inbox | RunError::Outbox | RunError::Memory => false,
         }
     }
 }
@@ -95,23 +87,44 @@ impl From<StoreError> for RunError {
 
     fn from(error: StoreError) -> RunError {
         match error {
-            // A store that has to be opened anew met a failure of the disk before.
             StoreError::Disk | StoreError::MustReopen => RunError::Disk,
-            StoreError::Memory => RunError::Memory,
-            StoreError::Limit(limit) => RunError::Limit(limit),
+            // No opening is refused by a limit.
+            StoreError::Memory | StoreError::Limit(_) => RunError::Memory,
             StoreError::Damaged(damage) => RunError::Damaged(damage),
             StoreError::OtherFlow { .. } => RunError::OtherFlow,
         }
     }
 }
 
-impl From<WorldError> for RunError {
-    ghost from_gives = { λ world_error error. error ≡ inbox_error_of world_error };
+/// The status of a run that ended so, or that didn't begin.
+pub fn status_of_run(run: Result<Ended, RunError>) -> u8
+    ensures { result ≡ status_at run }
+{
+    match run {
+        Ok(ended) => status_of_end(ended),
+        Err(error) => error.status(),
+    }
+}
 
-    fn from(error: WorldError) -> RunError {
-        match error {
-            WorldError::Failed => RunError::Inbox,
-            WorldError::Memory => RunError::Memory,
-        }
+fn status_of_end(ended: Ended) -> u8
+    ensures { result ≡ status_of_end ended }
+{
+    match ended {
+        Ended::Quiet => DONE,
+        Ended::Blocked(_) => BLOCKED,
+        Ended::Limit(_) => LIMIT,
+        Ended::Fault(fault) => status_of_fault(fault),
+    }
+}
+
+fn status_of_fault(fault: Fault) -> u8
+    ensures { result ≡ status_of_fault fault }
+{
+    match fault {
+        Fault::Disk => DISK_FAULT,
+        Fault::Inbox => INBOX_FAULT,
+        Fault::Outbox => OUTBOX_FAULT,
+        Fault::Damaged(_) => DAMAGED,
+        Fault::Memory => OUT_OF_MEMORY,
     }
 }

@@ -1,6 +1,7 @@
 //! A run over devices in memory, stopped at every moment and begun anew.
 use super::*;
 use disk_trait::{Disk, MemoryDisk, Pick};
+use flow_definition::Builder;
 use flowfile_record::{Event, EventKind};
 use prov_store::Events;
 use sha2::{Digest, Sha256};
@@ -9,6 +10,22 @@ use std::test::Fail;
 use world_io::{
     FreeGate, MemoryClock, MemoryInbox, MemoryOutbox, MemorySink, MemorySource, Name, Outbox,
 };
+
+// What comes into the inbox goes out by the outbox.
+const FLOW: &str = r#"{
+  "processors": [
+    { "id": "get", "type": "GetFile" },
+    {
+      "id": "put",
+      "type": "PutFile",
+      "properties": { "Conflict Resolution Strategy": "replace" },
+      "terminated": ["success", "failure"]
+    }
+  ],
+  "connections": [
+    { "id": "arrived", "from": "get", "to": "put", "relationships": ["success"] }
+  ]
+}"#;
 
 // Where the file `a.txt` stands when a run begins.
 #[derive(Clone, Copy)]
@@ -56,7 +73,8 @@ fn delivers(alloc: Global, disk: &mut MemoryDisk, world: World) -> Result<bool, 
         outbox.put(&name, b"hi")?;
     }
     let words = vec![in alloc; String::from_str(alloc, "run")?]?;
-    let mut flow = MemorySource::new(Vec::new(alloc), Vec::new(alloc));
+    let mut flow = MemorySource::new(FLOW.as_bytes().to_vec(alloc)?, Vec::new(alloc));
+    let mut patterns = Builder::new(Vec::new(alloc));
     let mut sink = MemorySink::new(Vec::new(alloc));
     let mut clock = MemoryClock::new(1000, 0);
     let status = run(
@@ -68,6 +86,7 @@ fn delivers(alloc: Global, disk: &mut MemoryDisk, world: World) -> Result<bool, 
         &mut inbox,
         &mut outbox,
         &mut flow,
+        &mut patterns,
         &mut sink,
         &mut clock,
         &FreeGate,

@@ -1,151 +1,147 @@
-use Rattle.std.proofs.Common.{◌≡◌, ◌∙◌, ℕ, List, map, refl, sym, ap, subst}
+use Rattle.std.proofs.Common.{◌≡◌, ◌∙◌, ◌⊎◌, inl, inr, ⊎_elim, ℕ, List, refl, sym, ap, subst, arith}
 use Rattle.std.proofs.lemmas.Result.{err_from_is_err_and}
-use Rattle.std.specs.Prelude.{⊤, Err, Result}
+use Rattle.std.specs.Prelude.{Err, Result}
 use Rattle.flowfile_record.specs.NamedFile.{NamedFile}
-use Rattle.flowfile_record.specs.declared.stored.ActiveFile.{ActiveFile}
-use Rattle.store_core.specs.Store.{kept_by}
-use Rattle.run_top.specs.Run.{HasRun, IsTidied, status_at}
-use Rattle.run_top.specs.Status.{status_of}
+use Rattle.engine_core.specs.Committing.{identity_of}
+use Rattle.flow_run.specs.Run.{machine_at}
+use Rattle.flow_run.specs.declared.ended.Ended.{Ended}
+use Rattle.run_top.specs.Run.{CountsEachFault, EndsWith, IsLeftShut, IsLimited, IsNotOpened, IsToldByRead, IsToldShut}
+use Rattle.run_top.specs.Status.{status_at, status_of}
 use Rattle.run_top.specs.declared.status.RunError.{RunError}
-use Rattle.run_top.proofs.Ends.{closes, disk_of, inbox_no_limit, limit_closed, limit_in, limit_unclosed, memory_no_limit, same_run, spares_by, tidied_by, to_run}
-use Rattle.run_top.proofs.Steps.{stops_between}
-use Rattle.run_top.proofs.Writing.{writes_by_close, writes_in_turn, writes_none}
+use Rattle.run_top.specs.declared.status.TheConstants.{DAMAGED, FLOW_REFUSED}
+use Rattle.run_top.proofs.Opened.{not_opened}
+use Rattle.run_top.proofs.Over.{left_shut, limit_tells, ran_ends, read_tells, refused_counts, refused_ends, run_counts, told_by}
+use Rattle.run_top.proofs.Started.{starts}
+use Rattle.run_top.proofs.Statuses.{IsOfStore, damaged_error, no_end, of_end, refused_error, source_error}
+use Rattle.run_top.proofs.Writing.{opens_alone, runs_alone}
 use Rattle.run_top.proofs.command.run_over.Goals as goal
 
-pub returns-in-Err-clause-headline : goal.returns-in-Err-clause-headline
-returns-in-Err-clause-headline g c disk_told in_told out_told opened first run =
-    let moment = g.D.Disk.moment in
-    let images = g.D.Disk.images in
+pub returns-in_err-store-clause-headline : goal.returns-in_err-store-clause-headline
+returns-in_err-store-clause-headline g c disk_told in_told out_told state of =
     let left : List NamedFile = g.I.Inbox.left c.args.inbox.now in
     let standing = g.O.Outbox.standing c.args.outbox.now in
-    let lot = c.args.store.now.lot in
-    let names = map (λ (file : NamedFile). file.name) left in
-    let numbers = map (λ (active : ActiveFile). active.file.number) (kept_by c.args.store.now).files in
-    subst (λ (l : List NamedFile). HasRun (status_of c.from.result) g.D.Disk.tells g.D.Disk.held moment images lot opened first c.args.disk.now l standing) (sym c.list.ensures.left)
-    (stops_between g.D.Disk.tells g.D.Disk.held moment images lot opened first c.args.disk.now left standing names numbers run c.from.result (inbox_no_limit c.in-Err.error c.from.result c.from.ensures))
-
-pub returns-in_err-numbers-clause-headline : goal.returns-in_err-numbers-clause-headline
-returns-in_err-numbers-clause-headline g c disk_told in_told out_told opened first run =
-    let moment = g.D.Disk.moment in
-    let images = g.D.Disk.images in
-    let left : List NamedFile = g.I.Inbox.left c.args.inbox.now in
-    let standing = g.O.Outbox.standing c.args.outbox.now in
-    let lot = c.args.store.now.lot in
-    let names = map (λ (file : NamedFile). file.name) left in
-    let numbers = map (λ (active : ActiveFile). active.file.number) (kept_by c.args.store.now).files in
+    let error = c.in_err-store.field-0.0 in
     let p = err_from_is_err_and c.from_residual.result c.from_residual.ensures.1 in
-    let fails : c.from_residual.result ≡ Err RunError.Memory = cc (p.1, p.2) in
-    subst (λ (r : Result ⊤ RunError). HasRun (status_at r) g.D.Disk.tells g.D.Disk.held moment images lot opened first c.args.disk.now (g.I.Inbox.left c.list.new.self) standing) (sym fails)
-    (subst (λ (l : List NamedFile). HasRun (status_of RunError.Memory) g.D.Disk.tells g.D.Disk.held moment images lot opened first c.args.disk.now l standing) (sym c.list.ensures.left)
-    (stops_between g.D.Disk.tells g.D.Disk.held moment images lot opened first c.args.disk.now left standing names numbers run RunError.Memory memory_no_limit))
+    let fails : c.from_residual.result ≡ Err error = cc (p.1, p.2) in
+    let kinds : IsOfStore error = record { source = c.in_err-store.ensures.kinds.0; refused = c.in_err-store.ensures.kinds.1 } in
+    subst (λ (r : Result Ended RunError). EndsWith c.args.flow.now (status_at r) (g.C.Clock.time c.args.clock.now) g.D.Disk.tells g.D.Disk.held g.D.Disk.moment g.D.Disk.images c.args.lot (machine_at state left standing) c.args.disk.now c.open.new.disk left standing
+    ⊎ IsNotOpened (status_at r) g.D.Disk.moment g.D.Disk.images c.args.disk.now c.open.new.disk c.args.inbox.now c.args.inbox.now c.args.outbox.now c.args.outbox.now) (sym fails)
+    (refused_ends g.D.Disk.tells g.D.Disk.held g.D.Disk.moment g.D.Disk.images c.args.flow.now c.args.lot c.args.disk.now c.open.new.disk c.args.inbox.now c.args.outbox.now c.open.result error c.in_err-store.was kinds c.open.ensures.images
+    c.failed_openings_end_a_run.ensures (g.C.Clock.time c.args.clock.now) state left standing (λ other. (c.open.ensures.other_flow (c.in_err-store.was ∙ ap Err other)).found disk_told) of)
 
-pub returns-in-Ok-clause-headline : goal.returns-in-Ok-clause-headline
-returns-in-Ok-clause-headline g c disk_told in_told out_told opened first run =
-    let moment = g.D.Disk.moment in
-    let images = g.D.Disk.images in
-    let left : List NamedFile = g.I.Inbox.left c.args.inbox.now in
-    let standing = g.O.Outbox.standing c.args.outbox.now in
-    let lot = c.args.store.now.lot in
-    let names = map (λ (file : NamedFile). file.name) left in
-    let numbers = map (λ (active : ActiveFile). active.file.number) (kept_by c.args.store.now).files in
-    let listed = same_run moment images lot opened first c.args.disk.now standing left (g.I.Inbox.left c.list.new.self) names c.as_slice.result.now numbers c.deref.result.now
-    c.list.ensures.left (c.as_slice.ensures.value ∙ c.in_default.ensures.listed in_told) (c.deref.ensures.value ∙ c.in_ok-numbers.ensures) run in
-    let laws = g.met.D.Disk g.world.𝓛 g.world.𝓜 g.world.𝓡 ((λ s x. x), (λ x. x), (λ x. x), λ x. x) in
-    let old = c.move_all.new.disk in
-    let new = c.close.new.disk in
-    let spares = spares_by moment images old new lot c.move_all.new.store.lot c.move_all.ensures.lot c.close.ensures.spared in
-    closes c.replay_goes_on.ensures.one_more c.states_stay_valid.ensures.one_step c.the_flow_is_quiet.ensures g.D.Disk.tells g.D.Disk.held moment images lot opened first old new (g.I.Inbox.left c.move_all.new.inbox) (g.O.Outbox.standing c.move_all.new.outbox)
-    (c.in-Ok.ensures.moved disk_told in_told out_told opened first listed) (c.in-Ok.ensures.none_to_take in_told) spares (laws.held_is_left new disk_told) c.close.result
-    (tidied_by g.D.Disk.tells g.D.Disk.held new lot c.move_all.new.store.lot c.close.result c.move_all.ensures.lot disk_told c.close.ensures.tidied) c.close.ensures.kinds
+pub returns-in_err-store-clause-shut_left : goal.returns-in_err-store-clause-shut_left
+returns-in_err-store-clause-shut_left g c told shut =
+    let error = c.in_err-store.field-0.0 in
+    let p = err_from_is_err_and c.from_residual.result c.from_residual.ensures.1 in
+    let fails : c.from_residual.result ≡ Err error = cc (p.1, p.2) in
+    let kinds : IsOfStore error = record { source = c.in_err-store.ensures.kinds.0; refused = c.in_err-store.ensures.kinds.1 } in
+    subst (λ (r : Result Ended RunError). IsLeftShut (identity_of c.args.flow.now) (status_at r) g.D.Disk.held g.D.Disk.moment g.D.Disk.images c.args.lot c.args.disk.now c.open.new.disk c.args.inbox.now c.args.inbox.now c.args.outbox.now c.args.outbox.now
+    ⊎ IsNotOpened (status_at r) g.D.Disk.moment g.D.Disk.images c.args.disk.now c.open.new.disk c.args.inbox.now c.args.inbox.now c.args.outbox.now c.args.outbox.now) (sym fails)
+    (left_shut g.D.Disk.tells g.D.Disk.held g.D.Disk.moment g.D.Disk.images c.args.flow.now c.args.lot c.args.disk.now c.open.new.disk c.args.inbox.now c.args.outbox.now c.open.result error c.in_err-store.was kinds c.open.ensures.images
+    (λ damage is. (c.open.ensures.damaged damage (c.in_err-store.was ∙ ap Err is)).found told) (λ other. (c.open.ensures.other_flow (c.in_err-store.was ∙ ap Err other)).found told) (c.open.ensures.shut told shut))
 
-pub returns-in_err-close-in-Err-move_all-clause-headline :
-    goal.returns-in_err-close-in-Err-move_all-clause-headline
-returns-in_err-close-in-Err-move_all-clause-headline g c disk_told in_told out_told opened first run =
-    let moment = g.D.Disk.moment in
-    let images = g.D.Disk.images in
-    let left : List NamedFile = g.I.Inbox.left c.args.inbox.now in
-    let standing = g.O.Outbox.standing c.args.outbox.now in
-    let lot = c.args.store.now.lot in
-    let names = map (λ (file : NamedFile). file.name) left in
-    let numbers = map (λ (active : ActiveFile). active.file.number) (kept_by c.args.store.now).files in
-    let listed = same_run moment images lot opened first c.args.disk.now standing left (g.I.Inbox.left c.list.new.self) names c.as_slice.result.now numbers c.deref.result.now
-    c.list.ensures.left (c.as_slice.ensures.value ∙ c.in_default.ensures.listed in_told) (c.deref.ensures.value ∙ c.in_ok-numbers.ensures) run in
-    let old = c.move_all.new.disk in
-    let new = c.close-then-is_limit.new.disk in
-    let spares = spares_by moment images old new lot c.move_all.new.store.lot c.move_all.ensures.lot c.close-then-is_limit.ensures.spared in
-    let p = err_from_is_err_and c.from_residual-in_err-close-in-Err-move_all.result c.from_residual-in_err-close-in-Err-move_all.ensures.1 in
-    let fails : c.from_residual-in_err-close-in-Err-move_all.result ≡ Err p.0 = p.1 in
-    let disk : p.0 ≡ RunError.Disk = p.2 ∙ disk_of c.close-then-is_limit.result c.in_err-close-in-Err-move_all.field-0.0 c.in_err-close-in-Err-move_all.was c.close-then-is_limit.ensures.kinds in
-    subst (λ (r : Result ⊤ RunError). HasRun (status_at r) g.D.Disk.tells g.D.Disk.held moment images lot opened first new (g.I.Inbox.left c.move_all.new.inbox) (g.O.Outbox.standing c.move_all.new.outbox)) (sym fails)
-    (limit_unclosed c.replay_goes_on.ensures.one_more c.states_stay_valid.ensures.one_step c.the_flow_is_quiet.ensures g.D.Disk.tells g.D.Disk.held moment images lot opened first old new (g.I.Inbox.left c.move_all.new.inbox) (g.O.Outbox.standing c.move_all.new.outbox)
-    c.in-Err-move_all.error p.0 (sym c.is_limit.ensures ∙ c.if-is_limit.true) (c.in-Err-move_all.ensures.stopped c.in-Err-move_all.error refl disk_told in_told out_told opened first listed) spares disk)
+pub returns-in_err-store-clause-alone : goal.returns-in_err-store-clause-alone
+returns-in_err-store-clause-alone g c =
+    let error = c.in_err-store.field-0.0 in
+    let p = err_from_is_err_and c.from_residual.result c.from_residual.ensures.1 in
+    let fails : c.from_residual.result ≡ Err error = cc (p.1, p.2) in
+    ⊎_elim
+    (λ since. inl (opens_alone g.D.Disk.moment g.D.Disk.images (g.D.Disk.held c.args.disk.now) c.args.disk.now c.open.new.disk since))
+    (λ failed. inr (subst (λ (r : Result Ended RunError). IsNotOpened (status_at r) g.D.Disk.moment g.D.Disk.images c.args.disk.now c.open.new.disk c.args.inbox.now c.args.inbox.now c.args.outbox.now c.args.outbox.now) (sym fails)
+    (not_opened g.D.Disk.moment g.D.Disk.images c.args.disk.now c.open.new.disk c.args.inbox.now c.args.outbox.now c.open.result error c.in_err-store.was failed)))
+    c.open.ensures.alone
 
-pub returns-then-is_limit-clause-headline : goal.returns-then-is_limit-clause-headline
-returns-then-is_limit-clause-headline g c disk_told in_told out_told opened first run =
-    let moment = g.D.Disk.moment in
-    let images = g.D.Disk.images in
-    let left : List NamedFile = g.I.Inbox.left c.args.inbox.now in
-    let standing = g.O.Outbox.standing c.args.outbox.now in
-    let lot = c.args.store.now.lot in
-    let names = map (λ (file : NamedFile). file.name) left in
-    let numbers = map (λ (active : ActiveFile). active.file.number) (kept_by c.args.store.now).files in
-    let listed = same_run moment images lot opened first c.args.disk.now standing left (g.I.Inbox.left c.list.new.self) names c.as_slice.result.now numbers c.deref.result.now
-    c.list.ensures.left (c.as_slice.ensures.value ∙ c.in_default.ensures.listed in_told) (c.deref.ensures.value ∙ c.in_ok-numbers.ensures) run in
-    let laws = g.met.D.Disk g.world.𝓛 g.world.𝓜 g.world.𝓡 ((λ s x. x), (λ x. x), (λ x. x), λ x. x) in
-    let old = c.move_all.new.disk in
-    let new = c.close-then-is_limit.new.disk in
-    let spares = spares_by moment images old new lot c.move_all.new.store.lot c.move_all.ensures.lot c.close-then-is_limit.ensures.spared in
-    limit_closed c.replay_goes_on.ensures.one_more c.states_stay_valid.ensures.one_step c.the_flow_is_quiet.ensures g.D.Disk.tells g.D.Disk.held moment images lot opened first old new (g.I.Inbox.left c.move_all.new.inbox) (g.O.Outbox.standing c.move_all.new.outbox)
-    c.in-Err-move_all.error (sym c.is_limit.ensures ∙ c.if-is_limit.true) (c.in-Err-move_all.ensures.stopped c.in-Err-move_all.error refl disk_told in_told out_told opened first listed) spares (laws.held_is_left new disk_told)
-    (subst (λ (l : ℕ). IsTidied l (g.D.Disk.held new)) c.move_all.ensures.lot (c.in_ok-close-in-Err-move_all.ensures.tidied disk_told))
+pub returns-in_err-store-clause-refused : goal.returns-in_err-store-clause-refused
+returns-in_err-store-clause-refused g c is =
+    let error = c.in_err-store.field-0.0 in
+    let p = err_from_is_err_and c.from_residual.result c.from_residual.ensures.1 in
+    let fails : c.from_residual.result ≡ Err error = cc (p.1, p.2) in
+    let kinds : IsOfStore error = record { source = c.in_err-store.ensures.kinds.0; refused = c.in_err-store.ensures.kinds.1 } in
+    subst (λ (r : Result Ended RunError). IsToldShut (identity_of c.args.flow.now) (status_at r) g.D.Disk.tells g.D.Disk.held g.D.Disk.moment c.args.lot c.args.disk.now c.open.new.disk c.args.inbox.now c.args.inbox.now c.args.outbox.now c.args.outbox.now) (sym fails)
+    (refused_error error kinds
+    (λ other. told_by g.D.Disk.tells g.D.Disk.held g.D.Disk.moment g.D.Disk.images c.args.flow.now c.args.lot c.args.disk.now c.open.new.disk c.args.inbox.now c.args.outbox.now c.open.result error c.in_err-store.was kinds c.open.ensures.images
+    FLOW_REFUSED (ap status_of other) (c.open.ensures.other_flow (c.in_err-store.was ∙ ap Err other)))
+    (sym (ap status_at fails) ∙ is))
+
+pub returns-in_err-store-clause-damaged : goal.returns-in_err-store-clause-damaged
+returns-in_err-store-clause-damaged g c is =
+    let error = c.in_err-store.field-0.0 in
+    let p = err_from_is_err_and c.from_residual.result c.from_residual.ensures.1 in
+    let fails : c.from_residual.result ≡ Err error = cc (p.1, p.2) in
+    let kinds : IsOfStore error = record { source = c.in_err-store.ensures.kinds.0; refused = c.in_err-store.ensures.kinds.1 } in
+    inl (subst (λ (r : Result Ended RunError). IsToldShut (identity_of c.args.flow.now) (status_at r) g.D.Disk.tells g.D.Disk.held g.D.Disk.moment c.args.lot c.args.disk.now c.open.new.disk c.args.inbox.now c.args.inbox.now c.args.outbox.now c.args.outbox.now) (sym fails)
+    (damaged_error error
+    (λ damage same. told_by g.D.Disk.tells g.D.Disk.held g.D.Disk.moment g.D.Disk.images c.args.flow.now c.args.lot c.args.disk.now c.open.new.disk c.args.inbox.now c.args.outbox.now c.open.result error c.in_err-store.was kinds c.open.ensures.images
+    DAMAGED (ap status_of same) (c.open.ensures.damaged damage (c.in_err-store.was ∙ ap Err same)))
+    (sym (ap status_at fails) ∙ is)))
+
+pub returns-in_err-store-clause-limited : goal.returns-in_err-store-clause-limited
+returns-in_err-store-clause-limited g c is =
+    let error = c.in_err-store.field-0.0 in
+    let p = err_from_is_err_and c.from_residual.result c.from_residual.ensures.1 in
+    let fails : c.from_residual.result ≡ Err error = cc (p.1, p.2) in
+    absurd ((no_end error).limit (sym (ap status_at fails) ∙ is))
+
+pub returns-in_err-store-clause-causes : goal.returns-in_err-store-clause-causes
+returns-in_err-store-clause-causes g c =
+    let error = c.in_err-store.field-0.0 in
+    let p = err_from_is_err_and c.from_residual.result c.from_residual.ensures.1 in
+    let fails : c.from_residual.result ≡ Err error = cc (p.1, p.2) in
+    subst (λ (r : Result Ended RunError). CountsEachFault (status_at r) (g.D.Disk.faults c.args.disk.now) (g.D.Disk.faults c.open.new.disk) (g.I.Inbox.faults c.args.inbox.now) (g.I.Inbox.faults c.args.inbox.now) (g.O.Outbox.faults c.args.outbox.now) (g.O.Outbox.faults c.args.outbox.now)) (sym fails)
+    (refused_counts c.open.result error _ _ _ _ c.in_err-store.was c.open.ensures.cause)
+
+pub returns-in_err-store-clause-source : goal.returns-in_err-store-clause-source
+returns-in_err-store-clause-source g c is =
+    let error = c.in_err-store.field-0.0 in
+    let p = err_from_is_err_and c.from_residual.result c.from_residual.ensures.1 in
+    let fails : c.from_residual.result ≡ Err error = cc (p.1, p.2) in
+    c.in_err-store.ensures.kinds.0 (source_error error (sym (ap status_at fails) ∙ is))
 
 pub returns-clause-headline : goal.returns-clause-headline
-returns-clause-headline g c disk_told in_told out_told opened first run =
-    let moment = g.D.Disk.moment in
-    let images = g.D.Disk.images in
+returns-clause-headline g c disk_told in_told out_told state of =
     let left : List NamedFile = g.I.Inbox.left c.args.inbox.now in
     let standing = g.O.Outbox.standing c.args.outbox.now in
-    let lot = c.args.store.now.lot in
-    let names = map (λ (file : NamedFile). file.name) left in
-    let numbers = map (λ (active : ActiveFile). active.file.number) (kept_by c.args.store.now).files in
-    let listed = same_run moment images lot opened first c.args.disk.now standing left (g.I.Inbox.left c.list.new.self) names c.as_slice.result.now numbers c.deref.result.now
-    c.list.ensures.left (c.as_slice.ensures.value ∙ c.in_default.ensures.listed in_told) (c.deref.ensures.value ∙ c.in_ok-numbers.ensures) run in
-    to_run g.D.Disk.tells g.D.Disk.held moment images lot opened first c.move_all.new.disk (g.I.Inbox.left c.move_all.new.inbox) (g.O.Outbox.standing c.move_all.new.outbox) c.in-Err-move_all.error
-    (sym c.is_limit.ensures ∙ c.if-is_limit.false) (c.in-Err-move_all.ensures.stopped c.in-Err-move_all.error refl disk_told in_told out_told opened first listed)
+    let s = c.in_ok-store.store in
+    let opened = c.in_ok-store.ensures.opened in
+    let disk_laws = g.met.D.Disk g.world.𝓛 g.world.𝓜 g.world.𝓡 ((λ s x. x), (λ x. x), (λ x. x), λ x. x) in
+    ⊎_elim
+    (λ since. inl (ran_ends g.D.Disk.tells g.D.Disk.held g.D.Disk.moment g.D.Disk.images c.args.flow.now c.args.lot s.lot opened.1 c.run_flow.result (g.C.Clock.time c.run_flow.new.clock) (machine_at state left standing) c.args.disk.now c.run_flow.new.disk (g.I.Inbox.left c.run_flow.new.inbox) (g.O.Outbox.standing c.run_flow.new.outbox)
+    (c.run_flow.ensures.headline disk_told in_told out_told state c.args.disk.now
+    (starts g.D.Disk.moment g.D.Disk.images c.run_begins.ensures.opened c.what_is_kept_is_a_state.ensures.stands c.what_is_kept_is_a_state.ensures.valid c.events_up_to_the_last_are_in_a_row.ensures.numbered
+    c.args.flow.now g.D.Disk.tells g.D.Disk.held s c.args.lot c.args.disk.now c.open.new.disk state left standing opened.0 opened.1
+    c.state-stored.ensures.consistent c.state-stored.ensures.no_batches (c.state-stored.ensures.last_event opened.0.works) (disk_laws.held_is_left c.open.new.disk disk_told) since of.stands))))
+    (λ failed. absurd (⊎_elim (λ disk. cc (disk, c.in_ok-store.was)) (λ memory. cc (memory.0, c.in_ok-store.was)) failed.told))
+    c.open.ensures.images
 
-pub returns-in-Err-clause-alone : goal.returns-in-Err-clause-alone
-returns-in-Err-clause-alone g c = writes_none g.D.Disk.moment g.D.Disk.images c.args.store.now.log.number c.args.disk.now
+pub returns-clause-shut_left : goal.returns-clause-shut_left
+returns-clause-shut_left g c told shut = absurd (c.in_ok-store.ensures.open told shut)
 
-pub returns-in_err-numbers-clause-alone : goal.returns-in_err-numbers-clause-alone
-returns-in_err-numbers-clause-alone g c = writes_none g.D.Disk.moment g.D.Disk.images c.args.store.now.log.number c.args.disk.now
+pub returns-clause-alone : goal.returns-clause-alone
+returns-clause-alone g c =
+    let disk_laws = g.met.D.Disk g.world.𝓛 g.world.𝓜 g.world.𝓡 ((λ s x. x), (λ x. x), (λ x. x), λ x. x) in
+    ⊎_elim
+    (λ since. inl (runs_alone g.D.Disk.moment g.D.Disk.images (g.D.Disk.held c.args.disk.now) g.D.Disk.tells c.in_ok-store.store.log.number c.args.disk.now c.open.new.disk c.run_flow.new.disk
+    (λ disk k e left. disk_laws.left_is_told disk k e left) c.in_ok-store.ensures.log since c.run_flow.ensures.alone))
+    (λ failed. absurd (⊎_elim (λ disk. cc (disk, c.in_ok-store.was)) (λ memory. cc (memory.0, c.in_ok-store.was)) failed.told))
+    c.open.ensures.alone
 
-pub returns-in-Ok-clause-alone : goal.returns-in-Ok-clause-alone
-returns-in-Ok-clause-alone g c =
-    writes_in_turn g.D.Disk.moment g.D.Disk.images c.args.store.now.log.number c.args.disk.now c.move_all.new.disk c.close.new.disk c.move_all.ensures.alone
-    (writes_by_close g.D.Disk.moment g.D.Disk.images c.args.store.now.log.number c.move_all.new.store c.move_all.new.disk c.close.new.disk c.close.ensures.alone)
+pub returns-clause-refused : goal.returns-clause-refused
+returns-clause-refused g c is = absurd ((of_end c.run_flow.result).refused is)
 
-pub returns-in_err-close-in-Err-move_all-clause-alone : goal.returns-in_err-close-in-Err-move_all-clause-alone
-returns-in_err-close-in-Err-move_all-clause-alone g c =
-    writes_in_turn g.D.Disk.moment g.D.Disk.images c.args.store.now.log.number c.args.disk.now c.move_all.new.disk c.close-then-is_limit.new.disk c.move_all.ensures.alone
-    (writes_by_close g.D.Disk.moment g.D.Disk.images c.args.store.now.log.number c.move_all.new.store c.move_all.new.disk c.close-then-is_limit.new.disk c.close-then-is_limit.ensures.alone)
+pub returns-clause-damaged : goal.returns-clause-damaged
+returns-clause-damaged g c is = ⊎_elim
+    (λ since. inr (read_tells g.D.Disk.tells g.D.Disk.held g.D.Disk.moment g.D.Disk.images c.args.flow.now c.args.lot c.in_ok-store.store.lot c.in_ok-store.ensures.opened.1 c.run_flow.result c.args.disk.now c.open.new.disk c.run_flow.new.disk since.begun c.run_flow.ensures.alone.later c.run_flow.ensures.damaged is))
+    (λ failed. absurd (⊎_elim (λ disk. cc (disk, c.in_ok-store.was)) (λ memory. cc (memory.0, c.in_ok-store.was)) failed.told))
+    c.open.ensures.alone
 
-pub returns-then-is_limit-clause-alone : goal.returns-then-is_limit-clause-alone
-returns-then-is_limit-clause-alone g c =
-    writes_in_turn g.D.Disk.moment g.D.Disk.images c.args.store.now.log.number c.args.disk.now c.move_all.new.disk c.close-then-is_limit.new.disk c.move_all.ensures.alone
-    (writes_by_close g.D.Disk.moment g.D.Disk.images c.args.store.now.log.number c.move_all.new.store c.move_all.new.disk c.close-then-is_limit.new.disk c.close-then-is_limit.ensures.alone)
+pub returns-clause-limited : goal.returns-clause-limited
+returns-clause-limited g c is = ⊎_elim
+    (λ since. limit_tells g.D.Disk.tells g.D.Disk.held g.D.Disk.moment g.D.Disk.images c.args.flow.now c.args.lot c.in_ok-store.store.lot c.in_ok-store.ensures.opened.1 c.run_flow.result _ c.args.disk.now c.open.new.disk c.run_flow.new.disk since.begun c.run_flow.ensures.limited is)
+    (λ failed. absurd (⊎_elim (λ disk. cc (disk, c.in_ok-store.was)) (λ memory. cc (memory.0, c.in_ok-store.was)) failed.told))
+    c.open.ensures.alone
 
-pub returns-then-is_limit-clause-limited : goal.returns-then-is_limit-clause-limited
-returns-then-is_limit-clause-limited g c limit is = record {
-  at = c.move_all.new.disk;
-  from = c.move_all.ensures.alone.later;
-  store = c.move_all.new.store;
-  lot_is = c.move_all.ensures.lot;
-  limit = limit;
-  refused = c.in-Err-move_all.ensures.refused limit is;
-  closed = c.close-then-is_limit.ensures.alone;
-}
+pub returns-clause-causes : goal.returns-clause-causes
+returns-clause-causes g c = run_counts c.run_flow.result _ (g.D.Disk.faults c.open.new.disk) _ _ _ _ _ c.open.ensures.cause.never_falls c.run_flow.ensures.causes
 
-pub close-requires-then-is_limit-after_bounds : goal.close-requires-then-is_limit-after_bounds
-close-requires-then-is_limit-after_bounds g c κs within =
-    let limited = limit_in c.in-Err-move_all.error (sym c.is_limit.ensures ∙ c.if-is_limit.true) in
-    (c.in-Err-move_all.ensures.refused limited.0 (ap Err limited.1)).work
+pub returns-clause-source : goal.returns-clause-source
+returns-clause-source g c is = (of_end c.run_flow.result).source is

@@ -1,4 +1,0 @@
-pub mod Coming
-pub mod Going
-pub mod Queues
-pub mod Resting

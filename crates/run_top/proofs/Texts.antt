@@ -1,0 +1,103 @@
+-- Which answer a reader of flows gives, as a text was read.
+use Rattle.std.proofs.Common.{◌≡◌, ℕ, ◌+◌, ◌≤◌, ◌<◌, Bool, true, false, List, [], length, take, refl, sym, ◌∙◌, ap, subst, arith}
+use Rattle.std.proofs.lemmas.Bool.{lt-ltb, ltb-false, ltb-true}
+use Rattle.std.proofs.lemmas.List.{length-take, take_all}
+use Rattle.std.specs.Prelude.{Option, None, Some, Result, Ok, Err, IsTrue, MatchBool, MatchOption, nat_lt}
+use Rattle.serde_json.specs.Data.{Data}
+use Rattle.machine_model.specs.Sound.{IsSound}
+use Rattle.machine_model.specs.declared.flow.Flow.{Flow}
+use Rattle.flow_definition.specs.declared.error.FlowError.{FlowError}
+use Rattle.flow_definition.specs.declared.error.FlowError.TheVariants as error
+use Rattle.flow_definition.specs.declared.field.Field.TheVariants.{Processors}
+use Rattle.flow_definition.specs.declared.limits.TheConstants.{TEXT_MAX}
+use Rattle.flow_definition.specs.declared.made.Made.{Made}
+use Rattle.flow_definition.specs.declared.rule.Rule.{Rule}
+use Rattle.flow_definition.specs.declared.rule.Rule.TheVariants.{TooMany}
+use Rattle.flow_definition.specs.Looks.{items_at}
+use Rattle.flow_definition.specs.Made.{AreMade}
+use Rattle.flow_definition.specs.Reading.{IsFlowOf}
+use Rattle.flow_definition.specs.Rules.{Path}
+use Rattle.flow_definition.specs.Verdict.{Accepts, IsAnswer, IsAnswerBehind, IsAnswerOf, IsAnswerTo, IsSettled, Refuses, first_behind, object_in}
+use Rattle.flow_definition.specs.Walk.{first_of, first_rules}
+use Rattle.run_top.specs.Text.{IsRead, IsRefused}
+
+-- ---- an answer that gives a flow
+
+pub record IsAccepted (R : Type 0) (bytes : List ℕ) (flow : Flow) : Type 0 where
+  pub small : nat_lt TEXT_MAX (length bytes) ≡ false
+  pub top : Data
+  pub object : object_in bytes ≡ Some top
+  pub first : first_of first_rules top ≡ None
+  pub made : List Made
+  pub each : AreMade R (items_at Processors top) made
+  pub behind : first_behind top made ≡ None
+  pub is : IsFlowOf bytes top flow
+
+module _ (R : Type 0) (bytes : List ℕ) (flow : Flow) where
+  settled : (top : Data) → nat_lt TEXT_MAX (length bytes) ≡ false → object_in bytes ≡ Some top → first_of first_rules top ≡ None → IsSettled R bytes top (Ok flow) → IsAccepted R bytes flow
+  settled top small object first all = by (first_behind top all.0) refl all.2
+    where
+      by : (o : Option (Rule × Path)) → first_behind top all.0 ≡ o → MatchOption o (Accepts bytes top (Ok flow)) (λ broken. Refuses broken (Ok flow)) → IsAccepted R bytes flow
+      by None behind is = record { small = small; top = top; object = object; first = first; made = all.0; each = all.1; behind = behind; is = is }
+      by (Some broken) behind is = absurd is
+
+  answered : (top : Data) → nat_lt TEXT_MAX (length bytes) ≡ false → object_in bytes ≡ Some top → (o : Option (Rule × Path)) → first_of first_rules top ≡ o
+      → MatchOption o (IsAnswerBehind R bytes top (Ok flow)) (λ broken. Refuses broken (Ok flow)) → IsAccepted R bytes flow
+  answered top small object None first is = settled top small object first is
+  answered top small object (Some broken) first is = absurd is
+
+  given : nat_lt TEXT_MAX (length bytes) ≡ false → (o : Option Data) → object_in bytes ≡ o → IsAnswerTo R bytes o (Ok flow) → IsAccepted R bytes flow
+  given small None object is = absurd is
+  given small (Some top) object is = answered top small object (first_of first_rules top) refl is
+
+  pub accepted : IsAnswer R bytes (Ok flow) → IsAccepted R bytes flow
+  accepted answer = by (nat_lt TEXT_MAX (length bytes)) refl answer
+    where
+      by : (b : Bool) → nat_lt TEXT_MAX (length bytes) ≡ b → MatchBool b (Refuses (TooMany, []) (Ok flow)) (IsAnswerTo R bytes (object_in bytes) (Ok flow)) → IsAccepted R bytes flow
+      by true small is = absurd is
+      by false small is = given small (object_in bytes) refl is
+
+-- ---- the text is all that the source has, or longer than one may be
+
+small_front : (rest : List ℕ) → length (take (TEXT_MAX + 1) rest) ≤ TEXT_MAX → take (TEXT_MAX + 1) rest ≡ rest
+small_front rest small = take_all (TEXT_MAX + 1) rest (omega (arith, small, length-take (TEXT_MAX + 1) rest))
+
+pub is_whole : (R : Type 0) (tells : Bool) (rest bytes : List ℕ) (flow : Flow) → (IsTrue tells → bytes ≡ take (TEXT_MAX + 1) rest) → IsAccepted R bytes flow → IsTrue tells → bytes ≡ rest
+is_whole R tells rest bytes flow front accept told =
+    let small : length bytes ≤ TEXT_MAX = ltb-false TEXT_MAX (length bytes) accept.small in
+    front told ∙ small_front rest (subst (λ (b : List ℕ). length b ≤ TEXT_MAX) (front told) small)
+
+pub is_read : (R : Type 0) (tells : Bool) (rest bytes : List ℕ) (flow : Flow) → (IsTrue tells → bytes ≡ take (TEXT_MAX + 1) rest) → IsAnswer R bytes (Ok flow) → IsSound flow → IsRead tells rest flow
+is_read R tells rest bytes flow front answer sound =
+    let accept = accepted R bytes flow answer in
+    record {
+      bytes = bytes;
+      whole = is_whole R tells rest bytes flow front accept;
+      size = ltb-false TEXT_MAX (length bytes) accept.small;
+      is = record { top = accept.top; object = accept.object; is = accept.is };
+      sound = sound;
+    }
+
+-- what is too long is refused as its front is
+front_answer : (R : Type 0) (rest : List ℕ) (answer : Result Flow FlowError) → IsAnswer R (take (TEXT_MAX + 1) rest) answer → IsAnswer R rest answer
+front_answer R rest answer is = by (nat_lt TEXT_MAX (length rest)) refl
+  where
+    by : (b : Bool) → nat_lt TEXT_MAX (length rest) ≡ b → IsAnswer R rest answer
+    by true long =
+        let more : TEXT_MAX < length rest = ltb-true TEXT_MAX (length rest) long in
+        let too : nat_lt TEXT_MAX (length (take (TEXT_MAX + 1) rest)) ≡ true = lt-ltb TEXT_MAX (length (take (TEXT_MAX + 1) rest)) (omega (arith, more, length-take (TEXT_MAX + 1) rest)) in
+        subst (λ (b : Bool). MatchBool b (Refuses (TooMany, []) answer) (IsAnswerTo R rest (object_in rest) answer)) (sym long)
+        (subst (λ (b : Bool). MatchBool b (Refuses (TooMany, []) answer) (IsAnswerTo R (take (TEXT_MAX + 1) rest) (object_in (take (TEXT_MAX + 1) rest)) answer)) too is)
+    by false small =
+        let most : length rest ≤ TEXT_MAX = ltb-false TEXT_MAX (length rest) small in
+        subst (λ (b : List ℕ). IsAnswer R b answer) (take_all (TEXT_MAX + 1) rest (omega (arith, most))) is
+
+pub is_refused : (R : Type 0) (tells : Bool) (rest bytes : List ℕ) (rule : Rule) (place : List ℕ) → (IsTrue tells → bytes ≡ take (TEXT_MAX + 1) rest) → IsAnswer R bytes (Err (error.Rule rule place)) → IsRefused R tells rest
+is_refused R true rest bytes rule place front answer = record {
+  bytes = rest;
+  whole = λ told. refl;
+  rule = rule;
+  place = place;
+  answer = front_answer R rest (Err (error.Rule rule place)) (subst (λ (b : List ℕ). IsAnswer R b (Err (error.Rule rule place))) (front refl) answer);
+}
+is_refused R false rest bytes rule place front answer = record { bytes = bytes; whole = λ told. absurd (cc); rule = rule; place = place; answer = answer }

@@ -1,0 +1,36 @@
+use Rattle.std.proofs.Common.{◌≡◌, ◌∙◌, refl, ap}
+use Rattle.std.proofs.lemmas.Result.{err_from_is_err_and}
+use Rattle.std.specs.Prelude.{Err}
+use Rattle.store_core.specs.declared.error.StoreError.TheVariants as StoreError
+use Rattle.run_top.specs.Status.{error_of}
+use Rattle.run_top.proofs.Anew.{anew_is_consistent, identity_is}
+use Rattle.run_top.proofs.Opened.{damage_of, other_of, shut_stays, told_damage, told_other}
+use Rattle.run_top.proofs.opening.open.Goals as goal
+
+pub load-requires-after_bounds : goal.load-requires-after_bounds
+load-requires-after_bounds g c κs within =
+    anew_is_consistent c.args.flow.now c.args.lot c.requires.sound c.requires.digest _ (identity_is c.args.flow.now _ _ _ refl c.in_ok-ids.ensures c.len.ensures)
+
+pub returns-in_err-store-clause-shut : goal.returns-in_err-store-clause-shut
+returns-in_err-store-clause-shut g c =
+    let error = c.in_err-store.field-0.0 in
+    let p = err_from_is_err_and c.from_residual-in_err-store.result c.from_residual-in_err-store.ensures.1 in
+    let fails : c.from_residual-in_err-store.result ≡ Err (error_of error) = cc (p.1, p.2) in
+    shut_stays g.D.Disk.tells g.D.Disk.held g.D.Disk.moment _ _ (identity_is c.args.flow.now _ _ _ refl c.in_ok-ids.ensures c.len.ensures) c.args.lot c.args.disk.now c.load.new.disk
+    g.D.Disk.images c.load.result c.from_residual-in_err-store.result error c.in_err-store.was fails c.load.ensures.shut
+
+pub returns-in_err-store-clause-damaged : goal.returns-in_err-store-clause-damaged
+returns-in_err-store-clause-damaged g c damage is =
+    let p = err_from_is_err_and c.from_residual-in_err-store.result c.from_residual-in_err-store.ensures.1 in
+    let was : c.in_err-store.field-0.0 ≡ StoreError.Damaged damage = damage_of c.in_err-store.field-0.0 damage (cc (p.1, p.2, is)) in
+    let refused = c.in_err-store.was ∙ ap Err was in
+    told_damage g.D.Disk.tells g.D.Disk.held g.D.Disk.moment _ _ (identity_is c.args.flow.now _ _ _ refl c.in_ok-ids.ensures c.len.ensures) c.args.lot c.args.disk.now c.load.new.disk damage
+    (c.load.ensures.damaged damage refused) (c.load.ensures.unwritten damage refused)
+
+pub returns-in_err-store-clause-other_flow : goal.returns-in_err-store-clause-other_flow
+returns-in_err-store-clause-other_flow g c is =
+    let p = err_from_is_err_and c.from_residual-in_err-store.result c.from_residual-in_err-store.ensures.1 in
+    let was = other_of c.in_err-store.field-0.0 (cc (p.1, p.2, is)) in
+    let refused = c.in_err-store.was ∙ ap Err was.1.1 in
+    told_other g.D.Disk.tells g.D.Disk.held g.D.Disk.moment _ _ (identity_is c.args.flow.now _ _ _ refl c.in_ok-ids.ensures c.len.ensures) c.args.lot c.args.disk.now c.load.new.disk was.0
+    (c.load.ensures.other_flow was.0 was.1.0 refused).1 (c.load.ensures.other_unwritten was.0 was.1.0 refused)

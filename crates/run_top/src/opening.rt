@@ -1,0 +1,55 @@
+//! Opening the store of a flow.
+ghost use Rattle.std.specs.Prelude.{◌≡◌, ◌⊎◌, IsTrue, IsErrOf, IfOk, IfErr, Some};
+ghost use Rattle.disk_trait.specs.Faults.{CountsFaults};
+ghost use Rattle.disk_trait.specs.declared.damage.Damage.{Damage as TheDamage};
+ghost use Rattle.flowfile_record.specs.Encoding.{IsDigest};
+ghost use Rattle.flowfile_wal.specs.Current.{current_number};
+ghost use Rattle.machine_model.specs.Sound.{IsSound};
+ghost use Rattle.store_core.specs.Calls.{SinceSync};
+ghost use Rattle.store_core.specs.Opened.{IsShut};
+ghost use Rattle.store_core.specs.Touched.{Revives, log_opened};
+ghost use Rattle.engine_core.specs.Committing.{identity_of};
+ghost use Rattle.flow_definition.specs.declared.rule.Rule.{Rule as TheRule};
+ghost use Rattle.flow_run.specs.Work.{IsAtWork};
+ghost use Rattle.run_top.specs.Opening.{IsLeftUnwritten, IsToldBy, IsUnopened, Opens};
+
+use crate::{DAMAGED, FLOW_REFUSED, RunError};
+use disk_trait::Disk;
+use engine_core::connection_ids;
+use machine_model::Flow;
+use std::alloc::Global;
+use store_core::{FlowIdentity, Store};
+
+/// Opens the store of a flow on a disk, or makes one.
+pub fn open<D: Disk>(alloc: Global, lot: u64, disk: &mut D, flow: &Flow) -> Result<Store, RunError>
+    requires sound { IsSound flow.now }
+    requires digest { IsDigest flow.now.digest }
+    ensures opened { IfOk result (λ store. IsAtWork flow.now D.tells D.held D.moment D.images store disk.new
+        × (store.lot ≡ lot)) }
+    ensures log { IfOk result (λ store. IsTrue D.tells
+        → store.log.number ≡ Some (log_opened (current_number (D.held disk.old)))) }
+    // From behind the first sync on whatever a stop leaves means the same; or that sync failed; or nothing was done.
+    ensures images { Opens (identity_of flow.now) D.moment D.images lot (D.held disk.old) disk.old disk.new result }
+    ensures alone { SinceSync D.moment D.images disk.old disk.new
+        (Revives (current_number (D.held disk.old)) (D.held disk.old))
+        ⊎ IsUnopened D.moment D.images disk.old disk.new result }
+    ensures open { IfOk result (λ store. IsTrue D.tells → IsShut (identity_of flow.now) lot (D.held disk.old) → ⊥) }
+    ensures shut { IsTrue D.tells → IsShut (identity_of flow.now) lot (D.held disk.old)
+        → IsLeftUnwritten D.held D.moment D.images disk.old disk.new result }
+    ensures damaged { (damage : TheDamage) → IsErrOf result (RunError.Damaged damage)
+        → IsToldBy (identity_of flow.now) DAMAGED D.tells D.held D.moment lot disk.old disk.new }
+    ensures other_flow { IsErrOf result RunError.OtherFlow
+        → IsToldBy (identity_of flow.now) FLOW_REFUSED D.tells D.held D.moment lot disk.old disk.new }
+    ensures kinds { IfErr result (λ error. (error ≡ RunError.Source → ⊥)
+        × ((rule : TheRule) → error ≡ RunError.Refused rule → ⊥)) }
+    ensures cause { CountsFaults (D.faults disk.old) (D.faults disk.new) (IsErrOf result RunError.Disk) }
+{
+    let ids = connection_ids(alloc, flow)?;
+    let identity = FlowIdentity {
+        digest: flow.digest,
+        connections: &ids,
+        processors: flow.processors.len() as u16,
+    };
+    let store = Store::load(alloc, disk, &identity, lot)?;
+    Ok(store)
+}
