@@ -1,0 +1,7 @@
+mod Chosen
+mod Committed
+mod Files
+mod Goes
+mod Left
+mod Stands
+mod Steps
