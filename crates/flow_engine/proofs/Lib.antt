@@ -1,0 +1,4 @@
+pub mod Names
+pub mod Outbox
+pub mod Sends
+pub mod SessionSteps
