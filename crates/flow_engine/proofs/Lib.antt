@@ -3,5 +3,9 @@ mod Committed
 mod Files
 mod Goes
 mod Left
+pub mod Names
+pub mod Outbox
+pub mod Sends
+pub mod SessionSteps
 mod Stands
 mod Steps

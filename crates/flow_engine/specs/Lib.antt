@@ -6,3 +6,4 @@ pub mod Errors
 pub mod Handing
 pub mod Job
 pub mod Running
+pub mod Sending

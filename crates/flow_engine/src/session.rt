@@ -90,8 +90,8 @@ impl Engine<'_> {
         let processor = choice.processor;
         let received = received(&choice.taking)?;
         let job = hand(alloc, &mut self.store, disk, inbox, outbox, moment, choice)?;
-        let connection = job.connection;
         let changed = session_change(alloc, self.flow, &self.store, job)?;
+        let connection = changed.connection;
         commit(
             &mut self.store,
             &mut self.queues,
@@ -165,7 +165,11 @@ fn commit<D: Disk, O: Outbox>(
         (IsErrOf result EngineError.Outbox) }
 {
     holds_its_state(store, disk);
-    let Changed { settled, sending } = changed;
+    let Changed {
+        settled,
+        connection: _,
+        sending,
+    } = changed;
     let prepared = store.prepare(&settled)?;
     queues.reserve(&settled)?;
     send(outbox, &sending)?;
