@@ -1,7 +1,7 @@
 -- What the session that comes next takes, by the kind of its processor.
 use Rattle.std.proofs.Common.{◌≡◌, inl, inr, ℕ, ◌+◌, ◌<◌, ◌≤◌, ◌==◌, ◌&&◌, zero, suc, Bool, true, false, cond, List, [], ◌∷◌, length, map, refl, sym, ap, subst, ◌∙◌, arith}
 use Rattle.std.specs.Prelude.{nat_lt, nat_le, All, Option, None, Some, IsSome, IsTrue, IfSome, filter, find, option_map, slice_get, slice_index}
-use Rattle.std.specs.Option.{IsSomeAnd}
+use Rattle.std.specs.Option.{IsSomeAnd, option_to_list}
 use Rattle.std.specs.List.{enumerate_from}
 use Rattle.std.proofs.lemmas.List.{length-map}
 use Rattle.std.proofs.lemmas.Bool.{ltb-true, leb-true, eqb-true}
@@ -28,7 +28,7 @@ use Rattle.machine_model.specs.declared.pattern.Pattern.{Pattern}
 use Rattle.machine_model.specs.Acting.{passes}
 use Rattle.machine_model.specs.Due.{at_place, numbers_of}
 use Rattle.machine_model.specs.Kinds.{take_rule_of}
-use Rattle.machine_model.specs.Laws.{MayTake}
+use Rattle.machine_model.specs.Laws.{MayTake, received_name}
 use Rattle.machine_model.specs.Order.{eligible_files, goes_before, in_order, is_eligible, put_in_order}
 use Rattle.machine_model.specs.Sound.{IsSound, IsSoundKind}
 use Rattle.machine_model.specs.Taking.{picks}
@@ -144,6 +144,7 @@ pub record TakesSo (k : Kept) (names : List (List ℕ)) (moment : ℕ) (kind : K
   pub named : IfSome (received_in taking) (λ name. Among name names × (first_passed kind names ≡ Some name))
   pub rule : MayTake (take_rule_of kind) (length (numbers_in taking))
   pub to : (given : Given) (there : Bool) → record given { bytes = None } ≡ given_for moment there taking → HasBytes taking given.bytes → IsGivenTo kind given
+  pub file : (given : Given) (there : Bool) → record given { bytes = None } ≡ given_for moment there taking → received_name kind given.file ≡ option_to_list given.file
   pub index : (given : Given) (there : Bool) → record given { bytes = None } ≡ given_for moment there taking → given.index < NUMBER_LIMIT
 
 module _ (k : Kept) (names : List (List ℕ)) (moment made : ℕ) (pick : Option (ℕ × List ℕ)) where
@@ -157,6 +158,7 @@ module _ (k : Kept) (names : List (List ℕ)) (moment made : ℕ) (pick : Option
     named = (found_among (passes filter) names name found, found);
     rule = refl;
     to = λ given there is has. let file : given.file ≡ Some name = ap (λ (g : Given). g.file) is in (subst (λ (o : Option (List ℕ)). IsSome o) (sym file) refl, has);
+    file = λ given there is. let file : given.file ≡ Some name = ap (λ (g : Given). g.file) is in subst (λ (o : Option (List ℕ)). received_name (GetFile filter) o ≡ option_to_list o) (sym file) refl;
     index = λ given there is. let index : given.index ≡ 0 = ap (λ (g : Given). g.index) is in omega (arith, index);
   }
 
@@ -166,6 +168,7 @@ module _ (k : Kept) (names : List (List ℕ)) (moment made : ℕ) (pick : Option
     named = tt;
     rule = active.1;
     to = λ given there is has. tt;
+    file = λ given there is. let file : given.file ≡ None = ap (λ (g : Given). g.file) is in subst (λ (o : Option (List ℕ)). received_name (PutFile conflict) o ≡ option_to_list o) (sym file) refl;
     index = λ given there is. let index : given.index ≡ 0 = ap (λ (g : Given). g.index) is in omega (arith, index);
   }
 
@@ -175,6 +178,7 @@ module _ (k : Kept) (names : List (List ℕ)) (moment made : ℕ) (pick : Option
     named = tt;
     rule = refl;
     to = λ given there is has. tt;
+    file = λ given there is. let file : given.file ≡ None = ap (λ (g : Given). g.file) is in subst (λ (o : Option (List ℕ)). received_name (GenerateFlowFile count text) o ≡ option_to_list o) (sym file) refl;
     index = λ given there is.
         let index : given.index ≡ made + 1 = ap (λ (g : Given). g.index) is in
         let below : made < count = ltb-true made count less in
@@ -247,5 +251,6 @@ may_hand flow k names moment choice job next handed = record {
   bytes = handed.bytes;
   taken = handed.taken;
   given = next.takes.to job.given job.given.there handed.given handed.has;
+  file = next.takes.file job.given job.given.there handed.given;
   index = next.takes.index job.given job.given.there handed.given;
 }
