@@ -1,5 +1,6 @@
 -- What the commit of a session's change leaves, in the machine's words.
-use Rattle.std.proofs.Common.{◌≡◌, ◌⊎◌, inl, inr, ⊎_elim, ℕ, Bool, true, false, IsTrue, List, length, refl, sym, ◌∙◌, ap, subst, false≢true}
+use Rattle.std.proofs.Common.{◌≡◌, ◌⊎◌, inl, inr, ⊎_elim, ℕ, Bool, true, false, IsTrue, List, length, refl, sym, ◌∙◌, ap, subst}
+use Rattle.std.proofs.lemmas.Bool.{false≢true}
 use Rattle.std.specs.Prelude.{Option, None, Some, Result, Ok, Err, IsErrOf, slice_set}
 use Rattle.std.proofs.lemmas.List.{length-set}
 use Rattle.disk_trait.specs.Files.{Files}
