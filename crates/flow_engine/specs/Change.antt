@@ -1,5 +1,5 @@
 -- What a session changes: the store's state, and what it sends.
-use Rattle.std.specs.Prelude.{◌≡◌, ◌⊎◌, ◌≢◌, ⊤, ℕ, List, Option, None, Some, Contains, filter, not, bytes_eq}
+use Rattle.std.specs.Prelude.{◌≡◌, ⊤, ℕ, List, Option, None, Some, Contains}
 use Rattle.flowfile_record.specs.NamedFile.{NamedFile, with_file, without}
 use Rattle.flowfile_record.specs.Stored.{Kept}
 use Rattle.flowfile_record.specs.declared.content.ContentRef.{ContentRef}

@@ -1,5 +1,6 @@
 -- What a session is handed.
 use Rattle.std.specs.Prelude.{◌≡◌, ℕ, ◌<◌, List, None, Some, length, map, IsTrue, slice_get}
+use Rattle.std.specs.Option.{option_to_list}
 use Rattle.flowfile_record.specs.Stored.{Kept}
 use Rattle.flowfile_record.specs.declared.content.ContentRef.{ContentRef}
 use Rattle.flowfile_record.specs.declared.limits.TheConstants.{NUMBER_LIMIT}
@@ -7,7 +8,7 @@ use Rattle.machine_model.specs.declared.flow.Flow.{Flow}
 use Rattle.machine_model.specs.declared.flow.Processor.{Processor}
 use Rattle.machine_model.specs.Changing.{queued_file}
 use Rattle.machine_model.specs.Kinds.{take_rule_of}
-use Rattle.machine_model.specs.Laws.{MayTake}
+use Rattle.machine_model.specs.Laws.{MayTake, received_name}
 use Rattle.machine_model.specs.State.{Machine}
 use Rattle.machine_model.specs.Stepping.{given_in, taken_files}
 use Rattle.processor_api.specs.Acts.{IsGivenTo}
@@ -16,7 +17,7 @@ use Rattle.engine_session.specs.Working.{is_built}
 use Rattle.flow_engine.specs.declared.job.Job.{Job}
 
 -- The processor at its place may be handed this: as many files as its rule takes, live ones of one connection, read
--- where they fit a content, and what it is to be given.
+-- where they fit a content, and what it is to be given. It receives the file whose name it is given, if one.
 pub record MayHand (flow : Flow) (k : Kept) (job : Job) : Type 0 where
   pub processor : Processor
   pub found : slice_get flow.processors job.processor ≡ Some processor
@@ -25,6 +26,7 @@ pub record MayHand (flow : Flow) (k : Kept) (job : Job) : Type 0 where
   pub bytes : ContentRef → List ℕ
   pub taken : AreTaken k job.connection job.numbers bytes job.files job.contents
   pub given : IsGivenTo processor.kind job.given
+  pub file : received_name processor.kind job.given.file ≡ option_to_list job.given.file
   pub index : job.given.index < NUMBER_LIMIT
 
 -- Where references stand for these bytes, it stands so in the machine's state and world: its rules let the session take

@@ -1,21 +1,27 @@
 //! What a session changes of the store, and what it sends.
-ghost use Rattle.std.specs.Prelude.{◌≡◌, true, IfOk};
-ghost use Rattle.kept_state.specs.Fits.{are_active_in};
+ghost use Rattle.std.specs.Prelude.{◌≡◌, true, IfOk, OnOk};
+ghost use Rattle.kept_state.specs.Fits.{are_active_in, are_active_in_one};
 ghost use Rattle.machine_model.specs.Sound.{IsSound};
+ghost use Rattle.settlement.specs.Contents.{source_bytes};
 ghost use Rattle.store_core.specs.Change.{HasLiveContents, MayChange};
 ghost use Rattle.store_core.specs.Flow.{flow_in};
 ghost use Rattle.store_core.specs.Store.{kept_by};
 ghost use Rattle.engine_core.specs.Committing.{identity_of};
 ghost use Rattle.flow_engine.specs.Change.{MakesStep};
 ghost use Rattle.flow_engine.specs.Job.{MayHand};
+ghost use Rattle.flow_engine.specs.Sending.{sending_of, sources_left, without_first_bytes};
 
 use crate::job::Job;
 use engine_core::settle_session;
-use engine_session::{end_session, taken_from, work};
-use flowfile_record::{Bytes, Settled};
+use engine_session::{end_session, sessions_are_steps, taken_files_are_handed, taken_from, work};
+use flow_run::worlds_follow_steps;
+use flowfile_record::{ActiveList, Bytes, Settled};
 use machine_model::Flow;
+use process_session::SourceList;
+use settlement::Ended;
 use std::alloc::{AllocError, Global};
-use store_core::Store;
+use std::mem;
+use store_core::{Store, what_is_kept_is_a_state};
 use world_io::Name;
 
 /// What a session sends to the outbox.
@@ -25,10 +31,11 @@ pub struct Sending {
     pub bytes: Bytes,
 }
 
-/// What a session changes of the store, and what it sends.
+/// What a session changes of the store, the connection that what is gone was in, and what it sends.
 #[derive(Drop)]
 pub struct Changed {
     pub settled: Settled,
+    pub connection: u16,
     pub sending: Option<Sending>,
 }
 
@@ -42,14 +49,19 @@ pub fn session_change(
     requires sound { IsSound flow.now }
     requires identity { flow_in (kept_by store.now) ≡ identity_of flow.now }
     requires job { MayHand flow.now (kept_by store.now) job }
-    // The store may be changed so, and the files that are gone were in the job's connection.
+    // The store may be changed so, and the files that are gone were in this connection.
     ensures may { IfOk result (λ changed. MayChange (kept_by store.now) changed.settled) }
     ensures live { IfOk result (λ changed. HasLiveContents store.now changed.settled) }
     ensures gone { IfOk result (λ changed.
-        are_active_in (kept_by store.now).files job.connection changed.settled.gone ≡ true) }
+        are_active_in (kept_by store.now).files changed.connection changed.settled.gone ≡ true) }
     // It is a step of the machine.
     ensures step { IfOk result (MakesStep flow.now (kept_by store.now) job) }
 {
+    what_is_kept_is_a_state();
+    taken_files_are_handed();
+    sessions_are_steps();
+    worlds_follow_steps();
+    let stored = store.state();
     let Job {
         processor,
         connection,
@@ -58,7 +70,60 @@ pub fn session_change(
         contents,
         mut given,
     } = job;
-    let taken = taken_from(alloc, store.state().store, files.as_slice(), contents)?;
+    let taken = taken_from(alloc, stored.store, files.as_slice(), contents)?;
     let done = work(alloc, flow, processor, taken, &mut given)?;
-    todo(alloc)
+    let mut ended = end_session(processor, connection, files, done);
+    let sending = take_sending(alloc, &mut ended)?;
+    let settled = settle_session(alloc, flow, store, &given, ended)?;
+    let connection = connection_of(&stored.files, settled.gone.as_slice());
+    Ok(Changed {
+        settled,
+        connection,
+        sending,
+    })
+}
+
+/// What a session sends. The bytes are taken out of what stays of its file, so that they are in memory once.
+fn take_sending(alloc: Global, ended: &mut Ended) -> Result<Option<Sending>, AllocError>
+    ensures is { IfOk result (λ sending. sending ≡ sending_of ended.old.outcome.sent ended.old.sources) }
+    ensures left { OnOk result (ended.new
+        ≡ record ended.old { sources = sources_left ended.old.outcome.sent ended.old.sources }) }
+{
+    let Some(sent) = &ended.outcome.sent else {
+        return Ok(None);
+    };
+    let name = sent.name.clone()?;
+    let bytes = take_first_bytes(alloc, &mut ended.sources);
+    Ok(Some(Sending { name, bytes }))
+}
+
+/// The bytes of the first of these, which are taken out of it.
+fn take_first_bytes(alloc: Global, sources: &mut SourceList) -> Bytes
+    ensures bytes { result ≡ source_bytes sources.old 0 }
+    ensures left { sources.new ≡ without_first_bytes sources.old }
+{
+    let mut list = mem::replace(sources, SourceList::new(alloc)).into_vec();
+    let bytes = match list.get_mut(0) {
+        Some(source) => source.bytes.take(),
+        None => None,
+    };
+    *sources = SourceList::from(list);
+    match bytes {
+        Some(bytes) => bytes,
+        None => Bytes::new(alloc),
+    }
+}
+
+/// The connection that these files are active in; the first one, if there are none.
+fn connection_of(files: &ActiveList, numbers: &[u64]) -> u16
+    requires { are_active_in_one files.now.items numbers.now ≡ true }
+    ensures { are_active_in files.now.items result numbers.now ≡ true }
+{
+    let Some(first) = numbers.first() else {
+        return 0;
+    };
+    let Some(active) = files.get(*first) else {
+        unreachable!()
+    };
+    active.connection
 }

@@ -1,30 +1,32 @@
 //! What a session is handed: files of a queue with their contents, a file of the inbox, or an index.
-ghost use Rattle.std.specs.Prelude.{◌≡◌, ◌⊎◌, ℕ, ◌≤◌, List, Option, Some, None, IfOk, OnOk, IfErr, IsErrOf, IsTrue, slice_get, map, length};
+ghost use Rattle.std.specs.Prelude.{◌≡◌, ◌⊎◌, ℕ, ◌≤◌, true, false, length, All, Contains, List, Option, Some, None, is_some, IfOk, OnOk, IfErr, IsErrOf, IsTrue, slice_get, []};
+ghost use Rattle.std.specs.Option.{option_map_or};
 ghost use Rattle.disk_trait.specs.Faults.{CountsFaults};
 ghost use Rattle.disk_trait.specs.Images.{Stays};
 ghost use Rattle.disk_trait.specs.declared.damage.Damage.{Damage as TheDamage};
+ghost use Rattle.flowfile_record.specs.NamedFile.{NamedFile, bytes_of};
+ghost use Rattle.flowfile_record.specs.declared.TheConstants.{CONTENT_MAX};
 ghost use Rattle.flowfile_record.specs.declared.content.ContentRef.{ContentRef as TheRef};
-ghost use Rattle.content_repo.specs.Claims.{content_in};
-ghost use Rattle.engine_choice.specs.Choice.{coming_of, next_choice};
-ghost use Rattle.engine_choice.specs.Laws.{IsSessionAt, numbers_in};
-ghost use Rattle.engine_queues.specs.Queues.{queue_seen};
-ghost use Rattle.flow_run.specs.Journal.{files_left};
-ghost use Rattle.flow_run.specs.Run.{IsStateOf};
-ghost use Rattle.machine_model.specs.State.{Machine};
-ghost use Rattle.machine_model.specs.Valid.{IsValid};
-ghost use Rattle.store_core.specs.Store.{kept_by};
-ghost use Rattle.flow_engine.specs.Engine.{AreTakeable, IsReady, IsOfSameRun};
+ghost use Rattle.content_repo.specs.Claims.{IsRead, content_in};
+ghost use Rattle.engine_choice.specs.declared.choice.Taking.TheVariants.{Files, Generate, Receive};
+ghost use Rattle.engine_session.specs.Handing.{AreReadOf};
+ghost use Rattle.kept_state.specs.declared.limit.Limit.{Limit as TheLimit};
+ghost use Rattle.machine_model.specs.Acting.{name_in};
+ghost use Rattle.machine_model.specs.declared.flow.Flow.{Flow as TheFlow};
+ghost use Rattle.store_core.specs.Store.{kept_by, live_in};
 ghost use Rattle.flow_engine.specs.Errors.{CountsEachFault};
-ghost use Rattle.flow_engine.specs.Job.{MayHand, StandsIn};
+ghost use Rattle.flow_engine.specs.Handing.{IsHanded, IsHandedAs, MayBeReceived, MayBeTaken};
 ghost use Rattle.flow_run.specs.Work.{IsAtWork, IsReadDamaged};
 
 use crate::EngineError;
-use crate::engine::Engine;
+use crate::tied::holds_its_state;
 use disk_trait::Disk;
 use engine_choice::{Choice, Taking};
-use engine_session::{ReadList, fit_a_content, live_files};
-use flowfile_record::{Attributes, Bytes, ContentRef, FileList, FlowFile, NameError, Numbers};
-use machine_model::{Flow, Given};
+use engine_session::{ReadList, live_files};
+use flowfile_record::{
+    Attributes, Bytes, ContentRef, FileList, FlowFile, NameError, Numbers, Sequence,
+};
+use machine_model::Given;
 use std::alloc::Global;
 use store_core::{Store, StoreError};
 use world_io::{Inbox, Name, Outbox};
@@ -40,4 +42,257 @@ pub struct Job {
     pub files: FileList,
     pub contents: ReadList,
     pub given: Given,
+}
+
+/// What the session that was chosen is handed.
+pub fn hand<D: Disk, I: Inbox, O: Outbox>(
+    alloc: Global,
+    store: &mut Store,
+    disk: &mut D,
+    inbox: &mut I,
+    outbox: &mut O,
+    moment: u64,
+    choice: Choice,
+) -> Result<Job, EngineError>
+    requires work { (flow : TheFlow) × IsAtWork flow D.tells D.held D.moment D.images store.old disk.old }
+    requires taken { MayBeTaken (kept_by store.old) choice.taking }
+    requires received { IsTrue I.tells → MayBeReceived (I.left inbox.old) choice.taking }
+    ensures handed { IfOk result (IsHanded (kept_by store.old) moment choice) }
+    ensures told { IfOk result (λ job. IsTrue D.tells → IsTrue I.tells → IsTrue O.tells
+        → IsHandedAs (kept_by store.old) (content_in (D.held disk.old)) (I.left inbox.old) (O.standing outbox.old)
+        choice job) }
+    ensures same { OnOk result (store.new ≡ store.old) }
+    ensures lot { (store.new.lot ≡ store.old.lot) × (store.new.log.number ≡ store.old.log.number) }
+    ensures stays { Stays D.held D.moment D.images disk.old disk.new }
+    ensures left { I.left inbox.new ≡ I.left inbox.old }
+    ensures standing { O.standing outbox.new ≡ O.standing outbox.old }
+    ensures unlimited { (limit : TheLimit) → IsErrOf result (EngineError.Limit limit) → ⊥ }
+    ensures damaged { (damage : TheDamage) → IsErrOf result (EngineError.Damaged damage) → (flow : TheFlow)
+        → IsAtWork flow D.tells D.held D.moment D.images store.old disk.old
+        → IsReadDamaged flow D.tells D.held D.moment D.images store.old.lot disk.new }
+    ensures cause { CountsEachFault result (D.faults disk.old) (D.faults disk.new)
+        (I.faults inbox.old) (I.faults inbox.new) (O.faults outbox.old) (O.faults outbox.new) }
+{
+    let Choice { processor, taking } = choice;
+    match taking {
+        Taking::Files {
+            connection,
+            numbers,
+        } => hand_files(
+            alloc, store, disk, outbox, moment, processor, connection, numbers,
+        ),
+        Taking::Generate { index } => Ok(without_files(
+            alloc,
+            processor,
+            Given {
+                moment,
+                index,
+                there: false,
+                file: None,
+                bytes: None,
+            },
+        )),
+        Taking::Receive { name } => {
+            let bytes = receive(alloc, inbox, &name)?;
+            Ok(without_files(
+                alloc,
+                processor,
+                Given {
+                    moment,
+                    index: 0,
+                    there: false,
+                    file: Some(name),
+                    bytes: Some(bytes),
+                },
+            ))
+        }
+    }
+}
+
+// The job of a session that takes no files.
+fn without_files(alloc: Global, processor: u16, given: Given) -> Job
+    ensures { result ≡ record {
+      processor = processor;
+      connection = 0;
+      numbers = [];
+      files = [];
+      contents = [];
+      given = given;
+    } }
+{
+    Job {
+        processor,
+        connection: 0,
+        numbers: Numbers::new(alloc),
+        files: FileList::new(alloc),
+        contents: ReadList::new(alloc),
+        given,
+    }
+}
+
+// The bytes of a file of the inbox.
+fn receive<I: Inbox>(alloc: Global, inbox: &mut I, name: &Name) -> Result<Bytes, EngineError>
+    requires { IsTrue I.tells → MayBeReceived (I.left inbox.old) (Receive name.now) }
+    ensures bytes { IfOk result (λ bytes. IsTrue I.tells → bytes_of (I.left inbox.old) name.now ≡ Some bytes) }
+    ensures most { IfOk result (λ bytes. length bytes ≤ CONTENT_MAX) }
+    ensures left { I.left inbox.new ≡ I.left inbox.old }
+    ensures kinds { IfErr result (λ error. (error ≡ EngineError.Inbox) ⊎ (error ≡ EngineError.Memory)) }
+    ensures cause { CountsFaults (I.faults inbox.old) (I.faults inbox.new) (IsErrOf result EngineError.Inbox) }
+{
+    let mut bytes = Vec::new(alloc);
+    inbox.read(name, &mut bytes)?;
+    Ok(Bytes::from(bytes))
+}
+
+// The job of a session that takes these files of a connection.
+fn hand_files<D: Disk, O: Outbox>(
+    alloc: Global,
+    store: &mut Store,
+    disk: &mut D,
+    outbox: &mut O,
+    moment: u64,
+    processor: u16,
+    connection: u16,
+    numbers: Numbers,
+) -> Result<Job, EngineError>
+    requires work { (flow : TheFlow) × IsAtWork flow D.tells D.held D.moment D.images store.old disk.old }
+    requires taken { MayBeTaken (kept_by store.old) (Files connection numbers) }
+    ensures handed { IfOk result (IsHanded (kept_by store.old) moment
+        (record { processor = processor; taking = Files connection numbers })) }
+    ensures told { IfOk result (λ job. IsTrue D.tells → IsTrue O.tells → (left : List NamedFile)
+        → IsHandedAs (kept_by store.old) (content_in (D.held disk.old)) left (O.standing outbox.old)
+        (record { processor = processor; taking = Files connection numbers }) job) }
+    ensures same { OnOk result (store.new ≡ store.old) }
+    ensures lot { (store.new.lot ≡ store.old.lot) × (store.new.log.number ≡ store.old.log.number) }
+    ensures stays { Stays D.held D.moment D.images disk.old disk.new }
+    ensures standing { O.standing outbox.new ≡ O.standing outbox.old }
+    ensures kinds { IfErr result (λ error. (error ≡ EngineError.Disk) ⊎ (error ≡ EngineError.Memory)
+        ⊎ (error ≡ EngineError.Outbox) ⊎ ((damage : TheDamage) × (error ≡ EngineError.Damaged damage))) }
+    ensures damaged { (damage : TheDamage) → IsErrOf result (EngineError.Damaged damage) → (flow : TheFlow)
+        → IsAtWork flow D.tells D.held D.moment D.images store.old disk.old
+        → IsReadDamaged flow D.tells D.held D.moment D.images store.old.lot disk.new }
+    ensures disk_cause { CountsFaults (D.faults disk.old) (D.faults disk.new) (IsErrOf result EngineError.Disk) }
+    ensures outbox_cause { CountsFaults (O.faults outbox.old) (O.faults outbox.new)
+        (IsErrOf result EngineError.Outbox) }
+{
+    holds_its_state(store, disk);
+    let files = live_files(alloc, store, numbers.as_slice())?;
+    let contents = read_contents(alloc, store, disk, files.as_slice())?;
+    let there = is_there(alloc, outbox, files.as_slice())?;
+    let given = Given {
+        moment,
+        index: 0,
+        there,
+        file: None,
+        bytes: None,
+    };
+    Ok(Job {
+        processor,
+        connection,
+        numbers,
+        files,
+        contents,
+        given,
+    })
+}
+
+// What is read of the contents of files: there is one, and a content is no longer than all together may be.
+fn read_contents<D: Disk>(
+    alloc: Global,
+    store: &mut Store,
+    disk: &mut D,
+    files: &[FlowFile],
+) -> Result<ReadList, EngineError>
+    requires work { (flow : TheFlow) × IsAtWork flow D.tells D.held D.moment D.images store.old disk.old }
+    requires one { length files.now ≡ 1 }
+    requires live { All (λ file. Contains (live_in store.old) file.content) files.now }
+    ensures read { IfOk result (λ contents. (bytes : TheRef → List ℕ) × AreReadOf bytes true files.now contents) }
+    ensures told { IfOk result (λ contents. IsTrue D.tells
+        → AreReadOf (content_in (D.held disk.old)) true files.now contents) }
+    ensures same { OnOk result (store.new ≡ store.old) }
+    ensures lot { (store.new.lot ≡ store.old.lot) × (store.new.log.number ≡ store.old.log.number) }
+    ensures stays { Stays D.held D.moment D.images disk.old disk.new }
+    ensures kinds { IfErr result (λ error. (error ≡ EngineError.Disk) ⊎ (error ≡ EngineError.Memory)
+        ⊎ ((damage : TheDamage) × (error ≡ EngineError.Damaged damage))) }
+    ensures damaged { (damage : TheDamage) → IsErrOf result (EngineError.Damaged damage) → (flow : TheFlow)
+        → IsAtWork flow D.tells D.held D.moment D.images store.old disk.old
+        → IsReadDamaged flow D.tells D.held D.moment D.images store.old.lot disk.new }
+    ensures cause { CountsFaults (D.faults disk.old) (D.faults disk.new) (IsErrOf result EngineError.Disk) }
+{
+    let mut contents = ReadList::new(alloc);
+    let bytes = read_content(store, disk, &files[0].content)?;
+    contents.push(Some(Bytes::from(bytes)))?;
+    Ok(contents)
+}
+
+// The bytes of a content that is kept.
+fn read_content<D: Disk>(
+    store: &mut Store,
+    disk: &mut D,
+    at: &ContentRef,
+) -> Result<Vec<u8>, EngineError>
+    requires work { (flow : TheFlow) × IsAtWork flow D.tells D.held D.moment D.images store.old disk.old }
+    requires live { Contains (live_in store.old) at.now }
+    ensures read { IfOk result (λ bytes. IsRead D.tells (D.held disk.old) at.now bytes.items) }
+    ensures undamaged { (damage : TheDamage) → IsErrOf result (EngineError.Damaged damage) → IsTrue D.tells → ⊥ }
+    ensures same { OnOk result (store.new ≡ store.old) }
+    ensures lot { (store.new.lot ≡ store.old.lot) × (store.new.log.number ≡ store.old.log.number) }
+    ensures stays { Stays D.held D.moment D.images disk.old disk.new }
+    ensures kinds { IfErr result (λ error. (error ≡ EngineError.Disk) ⊎ (error ≡ EngineError.Memory)
+        ⊎ ((damage : TheDamage) × (error ≡ EngineError.Damaged damage))) }
+    ensures cause { CountsFaults (D.faults disk.old) (D.faults disk.new) (IsErrOf result EngineError.Disk) }
+{
+    match store.read(disk, at) {
+        Ok(bytes) => Ok(bytes),
+        Err(StoreError::Disk | StoreError::MustReopen) => Err(EngineError::Disk),
+        Err(StoreError::Damaged(damage)) => Err(EngineError::Damaged(damage)),
+        Err(StoreError::Memory) => Err(EngineError::Memory),
+        // Reading passes no limit, and asks for no flow.
+        Err(StoreError::Limit(_) | StoreError::OtherFlow { .. }) => unreachable!(),
+    }
+}
+
+// Whether the outbox has what the first file is named.
+fn is_there<O: Outbox>(
+    alloc: Global,
+    outbox: &mut O,
+    files: &[FlowFile],
+) -> Result<bool, EngineError>
+    ensures there { IfOk result (λ there. IsTrue O.tells → there ≡ option_map_or (λ file.
+        option_map_or (λ name. is_some (O.standing outbox.old name)) (name_in file.attributes) false)
+        (slice_get files.now 0) false) }
+    ensures standing { O.standing outbox.new ≡ O.standing outbox.old }
+    ensures kinds { IfErr result (λ error. (error ≡ EngineError.Outbox) ⊎ (error ≡ EngineError.Memory)) }
+    ensures cause { CountsFaults (O.faults outbox.old) (O.faults outbox.new) (IsErrOf result EngineError.Outbox) }
+{
+    match files.first() {
+        Some(file) => has_file(alloc, outbox, &file.attributes),
+        None => Ok(false),
+    }
+}
+
+// Whether the outbox has what a file is named.
+fn has_file<O: Outbox>(
+    alloc: Global,
+    outbox: &mut O,
+    attributes: &Attributes,
+) -> Result<bool, EngineError>
+    ensures there { IfOk result (λ there. IsTrue O.tells
+        → there ≡ option_map_or (λ name. is_some (O.standing outbox.old name)) (name_in attributes.now) false) }
+    ensures standing { O.standing outbox.new ≡ O.standing outbox.old }
+    ensures kinds { IfErr result (λ error. (error ≡ EngineError.Outbox) ⊎ (error ≡ EngineError.Memory)) }
+    ensures cause { CountsFaults (O.faults outbox.old) (O.faults outbox.new) (IsErrOf result EngineError.Outbox) }
+{
+    let Some(name) = attributes.get("filename") else {
+        return Ok(false);
+    };
+    let name = match Name::read(alloc, name) {
+        Ok(name) => name,
+        Err(NameError::BadName) => return Ok(false),
+        Err(NameError::Memory) => return Err(EngineError::Memory),
+    };
+    let Ok(there) = outbox.holds(&name) else {
+        return Err(EngineError::Outbox);
+    };
+    Ok(there)
 }

@@ -1,5 +1,6 @@
 //! What a store has in memory is what its disk holds.
-ghost use Rattle.std.specs.Prelude.{◌≡◌, ℕ, List, IsTrue};
+ghost use Rattle.std.specs.Prelude.{◌≡◌, ℕ, List, [], IsTrue};
+ghost use Rattle.checkpoint_store.specs.Consistent.{IsConsistent};
 ghost use Rattle.content_repo.specs.Claims.{content_in};
 ghost use Rattle.flowfile_record.specs.declared.content.ContentRef.{ContentRef as TheRef};
 ghost use Rattle.flowfile_record.specs.declared.event.Event.{Event as TheEvent};
@@ -27,6 +28,7 @@ pub fn holds_its_state<D: Disk>(store: &Store, disk: &D)
         → IsAtWork flow D.tells D.held D.moment D.images store.now disk.now
         → (m : Machine) → InEach (D.images disk.now (D.moment disk.now)) (StandsFor flow store.now.lot m)
         → IsStateOf m (content_in (D.held disk.now)) (kept_by store.now) }
+    ensures kept { IsConsistent (kept_by store.now) × ((kept_by store.now).batches ≡ []) }
     ensures valid { (flow : TheFlow) → IsAtWork flow D.tells D.held D.moment D.images store.now disk.now
         → (contents : TheRef → List ℕ) (events : List TheEvent) → AreNumberedFrom 1 events
         → IsValid flow (state_with contents events (kept_by store.now)) }

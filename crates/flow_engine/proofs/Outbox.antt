@@ -1,0 +1,117 @@
+-- What a session sends is what the outbox has behind it.
+use Rattle.std.proofs.Common.{◌≡◌, ⊎_elim, ℕ, ◌≤◌, true, List, [], ◌∷◌, length, map, refl, sym, ◌∙◌, ap, subst, arith}
+use Rattle.std.specs.Prelude.{All, Contains, IfSome, MatchOption, Option, None, Some, is_some, sum_by, unwrap_or}
+use Rattle.std.proofs.lemmas.Bool.{false≢true, le-leb}
+use Rattle.std.proofs.lemmas.List.Elements.{All-contains, All-head}
+use Rattle.std.proofs.lemmas.List.Sums.{sum_by-cons}
+use Rattle.flowfile_record.specs.NamedFile.{with_file}
+use Rattle.flowfile_record.specs.Stored.{Kept}
+use Rattle.flowfile_record.specs.declared.TheConstants.{CONTENT_MAX}
+use Rattle.flowfile_record.specs.declared.content.ContentRef.{ContentRef}
+use Rattle.flowfile_record.specs.declared.flow_file.FlowFile.{FlowFile}
+use Rattle.flowfile_record.specs.declared.worked.Outcome.{Outcome}
+use Rattle.flowfile_record.specs.declared.worked.Sent.{Sent}
+use Rattle.record_codec.specs.ActiveFile.{active}
+use Rattle.checkpoint_store.specs.Consistent.{IsConsistent, IsFileIn}
+use Rattle.machine_model.specs.declared.kind.Conflict.{Conflict}
+use Rattle.machine_model.specs.declared.kind.Kind.{Kind}
+use Rattle.machine_model.specs.declared.kind.Kind.TheVariants.{PutFile}
+use Rattle.machine_model.specs.Acting.{act, name_in}
+use Rattle.machine_model.specs.Files.{queue_at}
+use Rattle.machine_model.specs.Placing.{EndedSession}
+use Rattle.machine_model.specs.State.{Machine, QueuedFile}
+use Rattle.machine_model.specs.Stepping.{as_taken, session_after}
+use Rattle.process_session.specs.Bench.{source_of}
+use Rattle.process_session.specs.declared.file.Source.{Source}
+use Rattle.settlement.specs.Contents.{source_bytes}
+use Rattle.engine_session.specs.Handing.{AreReadOf, fit_a_content, taken_from}
+use Rattle.flow_run.specs.Laws.{OtherSessionsPutNone, PutsSendTheTakenBytes}
+use Rattle.flow_engine.specs.Change.{IsSentFrom, with_sending}
+use Rattle.flow_engine.specs.Sending.{sending_of}
+use Rattle.flow_engine.proofs.Sends.{sends_or_puts}
+
+-- ---- the one file that was taken
+
+-- one file's content is read
+fits_alone : (k : Kept) (connection : ℕ) (file : FlowFile) → IsConsistent k → All (λ f. Contains k.files (active connection f)) (file ∷ []) → fit_a_content (file ∷ []) ≡ true
+fits_alone k connection file consistent there =
+    let size : file.content.size ≤ CONTENT_MAX =
+    (All-contains (IsFileIn k) k.files (active connection file) consistent.files (All-head (λ f. Contains k.files (active connection f)) file [] there)).encoded.file.content.size in
+    le-leb (sum_by (λ (f : FlowFile). f.content.size) (file ∷ [])) CONTENT_MAX (omega (arith, size, sum_by-cons (λ (f : FlowFile). f.content.size) file []))
+
+-- a file is the only one that was taken, and its content was read
+pub record IsAlone (store connection : ℕ) (k : Kept) (bytes : ContentRef → List ℕ) (files : List FlowFile) (contents : List (Option (List ℕ))) : Type 0 where
+  pub file : FlowFile
+  pub is : files ≡ file ∷ []
+  pub there : Contains k.files (active connection file)
+  pub read : source_bytes (map source_of (taken_from store files contents)) 0 ≡ bytes file.content
+
+all_read : (content : List ℕ) (read : Option (List ℕ)) → is_some read ≡ true → IfSome read (λ r. r ≡ content) → unwrap_or read [] ≡ content
+all_read content None filled is = absurd (false≢true filled)
+all_read content (Some read) filled is = is
+
+pub alone : (store connection : ℕ) (k : Kept) (bytes : ContentRef → List ℕ) (files : List FlowFile) (contents : List (Option (List ℕ))) → IsConsistent k
+    → All (λ file. Contains k.files (active connection file)) files → AreReadOf bytes (fit_a_content files) files contents → length (taken_from store files contents) ≡ 1
+    → IsAlone store connection k bytes files contents
+alone store connection k bytes [] [] consistent there read one = absurd (omega (arith, one))
+alone store connection k bytes [] (read ∷ contents) consistent there are one = absurd are
+alone store connection k bytes (file ∷ files) [] consistent there are one = absurd are
+alone store connection k bytes (file ∷ []) (read ∷ []) consistent there are one = record {
+  file = file;
+  is = refl;
+  there = All-head (λ f. Contains k.files (active connection f)) file [] there;
+  read = all_read (bytes file.content) read (are.0.filled ∙ fits_alone k connection file consistent there) are.0.is;
+}
+alone store connection k bytes (file ∷ []) (read ∷ more ∷ contents) consistent there are one = absurd are.1
+alone store connection k bytes (file ∷ other ∷ files) (read ∷ []) consistent there are one = absurd are.1
+alone store connection k bytes (file ∷ other ∷ files) (read ∷ more ∷ contents) consistent there are one = absurd (omega (arith, one))
+
+-- ---- the outbox
+
+-- where a PutFile took a file of a queue alone, whose bytes are these
+pub record IsPutOf (machine : Machine) (session : EndedSession) (sources : List Source) : Type 0 where
+  pub file : QueuedFile
+  pub taken : session.taken ≡ file ∷ []
+  pub place : ℕ
+  pub waits : Contains (queue_at machine.state place) file
+  pub bytes : source_bytes sources 0 ≡ file.bytes
+
+-- what is sent stands in the outbox, and waited under its name
+pub record IsSent (machine : Machine) (session : EndedSession) (outcome : Outcome) (sources : List Source) : Type 0 where
+  pub outbox : (session_after machine session outcome).world.outbox ≡ with_sending (sending_of outcome.sent sources) machine.world.outbox
+  pub sent : IsSentFrom machine (sending_of outcome.sent sources)
+
+module _ (none : OtherSessionsPutNone) (puts : PutsSendTheTakenBytes) (machine : Machine) (session : EndedSession) (outcome : Outcome) (sources : List Source) where
+  abbrev standing : List ℕ → Option (List ℕ)
+  standing = (session_after machine session outcome).world.outbox
+
+  abbrev SendsSo : Option Sent → Type 0
+  SendsSo sent = (standing ≡ with_sending (sending_of sent sources) machine.world.outbox) × IsSentFrom machine (sending_of sent sources)
+
+  nothing : outcome.sent ≡ None → SendsSo outcome.sent
+  nothing is = subst SendsSo (sym is) (none machine session outcome is, tt)
+
+  by_sent : (of : IsPutOf machine session sources) (sent : Option Sent)
+      → MatchOption sent (standing ≡ machine.world.outbox) (λ s. (name_in of.file.attributes ≡ Some s.name) × (standing ≡ with_file machine.world.outbox s.name of.file.bytes))
+      → SendsSo sent
+  by_sent of None same = (same, tt)
+  by_sent of (Some sent) put =
+      (put.1 ∙ ap (with_file machine.world.outbox sent.name) (sym of.bytes), (of.place, of.file, of.waits, put.0))
+
+  put_of : (conflict : Conflict) → session.processor.kind ≡ PutFile conflict → IsPutOf machine session sources
+      → act session.processor.kind (map (as_taken machine.state) session.taken) session.given ≡ Some outcome → SendsSo outcome.sent
+  put_of conflict is of acts =
+      by_sent of outcome.sent
+      (puts machine session outcome conflict of.file of.taken
+      (subst (λ (kind : Kind). act kind (as_taken machine.state of.file ∷ []) session.given ≡ Some outcome) is
+      (subst (λ (taken : List QueuedFile). act session.processor.kind (map (as_taken machine.state) taken) session.given ≡ Some outcome) of.taken acts)))
+
+  pub is_sent : act session.processor.kind (map (as_taken machine.state) session.taken) session.given ≡ Some outcome
+      → ((conflict : Conflict) → session.processor.kind ≡ PutFile conflict → IsPutOf machine session sources)
+      → IsSent machine session outcome sources
+  is_sent acts of =
+      let both : SendsSo outcome.sent = ⊎_elim
+      nothing
+      (λ (puts : (conflict : Conflict) × (session.processor.kind ≡ PutFile conflict)). put_of puts.0 puts.1 (of puts.0 puts.1) acts)
+      (sends_or_puts session.processor.kind (map (as_taken machine.state) session.taken) session.given outcome acts) in
+      record { outbox = both.0; sent = both.1 }

@@ -1,0 +1,75 @@
+-- What a session sends, by its processor's kind: a PutFile may send the one file that it took, and no other kind sends.
+use Rattle.std.proofs.Common.{◌≡◌, ◌⊎◌, inl, inr, ⊎_elim, ℕ, Bool, true, false, List, [], ◌∷◌, refl, sym, ap, subst}
+use Rattle.std.specs.Prelude.{All, Option, None, Some, option_map, slice_get}
+use Rattle.std.proofs.lemmas.List.Elements.{All-cons, All-nil}
+use Rattle.flowfile_record.specs.declared.content.ContentRef.{ContentRef}
+use Rattle.flowfile_record.specs.declared.flow_file.FlowFile.{FlowFile}
+use Rattle.flowfile_record.specs.declared.worked.Outcome.{Outcome}
+use Rattle.flowfile_record.specs.declared.worked.Sent.{Sent}
+use Rattle.machine_model.specs.declared.given.Given.{Given}
+use Rattle.machine_model.specs.declared.kind.Conflict.{Conflict}
+use Rattle.machine_model.specs.declared.kind.Conflict.TheVariants.{Replace, Ignore, Fail}
+use Rattle.machine_model.specs.declared.kind.Kind.{Kind}
+use Rattle.machine_model.specs.declared.kind.Kind.TheVariants.{GetFile, GenerateFlowFile, PutFile}
+use Rattle.machine_model.specs.Acting.{TakenFile, act, name_in, put, received}
+use Rattle.process_session.specs.declared.file.Source.{Source}
+use Rattle.settlement.specs.Contents.{IsBodyWithin}
+use Rattle.settlement.specs.Handed.{AreRead}
+use Rattle.flow_engine.specs.Sending.{sources_left}
+
+-- ---- which kinds send
+
+nothing_received : (name bytes : Option (List ℕ)) (outcome : Outcome) → received name bytes ≡ Some outcome → outcome.sent ≡ None
+nothing_received None bytes outcome is = absurd cc
+nothing_received (Some name) None outcome is = absurd cc
+nothing_received (Some name) (Some bytes) outcome is = nothing _ outcome is refl
+  where
+    nothing : (a b : Outcome) → ◌≡◌ {A = Option Outcome} (Some a) (Some b) → a.sent ≡ None → b.sent ≡ None
+    nothing a b is none = cc
+
+some_is : (a b : Outcome) → ◌≡◌ {A = Option Outcome} (Some a) (Some b) → a ≡ b
+some_is a b is = cc
+
+-- what sends is a PutFile
+pub sends_or_puts : (kind : Kind) (taken : List TakenFile) (given : Given) (outcome : Outcome) → act kind taken given ≡ Some outcome
+    → (outcome.sent ≡ None) ⊎ ((conflict : Conflict) × (kind ≡ PutFile conflict))
+sends_or_puts (PutFile conflict) taken given outcome acts = inr (conflict, refl)
+sends_or_puts (GetFile filter) taken given outcome acts = inl (nothing_received given.file given.bytes outcome acts)
+sends_or_puts (GenerateFlowFile count text) taken given outcome acts = inl (ap (λ (o : Outcome). o.sent) (sym (some_is _ outcome acts)))
+sends_or_puts _ taken given outcome acts = absurd cc
+
+-- ---- what is left of the taken files
+
+abbrev AreWithin : List Source → Outcome → Type 0
+AreWithin sources outcome = All (λ file. IsBodyWithin sources file.body) outcome.files
+
+put_within : (conflict : Conflict) (there : Bool) (file : TakenFile) (name : Option (List ℕ)) (sources : List Source) → AreWithin sources (put conflict there file name)
+put_within conflict there file None sources = All-cons (λ f. IsBodyWithin sources f.body) _ [] tt (All-nil (λ f. IsBodyWithin sources f.body))
+put_within conflict false file (Some name) sources = All-cons (λ f. IsBodyWithin sources f.body) _ [] tt (All-nil (λ f. IsBodyWithin sources f.body))
+put_within Replace true file (Some name) sources = All-cons (λ f. IsBodyWithin sources f.body) _ [] tt (All-nil (λ f. IsBodyWithin sources f.body))
+put_within Ignore true file (Some name) sources = All-cons (λ f. IsBodyWithin sources f.body) _ [] tt (All-nil (λ f. IsBodyWithin sources f.body))
+put_within Fail true file (Some name) sources = All-cons (λ f. IsBodyWithin sources f.body) _ [] tt (All-nil (λ f. IsBodyWithin sources f.body))
+
+puts_within : (conflict : Conflict) (there : Bool) (found : Option TakenFile) (outcome : Outcome) (sources : List Source)
+    → option_map (λ file. put conflict there file (name_in file.attributes)) found ≡ Some outcome → AreWithin sources outcome
+puts_within conflict there None outcome sources acts = absurd cc
+puts_within conflict there (Some file) outcome sources acts =
+    subst (AreWithin sources) (some_is _ outcome acts) (put_within conflict there file (name_in file.attributes) sources)
+
+-- the parts that an outcome has are of what is left
+pub within_left : (kind : Kind) (taken : List TakenFile) (given : Given) (outcome : Outcome) (sources : List Source) → act kind taken given ≡ Some outcome
+    → All (λ file. IsBodyWithin sources file.body) outcome.files
+    → All (λ file. IsBodyWithin (sources_left outcome.sent sources) file.body) outcome.files
+within_left kind taken given outcome sources acts within = ⊎_elim
+    (λ (none : outcome.sent ≡ None). subst (λ (s : Option Sent). AreWithin (sources_left s sources) outcome) (sym none) within)
+    (λ (puts : (conflict : Conflict) × (kind ≡ PutFile conflict)).
+    puts_within puts.0 given.there (slice_get taken 0) outcome (sources_left outcome.sent sources) (subst (λ (k : Kind). act k taken given ≡ Some outcome) puts.1 acts))
+    (sends_or_puts kind taken given outcome acts)
+
+-- and what is left was read
+pub read_left : (bytes : ContentRef → List ℕ) (files : List FlowFile) (sources : List Source) (sent : Option Sent) → AreRead bytes files sources → AreRead bytes files (sources_left sent sources)
+read_left bytes files sources None read = read
+read_left bytes [] [] (Some sent) read = tt
+read_left bytes [] (source ∷ sources) (Some sent) read = absurd read
+read_left bytes (file ∷ files) [] (Some sent) read = absurd read
+read_left bytes (file ∷ files) (source ∷ sources) (Some sent) read = (record { size = read.0.size; digest = read.0.digest; read = tt }, read.1)
