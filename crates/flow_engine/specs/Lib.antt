@@ -3,4 +3,5 @@ pub mod Driving
 pub mod Engine
 pub mod Errors
 pub mod Job
+pub mod Opening
 pub mod Running

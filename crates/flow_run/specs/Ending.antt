@@ -6,7 +6,7 @@ use Rattle.kept_state.specs.declared.limit.Limit.{Limit}
 use Rattle.kept_state.specs.declared.limit.Which.TheVariants.{Journal}
 use Rattle.machine_model.specs.declared.flow.Flow.{Flow}
 use Rattle.flow_run.specs.declared.ended.Ended.{Ended}
-use Rattle.flow_run.specs.declared.ended.Ended.TheVariants as ended
+use Rattle.flow_run.specs.declared.ended.Ended.TheVariants as ending
 use Rattle.flow_run.specs.declared.ended.Fault.TheVariants as fault
 use Rattle.flow_run.specs.Work.{IsEndedByLimit}
 
@@ -22,6 +22,6 @@ IsLimitMet flow tells held moment images lot start most limit new =
 
 -- A device's fault count never falls, and its fault ends a run only where the count rose, or stands at its type's end.
 pub record EndsOnFaults (ended : Ended) (disk_old disk_new inbox_old inbox_new outbox_old outbox_new : ℕ) : Type 0 where
-  pub disk : CountsFaults disk_old disk_new (ended ≡ ended.Fault fault.Disk)
-  pub inbox : CountsFaults inbox_old inbox_new (ended ≡ ended.Fault fault.Inbox)
-  pub outbox : CountsFaults outbox_old outbox_new (ended ≡ ended.Fault fault.Outbox)
+  pub disk : CountsFaults disk_old disk_new (ended ≡ ending.Fault fault.Disk)
+  pub inbox : CountsFaults inbox_old inbox_new (ended ≡ ending.Fault fault.Inbox)
+  pub outbox : CountsFaults outbox_old outbox_new (ended ≡ ending.Fault fault.Outbox)
