@@ -87,6 +87,28 @@ module _ (law : EndsAreMachineEnds) {D : Type 0} (moment : D → ℕ) (images : 
   turned_at_end (Blocked connection) is due none = ended (Blocked connection) is (due (λ until rests. cc)) none
   turned_at_end Quiet is due none = ended Quiet is (due (λ until rests. cc)) none
 
+-- ---- what a turn answered
+
+module _ {D : Type 0} (moment : D → ℕ) (images : D → ℕ → Files → Type 0) (e : EngineState) (opened : Machine) (first now : D) (left : List NamedFile) (standing : List ℕ → Option (List ℕ)) (time : ℕ) (answer : Option Ending)
+    (turned : IsTurned moment images e opened first now left standing time answer) where
+  -- it went on, or it rests
+  pub went_on : answer ≡ None → IsRunning moment images e opened first now left standing
+  went_on is = subst (λ (a : Option Ending). IsTurned moment images e opened first now left standing time a) is turned
+
+  pub rests : (until : ℕ) → answer ≡ Some (Rest until) → IsRunning moment images e opened first now left standing
+  rests until is = subst (λ (a : Option Ending). IsTurned moment images e opened first now left standing time a) is turned
+
+  -- it ended, by a clock that tells this moment
+  pub ends_blocked : (connection later : ℕ) → answer ≡ Some (Blocked connection) → time ≡ later → IsEnded moment images e opened first now left standing later (Blocked connection)
+  ends_blocked connection later is same =
+      subst (λ (t : ℕ). IsEnded moment images e opened first now left standing t (Blocked connection)) same
+      (subst (λ (a : Option Ending). IsTurned moment images e opened first now left standing time a) is turned)
+
+  pub ends_quiet : (later : ℕ) → answer ≡ Some Quiet → time ≡ later → IsEnded moment images e opened first now left standing later Quiet
+  ends_quiet later is same =
+      subst (λ (t : ℕ). IsEnded moment images e opened first now left standing t Quiet) same
+      (subst (λ (a : Option Ending). IsTurned moment images e opened first now left standing time a) is turned)
+
 -- ---- turns come to an end
 
 -- another entry leaves less to go

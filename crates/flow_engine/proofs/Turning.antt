@@ -1,6 +1,6 @@
 -- What holds from turn to turn of an engine, and how a turn stops.
 use Rattle.std.proofs.Common.{◌≡◌, ◌⊎◌, inl, inr, ⊎_elim, ℕ, ◌+◌, ◌-◌, ◌^◌, ◌<◌, ◌≤◌, Bool, List, length, refl, sym, ◌∙◌, ap, subst, arith}
-use Rattle.std.specs.Prelude.{Option, Result, IsErrOf, IsTrue}
+use Rattle.std.specs.Prelude.{Option, Ok, Result, IsErrOf, IsTrue}
 use Rattle.disk_trait.specs.Faults.{CountsFaults}
 use Rattle.disk_trait.specs.Files.{Files}
 use Rattle.disk_trait.proofs.Moments.{nothing, wider}
@@ -52,6 +52,15 @@ each_counts_after result disk_old disk_mid disk_new inbox_old inbox_mid inbox_ne
   disk = counts_after (IsErrOf result Disk) disk_old disk_mid disk_new disk each.disk;
   inbox = counts_after (IsErrOf result Inbox) inbox_old inbox_mid inbox_new inbox each.inbox;
   outbox = counts_after (IsErrOf result Outbox) outbox_old outbox_mid outbox_new outbox each.outbox;
+}
+
+-- a call that ended well tells no fault
+pub no_fault : {A : Type 0} (answer : A) (disk_old disk_new inbox_old inbox_new outbox_old outbox_new : ℕ) → disk_old ≤ disk_new → inbox_old ≤ inbox_new → outbox_old ≤ outbox_new
+    → CountsEachFault (Ok answer) disk_old disk_new inbox_old inbox_new outbox_old outbox_new
+no_fault answer disk_old disk_new inbox_old inbox_new outbox_old outbox_new disk inbox outbox = record {
+  disk = record { never_falls = disk; rose = λ is below. absurd cc };
+  inbox = record { never_falls = inbox; rose = λ is below. absurd cc };
+  outbox = record { never_falls = outbox; rose = λ is below. absurd cc };
 }
 
 -- ---- a run stops between two steps

@@ -76,7 +76,8 @@ impl Engine<'_> {
             match self.turn(alloc, disk, inbox, outbox, moment)? {
                 None => {}
                 Some(Ending::Rest { until }) => clock.wait(until),
-                Some(ending) => return Ok(ending),
+                Some(Ending::Blocked(connection)) => return Ok(Ending::Blocked(connection)),
+                Some(Ending::Quiet) => return Ok(Ending::Quiet),
             }
         }
     }

@@ -6,8 +6,8 @@ use Rattle.flow_engine.specs.Engine.{AreTakeable, IsOfSameRun, IsReady}
 use Rattle.flow_engine.specs.Running.{IsRunning}
 use Rattle.flow_engine.proofs.engine.Engine.drive.Given as goal
 
-abbrev pub invariant-loop : goal.invariant-loop
-invariant-loop g l = record {
+abbrev pub invariant-loop-until : goal.invariant-loop-until
+invariant-loop-until g l = record {
   ready : IsReady g.D.Disk.tells g.D.Disk.held g.D.Disk.moment g.D.Disk.images l.self l.disk;
   left : IsTrue g.I.Inbox.tells → AreTakeable (g.I.Inbox.left l.inbox) l.self.listing.names;
   same : IsOfSameRun l.fn.self l.self;
@@ -20,5 +20,5 @@ invariant-loop g l = record {
   outbox_faults : g.O.Outbox.faults l.fn.outbox ≤ g.O.Outbox.faults l.outbox;
 }
 
-abbrev pub decreases-loop : goal.decreases-loop
-decreases-loop g l = to_go l.self (g.C.Clock.time l.clock)
+abbrev pub decreases-loop-until : goal.decreases-loop-until
+decreases-loop-until g l = to_go l.self (g.C.Clock.time l.clock)
