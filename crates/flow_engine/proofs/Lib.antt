@@ -1,6 +1,10 @@
+pub mod Choosing
 mod Chosen
+pub mod Closing
 mod Committed
+pub mod Ending
 mod Files
+pub mod Fitting
 mod Goes
 mod Left
 pub mod Names
@@ -9,3 +13,5 @@ pub mod Sends
 pub mod SessionSteps
 mod Stands
 mod Steps
+pub mod Turning
+pub mod Writes

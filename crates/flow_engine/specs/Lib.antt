@@ -5,5 +5,6 @@ pub mod Engine
 pub mod Errors
 pub mod Handing
 pub mod Job
+pub mod Opening
 pub mod Running
 pub mod Sending

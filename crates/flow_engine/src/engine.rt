@@ -1,11 +1,26 @@
 //! What an engine has in memory.
-ghost use Rattle.std.specs.Prelude.{◌≡◌};
+ghost use Rattle.std.specs.Prelude.{◌≡◌, ◌⊎◌, ℕ, List, Option, filter, length, map, IfOk, IfErr, IsErrOf, IsTrue};
+ghost use Rattle.disk_trait.specs.Faults.{CountsFaults};
+ghost use Rattle.flowfile_record.specs.NamedFile.{bytes_of};
+ghost use Rattle.world_io.specs.Inbox.{IsAscending};
+ghost use Rattle.machine_model.specs.Sound.{IsSound};
+ghost use Rattle.machine_model.specs.State.{State};
+ghost use Rattle.store_core.specs.Flow.{flow_in};
+ghost use Rattle.store_core.specs.Store.{kept_by};
+ghost use Rattle.engine_core.specs.Committing.{identity_of};
+ghost use Rattle.engine_choice.specs.Choice.{coming_of};
+ghost use Rattle.flow_run.specs.Run.{machine_at};
+ghost use Rattle.flow_engine.specs.Engine.{AreTakeable};
+ghost use Rattle.flow_engine.specs.Opening.{IsOpened, fits_in};
 
+use crate::EngineError;
 use engine_choice::Listing;
 use engine_queues::Queues;
 use machine_model::Flow;
+use std::alloc::Global;
 use std::marker::Model;
 use store_core::Store;
+use world_io::{CONTENT_MAX, Inbox, Name};
 
 /// What runs a flow: the store and the queues of what it keeps, the names of the inbox that are to come, the processor
 /// that got the last session, how many entries the journal has, how many it may have, and how many of them came since
@@ -41,4 +56,74 @@ impl<'f> Model for Engine<'f> {
       entries = engine.entries;
       most = engine.most;
     } };
+}
+
+impl<'f> Engine<'f> {
+    /// An engine that is to run a flow over a store of it, until the journal has `most` entries. The inbox is listed once
+    /// and for all: files that come later aren't seen, and those that are larger than a content may be are left there.
+    pub fn open<I: Inbox>(
+        alloc: Global,
+        flow: &'f Flow,
+        store: Store,
+        most: u64,
+        inbox: &mut I,
+    ) -> Result<Engine<'f>, EngineError>
+        requires sound { IsSound flow.now }
+        requires flow { flow_in (kept_by store) ≡ identity_of flow.now }
+        ensures opened { IfOk result (IsOpened flow.now store most) }
+        // All that the machine may take is to come.
+        ensures coming { IfOk result (λ engine. IsTrue I.tells → (state : State)
+            (standing : List ℕ → Option (List ℕ))
+            → coming_of (machine_at state (I.left inbox.old) standing).world ≡ engine.listing.names) }
+        ensures takeable { IfOk result (λ engine. IsTrue I.tells
+            → AreTakeable (I.left inbox.new) engine.listing.names) }
+        ensures left { I.left inbox.new ≡ I.left inbox.old }
+        ensures kinds { IfErr result (λ error. (error ≡ EngineError.Inbox) ⊎ (error ≡ EngineError.Memory)) }
+        ensures cause { CountsFaults (I.faults inbox.old) (I.faults inbox.new) (IsErrOf result EngineError.Inbox) }
+    {
+        let mut names = Vec::new(alloc);
+        inbox.list(&mut names)?;
+        let coming = names_that_fit(alloc, inbox, names)?;
+        let queues = Queues::open(alloc, flow, store.state())?;
+        let listing = Listing::new(alloc, flow, coming)?;
+        Ok(Engine {
+            flow,
+            store,
+            queues,
+            listing,
+            last: None,
+            entries: 0,
+            most,
+            since_reclaim: 0,
+        })
+    }
+}
+
+// Those of these names whose files fit a content, in their order.
+fn names_that_fit<I: Inbox>(
+    alloc: Global,
+    inbox: &mut I,
+    names: Vec<Name>,
+) -> Result<Vec<Name>, EngineError>
+    requires listed { IsTrue I.tells → names.items ≡ map (λ file. file.name) (I.left inbox.old) }
+    requires ascending { IsAscending names.items }
+    ensures fit { IfOk result (λ coming. IsTrue I.tells
+        → coming.items ≡ filter (fits_in (I.left inbox.old)) names.items) }
+    ensures ascending { IfOk result (λ coming. IsAscending coming.items) }
+    ensures left { I.left inbox.new ≡ I.left inbox.old }
+    ensures kinds { IfErr result (λ error. (error ≡ EngineError.Inbox) ⊎ (error ≡ EngineError.Memory)) }
+    ensures cause { CountsFaults (I.faults inbox.old) (I.faults inbox.new) (IsErrOf result EngineError.Inbox) }
+{
+    let mut coming = Vec::new(alloc);
+    for name in names {
+        let Ok(size) = inbox.size(&name) else {
+            return Err(EngineError::Inbox);
+        };
+        if size <= CONTENT_MAX {
+            let Ok(()) = coming.push(name) else {
+                return Err(EngineError::Memory);
+            };
+        }
+    }
+    Ok(coming)
 }

@@ -1,0 +1,92 @@
+use Rattle.std.proofs.Common.{arith, ◌≡◌, ℕ, sym, ◌∙◌, ap}
+use Rattle.std.specs.Prelude.{Some, None}
+use Rattle.engine_choice.specs.declared.choice.Ending.{Ending}
+use Rattle.engine_choice.specs.declared.choice.Ending.TheVariants.{Blocked, Quiet, Rest}
+use Rattle.flow_engine.proofs.Ending.{ends_blocked, ends_quiet, rests, went_on}
+use Rattle.flow_engine.proofs.Turning.{no_fault, same_run_on, works_for}
+use Rattle.flow_engine.proofs.Writes.{writes_on}
+use Rattle.flow_engine.proofs.engine.Engine.drive.Goals as goal
+
+pub returns-in_err-turn-clause-alone : goal.returns-in_err-turn-clause-alone
+returns-in_err-turn-clause-alone g c =
+    let D = g.D.Disk in
+    let inv = c.loop-until.invariant in
+    writes_on D.moment D.images c.args.self.now.store.log.number c.loop-until.self.store.log.number c.args.disk.now c.loop-until.disk c.turn.new.disk inv.same.log inv.alone c.turn.ensures.alone
+
+pub loop-until-preserved-in-None : goal.loop-until-preserved-in-None
+loop-until-preserved-in-None g c =
+    let D = g.D.Disk in
+    let inv = c.loop-until.invariant in
+    record {
+      ready = c.in_ok-turn.ensures.ready;
+      left = λ told. c.in_ok-turn.ensures.left told;
+      same = same_run_on c.args.self.now c.loop-until.self c.turn.new.self inv.same c.turn.ensures.same;
+      alone = writes_on D.moment D.images c.args.self.now.store.log.number c.loop-until.self.store.log.number c.args.disk.now c.loop-until.disk c.turn.new.disk inv.same.log inv.alone c.turn.ensures.alone;
+      runs = λ telling in_telling out_telling opened first run.
+          went_on D.moment D.images c.turn.new.self opened first c.turn.new.disk (g.I.Inbox.left c.turn.new.inbox) (g.O.Outbox.standing c.turn.new.outbox) c.now-moment.result c.in_ok-turn.field-0
+          (c.in_ok-turn.ensures.turned telling in_telling out_telling opened first (inv.runs telling in_telling out_telling opened first run)) c.in-None.is;
+      disk_faults = omega (arith, inv.disk_faults, c.turn.ensures.cause.disk.never_falls);
+      inbox_faults = omega (arith, inv.inbox_faults, c.turn.ensures.cause.inbox.never_falls);
+      outbox_faults = omega (arith, inv.outbox_faults, c.turn.ensures.cause.outbox.never_falls);
+    }
+
+pub loop-until-preserved : goal.loop-until-preserved
+loop-until-preserved g c =
+    let D = g.D.Disk in
+    let inv = c.loop-until.invariant in
+    record {
+      ready = c.in_ok-turn.ensures.ready;
+      left = λ told. c.in_ok-turn.ensures.left told;
+      same = same_run_on c.args.self.now c.loop-until.self c.turn.new.self inv.same c.turn.ensures.same;
+      alone = writes_on D.moment D.images c.args.self.now.store.log.number c.loop-until.self.store.log.number c.args.disk.now c.loop-until.disk c.turn.new.disk inv.same.log inv.alone c.turn.ensures.alone;
+      runs = λ telling in_telling out_telling opened first run.
+          rests D.moment D.images c.turn.new.self opened first c.turn.new.disk (g.I.Inbox.left c.turn.new.inbox) (g.O.Outbox.standing c.turn.new.outbox) c.now-moment.result c.in_ok-turn.field-0
+          (c.in_ok-turn.ensures.turned telling in_telling out_telling opened first (inv.runs telling in_telling out_telling opened first run)) c.in-Some-Rest.until (c.in-Some-Rest.is ∙ ap (λ (a : Ending). Some a) (c.in-Some-Rest.field-0-is));
+      disk_faults = omega (arith, inv.disk_faults, c.turn.ensures.cause.disk.never_falls);
+      inbox_faults = omega (arith, inv.inbox_faults, c.turn.ensures.cause.inbox.never_falls);
+      outbox_faults = omega (arith, inv.outbox_faults, c.turn.ensures.cause.outbox.never_falls);
+    }
+
+pub returns-in-Some-Blocked : goal.returns-in-Some-Blocked
+returns-in-Some-Blocked g c =
+    let D = g.D.Disk in
+    let inv = c.loop-until.invariant in
+    let is : c.in_ok-turn.field-0 ≡ Some (Blocked c.in-Some-Blocked.connection) = c.in-Some-Blocked.is ∙ ap (λ (a : Ending). Some a) c.in-Some-Blocked.field-0-is in
+    record {
+      ended = λ telling in_telling out_telling opened first run.
+          ends_blocked D.moment D.images c.turn.new.self opened first c.turn.new.disk (g.I.Inbox.left c.turn.new.inbox) (g.O.Outbox.standing c.turn.new.outbox) c.now-moment.result c.in_ok-turn.field-0
+          (c.in_ok-turn.ensures.turned telling in_telling out_telling opened first (inv.runs telling in_telling out_telling opened first run)) c.in-Some-Blocked.connection (g.C.Clock.time c.now-moment.new.self) is c.now-moment.ensures.moment;
+      stopped = λ error is telling in_telling out_telling opened first run. absurd cc;
+      no_rest = λ until is. cc;
+      work = works_for D.tells D.held D.moment D.images c.args.self.now.flow c.turn.new.self.flow c.turn.new.self c.turn.new.disk (c.turn.ensures.same.flow ∙ inv.same.flow) c.in_ok-turn.ensures.ready.work;
+      same = same_run_on c.args.self.now c.loop-until.self c.turn.new.self inv.same c.turn.ensures.same;
+      alone = writes_on D.moment D.images c.args.self.now.store.log.number c.loop-until.self.store.log.number c.args.disk.now c.loop-until.disk c.turn.new.disk inv.same.log inv.alone c.turn.ensures.alone;
+      refused = λ limit is. absurd cc;
+      damaged = λ damage is. absurd cc;
+      cause =
+          no_fault _ (D.faults c.args.disk.now) (D.faults c.turn.new.disk) (g.I.Inbox.faults c.args.inbox.now) (g.I.Inbox.faults c.turn.new.inbox) (g.O.Outbox.faults c.args.outbox.now) (g.O.Outbox.faults c.turn.new.outbox)
+          (omega (arith, inv.disk_faults, c.turn.ensures.cause.disk.never_falls)) (omega (arith, inv.inbox_faults, c.turn.ensures.cause.inbox.never_falls))
+          (omega (arith, inv.outbox_faults, c.turn.ensures.cause.outbox.never_falls));
+    }
+
+pub returns-in-Some-Quiet : goal.returns-in-Some-Quiet
+returns-in-Some-Quiet g c =
+    let D = g.D.Disk in
+    let inv = c.loop-until.invariant in
+    let is : c.in_ok-turn.field-0 ≡ Some (Quiet) = c.in-Some-Quiet.is ∙ ap (λ (a : Ending). Some a) c.in-Some-Quiet.field-0-is in
+    record {
+      ended = λ telling in_telling out_telling opened first run.
+          ends_quiet D.moment D.images c.turn.new.self opened first c.turn.new.disk (g.I.Inbox.left c.turn.new.inbox) (g.O.Outbox.standing c.turn.new.outbox) c.now-moment.result c.in_ok-turn.field-0
+          (c.in_ok-turn.ensures.turned telling in_telling out_telling opened first (inv.runs telling in_telling out_telling opened first run)) (g.C.Clock.time c.now-moment.new.self) is c.now-moment.ensures.moment;
+      stopped = λ error is telling in_telling out_telling opened first run. absurd cc;
+      no_rest = λ until is. cc;
+      work = works_for D.tells D.held D.moment D.images c.args.self.now.flow c.turn.new.self.flow c.turn.new.self c.turn.new.disk (c.turn.ensures.same.flow ∙ inv.same.flow) c.in_ok-turn.ensures.ready.work;
+      same = same_run_on c.args.self.now c.loop-until.self c.turn.new.self inv.same c.turn.ensures.same;
+      alone = writes_on D.moment D.images c.args.self.now.store.log.number c.loop-until.self.store.log.number c.args.disk.now c.loop-until.disk c.turn.new.disk inv.same.log inv.alone c.turn.ensures.alone;
+      refused = λ limit is. absurd cc;
+      damaged = λ damage is. absurd cc;
+      cause =
+          no_fault _ (D.faults c.args.disk.now) (D.faults c.turn.new.disk) (g.I.Inbox.faults c.args.inbox.now) (g.I.Inbox.faults c.turn.new.inbox) (g.O.Outbox.faults c.args.outbox.now) (g.O.Outbox.faults c.turn.new.outbox)
+          (omega (arith, inv.disk_faults, c.turn.ensures.cause.disk.never_falls)) (omega (arith, inv.inbox_faults, c.turn.ensures.cause.inbox.never_falls))
+          (omega (arith, inv.outbox_faults, c.turn.ensures.cause.outbox.never_falls));
+    }

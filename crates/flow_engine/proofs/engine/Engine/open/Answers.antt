@@ -1,0 +1,41 @@
+use Rattle.std.proofs.Common.{◌≡◌, List, ℕ, filter, refl, sym, ◌∙◌, ap, subst}
+use Rattle.flowfile_record.specs.NamedFile.{NamedFile}
+use Rattle.flowfile_record.specs.Stored.{Kept}
+use Rattle.engine_choice.specs.Listing.{AreDistinct, Left}
+use Rattle.engine_queues.specs.Queues.{AreQueuesOf}
+use Rattle.flow_engine.specs.Engine.{AreTakeable}
+use Rattle.flow_engine.specs.Opening.{fits_in}
+use Rattle.flow_engine.proofs.Fitting.{ascending_differ, fitting_takeable}
+use Rattle.flow_engine.proofs.engine.Engine.open.Goals as goal
+
+pub new-requires : goal.new-requires
+new-requires g c = ascending_differ c.in_ok-coming.coming.items c.in_ok-coming.ensures.ascending
+
+pub returns-clause-opened : goal.returns-clause-opened
+returns-clause-opened g c =
+    let listed : c.in_ok-listing.listing.names ≡ c.in_ok-coming.coming.items = ap (λ (l : Left). l.names) c.in_ok-listing.ensures in
+    record {
+      flow_is = refl;
+      store_is = refl;
+      queues = subst (λ (k : Kept). AreQueuesOf c.args.flow.now k c.in_ok-queues.queues) c.state.ensures.kept c.in_ok-queues.ensures;
+      listing = ap (λ (l : Left). l.flow) c.in_ok-listing.ensures;
+      distinct = subst AreDistinct (sym listed) (ascending_differ c.in_ok-coming.coming.items c.in_ok-coming.ensures.ascending);
+      entries = refl;
+      most_is = refl;
+    }
+
+pub returns-clause-coming : goal.returns-clause-coming
+returns-clause-coming g c told state standing =
+    let left : List NamedFile = g.I.Inbox.left c.args.inbox.now in
+    let names : List (List ℕ) = c.list.new.names.items in
+    sym
+    (ap (λ (l : Left). l.names) c.in_ok-listing.ensures ∙ c.in_ok-coming.ensures.fit told
+    ∙ ap (λ (l : List NamedFile). filter (fits_in l) names) c.list.ensures.left ∙ ap (filter (fits_in left)) (c.in_ok-list.ensures.listed told))
+
+pub returns-clause-takeable : goal.returns-clause-takeable
+returns-clause-takeable g c told =
+    let listed : List NamedFile = g.I.Inbox.left c.list.new.self in
+    let names : List (List ℕ) = c.list.new.names.items in
+    let are : c.in_ok-listing.listing.names ≡ filter (fits_in listed) names = ap (λ (l : Left). l.names) c.in_ok-listing.ensures ∙ c.in_ok-coming.ensures.fit told in
+    subst (AreTakeable (g.I.Inbox.left c.names_that_fit.new.inbox)) (sym are)
+    (subst (λ (l : List NamedFile). AreTakeable l (filter (fits_in listed) names)) (sym c.names_that_fit.ensures.left) (fitting_takeable listed names))

@@ -1,0 +1,16 @@
+use Rattle.std.proofs.lemmas.Result.{IfOk-weaker}
+use Rattle.flow_engine.proofs.Writes.{writes_on}
+use Rattle.flow_engine.proofs.engine.Engine.turn.Goals as goal
+
+pub returns-in-Nothing-clause-turned : goal.returns-in-Nothing-clause-turned
+returns-in-Nothing-clause-turned g c =
+    IfOk-weaker c.go_on.result _ _
+    (λ ending turned telling in_telling out_telling opened first run.
+    turned telling in_telling out_telling opened first
+    (c.in_ok-tend.ensures.goes_on telling opened first (g.I.Inbox.left c.args.inbox.now) (g.O.Outbox.standing c.args.outbox.now) run))
+    c.go_on.ensures.turned
+
+pub returns-in-Nothing-clause-alone : goal.returns-in-Nothing-clause-alone
+returns-in-Nothing-clause-alone g c =
+    writes_on g.D.Disk.moment g.D.Disk.images c.args.self.now.store.log.number c.tend.new.self.store.log.number c.args.disk.now c.tend.new.disk c.go_on.new.disk
+    c.tend.ensures.same.log c.tend.ensures.alone c.go_on.ensures.alone

@@ -1,0 +1,24 @@
+-- An engine before its first step.
+use Rattle.std.specs.Prelude.{◌≡◌, ℕ, nat_le, Bool, false, List, length}
+use Rattle.std.specs.Option.{option_map_or}
+use Rattle.flowfile_record.specs.NamedFile.{NamedFile, bytes_of}
+use Rattle.flowfile_record.specs.declared.TheConstants.{CONTENT_MAX}
+use Rattle.machine_model.specs.declared.flow.Flow.{Flow}
+use Rattle.store_core.specs.Store.{StoreState, kept_by}
+use Rattle.engine_choice.specs.Listing.{AreDistinct}
+use Rattle.engine_queues.specs.Queues.{AreQueuesOf}
+use Rattle.flow_engine.specs.Engine.{EngineState}
+
+-- It is to run this flow over this store, with queues of what the store keeps, and no entry was made yet.
+pub record IsOpened (flow : Flow) (store : StoreState) (most : ℕ) (e : EngineState) : Type 0 where
+  pub flow_is : e.flow ≡ flow
+  pub store_is : e.store ≡ store
+  pub queues : AreQueuesOf flow (kept_by store) e.queues
+  pub listing : e.listing.flow ≡ flow
+  pub distinct : AreDistinct e.listing.names
+  pub entries : e.entries ≡ 0
+  pub most_is : e.most ≡ most
+
+-- the file of this name is no longer than any content
+abbrev pub fits_in : List NamedFile → List ℕ → Bool
+fits_in left name = option_map_or (λ bytes. nat_le (length bytes) CONTENT_MAX) (bytes_of left name) false

@@ -1,0 +1,278 @@
+//! An engine goes on until nothing is left to do.
+ghost use Rattle.std.specs.Prelude.{◌≡◌, ◌⊎◌, true, ℕ, ◌+◌, ◌-◌, ◌^◌, ◌<◌, List, Option, Some, Ok, IfOk, OnOk, IfErr, IsErrOf, IsTrue};
+ghost use Rattle.disk_trait.specs.declared.damage.Damage.{Damage as TheDamage};
+ghost use Rattle.kept_state.specs.declared.limit.Limit.{Limit as TheLimit};
+ghost use Rattle.machine_model.specs.State.{Machine};
+ghost use Rattle.machine_model.specs.Quiet.{nothing_due};
+ghost use Rattle.engine_choice.specs.Choice.{MayChoose};
+ghost use Rattle.engine_queues.specs.Queues.{queue_seen};
+ghost use Rattle.store_core.specs.Store.{kept_by};
+ghost use Rattle.flow_engine.specs.Driving.{choice_in, ending_in, GoesOn, IsEnded, IsTurned, ShowsState};
+ghost use Rattle.flow_run.specs.Run.{StandsFor};
+ghost use Rattle.flowfile_wal.specs.Calls.{InEach};
+ghost use Rattle.flow_run.specs.Ending.{journal_full};
+ghost use Rattle.flow_engine.specs.Engine.{AreTakeable, IsOfSameRun, IsReady};
+ghost use Rattle.flow_engine.specs.Errors.{CountsEachFault};
+ghost use Rattle.flow_engine.specs.Running.{IsRunning, Stops};
+ghost use Rattle.flow_run.specs.Work.{IsAtWork, IsReadDamaged, IsRefused, WritesLog};
+ghost use Rattle.flow_engine.specs.declared.error.EngineError.{EngineError as TheError};
+
+use crate::EngineError;
+use crate::engine::Engine;
+use crate::tending::Tended;
+use crate::tied::holds_its_state;
+use disk_trait::Disk;
+use engine_choice::{
+    Choice, Ending, choices_are_sessions, choose, ending, ends_are_machine_ends,
+};
+use engine_queues::what_is_kept_is_seen;
+use engine_session::sessions_are_steps;
+use flow_run::faults_end_a_run;
+use std::alloc::{AllocError, Global};
+use store_core::{Limit, Which};
+use world_io::{Clock, Inbox, Outbox};
+
+impl Engine<'_> {
+    /// Tends what is due and runs session after session, until the flow is quiet or blocked. Where files wait for the
+    /// end of a penalty, it waits with them.
+    pub fn drive<D: Disk, I: Inbox, O: Outbox, C: Clock>(
+        &mut self,
+        alloc: Global,
+        disk: &mut D,
+        inbox: &mut I,
+        outbox: &mut O,
+        clock: &mut C,
+    ) -> Result<Ending, EngineError>
+        requires ready { IsReady D.tells D.held D.moment D.images self.old disk.old }
+        requires left { IsTrue I.tells → AreTakeable (I.left inbox.old) self.old.listing.names }
+        requires most { self.old.most < 2 ^ 64 - 1 }
+        // The run went on until nothing was left to do, or it was stopped.
+        ensures ended { IfOk result (λ ending. IsTrue D.tells → IsTrue I.tells → IsTrue O.tells
+            → (opened : Machine) (first : D)
+            → IsRunning D.moment D.images self.old opened first disk.old (I.left inbox.old) (O.standing outbox.old)
+            → IsEnded D.moment D.images self.new opened first disk.new (I.left inbox.new) (O.standing outbox.new)
+            (C.time clock.new) ending) }
+        ensures stopped { (error : TheError) → IsErrOf result error → IsTrue D.tells → IsTrue I.tells → IsTrue O.tells
+            → (opened : Machine) (first : D)
+            → IsRunning D.moment D.images self.old opened first disk.old (I.left inbox.old) (O.standing outbox.old)
+            → Stops error D.tells D.held D.moment D.images self.new opened first disk.new (I.left inbox.new)
+            (O.standing outbox.new) }
+        ensures no_rest { IfOk result (λ ending. (until : ℕ) → ending ≡ Ending.Rest until → ⊥) }
+        // On any devices.
+        ensures work { OnOk result (IsAtWork self.old.flow D.tells D.held D.moment D.images self.new.store disk.new) }
+        ensures same { IsOfSameRun self.old self.new }
+        ensures alone { WritesLog D.moment D.images self.old.store.log.number disk.old disk.new }
+        ensures refused { (limit : TheLimit) → IsErrOf result (EngineError.Limit limit)
+            → IsRefused self.old.flow D.tells D.held D.moment D.images limit self.new.store disk.new
+            ⊎ ((limit ≡ journal_full self.old.most)
+            × IsAtWork self.old.flow D.tells D.held D.moment D.images self.new.store disk.new) }
+        ensures damaged { (damage : TheDamage) → IsErrOf result (EngineError.Damaged damage)
+            → IsReadDamaged self.old.flow D.tells D.held D.moment D.images self.old.store.lot disk.new }
+        ensures cause { CountsEachFault result (D.faults disk.old) (D.faults disk.new)
+            (I.faults inbox.old) (I.faults inbox.new) (O.faults outbox.old) (O.faults outbox.new) }
+    {
+        loop {
+            let moment = clock.now();
+            match self.turn(alloc, disk, inbox, outbox, moment)? {
+                None => {}
+                Some(Ending::Rest { until }) => clock.wait(until),
+                Some(Ending::Blocked(connection)) => return Ok(Ending::Blocked(connection)),
+                Some(Ending::Quiet) => return Ok(Ending::Quiet),
+            }
+        }
+    }
+
+    // Tends what is due, or else runs the next session. Where none comes, it tells how it ends.
+    fn turn<D: Disk, I: Inbox, O: Outbox>(
+        &mut self,
+        alloc: Global,
+        disk: &mut D,
+        inbox: &mut I,
+        outbox: &mut O,
+        moment: u64,
+    ) -> Result<Option<Ending>, EngineError>
+        requires ready { IsReady D.tells D.held D.moment D.images self.old disk.old }
+        requires left { IsTrue I.tells → AreTakeable (I.left inbox.old) self.old.listing.names }
+        requires most { self.old.most < 2 ^ 64 - 1 }
+        ensures turned { IfOk result (λ ending. IsTrue D.tells → IsTrue I.tells → IsTrue O.tells
+            → (opened : Machine) (first : D)
+            → IsRunning D.moment D.images self.old opened first disk.old (I.left inbox.old) (O.standing outbox.old)
+            → IsTurned D.moment D.images self.new opened first disk.new (I.left inbox.new) (O.standing outbox.new)
+            moment ending) }
+        ensures goes_on { IfOk result (GoesOn self.old self.new moment) }
+        ensures stopped { (error : TheError) → IsErrOf result error → IsTrue D.tells → IsTrue I.tells → IsTrue O.tells
+            → (opened : Machine) (first : D)
+            → IsRunning D.moment D.images self.old opened first disk.old (I.left inbox.old) (O.standing outbox.old)
+            → Stops error D.tells D.held D.moment D.images self.new opened first disk.new (I.left inbox.new)
+            (O.standing outbox.new) }
+        ensures ready { OnOk result (IsReady D.tells D.held D.moment D.images self.new disk.new) }
+        ensures left { OnOk result (IsTrue I.tells → AreTakeable (I.left inbox.new) self.new.listing.names) }
+        ensures same { IsOfSameRun self.old self.new }
+        ensures alone { WritesLog D.moment D.images self.old.store.log.number disk.old disk.new }
+        ensures refused { (limit : TheLimit) → IsErrOf result (EngineError.Limit limit)
+            → IsRefused self.old.flow D.tells D.held D.moment D.images limit self.new.store disk.new
+            ⊎ ((limit ≡ journal_full self.old.most)
+            × IsAtWork self.old.flow D.tells D.held D.moment D.images self.new.store disk.new) }
+        ensures damaged { (damage : TheDamage) → IsErrOf result (EngineError.Damaged damage)
+            → IsReadDamaged self.old.flow D.tells D.held D.moment D.images self.old.store.lot disk.new }
+        ensures cause { CountsEachFault result (D.faults disk.old) (D.faults disk.new)
+            (I.faults inbox.old) (I.faults inbox.new) (O.faults outbox.old) (O.faults outbox.new) }
+    {
+        match self.tend(alloc, disk, moment)? {
+            Tended::Expired => Ok(None),
+            Tended::Nothing => self.go_on(alloc, disk, inbox, outbox, moment),
+        }
+    }
+
+    // Runs the next session. Where none comes, it tells how it ends.
+    fn go_on<D: Disk, I: Inbox, O: Outbox>(
+        &mut self,
+        alloc: Global,
+        disk: &mut D,
+        inbox: &mut I,
+        outbox: &mut O,
+        moment: u64,
+    ) -> Result<Option<Ending>, EngineError>
+        requires ready { IsReady D.tells D.held D.moment D.images self.old disk.old }
+        requires left { IsTrue I.tells → AreTakeable (I.left inbox.old) self.old.listing.names }
+        requires most { self.old.most < 2 ^ 64 - 1 }
+        ensures turned { IfOk result (λ ending. IsTrue D.tells → IsTrue I.tells → IsTrue O.tells
+            → (opened : Machine) (first : D)
+            → IsRunning D.moment D.images self.old opened first disk.old (I.left inbox.old) (O.standing outbox.old)
+            → IsTurned D.moment D.images self.new opened first disk.new (I.left inbox.new) (O.standing outbox.new)
+            moment ending) }
+        ensures goes_on { IfOk result (GoesOn self.old self.new moment) }
+        ensures stopped { (error : TheError) → IsErrOf result error → IsTrue D.tells → IsTrue I.tells → IsTrue O.tells
+            → (opened : Machine) (first : D)
+            → IsRunning D.moment D.images self.old opened first disk.old (I.left inbox.old) (O.standing outbox.old)
+            → Stops error D.tells D.held D.moment D.images self.new opened first disk.new (I.left inbox.new)
+            (O.standing outbox.new) }
+        ensures ready { OnOk result (IsReady D.tells D.held D.moment D.images self.new disk.new) }
+        ensures left { OnOk result (IsTrue I.tells → AreTakeable (I.left inbox.new) self.new.listing.names) }
+        ensures same { IsOfSameRun self.old self.new }
+        ensures alone { WritesLog D.moment D.images self.old.store.log.number disk.old disk.new }
+        ensures refused { (limit : TheLimit) → IsErrOf result (EngineError.Limit limit)
+            → IsRefused self.old.flow D.tells D.held D.moment D.images limit self.new.store disk.new
+            ⊎ ((limit ≡ journal_full self.old.most)
+            × IsAtWork self.old.flow D.tells D.held D.moment D.images self.new.store disk.new) }
+        ensures damaged { (damage : TheDamage) → IsErrOf result (EngineError.Damaged damage)
+            → IsReadDamaged self.old.flow D.tells D.held D.moment D.images self.old.store.lot disk.new }
+        ensures cause { CountsEachFault result (D.faults disk.old) (D.faults disk.new)
+            (I.faults inbox.old) (I.faults inbox.new) (O.faults outbox.old) (O.faults outbox.new) }
+    {
+        self.shows_its_state(disk);
+        ends_are_machine_ends();
+        faults_end_a_run::<D>();
+        match self.next_choice(alloc, moment)? {
+            Some(choice) => {
+                self.run_next(alloc, disk, inbox, outbox, moment, choice)?;
+                Ok(None)
+            }
+            None => Ok(Some(self.ending(alloc, moment)?)),
+        }
+    }
+
+    // Runs the session that comes next, where the journal has room for its entry.
+    fn run_next<D: Disk, I: Inbox, O: Outbox>(
+        &mut self,
+        alloc: Global,
+        disk: &mut D,
+        inbox: &mut I,
+        outbox: &mut O,
+        moment: u64,
+        choice: Choice,
+    ) -> Result<(), EngineError>
+        requires ready { IsReady D.tells D.held D.moment D.images self.old disk.old }
+        requires chosen { choice_in self.old moment ≡ Some choice }
+        requires left { IsTrue I.tells → AreTakeable (I.left inbox.old) self.old.listing.names }
+        requires most { self.old.most < 2 ^ 64 - 1 }
+        ensures goes_on { OnOk result (IsTrue D.tells → IsTrue I.tells → IsTrue O.tells
+            → (opened : Machine) (first : D)
+            → IsRunning D.moment D.images self.old opened first disk.old (I.left inbox.old) (O.standing outbox.old)
+            → IsRunning D.moment D.images self.new opened first disk.new (I.left inbox.new) (O.standing outbox.new)) }
+        ensures entries { OnOk result (self.new.entries ≡ self.old.entries + 1) }
+        ensures stopped { (error : TheError) → IsErrOf result error → IsTrue D.tells → IsTrue I.tells → IsTrue O.tells
+            → (opened : Machine) (first : D)
+            → IsRunning D.moment D.images self.old opened first disk.old (I.left inbox.old) (O.standing outbox.old)
+            → Stops error D.tells D.held D.moment D.images self.new opened first disk.new (I.left inbox.new)
+            (O.standing outbox.new) }
+        ensures ready { OnOk result (IsReady D.tells D.held D.moment D.images self.new disk.new) }
+        ensures left { OnOk result (IsTrue I.tells → AreTakeable (I.left inbox.new) self.new.listing.names) }
+        ensures same { IsOfSameRun self.old self.new }
+        ensures alone { WritesLog D.moment D.images self.old.store.log.number disk.old disk.new }
+        ensures refused { (limit : TheLimit) → IsErrOf result (EngineError.Limit limit)
+            → IsRefused self.old.flow D.tells D.held D.moment D.images limit self.new.store disk.new
+            ⊎ ((limit ≡ journal_full self.old.most)
+            × IsAtWork self.old.flow D.tells D.held D.moment D.images self.new.store disk.new) }
+        ensures damaged { (damage : TheDamage) → IsErrOf result (EngineError.Damaged damage)
+            → IsReadDamaged self.old.flow D.tells D.held D.moment D.images self.old.store.lot disk.new }
+        ensures cause { CountsEachFault result (D.faults disk.old) (D.faults disk.new)
+            (I.faults inbox.old) (I.faults inbox.new) (O.faults outbox.old) (O.faults outbox.new) }
+    {
+        if self.entries >= self.most {
+            self.shows_its_state(disk);
+            choices_are_sessions();
+            sessions_are_steps();
+            return Err(EngineError::Limit(Limit {
+                which: Which::Journal,
+                number: self.most,
+                wanted: self.most + 1,
+            }));
+        }
+        self.run_session(alloc, disk, inbox, outbox, moment, choice)
+    }
+
+    // It does nothing: where the disk tells, the engine shows the machine's state.
+    fn shows_its_state<D: Disk>(&self, disk: &D)
+        requires { IsReady D.tells D.held D.moment D.images self.now disk.now }
+        ensures { IsTrue D.tells → (m : Machine)
+            → InEach (D.images disk.now (D.moment disk.now)) (StandsFor self.now.flow self.now.store.lot m)
+            → ShowsState self.now m }
+    {
+        holds_its_state(&self.store, disk);
+        what_is_kept_is_seen();
+        let _stored = self.store.state();
+    }
+
+    // The session that comes next.
+    fn next_choice(&self, alloc: Global, moment: u64) -> Result<Option<Choice>, AllocError>
+        requires { MayChoose self.now.flow self.now.queues (kept_by self.now.store).counts self.now.listing }
+        ensures { IfOk result (λ choice. choice ≡ choice_in self.now moment) }
+    {
+        let counts = self.store.state().counts.as_slice();
+        choose(
+            alloc,
+            self.flow,
+            &self.queues,
+            counts,
+            &self.listing,
+            self.last,
+            moment,
+        )
+    }
+
+    // How it ends where no session comes. An end that isn't the machine's is for want of memory: a queue has so many
+    // files that some were to be swapped out.
+    fn ending(&self, alloc: Global, moment: u64) -> Result<Ending, EngineError>
+        requires { MayChoose self.now.flow self.now.queues (kept_by self.now.store).counts self.now.listing }
+        ensures ending { IfOk result (λ ending. ending ≡ ending_in self.now moment) }
+        ensures due { IfOk result (λ ending. ((until : ℕ) → ending ≡ Ending.Rest until → ⊥)
+            → nothing_due self.now.flow (queue_seen self.now.queues) moment ≡ true) }
+        ensures kinds { IfErr result (λ error. error ≡ EngineError.Memory) }
+    {
+        let counts = self.store.state().counts.as_slice();
+        let ending = ending(
+            alloc,
+            self.flow,
+            &self.queues,
+            counts,
+            &self.listing,
+            moment,
+        )?;
+        match ending {
+            Ending::Rest { .. } => Ok(ending),
+            _ if self.queues.is_nothing_due(moment) => Ok(ending),
+            _ => Err(EngineError::Memory),
+        }
+    }
+}
