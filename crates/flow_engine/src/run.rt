@@ -1,0 +1,103 @@
+//! A flow runs over an opened store until nothing is left to do, and the store is closed.
+ghost use Rattle.std.specs.Prelude.{◌≡◌, ◌⊎◌, ℕ, ◌-◌, ◌^◌, ◌<◌, false, [], Ok, IsTrue};
+ghost use Rattle.disk_trait.specs.Faults.{CountsFaults};
+ghost use Rattle.disk_trait.specs.Images.{After, Since};
+ghost use Rattle.disk_trait.specs.declared.damage.Damage.{Damage as TheDamage};
+ghost use Rattle.kept_state.specs.declared.limit.Limit.{Limit as TheLimit};
+ghost use Rattle.machine_model.specs.Sound.{IsSound};
+ghost use Rattle.machine_model.specs.State.{State};
+ghost use Rattle.machine_model.specs.declared.flow.Flow.{Flow as TheFlow};
+ghost use Rattle.store_core.specs.Flow.{flow_in};
+ghost use Rattle.store_core.specs.State.{stands_for};
+ghost use Rattle.store_core.specs.Store.{kept_by, live_in, EachStandsFor, IsKeptOn};
+ghost use Rattle.store_core.specs.Touched.{Frees};
+ghost use Rattle.engine_core.specs.Committing.{identity_of};
+ghost use Rattle.flow_run.specs.Going.{IsRunningAt};
+ghost use Rattle.flow_run.specs.Run.{HasRun, IsTidied, machine_at};
+ghost use Rattle.flow_run.specs.declared.ended.Fault.TheVariants.{Damaged, Disk};
+ghost use Rattle.flow_run.specs.Ending.{EndsOnFaults, IsLimitMet};
+ghost use Rattle.flow_engine.specs.Engine.{AreBuilt};
+ghost use Rattle.flow_run.specs.Work.{IsAtWork, IsReadDamaged, WritesLog};
+
+use crate::EngineError;
+use crate::engine::Engine;
+use disk_trait::Disk;
+use engine_choice::Ending;
+use flow_run::{Ended, Fault, faults_end_a_run, run_ends, run_goes_on};
+use machine_model::Flow;
+use std::alloc::Global;
+use store_core::Store;
+use world_io::{Clock, Inbox, Outbox};
+
+/// Runs a flow over a store of it that was opened: session after session until nothing is left to do, all of it is held
+/// back by full connections, or the journal has `most` entries. Then the store is closed. It tells how that ended; after
+/// a fault the store isn't closed, and is to be opened anew.
+pub fn run_flow<D: Disk, I: Inbox, O: Outbox, C: Clock>(
+    alloc: Global,
+    flow: &Flow,
+    store: Store,
+    most: u64,
+    disk: &mut D,
+    inbox: &mut I,
+    outbox: &mut O,
+    clock: &mut C,
+) -> Ended
+    requires sound { IsSound flow.now }
+    requires built { AreBuilt flow.now }
+    requires most { most < 2 ^ 64 - 1 }
+    requires work { IsAtWork flow.now D.tells D.held D.moment D.images store disk.old }
+    // Where the devices tell, a journal of the machine's steps tells what the run did.
+    ensures headline { IsTrue D.tells → IsTrue I.tells → IsTrue O.tells → (state : State) (first : D)
+        → IsRunningAt flow.now D.moment D.images store.lot
+        (machine_at state (I.left inbox.old) (O.standing outbox.old)) first disk.old []
+        (machine_at state (I.left inbox.old) (O.standing outbox.old)) (I.left inbox.old) (O.standing outbox.old)
+        → HasRun flow.now result (C.time clock.new) D.tells D.held D.moment D.images store.lot
+        (machine_at state (I.left inbox.old) (O.standing outbox.old)) first disk.new (I.left inbox.new)
+        (O.standing outbox.new) }
+    // On any devices.
+    ensures alone { WritesLog D.moment D.images store.log.number disk.old disk.new }
+    ensures limited { (limit : TheLimit) → result ≡ Ended.Limit limit
+        → IsLimitMet flow.now D.tells D.held D.moment D.images store.lot (D.moment disk.old) most limit disk.new }
+    ensures damaged { (damage : TheDamage) → result ≡ Ended.Fault (Damaged damage)
+        → IsReadDamaged flow.now D.tells D.held D.moment D.images store.lot disk.new }
+    ensures causes { EndsOnFaults result (D.faults disk.old) (D.faults disk.new)
+        (I.faults inbox.old) (I.faults inbox.new) (O.faults outbox.old) (O.faults outbox.new) }
+{
+    faults_end_a_run::<D>();
+    run_ends::<D>();
+    run_goes_on::<D>();
+    let mut engine = match Engine::open(alloc, flow, store, most, inbox) {
+        Ok(engine) => engine,
+        Err(error) => return error.ended(),
+    };
+    match engine.drive(alloc, disk, inbox, outbox, clock) {
+        Ok(Ending::Blocked(connection)) => {
+            close(&mut engine.store, disk, Ended::Blocked(connection))
+        }
+        Ok(_) => close(&mut engine.store, disk, Ended::Quiet),
+        Err(EngineError::Limit(limit)) => close(&mut engine.store, disk, Ended::Limit(limit)),
+        Err(error) => error.ended(),
+    }
+}
+
+// Closes the store of a run that is to end so. Whatever a stop leaves stands for the same state.
+fn close<D: Disk>(store: &mut Store, disk: &mut D, ended: Ended) -> Ended
+    requires kept { IsKeptOn D.tells D.held D.moment D.images store.old disk.old }
+    requires works { store.old.failed ≡ false }
+    requires ended { ended ≡ Ended.Fault Disk → ⊥ }
+    ensures told { (result ≡ ended) ⊎ (result ≡ Ended.Fault Disk) }
+    ensures states { (state : State)
+        → EachStandsFor (flow_in (kept_by store.old)) store.old.lot state (D.images disk.old (D.moment disk.old))
+        → Since D.moment D.images disk.old disk.new
+        (λ c. stands_for (flow_in (kept_by store.old)) store.old.lot c ≡ Ok state) }
+    ensures tidied { result ≡ ended → (flow : TheFlow) → flow_in (kept_by store.old) ≡ identity_of flow
+        → IsTrue D.tells → IsTidied flow store.old.lot (D.held disk.new) }
+    ensures alone { Since D.moment D.images disk.old disk.new
+        (After (Frees (live_in store.old)) (D.images disk.old (D.moment disk.old))) }
+    ensures cause { CountsFaults (D.faults disk.old) (D.faults disk.new) (result ≡ Ended.Fault Disk) }
+{
+    match store.close(disk) {
+        Ok(()) => ended,
+        Err(_) => Ended::Fault(Fault::Disk),
+    }
+}
