@@ -92,6 +92,22 @@ module _ {D : Type 0} (tells : Bool) (held : D → Files) (moment : D → ℕ) (
   pub kept_closed : (emptied : List Slot) → (IsTrue tells → IdleShortened slots (held old) (held mid)) → (IsTrue tells → HasSizes emptied (held mid)) → IsKeptOn tells held moment images (closed s emptied) mid
   kept_closed emptied shortened sizes = kept_reclaimed moment images (let_go s slots) old mid tells held emptied (works_on s slots has) has.unfailed kept_on since shortened sizes
 
+-- a reclaim leaves what the files stand for
+pub states_reclaimed : {D : Type 0} (tells : Bool) (held : D → Files) (moment : D → ℕ) (images : D → ℕ → Files → Type 0) (s : StoreState) (old new : D) → IsWorking s → s.failed ≡ false
+    → IsKeptOn tells held moment images s old → Since moment images old new (After (IdleShortened s.slots) (images old (moment old)))
+    → (state : State) → EachStandsFor (flow_in (kept_by s)) s.lot state (images old (moment old)) → Since moment images old new (λ c. stands_for (flow_in (kept_by s)) s.lot c ≡ of_state state)
+states_reclaimed tells held moment images s old new works unfailed kept since state stands =
+    wider moment images old new (After (IdleShortened s.slots) (images old (moment old))) (λ c. stands_for (flow_in (kept_by s)) s.lot c ≡ of_state state) since
+    (λ c after. state_following s state after.0 c works (kept.log unfailed after.0 after.1) (follows after.0 c after.2) (kept.holds unfailed after.0 after.1) (stands after.0 after.1))
+  where
+    follows : (before c : Files) → IdleShortened s.slots before c → Follows s before c
+    follows before c step = record {
+      current = current_stays before c step.others;
+      snapshot = snapshot_stays before c step.others;
+      contents = live_stay s before c works step;
+      events = same_covered s.events.end before c (events_stay before c step.others);
+    }
+
 -- a sync leaves it so
 pub kept_synced : {D : Type 0} (tells : Bool) (held : D → Files) (moment : D → ℕ) (images : D → ℕ → Files → Type 0) (s : StoreState) (mid end : D) → IsKeptOn tells held moment images s mid
     → Since moment images mid end (images mid (moment mid)) → held end ≡ held mid → IsKeptOn tells held moment images s end

@@ -202,13 +202,18 @@ impl Store {
     /// Empties the claims that no live content and none of the opening stands in. It takes no memory.
     pub fn reclaim<D: Disk>(&mut self, disk: &mut D) -> Result<Reclaimed, StoreError>
         requires { IsKeptOn D.tells D.held D.moment D.images self.old disk.old }
-        // Whatever a stop leaves holds the same state.
+        // Whatever a stop leaves holds the same, and stands for the same state.
         ensures images { self.old.failed ≡ false → Since D.moment D.images disk.old disk.new (Holds self.old) }
+        ensures states { self.old.failed ≡ false → (state : State)
+            → EachStandsFor (flow_in (kept_by self.old)) self.old.lot state (D.images disk.old (D.moment disk.old))
+            → Since D.moment D.images disk.old disk.new
+            (λ c. stands_for (flow_in (kept_by self.old)) self.old.lot c ≡ Ok state) }
         ensures alone { Since D.moment D.images disk.old disk.new
             (After (IdleShortened self.old.slots) (D.images disk.old (D.moment disk.old))) }
         ensures kept { IsKeptOn D.tells D.held D.moment D.images self.new disk.new }
         ensures state { (kept_by self.new ≡ kept_by self.old) × (self.new.opened ≡ self.old.opened)
             × (self.new.lot ≡ self.old.lot) }
+        ensures log { self.new.log.number ≡ self.old.log.number }
         ensures refusal { RefusesOnFault result self.old self.new (D.faults disk.old) (D.faults disk.new) }
         ensures kinds { IfErr result IsDiskOrReopen }
     {
