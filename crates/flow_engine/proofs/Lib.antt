@@ -1,0 +1,4 @@
+mod Expired
+mod RunsOn
+mod Tended
+mod Writes

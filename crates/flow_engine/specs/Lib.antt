@@ -4,3 +4,4 @@ pub mod Engine
 pub mod Errors
 pub mod Job
 pub mod Running
+pub mod Tending
