@@ -3,15 +3,18 @@ mod Chosen
 pub mod Closing
 mod Committed
 pub mod Ending
+pub mod Expired
 mod Files
 pub mod Fitting
 mod Goes
 mod Left
 pub mod Names
 pub mod Outbox
+pub mod RunsOn
 pub mod Sends
 pub mod SessionSteps
 mod Stands
 mod Steps
+pub mod Tended
 pub mod Turning
 pub mod Writes

@@ -8,3 +8,4 @@ pub mod Job
 pub mod Opening
 pub mod Running
 pub mod Sending
+pub mod Tending

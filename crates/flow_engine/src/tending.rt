@@ -1,22 +1,43 @@
 //! What an engine does between two sessions: files expire, and claims are reclaimed.
-ghost use Rattle.std.specs.Prelude.{◌≡◌, ◌⊎◌, ℕ, ◌+◌, ◌-◌, ◌^◌, ◌<◌, List, Option, Ok, IfOk, OnOk, IfErr, IsErrOf, IsTrue};
+ghost use Rattle.std.specs.Prelude.{◌≡◌, ◌⊎◌, ℕ, ◌+◌, ◌-◌, ◌^◌, ◌<◌, List, Option, Some, Ok, IfOk, OnOk, IfErr, IsErrOf, IsTrue};
 ghost use Rattle.disk_trait.specs.Faults.{CountsFaults};
 ghost use Rattle.flowfile_record.specs.NamedFile.{NamedFile};
+ghost use Rattle.flowfile_wal.specs.Calls.{InEach};
 ghost use Rattle.kept_state.specs.declared.limit.Limit.{Limit as TheLimit};
+ghost use Rattle.machine_model.specs.declared.flow.Flow.{Flow as TheFlow};
+ghost use Rattle.machine_model.specs.declared.journal.Entry.{Entry as TheEntry};
+ghost use Rattle.machine_model.specs.declared.journal.Step.TheVariants.{Expire};
+ghost use Rattle.machine_model.specs.Due.{due_expiry};
+ghost use Rattle.machine_model.specs.Sound.{IsSound};
 ghost use Rattle.machine_model.specs.State.{Machine};
+ghost use Rattle.store_core.specs.Change.{HasLiveContents, MayExpire};
+ghost use Rattle.store_core.specs.Flow.{flow_in};
+ghost use Rattle.store_core.specs.Store.{kept_by};
+ghost use Rattle.engine_core.specs.Committing.{identity_of};
+ghost use Rattle.engine_core.specs.Expiring.{MayExpireIn};
+ghost use Rattle.engine_queues.specs.Queues.{AreQueuesOf, queue_seen};
+ghost use Rattle.engine_queues.specs.Views.{kept_queues};
 ghost use Rattle.flow_engine.specs.Driving.{IsNoneExpired};
 ghost use Rattle.flow_run.specs.Ending.{journal_full};
+ghost use Rattle.flow_run.specs.Going.{IsSpared};
+ghost use Rattle.flow_run.specs.Run.{IsAtLimit, StandsFor};
 ghost use Rattle.flow_engine.specs.Engine.{IsOfSameRun, IsReady};
 ghost use Rattle.flow_engine.specs.Running.{IsRunning, Stops};
+ghost use Rattle.flow_engine.specs.Tending.{IsCutOff, IsDone, MakesExpiry};
 ghost use Rattle.flow_run.specs.Work.{IsAtWork, IsRefused, WritesLog};
 ghost use Rattle.flow_engine.specs.declared.error.EngineError.{EngineError as TheError};
 ghost use Rattle.flow_engine.specs.declared.tending.Tended.TheVariants.{Expired, Nothing};
 
 use crate::EngineError;
 use crate::engine::Engine;
+use crate::tied::holds_its_state;
 use disk_trait::Disk;
-use machine_model::RECLAIM_ENTRIES;
-use std::alloc::Global;
+use engine_core::{due_expiries_may_expire, expire_files, held_contents_are_read};
+use engine_queues::{Expiry, Queues, what_is_kept_is_seen};
+use flow_run::{faults_end_a_run, run_goes_on, worlds_follow_steps};
+use machine_model::{Flow, RECLAIM_ENTRIES};
+use std::alloc::{AllocError, Global};
+use store_core::{Limit, SettledExpiry, Store, Which};
 
 /// What was due: files of a connection expired, or nothing.
 #[derive(Clone, Copy, Debug, PartialEq, Eq)]
@@ -26,7 +47,6 @@ pub enum Tended {
 }
 
 impl Engine<'_> {
-    #[tactic(none)]
     /// Reclaims the claims where that is due, and lets the expired files of the first connection that has some go.
     pub fn tend<D: Disk>(
         &mut self,
@@ -62,6 +82,197 @@ impl Engine<'_> {
             ⊎ ((limit : TheLimit) × (error ≡ EngineError.Limit limit))) }
         ensures cause { CountsFaults (D.faults disk.old) (D.faults disk.new) (IsErrOf result EngineError.Disk) }
     {
-        Err(EngineError::Memory)
+        self.reclaim_due(disk)?;
+        self.expire_due(alloc, disk, moment)
     }
+
+    // Reclaims the claims where that is due.
+    fn reclaim_due<D: Disk>(&mut self, disk: &mut D) -> Result<(), EngineError>
+        requires { IsReady D.tells D.held D.moment D.images self.old disk.old }
+        ensures goes_on { OnOk result ((opened : Machine) (first : D) (left : List NamedFile)
+            (standing : List ℕ → Option (List ℕ))
+            → IsRunning D.moment D.images self.old opened first disk.old left standing
+            → IsRunning D.moment D.images self.new opened first disk.new left standing) }
+        ensures stopped { IsErrOf result EngineError.Disk → (opened : Machine) (first : D) (left : List NamedFile)
+            (standing : List ℕ → Option (List ℕ))
+            → IsRunning D.moment D.images self.old opened first disk.old left standing
+            → Stops EngineError.Disk D.tells D.held D.moment D.images self.new opened first disk.new left standing }
+        ensures ready { OnOk result (IsReady D.tells D.held D.moment D.images self.new disk.new) }
+        ensures names { self.new.listing ≡ self.old.listing }
+        ensures entries { self.new.entries ≡ self.old.entries }
+        ensures same { IsOfSameRun self.old self.new }
+        ensures alone { WritesLog D.moment D.images self.old.store.log.number disk.old disk.new }
+        ensures kinds { IfErr result (λ error. error ≡ EngineError.Disk) }
+        ensures cause { CountsFaults (D.faults disk.old) (D.faults disk.new) (IsErrOf result EngineError.Disk) }
+    {
+        if self.since_reclaim < RECLAIM_ENTRIES {
+            return Ok(());
+        }
+        run_goes_on::<D>();
+        faults_end_a_run::<D>();
+        reclaim(&mut self.store, disk)?;
+        self.since_reclaim = 0;
+        Ok(())
+    }
+
+    // Lets the expired files of the first connection that has some go.
+    fn expire_due<D: Disk>(
+        &mut self,
+        alloc: Global,
+        disk: &mut D,
+        moment: u64,
+    ) -> Result<Tended, EngineError>
+        requires ready { IsReady D.tells D.held D.moment D.images self.old disk.old }
+        requires most { self.old.most < 2 ^ 64 - 1 }
+        ensures goes_on { OnOk result (IsTrue D.tells → (opened : Machine) (first : D) (left : List NamedFile)
+            (standing : List ℕ → Option (List ℕ))
+            → IsRunning D.moment D.images self.old opened first disk.old left standing
+            → IsRunning D.moment D.images self.new opened first disk.new left standing) }
+        ensures stopped { (error : TheError) → IsErrOf result error → IsTrue D.tells → (opened : Machine) (first : D)
+            (left : List NamedFile) (standing : List ℕ → Option (List ℕ))
+            → IsRunning D.moment D.images self.old opened first disk.old left standing
+            → Stops error D.tells D.held D.moment D.images self.new opened first disk.new left standing }
+        ensures expired { result ≡ Ok Expired → self.new.entries ≡ self.old.entries + 1 }
+        ensures none { result ≡ Ok Nothing
+            → IsNoneExpired self.new moment × (self.new.entries ≡ self.old.entries) }
+        ensures ready { OnOk result (IsReady D.tells D.held D.moment D.images self.new disk.new) }
+        ensures names { self.new.listing ≡ self.old.listing }
+        ensures same { IsOfSameRun self.old self.new }
+        ensures alone { WritesLog D.moment D.images self.old.store.log.number disk.old disk.new }
+        ensures refused { (limit : TheLimit) → IsErrOf result (EngineError.Limit limit)
+            → IsRefused self.old.flow D.tells D.held D.moment D.images limit self.new.store disk.new
+            ⊎ ((limit ≡ journal_full self.old.most)
+            × IsAtWork self.old.flow D.tells D.held D.moment D.images self.new.store disk.new) }
+        ensures kinds { IfErr result (λ error. (error ≡ EngineError.Disk) ⊎ (error ≡ EngineError.Memory)
+            ⊎ ((limit : TheLimit) × (error ≡ EngineError.Limit limit))) }
+        ensures cause { CountsFaults (D.faults disk.old) (D.faults disk.new) (IsErrOf result EngineError.Disk) }
+    {
+        holds_its_state(&self.store, disk);
+        what_is_kept_is_seen();
+        due_expiries_may_expire();
+        worlds_follow_steps();
+        run_goes_on::<D>();
+        faults_end_a_run::<D>();
+        let Some(expiry) = self.queues.due_expiry(alloc, moment)? else {
+            return Ok(Tended::Nothing);
+        };
+        if self.entries >= self.most {
+            return Err(EngineError::Limit(Limit {
+                which: Which::Journal,
+                number: self.most,
+                wanted: self.most + 1,
+            }));
+        }
+        expire(
+            alloc,
+            self.flow,
+            &mut self.store,
+            &mut self.queues,
+            disk,
+            moment,
+            expiry,
+        )?;
+        self.entries += 1;
+        self.since_reclaim = self.since_reclaim.saturating_add(1);
+        Ok(Tended::Expired)
+    }
+}
+
+// Empties the claims that no live content stands in. Whatever a stop leaves stands for the same state.
+fn reclaim<D: Disk>(store: &mut Store, disk: &mut D) -> Result<(), EngineError>
+    requires { (flow : TheFlow) × IsAtWork flow D.tells D.held D.moment D.images store.old disk.old }
+    ensures spared { (flow : TheFlow) (before : Machine)
+        → IsAtWork flow D.tells D.held D.moment D.images store.old disk.old
+        → InEach (D.images disk.old (D.moment disk.old)) (StandsFor flow store.old.lot before)
+        → IsSpared flow D.moment D.images store.old.lot before disk.old disk.new }
+    ensures work { OnOk result ((flow : TheFlow)
+        → IsAtWork flow D.tells D.held D.moment D.images store.old disk.old
+        → IsAtWork flow D.tells D.held D.moment D.images store.new disk.new) }
+    ensures same { (kept_by store.new ≡ kept_by store.old) × (store.new.lot ≡ store.old.lot)
+        × (store.new.log.number ≡ store.old.log.number) }
+    ensures alone { WritesLog D.moment D.images store.old.log.number disk.old disk.new }
+    ensures kinds { IfErr result (λ error. error ≡ EngineError.Disk) }
+    ensures cause { CountsFaults (D.faults disk.old) (D.faults disk.new) (IsErrOf result EngineError.Disk) }
+{
+    store.reclaim(disk)?;
+    Ok(())
+}
+
+// Lets expired files go, which are due. All memory is taken before the commit.
+fn expire<D: Disk>(
+    alloc: Global,
+    flow: &Flow,
+    store: &mut Store,
+    queues: &mut Queues,
+    disk: &mut D,
+    moment: u64,
+    expiry: Expiry,
+) -> Result<(), EngineError>
+    requires sound { IsSound flow.now }
+    requires work { IsAtWork flow.now D.tells D.held D.moment D.images store.old disk.old }
+    requires queues { AreQueuesOf flow.now (kept_by store.old) queues.old }
+    requires due { due_expiry flow.now (queue_seen queues.old) moment ≡ Some (expiry.connection, expiry.numbers) }
+    ensures done { OnOk result (IsTrue D.tells → (before : Machine)
+        → InEach (D.images disk.old (D.moment disk.old)) (StandsFor flow.now store.old.lot before)
+        → IsDone flow.now D.moment D.images store.old.lot before (Expire expiry.connection expiry.numbers moment)
+        disk.old disk.new) }
+    ensures cut_off { IsErrOf result EngineError.Disk → IsTrue D.tells → (before : Machine)
+        → InEach (D.images disk.old (D.moment disk.old)) (StandsFor flow.now store.old.lot before)
+        → IsCutOff flow.now D.moment D.images store.old.lot before (Expire expiry.connection expiry.numbers moment)
+        disk.old disk.new }
+    ensures limited { (limit : TheLimit) → IsErrOf result (EngineError.Limit limit) → IsTrue D.tells
+        → (before : Machine)
+        → InEach (D.images disk.old (D.moment disk.old)) (StandsFor flow.now store.old.lot before)
+        → (journal : List TheEntry)
+        → IsAtLimit flow.now D.tells D.held D.moment D.images store.old.lot journal before limit disk.old }
+    // Any error but the disk's comes before the commit.
+    ensures unwritten { (error : TheError) → IsErrOf result error → (error ≡ EngineError.Disk → ⊥)
+        → (disk.new ≡ disk.old) × (store.new ≡ store.old) × (queues.new ≡ queues.old) }
+    ensures work { OnOk result (IsAtWork flow.now D.tells D.held D.moment D.images store.new disk.new) }
+    ensures queues { OnOk result (AreQueuesOf flow.now (kept_by store.new) queues.new) }
+    ensures same { (store.new.lot ≡ store.old.lot) × (store.new.log.number ≡ store.old.log.number) }
+    ensures alone { WritesLog D.moment D.images store.old.log.number disk.old disk.new }
+    ensures refused { (limit : TheLimit) → IsErrOf result (EngineError.Limit limit)
+        → IsRefused flow.now D.tells D.held D.moment D.images limit store.new disk.new }
+    ensures kinds { IfErr result (λ error. (error ≡ EngineError.Disk) ⊎ (error ≡ EngineError.Memory)
+        ⊎ ((limit : TheLimit) × (error ≡ EngineError.Limit limit))) }
+    ensures cause { CountsFaults (D.faults disk.old) (D.faults disk.new) (IsErrOf result EngineError.Disk) }
+{
+    holds_its_state(store, disk);
+    held_contents_are_read();
+    what_is_kept_is_seen();
+    let expiry = settle_expiry(alloc, flow, store, moment, expiry)?;
+    let prepared = store.prepare_expiry(&expiry)?;
+    store.commit(disk, prepared)?;
+    queues.expire(expiry.connection, expiry.settled.gone.as_slice());
+    Ok(())
+}
+
+// What expired files change that are due: the machine has a step for it.
+fn settle_expiry(
+    alloc: Global,
+    flow: &Flow,
+    store: &Store,
+    moment: u64,
+    expiry: Expiry,
+) -> Result<SettledExpiry, AllocError>
+    requires sound { IsSound flow.now }
+    requires identity { flow_in (kept_by store.now) ≡ identity_of flow.now }
+    requires due { due_expiry flow.now (kept_queues (kept_by store.now)) moment
+        ≡ Some (expiry.connection, expiry.numbers) }
+    ensures may { IfOk result (MayExpire (kept_by store.now)) }
+    ensures live { IfOk result (λ settled. HasLiveContents store.now settled.settled) }
+    ensures there { IfOk result (λ settled.
+        MayExpireIn flow.now (kept_by store.now) settled.connection settled.settled.gone) }
+    ensures step { IfOk result (λ settled.
+        MakesExpiry flow.now (kept_by store.now) expiry.connection expiry.numbers moment settled.settled) }
+{
+    what_is_kept_is_seen();
+    due_expiries_may_expire();
+    let _stored = store.state();
+    let Expiry {
+        connection,
+        numbers,
+    } = expiry;
+    expire_files(alloc, flow, store, moment, connection, numbers)
 }

@@ -1,0 +1,50 @@
+use Rattle.std.proofs.Common.{refl, sym, subst}
+use Rattle.flow_run.specs.Work.{IsAtWork, WritesLog}
+use Rattle.flow_run.specs.declared.ended.Fault.TheVariants as fault
+use Rattle.flow_engine.specs.Engine.{EngineState, IsOfSameRun}
+use Rattle.flow_engine.specs.Running.{IsRunning}
+use Rattle.flow_engine.specs.declared.error.EngineError.{EngineError}
+use Rattle.flow_engine.proofs.RunsOn.{runs_spared, stops_spared}
+use Rattle.flow_engine.proofs.engine.Engine.reclaim_due.Goals as goal
+
+pub returns-in_err-reclaim-clause-stopped : goal.returns-in_err-reclaim-clause-stopped
+returns-in_err-reclaim-clause-stopped g c is opened first left standing run =
+    let tells = g.D.Disk.tells in
+    let held = g.D.Disk.held in
+    let moment = g.D.Disk.moment in
+    let images = g.D.Disk.images in
+    let old = c.args.disk.now in
+    let new = c.reclaim.new.disk in
+    let i = c.self.inside in
+    let e : EngineState = record { flow = i.flow.now; store = i.store; queues = i.queues; listing = i.listing; last = i.last; entries = i.entries; most = i.most } in
+    let f : EngineState = record e { store = c.reclaim.new.store } in
+    let same : IsOfSameRun e f = record { flow = refl; most = refl; lot = c.reclaim.ensures.same.1; log = c.reclaim.ensures.same.2 } in
+    let work = subst (λ (u : EngineState). IsAtWork u.flow tells held moment images u.store old) (sym c.self.view_is) c.requires.work in
+    stops_spared tells held moment images e f same opened first old new left standing c.faults_end_a_run.ensures.between EngineError.Disk fault.Disk refl
+    (λ m stands. c.reclaim.ensures.spared i.flow.now m work stands)
+    (subst (λ (u : EngineState). IsRunning moment images u opened first old left standing) (sym c.self.view_is) run)
+
+pub returns-in_err-reclaim-clause-alone : goal.returns-in_err-reclaim-clause-alone
+returns-in_err-reclaim-clause-alone g c =
+    subst (λ (u : EngineState). WritesLog g.D.Disk.moment g.D.Disk.images u.store.log.number c.args.disk.now c.reclaim.new.disk) c.self.view_is c.reclaim.ensures.alone
+
+pub returns-clause-goes_on : goal.returns-clause-goes_on
+returns-clause-goes_on g c opened first left standing run =
+    let tells = g.D.Disk.tells in
+    let held = g.D.Disk.held in
+    let moment = g.D.Disk.moment in
+    let images = g.D.Disk.images in
+    let old = c.args.disk.now in
+    let new = c.reclaim.new.disk in
+    let i = c.self.inside in
+    let e : EngineState = record { flow = i.flow.now; store = i.store; queues = i.queues; listing = i.listing; last = i.last; entries = i.entries; most = i.most } in
+    let f : EngineState = record e { store = c.reclaim.new.store } in
+    let same : IsOfSameRun e f = record { flow = refl; most = refl; lot = c.reclaim.ensures.same.1; log = c.reclaim.ensures.same.2 } in
+    let work = subst (λ (u : EngineState). IsAtWork u.flow tells held moment images u.store old) (sym c.self.view_is) c.requires.work in
+    runs_spared tells held moment images e f same opened first old new left standing c.run_goes_on.ensures.spared refl refl
+    (λ m stands. c.reclaim.ensures.spared i.flow.now m work stands)
+    (subst (λ (u : EngineState). IsRunning moment images u opened first old left standing) (sym c.self.view_is) run)
+
+pub returns-clause-alone : goal.returns-clause-alone
+returns-clause-alone g c =
+    subst (λ (u : EngineState). WritesLog g.D.Disk.moment g.D.Disk.images u.store.log.number c.args.disk.now c.reclaim.new.disk) c.self.view_is c.reclaim.ensures.alone
