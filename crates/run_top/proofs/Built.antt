@@ -23,7 +23,7 @@ use Rattle.store_core.specs.Flow as store
 use Rattle.store_core.specs.Kept.{kept_in}
 use Rattle.store_core.specs.State.{stands_for}
 use Rattle.std.specs.Prelude.{ℕ, Ok}
-use Rattle.run_top.specs.Built.{AreBuilt}
+use Rattle.flow_engine.specs.Engine.{AreBuilt}
 use Rattle.run_top.specs.Opening.{IsOfFlow}
 use Rattle.run_top.specs.Text.{IsFlowIn}
 

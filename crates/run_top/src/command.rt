@@ -9,14 +9,14 @@ ghost use Rattle.store_core.specs.Opened.{IsShut};
 ghost use Rattle.engine_core.specs.Committing.{identity_of};
 ghost use Rattle.flow_definition.specs.Patterns.{HasRisen};
 ghost use Rattle.flow_run.specs.Run.{machine_at};
-ghost use Rattle.run_top.specs.Built.{AreBuilt};
+ghost use Rattle.flow_engine.specs.Engine.{AreBuilt};
 ghost use Rattle.run_top.specs.Opening.{IsOfFlow};
 ghost use Rattle.run_top.specs.Run.{CountsEachFault, EndsWith, HasRunText, IsLeftShut, IsLimited, IsNotOpened, IsNotRead, IsToldByRead, IsToldShut, IsUntouched, WritesAlone};
 ghost use Rattle.run_top.specs.Status.{status_at};
 ghost use Rattle.run_top.specs.Text.{IsBroken, IsFlowIn, IsRead, IsRefused};
 ghost use Rattle.run_top.specs.Words.{is_run};
 
-use crate::flow_engine::run_flow;
+use flow_engine::run_flow;
 use crate::opening::open;
 use crate::status::status_of_run;
 use crate::text::read;

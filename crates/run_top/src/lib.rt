@@ -2,7 +2,6 @@
 #![tactic(auto)]
 
 mod command;
-mod flow_engine;
 mod opening;
 mod status;
 mod text;
