@@ -124,7 +124,7 @@ module _ (sessions : ChoicesAreSessions) (seen : QueuesAreSeen) (live : Machines
       → next_choice flow (queue_seen queues) k.counts names moment last ≡ Some choice → IsNext flow k names moment choice
       → IsStateOf m contents k → IsValid flow m.state → coming_of m.world ≡ names → left ≡ files_left m.world → standing ≡ m.world.outbox
       → IsHanded k moment choice job → IsHandedAs k contents left standing choice job → StandsIn flow k contents m job
-  stands_in consistent no_batches flow_is are sizes chosen next tied valid coming lies stands handed as =
+  stands_in consistent no_batches flow_is are sizes chosen next tied valid coming lies stands handed told =
       let count = ap (λ (f : store.Flow). length f.connections) flow_is ∙ length-map flow.connections (λ c. c.id) in
       let sees : SeesTheSame flow (queue_seen queues) (queues_of m.state) =
       subst (λ (s : State). SeesTheSame flow (queue_seen queues) (queues_of s)) tied.is (seen flow contents m.state.events k queues consistent sizes count are) in
@@ -142,14 +142,14 @@ module _ (sessions : ChoicesAreSessions) (seen : QueuesAreSeen) (live : Machines
       let files : at.files ≡ map (queued_file contents) job.files =
       are_live.are ∙ ap (map (queued_file contents)) (ap (live_files k) (sym handed.numbers) ∙ sym handed.taken.are) in
       let time : job.given.moment ≡ moment = ap (λ (g : Given). g.moment) handed.given ∙ moment_of moment job.given.there choice.taking in
-      let there : job.given.there ≡ is_there m.world at.files = as.there m.world (sym stands) ∙ ap (is_there m.world) (sym files) in
+      let there : job.given.there ≡ is_there m.world at.files = told.there m.world (sym stands) ∙ ap (is_there m.world) (sym files) in
       let gives : given_in at.processor.kind choice.processor m.state m.world at.files (record job.given { bytes = None }) ≡ Some at.handed =
       ap (given_in at.processor.kind choice.processor m.state m.world at.files) (handed.given ∙ ap (λ b. given_for moment b choice.taking) there) ∙ at.given in
-      let back = handed_so k names moment choice.processor m.state m.world at.files left lies job.given at.handed at.processor.kind choice.taking takes handed.given handed.has as.received gives in
+      let back = handed_so k names moment choice.processor m.state m.world at.files left lies job.given at.handed at.processor.kind choice.taking takes handed.given handed.has told.received gives in
       record {
         processor = at.processor;
         found = ap (slice_get flow.processors) handed.processor ∙ at.found;
-        read = as.read;
+        read = told.read;
         taken = (λ i. taken_files flow m.state (handed.processor i) rule (handed.numbers i) (time i)) ∙ at.taken ∙ ap Some files;
         given = (λ i. given_in at.processor.kind (handed.processor i) m.state m.world (sym files i) (record job.given { bytes = None })) ∙ gives ∙ ap Some back;
       }

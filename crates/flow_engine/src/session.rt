@@ -101,10 +101,19 @@ impl Engine<'_> {
             changed,
         )?;
         self.last = Some(processor);
-        self.entries += 1;
+        self.entries = one_more(self.entries, self.most);
         self.since_reclaim = self.since_reclaim.saturating_add(1);
         remove(&mut self.listing, inbox, processor, &received)
     }
+}
+
+// One more entry than there are, which are fewer than there may be.
+fn one_more(entries: u64, most: u64) -> u64
+    requires { entries < most }
+    ensures { result ≡ entries + 1 }
+{
+    let _ = most;
+    entries + 1
 }
 
 // The name of the file that a session receives.
