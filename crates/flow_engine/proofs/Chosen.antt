@@ -1,10 +1,10 @@
 -- What the session that comes next takes, by the kind of its processor.
-use Rattle.std.proofs.Common.{◌≡◌, inl, inr, ℕ, ◌+◌, ◌<◌, ◌≤◌, ◌==◌, ◌&&◌, zero, suc, Bool, true, false, cond, List, [], ◌∷◌, length, map, refl, sym, ap, subst, ◌∙◌, arith}
-use Rattle.std.specs.Prelude.{nat_lt, nat_le, All, Option, None, Some, IsSome, IsTrue, IfSome, filter, find, option_map, slice_get, slice_index}
+use Rattle.std.proofs.Common.{◌≡◌, inl, inr, ℕ, ◌+◌, ◌<◌, ◌≤◌, ◌==◌, ◌&&◌, zero, suc, Bool, true, false, cond, List, [], ◌∷◌, length, refl, sym, ap, subst, ◌∙◌, arith}
+use Rattle.std.specs.Prelude.{nat_lt, Option, None, Some, IsSome, IsTrue, IfSome, filter, find, option_map, slice_get, slice_index}
 use Rattle.std.specs.Option.{IsSomeAnd}
 use Rattle.std.specs.List.{enumerate_from}
 use Rattle.std.proofs.lemmas.List.{length-map}
-use Rattle.std.proofs.lemmas.Bool.{ltb-true, leb-true, eqb-true}
+use Rattle.std.proofs.lemmas.Bool.{ltb-true, leb-true}
 use Rattle.expr_lang.specs.declared.syntax.Expr.{Expr}
 use Rattle.flowfile_record.specs.NamedFile.{NamedFile, bytes_of}
 use Rattle.flowfile_record.specs.Stored.{Kept}
@@ -31,7 +31,6 @@ use Rattle.machine_model.specs.Kinds.{take_rule_of}
 use Rattle.machine_model.specs.Laws.{MayTake}
 use Rattle.machine_model.specs.Order.{eligible_files, goes_before, in_order, is_eligible, put_in_order}
 use Rattle.machine_model.specs.Sound.{IsSound, IsSoundKind}
-use Rattle.machine_model.specs.Taking.{picks}
 use Rattle.machine_model.specs.View.{FileView, QueueView}
 use Rattle.machine_model.proofs.Among.{Among, all_among, is_made, kept_by}
 use Rattle.processor_api.specs.Acts.{IsGivenTo}
@@ -43,7 +42,7 @@ use Rattle.engine_queues.specs.Choosing.{first_pick, picked_from}
 use Rattle.engine_queues.specs.Laws.{QueuesShowKept}
 use Rattle.engine_queues.specs.Queues.{AreQueuesOf, queue_seen}
 use Rattle.engine_queues.specs.Views.{kept_queues, kept_views, view_of_kept}
-use Rattle.engine_choice.specs.Choice.{next_choice, taking_by, taking_of}
+use Rattle.engine_choice.specs.Choice.{next_choice, taking_by}
 use Rattle.engine_choice.specs.Laws.{given_for, numbers_in}
 use Rattle.engine_choice.specs.Listing.{first_passed}
 use Rattle.engine_choice.specs.declared.choice.Choice.{Choice}

@@ -1,5 +1,5 @@
 -- How a run goes on by a session, and how it stops within one.
-use Rattle.std.proofs.Common.{◌≡◌, ◌≢◌, ◌⊎◌, inl, inr, ⊎_elim, ℕ, ◌+◌, Bool, false, List, [], ◌∷◌, ◌++◌, length, refl, sym, ap, subst, ◌∙◌, arith, length-append}
+use Rattle.std.proofs.Common.{◌≡◌, ◌⊎◌, inl, ℕ, ◌+◌, Bool, List, [], ◌∷◌, ◌++◌, refl, sym, ap, subst, ◌∙◌, arith, length-append}
 use Rattle.std.specs.Prelude.{Option, None, Some, Result, Ok, Err, OnOk, IsSome, Contains, slice_get}
 use Rattle.std.specs.Option.{option_map_or}
 use Rattle.disk_trait.specs.Files.{Files}
@@ -13,7 +13,6 @@ use Rattle.kept_state.specs.declared.limit.Limit.{Limit}
 use Rattle.machine_model.specs.declared.flow.Flow.{Flow}
 use Rattle.machine_model.specs.declared.flow.Processor.{Processor}
 use Rattle.machine_model.specs.declared.journal.Entry.{Entry}
-use Rattle.machine_model.specs.declared.journal.Step.{Step}
 use Rattle.machine_model.specs.declared.kind.Kind.{Kind}
 use Rattle.machine_model.specs.declared.kind.Kind.TheVariants.{GetFile}
 use Rattle.machine_model.specs.Changing.{state_after}
@@ -23,7 +22,7 @@ use Rattle.engine_choice.specs.Listing.{first_passed}
 use Rattle.store_core.specs.Change.{IsLimitOf}
 use Rattle.store_core.specs.Store.{StoreState, kept_by}
 use Rattle.flow_run.specs.Going.{IsBetween, IsRunningAt, IsSpared, IsStepped}
-use Rattle.flow_run.specs.Journal.{files_left, Takes}
+use Rattle.flow_run.specs.Journal.{Takes}
 use Rattle.flow_run.specs.Laws.{DiskFaultsEnd, FaultsEnd, InboxFaultsEnd, OutboxFaultsEnd, SparedRunsGoOn, SteppedRunsGoOn}
 use Rattle.flow_run.specs.Run.{HasRun, IsAtLimit, IsStateOf, StandsFor}
 use Rattle.flow_run.specs.Work.{IsAtWork}
@@ -33,8 +32,7 @@ use Rattle.flow_run.specs.declared.ended.Fault.TheVariants as fault
 use Rattle.flow_engine.specs.Change.{IsSentFrom, IsStepOf, names_without, step_of, with_sending, without_received}
 use Rattle.flow_engine.specs.Committing.{IsLeftBySend, with_room}
 use Rattle.flow_engine.specs.Engine.{EngineState}
-use Rattle.flow_engine.specs.Errors.{ended_by}
-use Rattle.flow_engine.specs.Running.{IsRunning, IsRunningTo, Stops}
+use Rattle.flow_engine.specs.Running.{IsRunning, Stops}
 use Rattle.flow_engine.specs.declared.change.Changed.{Changed}
 use Rattle.flow_engine.specs.declared.change.Sending.{Sending}
 use Rattle.flow_engine.specs.declared.error.EngineError.{EngineError}

@@ -24,14 +24,12 @@ use Rattle.machine_model.specs.Valid.{IsValid}
 use Rattle.flow_queue.specs.Queue.{QueueState}
 use Rattle.store_core.specs.Flow.{flow_in}
 use Rattle.store_core.specs.Flow as store
-use Rattle.store_core.specs.State.{state_with}
 use Rattle.engine_core.specs.Committing.{identity_of}
 use Rattle.engine_queues.specs.Laws.{QueuesAreSeen, SeesTheSame}
 use Rattle.engine_queues.specs.Queues.{AreQueuesOf, queue_seen}
 use Rattle.engine_queues.specs.Views.{HaveSizes}
 use Rattle.engine_choice.specs.Choice.{coming_of, next_choice}
 use Rattle.engine_choice.specs.Laws.{ChoicesAreSessions, given_for, numbers_in}
-use Rattle.engine_choice.specs.Listing.{first_passed}
 use Rattle.engine_choice.specs.declared.choice.Choice.{Choice}
 use Rattle.engine_choice.specs.declared.choice.Taking.{Taking}
 use Rattle.engine_choice.specs.declared.choice.Taking.TheVariants.{Files, Generate, Receive}
@@ -39,7 +37,7 @@ use Rattle.engine_session.specs.Handing.{live_files}
 use Rattle.engine_session.specs.Laws.{MachinesFilesAreLive}
 use Rattle.flow_run.specs.Journal.{files_left}
 use Rattle.flow_run.specs.Run.{IsStateOf}
-use Rattle.flow_engine.specs.Handing.{HasBytes, HasBytesOf, IsHanded, IsHandedAs, received_in}
+use Rattle.flow_engine.specs.Handing.{HasBytes, HasBytesOf, IsHanded, IsHandedAs}
 use Rattle.flow_engine.specs.Job.{StandsIn}
 use Rattle.flow_engine.specs.declared.job.Job.{Job}
 use Rattle.flow_engine.proofs.Chosen.{IsNext, TakesSo}

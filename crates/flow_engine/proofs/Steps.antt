@@ -1,10 +1,9 @@
 -- The session that comes next is a step of the machine that a run is at.
-use Rattle.std.proofs.Common.{◌≡◌, ℕ, Bool, IsTrue, List, [], refl, sym, ap, subst, ◌∙◌}
+use Rattle.std.proofs.Common.{◌≡◌, ℕ, Bool, List, [], sym, subst}
 use Rattle.std.specs.Prelude.{Option, Some}
 use Rattle.disk_trait.specs.Files.{Files}
 use Rattle.disk_trait.specs.Images.{Stays}
 use Rattle.flowfile_record.specs.NamedFile.{NamedFile}
-use Rattle.flowfile_record.specs.Stored.{Kept}
 use Rattle.flowfile_wal.specs.Calls.{InEach}
 use Rattle.checkpoint_store.specs.Consistent.{IsConsistent}
 use Rattle.content_repo.specs.Claims.{content_in}
@@ -90,8 +89,7 @@ module _ (tells : Bool) {D : Type 0} (held : D → Files) (moment : D → ℕ) (
       → IsStepOf e.flow (content_in (held disk)) run.reached job changed × IsStateOf run.reached (content_in (held disk)) (kept_by v.store)
   step_so shown seen sizes sessions live no_batches holds tied t same opened first left standing run job changed handed told makes =
       let tie = tied e.flow (subst (λ (x : EngineState). IsAtWork e.flow tells held moment images x.store disk) (sym is) ready.work) run.reached
-      (subst (λ (x : EngineState). InEach (images disk (moment disk)) (StandsFor e.flow x.store.lot run.reached)) (sym is) run.to.run.holds) in
-      (
+      (subst (λ (x : EngineState). InEach (images disk (moment disk)) (StandsFor e.flow x.store.lot run.reached)) (sym is) run.to.run.holds) in (
         steps tells held moment images e disk ready (subst (λ (x : EngineState). IsConsistent (kept_by x.store)) is consistent) time choice chosen shown seen sizes sessions live
             (subst (λ (x : EngineState). (kept_by x.store).batches ≡ []) is no_batches) (subst (λ (x : EngineState). Holds x.store (held disk)) is holds) opened first left standing run
             (subst (λ (x : EngineState). IsStateOf run.reached (content_in (held disk)) (kept_by x.store)) is tie) job changed

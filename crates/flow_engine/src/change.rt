@@ -50,6 +50,15 @@ pub fn session_change(
     // It is a step of the machine.
     ensures step { IfOk result (MakesStep flow.now (kept_by store.now) job) }
 {
-    let _ = (alloc, flow, store, job);
-    Err(AllocError)
+    let Job {
+        processor,
+        connection,
+        numbers: _,
+        files,
+        contents,
+        mut given,
+    } = job;
+    let taken = taken_from(alloc, store.state().store, files.as_slice(), contents)?;
+    let done = work(alloc, flow, processor, taken, &mut given)?;
+    todo(alloc)
 }

@@ -2,10 +2,14 @@
 #![tactic(auto)]
 
 mod change;
+mod driving;
 mod engine;
 mod error;
 mod job;
+mod run;
 mod session;
+mod tending;
 mod tied;
 
 pub use error::EngineError;
+pub use run::run_flow;

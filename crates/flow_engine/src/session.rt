@@ -1,5 +1,5 @@
 //! One session of a flow, from the choice of it to its end.
-ghost use Rattle.std.specs.Prelude.{◌≡◌, ◌⊎◌, ℕ, ◌+◌, ◌<◌, true, List, Option, Some, IfOk, OnOk, IfErr, IsErrOf, IsTrue, IsSome, IfSome, length, slice_get};
+ghost use Rattle.std.specs.Prelude.{◌≡◌, ◌⊎◌, ◌+◌, ◌<◌, true, Option, Some, IfOk, OnOk, IfErr, IsErrOf, IsTrue, IsSome, IfSome, length, slice_get};
 ghost use Rattle.disk_trait.specs.Faults.{CountsFaults};
 ghost use Rattle.disk_trait.specs.declared.damage.Damage.{Damage as TheDamage};
 ghost use Rattle.content_repo.specs.Claims.{content_in};

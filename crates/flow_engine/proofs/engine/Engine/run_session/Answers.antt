@@ -1,16 +1,14 @@
-use Rattle.std.proofs.Common.{◌≡◌, ◌<◌, ◌≤◌, ◌+◌, ap, ◌∙◌, sym, subst, refl, List, [], ℕ, Bool, false, IsTrue, length, arith, ⊎_elim, inl, inr}
-use Rattle.std.specs.Prelude.{Result, Err, Ok, ◌⊎◌, Option, None, Some, IfErr, IfSome, IsSome, slice_get}
+use Rattle.std.proofs.Common.{◌≡◌, ◌<◌, ◌+◌, ap, ◌∙◌, sym, subst, refl, List, ℕ, IsTrue, length, arith, ⊎_elim, inl, inr}
+use Rattle.std.specs.Prelude.{Result, Err, ◌⊎◌, Option, Some, IfErr, IsSome}
 use Rattle.std.proofs.lemmas.Option.{slice_get_within}
 use Rattle.std.proofs.lemmas.Result.{err_from_is_err_and}
 use Rattle.disk_trait.specs.Files.{Files}
-use Rattle.flowfile_record.specs.NamedFile.{NamedFile, without}
+use Rattle.flowfile_record.specs.NamedFile.{NamedFile}
 use Rattle.flowfile_wal.specs.Calls.{InEach}
 use Rattle.content_repo.specs.Claims.{content_in}
-use Rattle.kept_state.specs.declared.limit.Limit.{Limit}
 use Rattle.machine_model.specs.declared.flow.Flow.{Flow}
 use Rattle.machine_model.specs.Changing.{state_after}
 use Rattle.engine_choice.specs.Listing.{AreDistinct, Left}
-use Rattle.store_core.specs.Change.{IsLimitOf, MayChange}
 use Rattle.store_core.specs.Store.{StoreState, kept_by}
 use Rattle.flow_run.specs.Going.{IsStepped}
 use Rattle.flow_run.specs.Journal.{Takes}
@@ -19,9 +17,8 @@ use Rattle.flow_run.specs.Work.{IsAtWork, IsReadDamaged, IsRefused}
 use Rattle.flow_engine.specs.Change.{IsStepOf, names_without, step_of, with_sending, without_received}
 use Rattle.flow_engine.specs.Committing.{IsLeftBySend}
 use Rattle.flow_engine.specs.Engine.{AreTakeable, EngineState, IsReady}
-use Rattle.flow_engine.specs.Handing.{MayBeReceived}
 use Rattle.flow_engine.specs.Job.{MayHand}
-use Rattle.flow_engine.specs.Running.{IsRunning, Stops}
+use Rattle.flow_engine.specs.Running.{Stops}
 use Rattle.flow_engine.specs.declared.error.EngineError.{EngineError}
 use Rattle.flow_engine.proofs.Chosen.{job_receives, may_hand, next_first, next_is_left, next_takes_it, next_there_is}
 use Rattle.flow_engine.proofs.Committed.{reads_only, refuses, writes_in_turn, writes_to}
