@@ -1,10 +1,10 @@
 -- What the session that comes next takes, by the kind of its processor.
-use Rattle.std.proofs.Common.{◌≡◌, inl, inr, ℕ, ◌+◌, ◌<◌, ◌≤◌, ◌==◌, ◌&&◌, zero, suc, Bool, true, false, cond, List, [], ◌∷◌, length, map, refl, sym, ap, subst, ◌∙◌, arith}
-use Rattle.std.specs.Prelude.{nat_lt, nat_le, All, Option, None, Some, IsSome, IsTrue, IfSome, filter, find, option_map, slice_get, slice_index}
+use Rattle.std.proofs.Common.{◌≡◌, inl, inr, ℕ, ◌+◌, ◌<◌, ◌≤◌, ◌==◌, ◌&&◌, zero, suc, Bool, true, false, cond, List, [], ◌∷◌, length, refl, sym, ap, subst, ◌∙◌, arith}
+use Rattle.std.specs.Prelude.{nat_lt, Option, None, Some, IsSome, IsTrue, IfSome, filter, find, option_map, slice_get, slice_index}
 use Rattle.std.specs.Option.{IsSomeAnd, option_to_list}
 use Rattle.std.specs.List.{enumerate_from}
 use Rattle.std.proofs.lemmas.List.{length-map}
-use Rattle.std.proofs.lemmas.Bool.{ltb-true, leb-true, eqb-true}
+use Rattle.std.proofs.lemmas.Bool.{ltb-true, leb-true}
 use Rattle.expr_lang.specs.declared.syntax.Expr.{Expr}
 use Rattle.flowfile_record.specs.NamedFile.{NamedFile, bytes_of}
 use Rattle.flowfile_record.specs.Stored.{Kept}
@@ -31,7 +31,6 @@ use Rattle.machine_model.specs.Kinds.{take_rule_of}
 use Rattle.machine_model.specs.Laws.{MayTake, received_name}
 use Rattle.machine_model.specs.Order.{eligible_files, goes_before, in_order, is_eligible, put_in_order}
 use Rattle.machine_model.specs.Sound.{IsSound, IsSoundKind}
-use Rattle.machine_model.specs.Taking.{picks}
 use Rattle.machine_model.specs.View.{FileView, QueueView}
 use Rattle.machine_model.proofs.Among.{Among, all_among, is_made, kept_by}
 use Rattle.processor_api.specs.Acts.{IsGivenTo}
@@ -43,7 +42,7 @@ use Rattle.engine_queues.specs.Choosing.{first_pick, picked_from}
 use Rattle.engine_queues.specs.Laws.{QueuesShowKept}
 use Rattle.engine_queues.specs.Queues.{AreQueuesOf, queue_seen}
 use Rattle.engine_queues.specs.Views.{kept_queues, kept_views, view_of_kept}
-use Rattle.engine_choice.specs.Choice.{next_choice, taking_by, taking_of}
+use Rattle.engine_choice.specs.Choice.{next_choice, taking_by}
 use Rattle.engine_choice.specs.Laws.{given_for, numbers_in}
 use Rattle.engine_choice.specs.Listing.{first_passed}
 use Rattle.engine_choice.specs.declared.choice.Choice.{Choice}
@@ -57,6 +56,7 @@ use Rattle.flow_engine.specs.Engine.{AreBuilt, AreTakeable}
 use Rattle.flow_engine.specs.Handing.{HasBytes, IsHanded, MayBeReceived, MayBeTaken, received_in}
 use Rattle.flow_engine.specs.Job.{MayHand}
 use Rattle.flow_engine.specs.declared.job.Job.{Job}
+use Rattle.flow_engine.proofs.Files.{some_and}
 use Rattle.flow_engine.proofs.Left.{found_among}
 
 -- ---- the file that is picked
@@ -254,3 +254,42 @@ may_hand flow k names moment choice job next handed = record {
   file = next.takes.file job.given job.given.there handed.given;
   index = next.takes.index job.given job.given.there handed.given;
 }
+
+-- the name that it receives is the first that its processor takes, and its file is left
+pub next_first : (flow among : Flow) (k : Kept) (names : List (List ℕ)) (moment : ℕ) (choice : Choice) (received : Option (List ℕ)) → among ≡ flow → received ≡ received_in choice.taking → IsNext flow k names moment choice
+    → IfSome received (λ name. (p : Processor) → slice_get among.processors choice.processor ≡ Some p → first_passed p.kind names ≡ Some name)
+next_first flow among k names moment choice received same is next =
+    subst (λ (o : Option (List ℕ)). IfSome o (λ name. (p : Processor) → slice_get among.processors choice.processor ≡ Some p → first_passed p.kind names ≡ Some name)) (sym is)
+    (by_name (received_in choice.taking) next.takes.named)
+  where
+    by_name : (o : Option (List ℕ)) → IfSome o (λ name. Among name names × (first_passed next.processor.kind names ≡ Some name))
+        → IfSome o (λ name. (p : Processor) → slice_get among.processors choice.processor ≡ Some p → first_passed p.kind names ≡ Some name)
+    by_name None named = tt
+    by_name (Some name) named = λ p found.
+        let both : Some next.processor ≡ Some p = sym next.found ∙ ap (λ (f : Flow). slice_get f.processors choice.processor) (sym same) ∙ found in
+        let one : next.processor ≡ p = cc in
+        subst (λ (x : Processor). first_passed x.kind names ≡ Some name) one named.1
+
+pub next_there_is : (tells : Bool) (left now_left : List NamedFile) (taking : Taking) (received : Option (List ℕ)) → now_left ≡ left → received ≡ received_in taking → (IsTrue tells → MayBeReceived left taking)
+    → IfSome received (λ name. IsTrue tells → IsSome (bytes_of now_left name))
+next_there_is tells left now_left taking received same is may =
+    subst (λ (o : Option (List ℕ)). IfSome o (λ name. IsTrue tells → IsSome (bytes_of now_left name))) (sym is)
+    (subst (λ (l : List NamedFile). IfSome (received_in taking) (λ name. IsTrue tells → IsSome (bytes_of l name))) (sym same) (by_taking taking may))
+  where
+    by_taking : (t : Taking) → (IsTrue tells → MayBeReceived left t) → IfSome (received_in t) (λ name. IsTrue tells → IsSome (bytes_of left name))
+    by_taking (Receive name) may = λ told. (some_and (λ bytes. length bytes ≤ CONTENT_MAX) (bytes_of left name) (may told)).0
+    by_taking (Files connection numbers) may = tt
+    by_taking (Generate index) may = tt
+
+-- the job has the name that is received
+pub job_receives : (moment : ℕ) (taking : Taking) (job : Job) → record job.given { bytes = None } ≡ given_for moment job.given.there taking → job.given.file ≡ received_in taking
+job_receives moment (Receive name) job is = ap (λ (g : Given). g.file) is
+job_receives moment (Files connection numbers) job is = ap (λ (g : Given). g.file) is
+job_receives moment (Generate index) job is = ap (λ (g : Given). g.file) is
+
+-- the step takes the file that is received
+pub next_takes_it : (flow : Flow) (k : Kept) (names : List (List ℕ)) (moment : ℕ) (choice : Choice) (job : Job) (name : List ℕ) → IsNext flow k names moment choice → IsHanded k moment choice job → received_in choice.taking ≡ Some name
+    → (p : Processor) × (slice_get flow.processors job.processor ≡ Some p) × (first_passed p.kind names ≡ Some name) × (job.given.file ≡ Some name)
+next_takes_it flow k names moment choice job name next handed is =
+    let named = subst (λ (o : Option (List ℕ)). IfSome o (λ name. Among name names × (first_passed next.processor.kind names ≡ Some name))) is next.takes.named in
+    (next.processor, ap (slice_get flow.processors) handed.processor ∙ next.found, named.1, job_receives moment choice.taking job handed.given ∙ is)

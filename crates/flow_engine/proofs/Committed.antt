@@ -1,7 +1,7 @@
 -- What the commit of a session's change leaves, in the machine's words.
-use Rattle.std.proofs.Common.{◌≡◌, ◌⊎◌, inl, inr, ⊎_elim, ℕ, Bool, true, false, IsTrue, List, length, refl, sym, ◌∙◌, ap, subst}
+use Rattle.std.proofs.Common.{◌≡◌, ◌⊎◌, inl, inr, ⊎_elim, ℕ, Bool, true, false, List, length, refl, sym, ◌∙◌, ap, subst}
 use Rattle.std.proofs.lemmas.Bool.{false≢true}
-use Rattle.std.specs.Prelude.{Option, None, Some, Result, Ok, Err, IsErrOf, slice_set}
+use Rattle.std.specs.Prelude.{Option, None, Some, Result, Ok, Err}
 use Rattle.std.proofs.lemmas.List.{length-set}
 use Rattle.disk_trait.specs.Files.{Files}
 use Rattle.disk_trait.specs.Images.{After, Since, Stays}
@@ -13,7 +13,6 @@ use Rattle.flowfile_record.specs.Stored.{Kept}
 use Rattle.record_codec.specs.Placeless.{placeless_entry}
 use Rattle.record_codec.specs.declared.entry.LogEntry.{LogEntry}
 use Rattle.record_codec.specs.declared.entry.LogEntry.TheVariants.{Begin, Session, Expire, SwapOut, SwapIn}
-use Rattle.checkpoint_store.specs.Consistent.{IsConsistent}
 use Rattle.content_repo.specs.Claims.{content_in, HasSizes}
 use Rattle.flowfile_wal.specs.Calls.{InEach}
 use Rattle.kept_state.specs.Applied.{applied, with_count}
@@ -23,7 +22,6 @@ use Rattle.kept_state.specs.declared.limit.Limit.{Limit}
 use Rattle.machine_model.specs.declared.flow.Flow.{Flow}
 use Rattle.machine_model.specs.Changing.{state_after}
 use Rattle.machine_model.specs.State.{Machine, State}
-use Rattle.flow_queue.specs.Queue.{QueueState}
 use Rattle.prov_store.specs.State.{IsTrimmed}
 use Rattle.store_core.specs.Calls.{RefusesOnFault}
 use Rattle.store_core.specs.Change.{IsLimitOf, MayChange}
@@ -35,9 +33,8 @@ use Rattle.store_core.specs.Store.{EachStandsFor, IsKeptOn, StoreState, kept_by}
 use Rattle.store_core.specs.Touched.{MayTouch, TouchesOnly}
 use Rattle.store_core.specs.declared.error.StoreError.{StoreError}
 use Rattle.engine_core.specs.Committing.{identity_of}
-use Rattle.engine_queues.specs.Queues.{AreQueuesOf}
 use Rattle.engine_queues.specs.Settling.{IsKeptAfter}
-use Rattle.flow_run.specs.Going.{IsBetween, IsSpared, IsStepped}
+use Rattle.flow_run.specs.Going.{IsBetween, IsStepped}
 use Rattle.flow_run.specs.Run.{StandsFor}
 use Rattle.flow_run.specs.Work.{IsAtWork, IsRefused, WritesLog}
 use Rattle.flow_engine.specs.Committing.{with_room}

@@ -1,5 +1,5 @@
 -- The one file that a session takes, and what is read of it.
-use Rattle.std.proofs.Common.{◌≡◌, ℕ, ◌+◌, ◌≤◌, Bool, true, false, IsTrue, List, [], ◌∷◌, length, map, refl, sym, ap, subst, ◌∙◌, arith}
+use Rattle.std.proofs.Common.{◌≡◌, ℕ, ◌≤◌, Bool, true, false, IsTrue, List, [], ◌∷◌, length, map, refl, sym, ap, subst, ◌∙◌, arith}
 use Rattle.std.specs.Prelude.{All, Contains, Result, Ok, Err, IfOk, Option, None, Some, IsSome, IfSome, slice_get, slice_index_or, is_some}
 use Rattle.std.specs.Option.{IsSomeAnd, option_map_or}
 use Rattle.std.proofs.lemmas.Bool.{le-leb}
@@ -25,7 +25,7 @@ use Rattle.store_core.specs.State.{live_contents}
 use Rattle.engine_choice.specs.declared.choice.Choice.{Choice}
 use Rattle.engine_choice.specs.declared.choice.Taking.{Taking}
 use Rattle.engine_choice.specs.declared.choice.Taking.TheVariants.{Generate, Receive}
-use Rattle.engine_session.specs.Handing.{AreReadOf, AreTaken, IsReadOf, fit_a_content, live_files}
+use Rattle.engine_session.specs.Handing.{AreReadOf, AreTaken, fit_a_content, live_files}
 use Rattle.engine_session.proofs.Lookups.{live_count, live_there}
 use Rattle.flow_engine.specs.Handing.{IsHanded}
 use Rattle.flow_engine.specs.declared.job.Job.{Job}
@@ -83,13 +83,15 @@ read_one : (tells : Bool) (held : Files) (file : FlowFile) (read : List ℕ) (co
     → ((bytes : ContentRef → List ℕ) × AreReadOf bytes true (file ∷ []) contents) × (IsTrue tells → AreReadOf (content_in held) true (file ∷ []) contents)
 read_one tells held file read contents is are = (
   (λ at. read, subst (λ (c : List (Option (List ℕ))). AreReadOf (λ at. read) true (file ∷ []) c) (sym are) (record { size = sym is.size; digest = sym is.digest; filled = refl; is = refl }, tt)),
-  λ told. subst (λ (c : List (Option (List ℕ))). AreReadOf (content_in held) true (file ∷ []) c) (sym are)
-      (record {
-        size = sym is.size ∙ ap length (is.content told);
-        digest = sym is.digest ∙ ap sha256 (is.content told);
-        filled = refl;
-        is = is.content told;
-      }, tt),
+  λ told. subst (λ (c : List (Option (List ℕ))). AreReadOf (content_in held) true (file ∷ []) c) (sym are) (
+    record {
+      size = sym is.size ∙ ap length (is.content told);
+      digest = sym is.digest ∙ ap sha256 (is.content told);
+      filled = refl;
+      is = is.content told;
+    },
+    tt,
+  ),
 )
 
 pub first_read : (tells : Bool) (held : Files) (files : List FlowFile) (or : FlowFile) (read : List ℕ) (contents : List (Option (List ℕ))) → length files ≡ 1

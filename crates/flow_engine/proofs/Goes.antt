@@ -1,6 +1,6 @@
 -- How a run goes on by a session, and how it stops within one.
-use Rattle.std.proofs.Common.{◌≡◌, ◌≢◌, ◌⊎◌, inl, inr, ⊎_elim, ℕ, ◌+◌, Bool, false, List, [], ◌∷◌, ◌++◌, length, refl, sym, ap, subst, ◌∙◌, arith, length-append}
-use Rattle.std.specs.Prelude.{Option, None, Some, Contains, slice_get}
+use Rattle.std.proofs.Common.{◌≡◌, ◌⊎◌, inl, ℕ, ◌+◌, Bool, List, [], ◌∷◌, ◌++◌, refl, sym, ap, subst, ◌∙◌, arith, length-append}
+use Rattle.std.specs.Prelude.{Option, None, Some, Result, Ok, Err, OnOk, IsSome, Contains, slice_get}
 use Rattle.std.specs.Option.{option_map_or}
 use Rattle.disk_trait.specs.Files.{Files}
 use Rattle.disk_trait.specs.Images.{Stays}
@@ -13,16 +13,16 @@ use Rattle.kept_state.specs.declared.limit.Limit.{Limit}
 use Rattle.machine_model.specs.declared.flow.Flow.{Flow}
 use Rattle.machine_model.specs.declared.flow.Processor.{Processor}
 use Rattle.machine_model.specs.declared.journal.Entry.{Entry}
-use Rattle.machine_model.specs.declared.journal.Step.{Step}
 use Rattle.machine_model.specs.declared.kind.Kind.{Kind}
 use Rattle.machine_model.specs.declared.kind.Kind.TheVariants.{GetFile}
+use Rattle.machine_model.specs.Changing.{state_after}
 use Rattle.machine_model.specs.Laws.{names_of_step, received_name}
 use Rattle.machine_model.specs.State.{Machine}
 use Rattle.engine_choice.specs.Listing.{first_passed}
 use Rattle.store_core.specs.Change.{IsLimitOf}
 use Rattle.store_core.specs.Store.{StoreState, kept_by}
 use Rattle.flow_run.specs.Going.{IsBetween, IsRunningAt, IsSpared, IsStepped}
-use Rattle.flow_run.specs.Journal.{files_left, Takes}
+use Rattle.flow_run.specs.Journal.{Takes}
 use Rattle.flow_run.specs.Laws.{DiskFaultsEnd, FaultsEnd, InboxFaultsEnd, OutboxFaultsEnd, SparedRunsGoOn, SteppedRunsGoOn}
 use Rattle.flow_run.specs.Run.{HasRun, IsAtLimit, IsStateOf, StandsFor}
 use Rattle.flow_run.specs.Work.{IsAtWork}
@@ -32,8 +32,7 @@ use Rattle.flow_run.specs.declared.ended.Fault.TheVariants as fault
 use Rattle.flow_engine.specs.Change.{IsSentFrom, IsStepOf, names_without, step_of, with_sending, without_received}
 use Rattle.flow_engine.specs.Committing.{IsLeftBySend, with_room}
 use Rattle.flow_engine.specs.Engine.{EngineState}
-use Rattle.flow_engine.specs.Errors.{ended_by}
-use Rattle.flow_engine.specs.Running.{IsRunning, IsRunningTo, Stops}
+use Rattle.flow_engine.specs.Running.{IsRunning, Stops}
 use Rattle.flow_engine.specs.declared.change.Changed.{Changed}
 use Rattle.flow_engine.specs.declared.change.Sending.{Sending}
 use Rattle.flow_engine.specs.declared.error.EngineError.{EngineError}
@@ -82,6 +81,13 @@ module _ (tells : Bool) {D : Type 0} (held : D → Files) (moment : D → ℕ) (
     stops_between law spared EngineError.Outbox none = ends_between law spared fault.Outbox
     stops_between law spared (EngineError.Limit limit) none = absurd (none limit refl)
     stops_between law spared EngineError.Memory none = ends_between law spared fault.Memory
+
+    pub stops_unmoved : FaultsEnd tells held moment images → IsSpared e.flow moment images e.store.lot run.reached old new → (error : EngineError) → IsNoLimit error
+        → (now_left : List NamedFile) (now_standing : List ℕ → Option (List ℕ)) → now_left ≡ left → now_standing ≡ standing
+        → Stops error tells held moment images f opened first new now_left now_standing
+    stops_unmoved law spared error none now_left now_standing lies stands =
+        subst (λ (l : List NamedFile). Stops error tells held moment images f opened first new l now_standing) (sym lies)
+        (subst (λ (o : List ℕ → Option (List ℕ)). Stops error tells held moment images f opened first new left o) (sym stands) (stops_between law spared error none))
 
     -- the disk's within the step
     pub stops_within : DiskFaultsEnd tells held moment images → (contents : ContentRef → List ℕ) (job : Job) (changed : Changed) (s : IsStepOf e.flow contents run.reached job changed)
@@ -178,3 +184,61 @@ module _ (tells : Bool) {D : Type 0} (held : D → Files) (moment : D → ℕ) (
             coming = s.coming ∙ ap (names_without job.given.file) run.to.coming ∙ sym names;
           };
         }
+
+  -- an error of the commit
+  module _ (e f : EngineState) (opened : Machine) (first mid new : D) (left : List NamedFile) (standing now_standing : List ℕ → Option (List ℕ)) (run : IsRunning moment images e opened first mid left standing)
+      (flow_is : f.flow ≡ e.flow) (lot_is : f.store.lot ≡ e.store.lot) (entries : f.entries ≡ e.entries) (names : f.listing.names ≡ e.listing.names)
+      (job : Job) (changed : Changed) (s : IsStepOf e.flow (content_in (held mid)) run.reached job changed) (t : StoreState) (same_lot : t.lot ≡ e.store.lot)
+      (work : IsAtWork e.flow tells held moment images t mid) (tied : IsStateOf run.reached (content_in (held mid)) (kept_by t))
+      (image : images mid (moment mid) (held mid)) where
+    pub record IsCommitError (error : EngineError) : Type 0 where
+      pub cut_off : error ≡ EngineError.Disk → (flow : Flow) (before after : Machine) → IsAtWork flow tells held moment images t mid → InEach (images mid (moment mid)) (StandsFor flow t.lot before)
+          → state_after (content_in (held mid)) before.state changed.settled ≡ after.state → IsBetween flow moment images t.lot before after mid new
+      pub sent_before : error ≡ EngineError.Disk → now_standing ≡ with_sending changed.sending standing
+      pub unwritten : (error ≡ EngineError.Disk → ⊥) → (new ≡ mid) × (f.store ≡ with_room f.store.memory.room t)
+      pub unsent : (error ≡ EngineError.Disk → ⊥) → (error ≡ EngineError.Outbox → ⊥) → now_standing ≡ standing
+      pub put : error ≡ EngineError.Outbox → IsLeftBySend changed.sending standing now_standing
+      pub passes : (limit : Limit) → error ≡ EngineError.Limit limit → IsLimitOf t changed.settled limit
+
+    still : IsSpared e.flow moment images e.store.lot run.reached mid mid
+    still = wider moment images mid mid (images mid (moment mid)) (StandsFor e.flow e.store.lot run.reached) (nothing moment images mid) run.to.run.holds
+
+    unmoved : FaultsEnd tells held moment images → (error : EngineError) → IsNoLimit error → (error ≡ EngineError.Disk → ⊥) → (error ≡ EngineError.Outbox → ⊥) → IsCommitError error
+        → Stops error tells held moment images f opened first new left now_standing
+    unmoved law error none disk outbox is =
+        subst (λ (d : D). Stops error tells held moment images f opened first d left now_standing) (sym (is.unwritten disk).0)
+        (stops_unmoved e f opened first mid mid left standing run flow_is lot_is law still error none left now_standing refl (is.unsent disk outbox))
+
+    pub stops_in_commit : FaultsEnd tells held moment images → DiskFaultsEnd tells held moment images → OutboxFaultsEnd tells held moment images → SparedRunsGoOn moment images
+        → (error : EngineError) → IsCommitError error → Stops error tells held moment images f opened first new left now_standing
+    stops_in_commit between disk outbox spared (EngineError.Damaged damage) is = unmoved between (EngineError.Damaged damage) (λ limit e. cc) (λ e. cc) (λ e. cc) is
+    stops_in_commit between disk outbox spared EngineError.Inbox is = unmoved between EngineError.Inbox (λ limit e. cc) (λ e. cc) (λ e. cc) is
+    stops_in_commit between disk outbox spared EngineError.Memory is = unmoved between EngineError.Memory (λ limit e. cc) (λ e. cc) (λ e. cc) is
+    stops_in_commit between disk outbox spared EngineError.Disk is =
+        stops_within e f opened first mid new left standing run flow_is lot_is disk (content_in (held mid)) job changed s
+        (subst (λ (lot : ℕ). IsBetween e.flow moment images lot run.reached s.after mid new) same_lot
+        (is.cut_off refl e.flow run.reached s.after work (subst (λ (lot : ℕ). InEach (images mid (moment mid)) (StandsFor e.flow lot run.reached)) (sym same_lot) run.to.run.holds) s.state))
+        now_standing (is.sent_before refl)
+    stops_in_commit between disk outbox spared EngineError.Outbox is =
+        let other : EngineError.Outbox ≡ EngineError.Disk → ⊥ = λ e. cc in
+        subst (λ (d : D). Stops EngineError.Outbox tells held moment images f opened first d left now_standing) (sym (is.unwritten other).0)
+        (stops_at_put e f opened first mid mid left standing run flow_is lot_is outbox (content_in (held mid)) job changed s still now_standing (is.put refl))
+    stops_in_commit between disk outbox spared (EngineError.Limit limit) is =
+        let other : EngineError.Limit limit ≡ EngineError.Disk → ⊥ = λ e. cc in
+        let another : EngineError.Limit limit ≡ EngineError.Outbox → ⊥ = λ e. cc in
+        subst (λ (d : D). Stops (EngineError.Limit limit) tells held moment images f opened first d left now_standing) (sym (is.unwritten other).0)
+        (subst (λ (o : List ℕ → Option (List ℕ)). Stops (EngineError.Limit limit) tells held moment images f opened first mid left o) (sym (is.unsent other another))
+        (stops_at_limit e f opened first mid mid left standing run flow_is lot_is spared limit job changed s still entries names image f.store.memory.room t (is.unwritten other).1 work tied (is.passes limit refl)))
+
+-- what an answer's Ok has
+pub on_one : {A E : Type 0} (result : Result A E) (P Q : Type 0) → (P → Q) → OnOk result P → OnOk result Q
+on_one (Ok a) P Q to p = to p
+on_one (Err error) P Q to p = tt
+
+pub on_any : {A E : Type 0} (result : Result A E) (Q : Type 0) → Q → OnOk result Q
+on_any (Ok a) Q q = q
+on_any (Err error) Q q = tt
+
+pub named_so : (o : Option (List ℕ)) → IsSome o → (name : List ℕ) × (o ≡ Some name)
+named_so None some = absurd cc
+named_so (Some name) some = (name, refl)

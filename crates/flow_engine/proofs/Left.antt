@@ -1,6 +1,6 @@
 -- The names that are to come, and the files that are left, with one less.
-use Rattle.std.proofs.Common.{◌≡◌, ◌≢◌, ◌⊎◌, inl, inr, ⊎_elim, ℕ, Bool, true, false, cond, not, List, [], ◌∷◌, true≢false, refl, sym, ap, subst, ◌∙◌, arith}
-use Rattle.std.specs.Prelude.{◌<◌, All, MatchOption, IfSome, slice_get, Option, None, Some, IsSome, filter, find, bytes_eq, length, ◌≤◌}
+use Rattle.std.proofs.Common.{◌≡◌, ◌≢◌, inl, inr, ℕ, Bool, true, false, cond, not, List, [], ◌∷◌, true≢false, refl, sym, subst, ◌∙◌, arith}
+use Rattle.std.specs.Prelude.{◌<◌, MatchOption, IfSome, slice_get, Option, None, Some, find, bytes_eq, length, ◌≤◌}
 use Rattle.std.specs.Option.{IsSomeAnd}
 use Rattle.std.proofs.lemmas.Slice.Eq.{bytes_eq-Decides}
 use Rattle.std.proofs.lemmas.List.Elements.{All-cons, All-head, All-tail, All-nil}

@@ -24,14 +24,12 @@ use Rattle.machine_model.specs.Valid.{IsValid}
 use Rattle.flow_queue.specs.Queue.{QueueState}
 use Rattle.store_core.specs.Flow.{flow_in}
 use Rattle.store_core.specs.Flow as store
-use Rattle.store_core.specs.State.{state_with}
 use Rattle.engine_core.specs.Committing.{identity_of}
 use Rattle.engine_queues.specs.Laws.{QueuesAreSeen, SeesTheSame}
 use Rattle.engine_queues.specs.Queues.{AreQueuesOf, queue_seen}
 use Rattle.engine_queues.specs.Views.{HaveSizes}
 use Rattle.engine_choice.specs.Choice.{coming_of, next_choice}
 use Rattle.engine_choice.specs.Laws.{ChoicesAreSessions, given_for, numbers_in}
-use Rattle.engine_choice.specs.Listing.{first_passed}
 use Rattle.engine_choice.specs.declared.choice.Choice.{Choice}
 use Rattle.engine_choice.specs.declared.choice.Taking.{Taking}
 use Rattle.engine_choice.specs.declared.choice.Taking.TheVariants.{Files, Generate, Receive}
@@ -39,7 +37,7 @@ use Rattle.engine_session.specs.Handing.{live_files}
 use Rattle.engine_session.specs.Laws.{MachinesFilesAreLive}
 use Rattle.flow_run.specs.Journal.{files_left}
 use Rattle.flow_run.specs.Run.{IsStateOf}
-use Rattle.flow_engine.specs.Handing.{HasBytes, HasBytesOf, IsHanded, IsHandedAs, received_in}
+use Rattle.flow_engine.specs.Handing.{HasBytes, HasBytesOf, IsHanded, IsHandedAs}
 use Rattle.flow_engine.specs.Job.{StandsIn}
 use Rattle.flow_engine.specs.declared.job.Job.{Job}
 use Rattle.flow_engine.proofs.Chosen.{IsNext, TakesSo}
@@ -124,7 +122,7 @@ module _ (sessions : ChoicesAreSessions) (seen : QueuesAreSeen) (live : Machines
       → next_choice flow (queue_seen queues) k.counts names moment last ≡ Some choice → IsNext flow k names moment choice
       → IsStateOf m contents k → IsValid flow m.state → coming_of m.world ≡ names → left ≡ files_left m.world → standing ≡ m.world.outbox
       → IsHanded k moment choice job → IsHandedAs k contents left standing choice job → StandsIn flow k contents m job
-  stands_in consistent no_batches flow_is are sizes chosen next tied valid coming lies stands handed as =
+  stands_in consistent no_batches flow_is are sizes chosen next tied valid coming lies stands handed told =
       let count = ap (λ (f : store.Flow). length f.connections) flow_is ∙ length-map flow.connections (λ c. c.id) in
       let sees : SeesTheSame flow (queue_seen queues) (queues_of m.state) =
       subst (λ (s : State). SeesTheSame flow (queue_seen queues) (queues_of s)) tied.is (seen flow contents m.state.events k queues consistent sizes count are) in
@@ -142,14 +140,14 @@ module _ (sessions : ChoicesAreSessions) (seen : QueuesAreSeen) (live : Machines
       let files : at.files ≡ map (queued_file contents) job.files =
       are_live.are ∙ ap (map (queued_file contents)) (ap (live_files k) (sym handed.numbers) ∙ sym handed.taken.are) in
       let time : job.given.moment ≡ moment = ap (λ (g : Given). g.moment) handed.given ∙ moment_of moment job.given.there choice.taking in
-      let there : job.given.there ≡ is_there m.world at.files = as.there m.world (sym stands) ∙ ap (is_there m.world) (sym files) in
+      let there : job.given.there ≡ is_there m.world at.files = told.there m.world (sym stands) ∙ ap (is_there m.world) (sym files) in
       let gives : given_in at.processor.kind choice.processor m.state m.world at.files (record job.given { bytes = None }) ≡ Some at.handed =
       ap (given_in at.processor.kind choice.processor m.state m.world at.files) (handed.given ∙ ap (λ b. given_for moment b choice.taking) there) ∙ at.given in
-      let back = handed_so k names moment choice.processor m.state m.world at.files left lies job.given at.handed at.processor.kind choice.taking takes handed.given handed.has as.received gives in
+      let back = handed_so k names moment choice.processor m.state m.world at.files left lies job.given at.handed at.processor.kind choice.taking takes handed.given handed.has told.received gives in
       record {
         processor = at.processor;
         found = ap (slice_get flow.processors) handed.processor ∙ at.found;
-        read = as.read;
+        read = told.read;
         taken = (λ i. taken_files flow m.state (handed.processor i) rule (handed.numbers i) (time i)) ∙ at.taken ∙ ap Some files;
         given = (λ i. given_in at.processor.kind (handed.processor i) m.state m.world (sym files i) (record job.given { bytes = None })) ∙ gives ∙ ap Some back;
       }

@@ -12,7 +12,7 @@ use Rattle.machine_model.specs.Stepping.{is_there}
 use Rattle.engine_choice.specs.Laws.{given_for, numbers_in}
 use Rattle.engine_choice.specs.declared.choice.Choice.{Choice}
 use Rattle.engine_choice.specs.declared.choice.Taking.{Taking}
-use Rattle.engine_choice.specs.declared.choice.Taking.TheVariants.{Files, Generate, Receive}
+use Rattle.engine_choice.specs.declared.choice.Taking.TheVariants.{Files, Receive}
 use Rattle.engine_session.specs.Handing.{AreTaken}
 use Rattle.flow_engine.specs.declared.job.Job.{Job}
 

@@ -23,9 +23,7 @@ use crate::tied::holds_its_state;
 use disk_trait::Disk;
 use engine_choice::{Choice, Taking};
 use engine_session::{ReadList, live_files};
-use flowfile_record::{
-    Attributes, Bytes, ContentRef, FileList, FlowFile, NameError, Numbers, Sequence,
-};
+use flowfile_record::{Attributes, Bytes, ContentRef, FileList, FlowFile, NameError, Numbers};
 use machine_model::Given;
 use std::alloc::Global;
 use store_core::{Store, StoreError};

@@ -1,5 +1,5 @@
 //! One session of a flow, from the choice of it to its end.
-ghost use Rattle.std.specs.Prelude.{◌≡◌, ◌⊎◌, ℕ, ◌+◌, ◌<◌, true, List, Option, Some, IfOk, OnOk, IfErr, IsErrOf, IsTrue, IsSome, IfSome, length, slice_get};
+ghost use Rattle.std.specs.Prelude.{◌≡◌, ◌⊎◌, ◌+◌, ◌<◌, true, Option, Some, IfOk, OnOk, IfErr, IsErrOf, IsTrue, IsSome, IfSome, length, slice_get};
 ghost use Rattle.disk_trait.specs.Faults.{CountsFaults};
 ghost use Rattle.disk_trait.specs.declared.damage.Damage.{Damage as TheDamage};
 ghost use Rattle.content_repo.specs.Claims.{content_in};
@@ -101,10 +101,19 @@ impl Engine<'_> {
             changed,
         )?;
         self.last = Some(processor);
-        self.entries += 1;
+        self.entries = one_more(self.entries, self.most);
         self.since_reclaim = self.since_reclaim.saturating_add(1);
         remove(&mut self.listing, inbox, processor, &received)
     }
+}
+
+// One more entry than there are, which are fewer than there may be.
+fn one_more(entries: u64, most: u64) -> u64
+    requires { entries < most }
+    ensures { result ≡ entries + 1 }
+{
+    let _ = most;
+    entries + 1
 }
 
 // The name of the file that a session receives.

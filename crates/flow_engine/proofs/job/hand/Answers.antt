@@ -1,7 +1,6 @@
-use Rattle.std.proofs.Common.{◌≡◌, ap, ◌∙◌, sym, subst, refl, List, ℕ, IsTrue}
+use Rattle.std.proofs.Common.{sym, subst}
 use Rattle.content_repo.specs.Claims.{content_in}
 use Rattle.store_core.specs.Store.{kept_by}
-use Rattle.engine_choice.specs.declared.choice.Choice.{Choice}
 use Rattle.engine_choice.specs.declared.choice.Taking.{Taking}
 use Rattle.flow_engine.specs.Handing.{IsHandedAs}
 use Rattle.flow_engine.specs.declared.job.Job.{Job}

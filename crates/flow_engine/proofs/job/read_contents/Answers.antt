@@ -1,4 +1,4 @@
-use Rattle.std.proofs.Common.{◌≡◌, ap, ◌∙◌, sym, ◌++◌, ◌∷◌, [], List, ℕ, Option, Some, arith, refl}
+use Rattle.std.proofs.Common.{◌≡◌, ap, ◌∙◌, ◌++◌, ◌∷◌, [], Some, arith, refl}
 use Rattle.std.specs.Prelude.{Err, slice_index_or}
 use Rattle.std.proofs.lemmas.Result.{err_from_is_err_and}
 use Rattle.flow_engine.specs.declared.error.EngineError.{EngineError}

@@ -1,8 +1,6 @@
-use Rattle.std.proofs.Common.{◌≡◌, ap, ◌∙◌, sym, subst, refl, List, ℕ, Bool, false, length}
+use Rattle.std.proofs.Common.{◌≡◌, ap, ◌∙◌, sym, subst, false, length}
 use Rattle.std.proofs.lemmas.List.{length-map}
 use Rattle.flowfile_record.specs.Stored.{Kept}
-use Rattle.flow_queue.specs.Queue.{QueueState}
-use Rattle.machine_model.specs.declared.flow.Flow.{Flow}
 use Rattle.store_core.specs.Flow as store
 use Rattle.store_core.specs.Flow.{flow_in}
 use Rattle.store_core.specs.Store.{StoreState, kept_by}
@@ -10,7 +8,6 @@ use Rattle.engine_core.specs.Committing.{identity_of}
 use Rattle.engine_queues.specs.Queues.{AreQueuesOf}
 use Rattle.engine_queues.specs.Settling.{IsKeptAfter, MaySettleOver}
 use Rattle.engine_queues.proofs.ForCallers.{may_still_settle}
-use Rattle.flow_engine.specs.Committing.{with_room}
 use Rattle.flow_engine.proofs.Committed.{committed, committed_between, flow_after, kept_after, still_works, writes_to}
 use Rattle.flow_engine.proofs.session.commit.Goals as goal
 
@@ -47,8 +44,7 @@ settle-requires-clause-kept g c =
       consistent = c.holds_its_state.ensures.kept.0;
       no_batches = c.holds_its_state.ensures.kept.1;
       may = c.requires.may.settles;
-    } in
-    (
+    } in (
       flow,
       kept_by s,
       may_still_settle c.args.queues.now c.reserve.new.self c.reserve.ensures.same flow (kept_by s) c.args.changed.settled over,
