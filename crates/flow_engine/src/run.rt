@@ -23,7 +23,7 @@ use crate::EngineError;
 use crate::engine::Engine;
 use disk_trait::Disk;
 use engine_choice::Ending;
-use flow_run::{Ended, Fault, faults_end_a_run, run_ends, run_goes_on};
+use flow_run::{Ended, Fault, faults_end_a_run, run_ends};
 use machine_model::Flow;
 use std::alloc::Global;
 use store_core::Store;
@@ -65,7 +65,6 @@ pub fn run_flow<D: Disk, I: Inbox, O: Outbox, C: Clock>(
 {
     faults_end_a_run::<D>();
     run_ends::<D>();
-    run_goes_on::<D>();
     let mut engine = match Engine::open(alloc, flow, store, most, inbox) {
         Ok(engine) => engine,
         Err(error) => return error.ended(),
@@ -74,9 +73,14 @@ pub fn run_flow<D: Disk, I: Inbox, O: Outbox, C: Clock>(
         Ok(Ending::Blocked(connection)) => {
             close(&mut engine.store, disk, Ended::Blocked(connection))
         }
-        Ok(_) => close(&mut engine.store, disk, Ended::Quiet),
-        Err(EngineError::Limit(limit)) => close(&mut engine.store, disk, Ended::Limit(limit)),
-        Err(error) => error.ended(),
+        Ok(Ending::Quiet) => close(&mut engine.store, disk, Ended::Quiet),
+        Ok(Ending::Rest { .. }) => unreachable!(),
+        Err(error) => {
+            let EngineError::Limit(limit) = error else {
+                return error.ended();
+            };
+            close(&mut engine.store, disk, Ended::Limit(limit))
+        }
     }
 }
 
