@@ -1,4 +1,4 @@
--- How an engine ends where no session comes, and that its turns come to an end.
+-- How an engine ends where no session comes.
 use Rattle.std.proofs.Common.{◌≡◌, ◌⊎◌, inl, inr, ℕ, ◌+◌, ◌-◌, ◌*◌, ◌^◌, ◌<◌, ◌≤◌, min, Bool, true, false, cond, List, [], ◌∷◌, refl, sym, ◌∙◌, ap, subst, arith}
 use Rattle.std.proofs.lemmas.Bool.{ltb-true}
 use Rattle.std.specs.Prelude.{filter, nat_lt, Option, None, Some}
@@ -108,17 +108,3 @@ module _ {D : Type 0} (moment : D → ℕ) (images : D → ℕ → Files → Typ
   ends_quiet later is same =
       subst (λ (t : ℕ). IsEnded moment images e opened first now left standing t Quiet) same
       (subst (λ (a : Option Ending). IsTurned moment images e opened first now left standing time a) is turned)
-
--- ---- turns come to an end
-
--- another entry leaves less to go
-pub less_by_entry : (old new : EngineState) (before after : ℕ) → new.entries ≡ old.entries + 1 → new.entries ≤ new.most → new.most ≡ old.most → before ≤ after → to_go new after < to_go old before
-less_by_entry old new before after entries within most later = omega (arith, entries, within, most, later)
-
--- and so does a rest that was waited for
-pub less_by_rest : (old new : EngineState) (before moment until after : ℕ) → new.entries ≡ old.entries → new.most ≡ old.most → before ≤ moment → moment < until → until ≤ after → moment < 2 ^ 64
-    → to_go new after < to_go old before
-less_by_rest old new before moment until after entries most earlier rests waited fits = by (old.most - old.entries) (ap (λ (n : ℕ). new.most - n) entries ∙ ap (λ (n : ℕ). n - old.entries) most)
-  where
-    by : (k : ℕ) → new.most - new.entries ≡ k → to_go new after < k * 2 ^ 64 + (2 ^ 64 - before)
-    by k is = rw is (omega (arith, earlier, rests, waited, fits))

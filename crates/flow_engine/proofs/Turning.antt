@@ -81,12 +81,6 @@ module _ {D : Type 0} (tells : Bool) (held : D → Files) (moment : D → ℕ) (
   has_run Memory none stops = stops
 
   module _ (run : IsRunning moment images e opened first now left standing) where
-    pub spared : IsSpared e.flow moment images e.store.lot run.reached now now
-    spared = wider moment images now now (images now (moment now)) (StandsFor e.flow e.store.lot run.reached) (nothing moment images now) run.to.run.holds
-
-    pub stops_by : FaultsEnd tells held moment images → (cause : Fault) (time : ℕ) → HasRun e.flow (ended.Fault cause) time tells held moment images e.store.lot opened first now left standing
-    stops_by law cause time = law e.flow e.store.lot time opened run.reached first now now run.journal left standing cause run.to.run spared
-
     -- the journal has as many entries as it may
     pub limited : e.entries ≡ e.most → images now (moment now) (held now) → HasStep e.flow run.reached → IsLimited tells held moment images e (journal_full e.most) opened first now left standing
     limited full is_left goes = record {
@@ -110,18 +104,9 @@ module _ {D : Type 0} (tells : Bool) (held : D → Files) (moment : D → ℕ) (
       IsRefused flow tells held moment images limit e.store disk
       ⊎ ((limit ≡ journal_full most) × IsAtWork flow tells held moment images e.store disk)
 
-  pub met_by : (flow other : Flow) (most other_most : ℕ) (limit : TheLimit) (e : EngineState) (disk : D) → other ≡ flow → other_most ≡ most → IsMet other other_most limit e disk → IsMet flow most limit e disk
-  met_by flow other most other_most limit e disk flow_is most_is met =
-      subst (λ (f : Flow). IsMet f most limit e disk) flow_is (subst (λ (n : ℕ). IsMet other n limit e disk) most_is met)
-
   pub damaged_by : (flow other : Flow) (lot other_lot : ℕ) (disk : D) → other ≡ flow → other_lot ≡ lot → IsReadDamaged other tells held moment images other_lot disk → IsReadDamaged flow tells held moment images lot disk
   damaged_by flow other lot other_lot disk flow_is lot_is damaged =
       subst (λ (f : Flow). IsReadDamaged f tells held moment images lot disk) flow_is (subst (λ (n : ℕ). IsReadDamaged other tells held moment images n disk) lot_is damaged)
 
   pub works_for : (flow other : Flow) (e : EngineState) (disk : D) → other ≡ flow → IsAtWork other tells held moment images e.store disk → IsAtWork flow tells held moment images e.store disk
   works_for flow other e disk is = subst (λ (f : Flow). IsAtWork f tells held moment images e.store disk) is
-
--- another inbox with the same files
-pub left_same : {D : Type 0} (moment : D → ℕ) (images : D → ℕ → Files → Type 0) (e : EngineState) (opened : Machine) (first now : D) (left other : List NamedFile) (standing : List ℕ → Option (List ℕ))
-    → other ≡ left → IsRunning moment images e opened first now left standing → IsRunning moment images e opened first now other standing
-left_same moment images e opened first now left other standing is = subst (λ (l : List NamedFile). IsRunning moment images e opened first now l standing) (sym is)

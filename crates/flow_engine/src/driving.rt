@@ -22,9 +22,7 @@ use crate::engine::Engine;
 use crate::tending::Tended;
 use crate::tied::holds_its_state;
 use disk_trait::Disk;
-use engine_choice::{
-    Choice, Ending, choices_are_sessions, choose, ending, ends_are_machine_ends,
-};
+use engine_choice::{Choice, Ending, choices_are_sessions, choose, ending, ends_are_machine_ends};
 use engine_queues::what_is_kept_is_seen;
 use engine_session::sessions_are_steps;
 use flow_run::faults_end_a_run;

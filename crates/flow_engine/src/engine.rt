@@ -59,8 +59,8 @@ impl<'f> Model for Engine<'f> {
 }
 
 impl<'f> Engine<'f> {
-    /// An engine that is to run a flow over a store of it, until the journal has `most` entries. The inbox is listed once
-    /// and for all: files that come later aren't seen, and those that are larger than a content may be are left there.
+    /// An engine that is to run a flow over a store of it, until the journal has `most` entries. The inbox is listed
+    /// once: files that come later aren't seen, and those that are larger than a content may be are left there.
     pub fn open<I: Inbox>(
         alloc: Global,
         flow: &'f Flow,

@@ -29,9 +29,9 @@ use std::alloc::Global;
 use store_core::Store;
 use world_io::{Clock, Inbox, Outbox};
 
-/// Runs a flow over a store of it that was opened: session after session until nothing is left to do, all of it is held
-/// back by full connections, or the journal has `most` entries. Then the store is closed. It tells how that ended; after
-/// a fault the store isn't closed, and is to be opened anew.
+/// Runs a flow over a store of it that was opened: session after session until nothing is left to do, all of it is
+/// held back by full connections, or the journal has `most` entries. Then the store is closed. It tells how that ended;
+/// after a fault the store isn't closed, and is to be opened anew.
 pub fn run_flow<D: Disk, I: Inbox, O: Outbox, C: Clock>(
     alloc: Global,
     flow: &Flow,

@@ -6,7 +6,7 @@ use Rattle.flowfile_record.specs.NamedFile.{bytes_of}
 use Rattle.flowfile_record.specs.declared.TheConstants.{CONTENT_MAX}
 use Rattle.world_io.specs.Inbox.{IsAscending}
 use Rattle.flow_engine.specs.Opening.{fits_in}
-use Rattle.flow_engine.proofs.Fitting.{all_found, ascends_but, comes, fits_next, is_larger, passed_over}
+use Rattle.flow_engine.proofs.Fitting.{all_found, ascends_but, fits_next, is_larger, passed_over}
 use Rattle.flow_engine.proofs.engine.names_that_fit.Goals as goal
 
 pub loop-name-init : goal.loop-name-init

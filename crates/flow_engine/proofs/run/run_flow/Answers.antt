@@ -139,7 +139,7 @@ returns-in_default g c =
     let e0 : EngineState = c.in-Ok.engine in
     let e : EngineState = c.drive.new.self in
     let error : EngineError = c.in-Err-drive.error in
-    let none : IsNoLimit error = ? in
+    let none : IsNoLimit error = λ limit is_limit. c.in_default.not-Limit limit is_limit in
     let end : Ended = c.ended-in_default.result in
     let so : end ≡ ended_by error = c.ended-in_default.ensures in
     record {
