@@ -147,12 +147,12 @@ pub flow_after : (p : PreparedChange) (t u : StoreState) (f : store.Flow) → Ha
 flow_after p t u f change is = ap flow_in change.kept ∙ flow_stays (kept_by t) change.entry ∙ is
 
 -- what is kept is that before, with the session
-pub kept_after : (p : PreparedChange) (s t u : StoreState) (room : ℕ) (settled : Settled) (connection : ℕ) → t ≡ with_room room s → HasChange p t u → p.entry ≡ entry_of (kept_by t) (change.Session p.settled) → p.settled ≡ settled
+pub kept_after : (p : PreparedChange) (s t u : StoreState) (room : ℕ) (settled : Settled) (connection : ℕ) → t ≡ with_room room s → HasChange p t u → p.entry ≡ entry_of (kept_by s) (change.Session settled)
     → are_active_in (kept_by s).files connection settled.gone ≡ true → IsKeptAfter (kept_by s) connection settled (kept_by u)
-kept_after p s t u room settled connection same changed entry is active = record {
+kept_after p s t u room settled connection same changed entry active = record {
   active = active;
   entry = changed.entry;
-  same = changed.same ∙ ap placeless_entry (entry ∙ (λ i. entry_of (kept_by (same i)) (change.Session (is i))));
+  same = changed.same ∙ ap placeless_entry entry;
   kept = changed.kept ∙ ap (λ (v : StoreState). applied no_files (kept_by v) changed.entry) same;
 }
 

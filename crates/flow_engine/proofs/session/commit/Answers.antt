@@ -50,7 +50,7 @@ settle-requires-clause-kept g c =
       may_still_settle c.args.queues.now c.reserve.new.self c.reserve.ensures.same flow (kept_by s) c.args.changed.settled over,
       subst (λ (k : Kept). IsKeptAfter (kept_by s) c.args.connection c.args.changed.settled k) (sym c.state.ensures.kept)
           (kept_after c.in_ok-prepared.prepared s t c.commit.new.self t.memory.room c.args.changed.settled c.args.connection c.prepare.ensures.same (c.commit.ensures.changed works)
-          c.in_ok-prepared.ensures.prepared.1.entry c.in_ok-prepared.ensures.prepared.0 c.requires.gone),
+          c.in_ok-prepared.ensures.entry c.requires.gone),
     )
 
 pub returns-clause-work : goal.returns-clause-work
@@ -67,7 +67,7 @@ returns-clause-work g c flow queued =
     } in
     let after = subst (λ (k : Kept). IsKeptAfter (kept_by s) c.args.connection c.args.changed.settled k) (sym c.state.ensures.kept)
     (kept_after c.in_ok-prepared.prepared s t c.commit.new.self t.memory.room c.args.changed.settled c.args.connection c.prepare.ensures.same (c.commit.ensures.changed works)
-    c.in_ok-prepared.ensures.prepared.1.entry c.in_ok-prepared.ensures.prepared.0 c.requires.gone) in
+    c.in_ok-prepared.ensures.entry c.requires.gone) in
     record {
       work = record {
         works = still_works c.commit.result t c.commit.new.self (g.D.Disk.faults c.args.disk.now) (g.D.Disk.faults c.commit.new.disk) c.in_ok-commit.field-0 c.in_ok-commit.was works c.commit.ensures.refusal;
