@@ -16,7 +16,6 @@ ghost use Rattle.run_top.specs.Status.{status_at};
 ghost use Rattle.run_top.specs.Text.{IsBroken, IsFlowIn, IsRead, IsRefused};
 ghost use Rattle.run_top.specs.Words.{is_run};
 
-use flow_engine::run_flow;
 use crate::opening::open;
 use crate::status::status_of_run;
 use crate::text::read;
@@ -26,6 +25,7 @@ use crate::{
 };
 use disk_trait::Disk;
 use flow_definition::Patterns;
+use flow_engine::run_flow;
 use flow_run::{Ended, failed_openings_end_a_run, run_begins};
 use machine_model::Flow;
 use prov_store::events_up_to_the_last_are_in_a_row;
