@@ -91,6 +91,8 @@ class Cases:
         self.program = program
         self.parent = parent
         self.count = count
+        # A run of these flows takes some hundredths of a second in memory: a kill comes within this time at first.
+        self.pause = 0.02
 
     def folder(self, text=THE_TEXT):
         return work_folder(self.parent, text)
@@ -485,12 +487,12 @@ class Cases:
                 came = [event.file for event in state.events if event.kind == RECEIVE]
                 need(all(family[number] == 1 for number in came) and len(family) == len(came), "a clone is missing")
             rounds += 1
-            need(rounds < self.count, "no run is killed")
+            need(rounds < 10 * self.count, f"only {kills} of {rounds} runs were killed")
         return f"{kills} kills in {rounds} folders"
 
     def generates_killed(self):
         """A generator makes each of its files once, however often it is killed."""
-        count, kills = 300, 0
+        count, kills = 5_000, 0
         text = flow([generator("beat", count, "${generate.index}"), let_go("put", "replace")],
                     [queue("beats", "beat", "put", objects=7)])
         with self.folder(text) as folder:
@@ -503,7 +505,7 @@ class Cases:
 
     def until_done(self, folder, check):
         """Starts and kills until a run ends by itself. How often it was killed."""
-        kills, most = 0, 0.04
+        kills, most = 0, self.pause
         while True:
             status = run_for(self.program, folder, random.uniform(0, most))
             if status is not None:
