@@ -492,7 +492,7 @@ class Cases:
 
     def generates_killed(self):
         """A generator makes each of its files once, however often it is killed."""
-        count, kills = 5_000, 0
+        count, kills = 2_000, 0
         text = flow([generator("beat", count, "${generate.index}"), let_go("put", "replace")],
                     [queue("beats", "beat", "put", objects=7)])
         with self.folder(text) as folder:
