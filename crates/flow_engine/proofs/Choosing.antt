@@ -21,7 +21,8 @@ use Rattle.machine_model.specs.declared.journal.Step.TheVariants.{Session}
 use Rattle.machine_model.specs.declared.kind.Kind.{Kind}
 use Rattle.machine_model.specs.declared.kind.Kind.TheVariants.{GetFile, GenerateFlowFile, PutFile}
 use Rattle.machine_model.specs.declared.pattern.Pattern.{Pattern}
-use Rattle.machine_model.specs.Acting.{act, alone, generated, made_file, name_in, put, received, received_attributes}
+use Rattle.machine_model.specs.Acting.{act, generated, name_in, put, received, received_attributes}
+use Rattle.machine_model.specs.Making.{alone, made_file}
 use Rattle.machine_model.specs.Files.{queues_of}
 use Rattle.machine_model.specs.Kinds.{take_rule_of}
 use Rattle.machine_model.specs.Laws.{MayTake}

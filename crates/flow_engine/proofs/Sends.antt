@@ -11,7 +11,8 @@ use Rattle.machine_model.specs.declared.kind.Conflict.{Conflict}
 use Rattle.machine_model.specs.declared.kind.Conflict.TheVariants.{Replace, Ignore, Fail}
 use Rattle.machine_model.specs.declared.kind.Kind.{Kind}
 use Rattle.machine_model.specs.declared.kind.Kind.TheVariants.{GetFile, GenerateFlowFile, PutFile}
-use Rattle.machine_model.specs.Acting.{TakenFile, act, name_in, put, received}
+use Rattle.machine_model.specs.Acting.{act, name_in, put, received}
+use Rattle.machine_model.specs.Making.{TakenFile}
 use Rattle.process_session.specs.declared.file.Source.{Source}
 use Rattle.settlement.specs.Contents.{IsBodyWithin}
 use Rattle.settlement.specs.Handed.{AreRead}

@@ -8,7 +8,8 @@ use Rattle.flowfile_record.specs.declared.worked.Sent.{Sent}
 use Rattle.machine_model.specs.declared.journal.Step.TheVariants as entry
 use Rattle.machine_model.specs.declared.kind.Conflict.{Conflict}
 use Rattle.machine_model.specs.declared.kind.Conflict.TheVariants.{Replace, Ignore, Fail}
-use Rattle.machine_model.specs.Acting.{TakenFile, name_in, passed_on, put}
+use Rattle.machine_model.specs.Acting.{name_in, put}
+use Rattle.machine_model.specs.Making.{TakenFile, passed_on}
 use Rattle.machine_model.specs.Placing.{EndedSession, SettledFile}
 use Rattle.machine_model.specs.State.{Machine, QueuedFile, State, World}
 use Rattle.machine_model.specs.Stepping.{as_taken, session_after, same_world}

@@ -5,7 +5,8 @@ use Rattle.flowfile_record.specs.declared.TheConstants.{CONTENT_MAX}
 use Rattle.flowfile_record.specs.declared.worked.Origin.TheVariants.{Received}
 use Rattle.machine_model.specs.declared.given.Given.{Given}
 use Rattle.machine_model.specs.declared.kind.Kind.TheVariants.{GetFile}
-use Rattle.machine_model.specs.Acting.{alone, made_file, received_attributes}
+use Rattle.machine_model.specs.Acting.{received_attributes}
+use Rattle.machine_model.specs.Making.{alone, made_file}
 use Rattle.machine_model.specs.Stepping.{given_in, may_get}
 use Rattle.machine_examples.specs.Small.{a_txt, machine, no_kin, at_moment, processor}
 use Rattle.machine_examples.specs.Run.{before, flow}

@@ -19,7 +19,8 @@ use Rattle.machine_model.specs.declared.flow.Processor.{Processor}
 use Rattle.machine_model.specs.declared.kind.Conflict.TheVariants.{Replace}
 use Rattle.machine_model.specs.declared.kind.Kind.TheVariants.{GetFile, GenerateFlowFile, PutFile, UpdateAttribute, DuplicateFlowFile}
 use Rattle.machine_model.specs.State.{QueuedFile, State}
-use Rattle.machine_model.specs.Acting.{act, alone, made_file, passed_on, received_attributes, generated_attributes, text_or_nothing}
+use Rattle.machine_model.specs.Acting.{act, received_attributes, generated_attributes, text_or_nothing}
+use Rattle.machine_model.specs.Making.{alone, made_file, passed_on}
 use Rattle.flowfile_record.specs.Outcome.{is_made}
 use Rattle.machine_model.specs.Placing.{EndedSession, uuid_text, with_filename}
 use Rattle.machine_model.specs.Settling.{settle}

@@ -10,7 +10,8 @@ use Rattle.machine_model.specs.declared.kind.Conflict.{Conflict}
 use Rattle.machine_model.specs.declared.kind.Conflict.TheVariants.{Replace, Ignore, Fail}
 use Rattle.machine_model.specs.declared.kind.Kind.TheVariants.{PutFile}
 use Rattle.machine_model.specs.State.{State, World}
-use Rattle.machine_model.specs.Acting.{act, alone, passed_on, received_attributes}
+use Rattle.machine_model.specs.Acting.{act, received_attributes}
+use Rattle.machine_model.specs.Making.{alone, passed_on}
 use Rattle.machine_model.specs.Stepping.{step}
 use Rattle.machine_examples.specs.Small.{hi, wide, get_to_put, a_txt, a_file, state_of, at_moment, session, told, machine, no_file, with_a}
 

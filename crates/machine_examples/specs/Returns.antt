@@ -5,7 +5,8 @@ use Rattle.flowfile_record.specs.declared.worked.Outcome.{Outcome}
 use Rattle.machine_model.specs.declared.kind.Conflict.TheVariants.{Replace}
 use Rattle.machine_model.specs.declared.kind.Kind.TheVariants.{PutFile}
 use Rattle.machine_model.specs.State.{QueuedFile, State}
-use Rattle.machine_model.specs.Acting.{passed_on, received_attributes}
+use Rattle.machine_model.specs.Acting.{received_attributes}
+use Rattle.machine_model.specs.Making.{passed_on}
 use Rattle.machine_model.specs.Placing.{EndedSession}
 use Rattle.machine_model.specs.Settling.{settle}
 use Rattle.machine_examples.specs.Small.{both, processor, wide, get_to_put, a_txt, a_file, state_of, at_moment}

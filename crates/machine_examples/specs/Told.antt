@@ -15,7 +15,8 @@ use Rattle.machine_model.specs.declared.kind.Conflict.TheVariants.{Replace}
 use Rattle.machine_model.specs.declared.kind.Kind.TheVariants.{GetFile, PutFile, SplitText, MergeContent}
 use Rattle.machine_model.specs.declared.kind.MergeStrategy.TheVariants.{BinPacking}
 use Rattle.machine_model.specs.State.{QueuedFile, State}
-use Rattle.machine_model.specs.Acting.{received_attributes, passed_on, made_file}
+use Rattle.machine_model.specs.Acting.{received_attributes}
+use Rattle.machine_model.specs.Making.{passed_on, made_file}
 use Rattle.machine_model.specs.Placing.{EndedSession}
 use Rattle.machine_model.specs.Settling.{settle}
 use Rattle.machine_examples.specs.Small.{hi, both, processor, connection, wide, get_to_put, a_txt, a_file, waiting, state_of, kin_of, at_moment, told}

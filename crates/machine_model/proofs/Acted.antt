@@ -1,16 +1,29 @@
 -- That sessions of each type end all files that they took, in turn.
-use Rattle.std.proofs.Common.{◌≡◌, ℕ, ◌<◌, Bool, true, false, List, [], ◌∷◌, length, refl, arith}
-use Rattle.std.specs.Prelude.{Option, Some, None, IfSome}
-use Rattle.std.proofs.lemmas.List.Elements.{All-nil}
+use Rattle.std.proofs.Common.{◌≡◌, ℕ, zero, suc, ◌<◌, Bool, true, false, List, [], ◌∷◌, map, length, refl, arith}
+use Rattle.std.specs.Prelude.{Option, Some, None, IfSome, ◌==◌, ◌||◌, cond, codes, option_map, replicate, slice_get}
+use Rattle.std.proofs.lemmas.List.Elements.{All-nil, All-cons}
 use Rattle.flowfile_record.specs.Attributes.{AttributeMap}
 use Rattle.flowfile_record.specs.Outcome.{AreInTurn}
+use Rattle.flowfile_record.specs.declared.worked.Body.TheVariants.{New}
+use Rattle.flowfile_record.specs.declared.worked.Origin.TheVariants.{Taken, Cloned}
+use Rattle.flowfile_record.specs.declared.worked.Outcome.{Outcome}
+use Rattle.flowfile_record.specs.declared.worked.Worked.{Worked}
 use Rattle.machine_model.specs.declared.given.Given.{Given}
 use Rattle.machine_model.specs.declared.kind.Conflict.{Conflict}
+use Rattle.machine_model.specs.declared.kind.Destination.{Destination}
+use Rattle.machine_model.specs.declared.kind.Destination.TheVariants.{Attribute, Content}
 use Rattle.machine_model.specs.declared.kind.Conflict.TheVariants.{Replace, Ignore, Fail}
-use Rattle.machine_model.specs.declared.kind.Kind.TheVariants.{GetFile, GenerateFlowFile, PutFile}
-use Rattle.machine_model.specs.Acting.{passed_on, TakenFile, act, received, put, put_unless_there, name_in}
+use Rattle.machine_model.specs.declared.kind.Kind.TheVariants.{GetFile, GenerateFlowFile, PutFile, UpdateAttribute, RouteOnAttribute, AttributesToJson, DuplicateFlowFile, CryptographicHashContent}
+use Rattle.machine_model.specs.Acting.{act, received, put, put_unless_there, name_in}
+use Rattle.machine_model.specs.Making.{TakenFile, alone, passed_on, clone_of, found_in, may_have, with_set, as_content, or_given_up}
+use Rattle.machine_model.specs.UpdateAttribute.{update, updated}
+use Rattle.machine_model.specs.RouteOnAttribute.{route, routed, routed_file, routed_clone, true_places, with_clones}
+use Rattle.machine_model.specs.AttributesToJson.{attributes_to_json, json_of, noted_in, written_on}
+use Rattle.machine_model.specs.DuplicateFlowFile.{duplicate, duplicated}
+use Rattle.machine_model.specs.CryptographicHashContent.{hash_content, hashed}
 use Rattle.machine_model.specs.Laws.{EndsAllInTurn, ActsEndAllInTurn}
-use Rattle.machine_model.proofs.Outcomes.{taken-then-made}
+use Rattle.machine_model.proofs.Outcomes.{IsMade, taken-then-made}
+use Rattle.machine_model.proofs.Tally.{Each}
 
 received-ends : (count : ℕ) (name bytes : Option (List ℕ)) → count ≡ 0 → IfSome (received name bytes) (EndsAllInTurn count)
 received-ends count (Some name) (Some bytes) none = (omega arith, All-nil (λ parent. parent < 0), omega arith)
@@ -36,8 +49,94 @@ put-file conflict [] given one = tt
 put-file conflict (file ∷ []) given one = put-ends conflict given.there file (name_in file.attributes)
 put-file conflict (file ∷ other ∷ rest) given one = absurd (omega arith)
 
+-- ---- one file that was taken, and what is made of it
+
+-- it goes on, and made files stand behind it
+pub passed-then-made : (attributes : AttributeMap) (relationship : ℕ) (made : List Worked) → Each (IsMade 1) made → AreInTurn 0 1 (passed_on 0 attributes false relationship ∷ made)
+passed-then-made attributes relationship made all = taken-then-made (λ place (taken : ℕ). passed_on place attributes false relationship) (λ place taken. refl) (0 ∷ []) made all
+
+routed-then-made : (attributes : AttributeMap) (relationship : ℕ) (made : List Worked) → Each (IsMade 1) made → AreInTurn 0 1 (routed_file attributes relationship ∷ made)
+routed-then-made attributes relationship made all =
+    taken-then-made (λ place (taken : ℕ). record (passed_on place attributes false relationship) { routed = Some relationship }) (λ place taken. refl) (0 ∷ []) made all
+
+written-alone : (attributes : AttributeMap) (bytes : List ℕ) → AreInTurn 0 1 (written_on attributes bytes ∷ [])
+written-alone attributes bytes =
+    taken-then-made (λ place (taken : ℕ). record (passed_on place attributes false 0) { body = New bytes; written = true }) (λ place taken. refl) (0 ∷ []) [] tt
+
+is-clone : (attributes : AttributeMap) (relationship : ℕ) → IsMade 1 (clone_of 0 attributes relationship)
+is-clone attributes relationship = record {
+  as_made = refl;
+  parents = All-cons (λ parent. parent < 1) 0 [] (omega arith) (All-nil (λ parent. parent < 1));
+}
+
+is-routed : (attributes : AttributeMap) (relationship : ℕ) → IsMade 1 (routed_clone attributes relationship)
+is-routed attributes relationship = record {
+  as_made = refl;
+  parents = All-cons (λ parent. parent < 1) 0 [] (omega arith) (All-nil (λ parent. parent < 1));
+}
+
+are-clones : (n : ℕ) (file : Worked) → IsMade 1 file → Each (IsMade 1) (replicate n file)
+are-clones zero file made = tt
+are-clones (suc n) file made = (made, are-clones n file made)
+
+are-routed : (attributes : AttributeMap) (others : List ℕ) → Each (IsMade 1) (map (routed_clone attributes) others)
+are-routed attributes [] = tt
+are-routed attributes (relationship ∷ others) = (is-routed attributes relationship, are-routed attributes others)
+
+or-given-up-ends : (relationship : ℕ) (file : TakenFile) (made : Option Outcome) → IfSome made (EndsAllInTurn 1) → EndsAllInTurn 1 (or_given_up relationship (file ∷ []) made)
+or-given-up-ends relationship file (Some outcome) ends = ends
+or-given-up-ends relationship file None ends = passed_alone file.attributes false relationship
+
+with-attributes-ends : (set : Option AttributeMap) → IfSome (option_map (λ attributes. alone (passed_on 0 attributes false 0)) set) (EndsAllInTurn 1)
+with-attributes-ends (Some attributes) = passed_alone attributes false 0
+with-attributes-ends None = tt
+
+noted-ends : (destination : Destination) (file : TakenFile) (json : List ℕ) → IfSome (noted_in destination file json) (EndsAllInTurn 1)
+noted-ends Attribute file json = with-attributes-ends (with_set (Taken 0) file.attributes (codes "JSONAttributes", json))
+noted-ends Content file json = written_ends (as_content json)
+  where
+    written_ends : (content : Option (List ℕ)) → IfSome (option_map (λ bytes. alone (written_on file.attributes bytes)) content) (EndsAllInTurn 1)
+    written_ends (Some bytes) = written-alone file.attributes bytes
+    written_ends None = tt
+
+duplicated-ends : (copies : ℕ) (file : TakenFile) → IfSome (duplicated copies file) (EndsAllInTurn 1)
+duplicated-ends copies file =
+    let clones = replicate copies (clone_of 0 file.attributes 0) in
+    elim (may_have (Cloned 0) file.attributes) as (λ b. IfSome (cond b (Some (record { files = passed_on 0 file.attributes false 0 ∷ clones; sent = None })) None) (EndsAllInTurn 1)) [
+      | true ↦ passed-then-made file.attributes 0 clones (are-clones copies (clone_of 0 file.attributes 0) (is-clone file.attributes 0))
+      | false ↦ tt
+    ]
+
+with-clones-ends : (attributes : AttributeMap) (first : ℕ) (others : List ℕ) → IfSome (with_clones attributes first others) (EndsAllInTurn 1)
+with-clones-ends attributes first others =
+    elim ((length others == 0) || may_have (Cloned 0) attributes) as (λ b. IfSome (cond b (Some (record { files = routed_file attributes first ∷ map (routed_clone attributes) others; sent = None })) None) (EndsAllInTurn 1)) [
+      | true ↦ routed-then-made attributes first (map (routed_clone attributes) others) (are-routed attributes others)
+      | false ↦ tt
+    ]
+
+routed-ends : (unmatched : ℕ) (file : TakenFile) (places : List ℕ) → EndsAllInTurn 1 (routed unmatched file places)
+routed-ends unmatched file [] = routed-then-made file.attributes unmatched [] tt
+routed-ends unmatched file (first ∷ others) = or-given-up-ends unmatched file (with_clones file.attributes first others) (with-clones-ends file.attributes first others)
+
+one-file : (makes : TakenFile → Outcome) → ((file : TakenFile) → EndsAllInTurn 1 (makes file)) → (taken : List TakenFile) → length taken ≡ 1
+    → IfSome (option_map makes (slice_get taken 0)) (EndsAllInTurn (length taken))
+one-file makes ends [] one = tt
+one-file makes ends (file ∷ []) one = ends file
+one-file makes ends (file ∷ other ∷ rest) one = absurd (omega arith)
+
 pub act-ends : ActsEndAllInTurn
 act-ends (GetFile pattern) taken given may = received-ends (length taken) given.file given.bytes may
 act-ends (GenerateFlowFile count text) taken given may = (omega arith, All-nil (λ parent. parent < 0), omega arith)
 act-ends (PutFile conflict) taken given may = put-file conflict taken given may
+act-ends (UpdateAttribute own) taken given may =
+    one-file (update own) (λ file. or-given-up-ends 1 file (updated own file) (with-attributes-ends _)) taken may
+act-ends (RouteOnAttribute own) taken given may =
+    one-file (route own) (λ file. routed-ends (length own) file (true_places (found_in file) own)) taken may
+act-ends (AttributesToJson destination names) taken given may =
+    one-file (attributes_to_json destination names)
+    (λ file. or-given-up-ends 1 file (noted_in destination file (json_of names file)) (noted-ends destination file (json_of names file))) taken may
+act-ends (DuplicateFlowFile copies) taken given may =
+    one-file (duplicate copies) (λ file. or-given-up-ends 0 file (duplicated copies file) (duplicated-ends copies file)) taken may
+act-ends CryptographicHashContent taken given may =
+    one-file hash_content (λ file. or-given-up-ends 1 file (hashed file) (with-attributes-ends _)) taken may
 act-ends _ taken given may = tt

@@ -32,7 +32,8 @@ use Rattle.machine_model.specs.declared.given.Given.{Given}
 use Rattle.machine_model.specs.declared.kind.Conflict.{Conflict}
 use Rattle.machine_model.specs.declared.kind.Conflict.TheVariants.{Replace, Ignore, Fail}
 use Rattle.machine_model.specs.declared.kind.Kind.TheVariants.{GetFile, GenerateFlowFile, PutFile}
-use Rattle.machine_model.specs.Acting.{TakenFile, act, received, received_attributes, generated, generated_text, generated_attributes, made_file, passed_on, put, put_unless_there, name_in}
+use Rattle.machine_model.specs.Acting.{act, received, received_attributes, generated, generated_text, generated_attributes, put, put_unless_there, name_in}
+use Rattle.machine_model.specs.Making.{TakenFile, made_file, passed_on}
 use Rattle.machine_model.specs.Laws.{ActsGiveOutcomes}
 use Rattle.machine_model.proofs.Acted.{passed_alone}
 use Rattle.machine_model.proofs.ShortTexts.{text-short}

@@ -11,7 +11,8 @@ use Rattle.machine_model.specs.declared.journal.Step.{Step}
 use Rattle.machine_model.specs.declared.journal.Step.TheVariants.{Expire, SwapOut, SwapIn}
 use Rattle.machine_model.specs.declared.journal.Step.TheVariants as entry
 use Rattle.machine_model.specs.State.{QueuedFile, State, Machine}
-use Rattle.machine_model.specs.Acting.{TakenFile, act}
+use Rattle.machine_model.specs.Acting.{act}
+use Rattle.machine_model.specs.Making.{TakenFile}
 use Rattle.machine_model.specs.Kinds.{take_rule_of}
 use Rattle.machine_model.specs.Laws.{HasTaken, EndsAllInTurn}
 use Rattle.machine_model.specs.Placing.{EndedSession}

@@ -5,11 +5,7 @@ use Rattle.regex.specs.Patterns.{find_str}
 use Rattle.regex.specs.Strings.{regex_pattern}
 use Rattle.flowfile_record.specs.Attributes.{AttributeMap}
 use Rattle.flowfile_record.specs.Name.{is_name}
-use Rattle.flowfile_record.specs.declared.worked.Body.TheVariants.{Whole, New}
-use Rattle.flowfile_record.specs.declared.worked.End.TheVariants.{To}
-use Rattle.flowfile_record.specs.declared.worked.Origin.{Origin}
-use Rattle.flowfile_record.specs.declared.worked.Origin.TheVariants.{Taken, Created, Received}
-use Rattle.flowfile_record.specs.declared.worked.Worked.{Worked}
+use Rattle.flowfile_record.specs.declared.worked.Origin.TheVariants.{Created, Received}
 use Rattle.flowfile_record.specs.declared.worked.Outcome.{Outcome}
 use Rattle.expr_lang.specs.Value.{Value, Answer, as_text}
 use Rattle.expr_lang.specs.Meaning.{tree_value}
@@ -19,43 +15,14 @@ use Rattle.machine_model.specs.declared.given.Given.{Given}
 use Rattle.machine_model.specs.declared.kind.Conflict.{Conflict}
 use Rattle.machine_model.specs.declared.kind.Conflict.TheVariants.{Replace, Ignore, Fail}
 use Rattle.machine_model.specs.declared.kind.Kind.{Kind}
-use Rattle.machine_model.specs.declared.kind.Kind.TheVariants.{GetFile, GenerateFlowFile, PutFile}
+use Rattle.machine_model.specs.declared.kind.Kind.TheVariants.{GetFile, GenerateFlowFile, PutFile, UpdateAttribute, RouteOnAttribute, AttributesToJson, DuplicateFlowFile, CryptographicHashContent}
 use Rattle.machine_model.specs.declared.pattern.Pattern.{Pattern}
-
--- a taken file as a processor sees it: its attributes, its uuid as text, its bytes
-pub record TakenFile : Type 0 where
-  pub attributes : AttributeMap
-  pub uuid : List ℕ
-  pub bytes : List ℕ
-
--- a file that is made, with these bytes, and goes to a relationship
-abbrev pub made_file : Origin → AttributeMap → List ℕ → (written : Bool) → ℕ → Worked
-made_file origin attributes bytes written relationship =
-    record {
-      origin = origin;
-      attributes = attributes;
-      body = New bytes;
-      end = To relationship;
-      written = written;
-      penalised = false;
-      routed = None;
-    }
-
--- a taken file that goes to a relationship as it is
-abbrev pub passed_on : ℕ → AttributeMap → (penalised : Bool) → ℕ → Worked
-passed_on place attributes penalised relationship =
-    record {
-      origin = Taken place;
-      attributes = attributes;
-      body = Whole place;
-      end = To relationship;
-      written = false;
-      penalised = penalised;
-      routed = None;
-    }
-
-abbrev pub alone : Worked → Outcome
-alone file = record { files = file ∷ []; sent = None }
+use Rattle.machine_model.specs.Making.{TakenFile, made_file, passed_on, alone}
+use Rattle.machine_model.specs.UpdateAttribute.{update}
+use Rattle.machine_model.specs.RouteOnAttribute.{route}
+use Rattle.machine_model.specs.AttributesToJson.{attributes_to_json}
+use Rattle.machine_model.specs.DuplicateFlowFile.{duplicate}
+use Rattle.machine_model.specs.CryptographicHashContent.{hash_content}
 
 -- GetFile: the inbox's file, named `filename`, at `path` ./, to success (0)
 abbrev pub received_attributes : List ℕ → AttributeMap
@@ -110,4 +77,9 @@ act (GetFile filter) taken given = received given.file given.bytes
 act (GenerateFlowFile count custom_text) taken given = Some (generated custom_text given.index)
 act (PutFile conflict) taken given =
     option_map (λ file. put conflict given.there file (name_in file.attributes)) (slice_get taken 0)
+act (UpdateAttribute own) taken given = option_map (update own) (slice_get taken 0)
+act (RouteOnAttribute own) taken given = option_map (route own) (slice_get taken 0)
+act (AttributesToJson destination names) taken given = option_map (attributes_to_json destination names) (slice_get taken 0)
+act (DuplicateFlowFile copies) taken given = option_map (duplicate copies) (slice_get taken 0)
+act CryptographicHashContent taken given = option_map hash_content (slice_get taken 0)
 act _ taken given = None

@@ -1,6 +1,7 @@
 -- What holds of the machine: of the order of queues, of outcomes, of numbers, of events and of replays.
 use Rattle.std.specs.Prelude.{map, ◌≡◌, ◌≢◌, ◌⊎◌, ℕ, ◌^◌, ◌<◌, ◌≤◌, true, false, List, [], ◌∷◌, ◌++◌, All, Contains, MatchOption, IfSome, IsSome, not, filter, option_and_then, option_map, slice_get, slice_index, length, Option, Some}
 use Rattle.std.specs.List.{AllPairs, enumerate_from, flat_map}
+use Rattle.std.specs.Str.{IsUtf8}
 use Rattle.std.specs.Option.{option_map_or}
 use Rattle.std.specs.List.Sorted.{IsPermutation}
 use Rattle.flowfile_record.specs.Attributes.{IsWithinLimits}
@@ -21,11 +22,12 @@ use Rattle.machine_model.specs.declared.journal.Step.TheVariants as entry
 use Rattle.machine_model.specs.Due.{numbers_of, due_expiry, due_swap_out, due_swap_in}
 use Rattle.machine_model.specs.Files.{active_views, content_bytes, queue_at, queue_view, queues_of, view_of}
 use Rattle.machine_model.specs.declared.kind.Kind.{Kind}
-use Rattle.machine_model.specs.declared.kind.Kind.TheVariants.{GetFile}
+use Rattle.machine_model.specs.declared.kind.Kind.TheVariants.{GetFile, UpdateAttribute, AttributesToJson}
 use Rattle.machine_model.specs.declared.kind.TakeRule.{TakeRule}
 use Rattle.machine_model.specs.declared.kind.TakeRule.TheVariants.{Source, One, Bin, Defragment}
 use Rattle.machine_model.specs.State.{QueuedFile, State, World, Machine}
-use Rattle.machine_model.specs.Acting.{TakenFile, act}
+use Rattle.machine_model.specs.Acting.{act}
+use Rattle.machine_model.specs.Making.{TakenFile}
 use Rattle.machine_model.specs.Changing.{without_events, without_past}
 use Rattle.machine_model.specs.Kinds.{take_rule_of, relationships_of, is_among}
 use Rattle.machine_model.specs.Lineage.{Lineage, IsLineage}
@@ -140,8 +142,14 @@ abbrev pub ActsEndAllInTurn : Type 0
 ActsEndAllInTurn = (kind : Kind) (taken : List TakenFile) (given : Given) → MayTake (take_rule_of kind) (length taken) →
     IfSome (act kind taken given) (EndsAllInTurn (length taken))
 
--- What a sound processor may be handed: as many files as its rule takes, each within the limits of a flow file; an
--- index of 64 bits; the name of a file of the inbox, and bytes that a content may have.
+-- the names of attributes that a processor's properties have
+abbrev pub names_in : Kind → List (List ℕ)
+names_in (UpdateAttribute own) = map (λ property. property.name) own
+names_in (AttributesToJson destination names) = names
+names_in _ = []
+
+-- What a sound processor may be handed: as many files as its rule takes, each within the limits of flow files; an
+-- index of 64 bits; the name of a file of the inbox, and bytes that a content may have. Names and uuids are texts.
 pub record MayBeHanded (kind : Kind) (taken : List TakenFile) (given : Given) : Type 0 where
   pub sound : IsSoundKind kind
   pub count : MayTake (take_rule_of kind) (length taken)
@@ -150,6 +158,8 @@ pub record MayBeHanded (kind : Kind) (taken : List TakenFile) (given : Given) : 
   pub index : given.index < 2 ^ 64
   pub name : IfSome given.file IsName
   pub bytes : IfSome given.bytes (λ bytes. length bytes ≤ CONTENT_MAX)
+  pub names : All IsUtf8 (names_in kind)
+  pub uuids : All (λ file. IsUtf8 file.uuid) taken
 
 -- the outcome is one of a session with the processor's relationships, over the contents that were taken
 abbrev pub ActsGiveOutcomes : Type 0

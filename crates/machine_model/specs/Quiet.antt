@@ -1,5 +1,5 @@
 -- When a flow has nothing left to do, and when it can't go on. Both speak of a state in which no session runs.
-use Rattle.std.specs.Prelude.{ℕ, ◌==◌, ◌&&◌, ◌||◌, not, nat_lt, nat_le, Bool, false, List, length, filter, Option, None, is_none, is_some, option_map, slice_index, if◌then◌else◌}
+use Rattle.std.specs.Prelude.{ℕ, ◌==◌, ◌&&◌, ◌||◌, not, nat_lt, nat_le, Bool, false, List, length, filter, Option, None, is_some, option_map, slice_index, if◌then◌else◌}
 use Rattle.std.specs.List.{list_all, list_any, enumerate_from, find}
 use Rattle.machine_model.specs.declared.flow.Connection.{Connection}
 use Rattle.machine_model.specs.declared.flow.Flow.{Flow}
@@ -8,7 +8,7 @@ use Rattle.machine_model.specs.declared.flow.QueueLimits.{QueueLimits}
 use Rattle.machine_model.specs.declared.kind.Kind.{Kind}
 use Rattle.machine_model.specs.declared.kind.Kind.TheVariants.{GetFile, GenerateFlowFile}
 use Rattle.machine_model.specs.State.{State, World}
-use Rattle.machine_model.specs.Due.{expired_numbers, last_batch, lowest_batch}
+use Rattle.machine_model.specs.Due.{expired_numbers}
 use Rattle.machine_model.specs.Files.{queues_of}
 use Rattle.machine_model.specs.Kinds.{take_rule_of}
 use Rattle.machine_model.specs.Order.{eligible_files}
@@ -40,13 +40,11 @@ is_full limits queue =
     (nat_lt 0 limits.objects && nat_le limits.objects (file_count queue))
     || (nat_lt 0 limits.bytes && nat_le limits.bytes (byte_count queue))
 
--- no file of a queue has expired or waits for its penalty's end, and no batch has to go or to come back
+-- no file of a queue has expired or waits for its penalty's end
 abbrev pub is_nothing_due_in : (ℕ → QueueView) → ℕ → ℕ × Connection → Bool
 is_nothing_due_in queues moment (place, connection) =
     let queue = queues place in
     (length (expired_numbers connection.limits moment queue.active) == 0)
-    && is_none (last_batch connection.order connection.limits queue.active)
-    && is_none (lowest_batch connection.limits queue)
     && list_all (λ file. not (is_penalised moment file)) queue.active
 
 abbrev pub nothing_due : Flow → (ℕ → QueueView) → ℕ → Bool

@@ -23,7 +23,8 @@ use Rattle.machine_model.specs.declared.kind.TakeRule.{TakeRule}
 use Rattle.machine_model.specs.declared.kind.TakeRule.TheVariants.{Source, One, Bin, Defragment}
 use Rattle.machine_model.specs.State.{QueuedFile, State, World, Machine}
 use Rattle.flowfile_record.specs.NamedFile.{bytes_of, with_file}
-use Rattle.machine_model.specs.Acting.{TakenFile, act, passes, name_in}
+use Rattle.machine_model.specs.Acting.{act, passes, name_in}
+use Rattle.machine_model.specs.Making.{TakenFile}
 use Rattle.machine_model.specs.Due.{batch_size, lowest_batch}
 use Rattle.machine_model.specs.Events.{Draft, ascending, numbered_from}
 use Rattle.machine_model.specs.Files.{active_files, file_numbered, queue_at, are_active, are_distinct, is_number_among, is_in_batch, view_of, queue_view}

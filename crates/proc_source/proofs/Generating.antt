@@ -7,7 +7,8 @@ use Rattle.flowfile_record.specs.Attributes.{AttributeMap, encoded_size, is_uuid
 use Rattle.flowfile_record.specs.declared.worked.Body.TheVariants.{New}
 use Rattle.flowfile_record.specs.declared.worked.End.TheVariants.{To}
 use Rattle.flowfile_record.specs.declared.worked.Origin.TheVariants.{Created}
-use Rattle.machine_model.specs.Acting.{alone as alone_outcome, made_file as made_worked, generated_attributes, generated_text, text_or_nothing}
+use Rattle.machine_model.specs.Acting.{generated_attributes, generated_text, text_or_nothing}
+use Rattle.machine_model.specs.Making.{alone as alone_outcome, made_file as made_worked}
 use Rattle.machine_model.specs.Sound.{IsSoundKind}
 use Rattle.machine_model.specs.declared.given.Given.{Given}
 use Rattle.machine_model.specs.declared.kind.Kind.TheVariants.{GenerateFlowFile}

@@ -9,7 +9,8 @@ use Rattle.flowfile_record.specs.declared.TheConstants.{CONTENT_MAX}
 use Rattle.flowfile_record.specs.declared.worked.Body.TheVariants.{New}
 use Rattle.flowfile_record.specs.declared.worked.End.TheVariants.{To}
 use Rattle.flowfile_record.specs.declared.worked.Origin.TheVariants.{Received}
-use Rattle.machine_model.specs.Acting.{alone as alone_outcome, made_file as made_worked, received, received_attributes}
+use Rattle.machine_model.specs.Acting.{received, received_attributes}
+use Rattle.machine_model.specs.Making.{alone as alone_outcome, made_file as made_worked}
 use Rattle.machine_model.specs.declared.given.Given.{Given}
 use Rattle.machine_model.specs.declared.kind.Kind.TheVariants.{GetFile}
 use Rattle.machine_model.specs.declared.pattern.Pattern.{Pattern}

@@ -6,7 +6,8 @@ use Rattle.std.specs.FinMap.{empty, get-empty}
 use Rattle.flowfile_record.specs.Attributes.{AttributeMap}
 use Rattle.flowfile_record.specs.declared.worked.End.TheVariants.{To}
 use Rattle.flowfile_record.specs.declared.worked.Sent.{Sent}
-use Rattle.machine_model.specs.Acting.{TakenFile, act, name_in, put, put_unless_there}
+use Rattle.machine_model.specs.Acting.{act, name_in, put, put_unless_there}
+use Rattle.machine_model.specs.Making.{TakenFile}
 use Rattle.machine_model.specs.declared.given.Given.{Given}
 use Rattle.machine_model.specs.declared.kind.Conflict.{Conflict}
 use Rattle.machine_model.specs.declared.kind.Kind.TheVariants.{PutFile}

@@ -1,6 +1,7 @@
 //! Files of the outbox.
 ghost use Rattle.std.specs.Prelude.{◌≡◌, IfOk, IfSome, IsOk, OnOk, is_some, true, false, Ok, None};
-ghost use Rattle.machine_model.specs.Acting.{TakenFile, name_in, put_unless_there};
+ghost use Rattle.machine_model.specs.Acting.{name_in, put_unless_there};
+ghost use Rattle.machine_model.specs.Making.{TakenFile};
 ghost use Rattle.process_session.specs.Bench.{attributes_at};
 ghost use Rattle.proc_source.specs.Kinds.{is_put_file};
 ghost use Rattle.proc_source.specs.Putting.{HasOneTaken, EndsWith, passed_with};

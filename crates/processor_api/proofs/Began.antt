@@ -2,7 +2,8 @@
 use Rattle.std.proofs.Common.{◌≡◌, ℕ, List, [], ◌∷◌, length, map, Some, None, refl, sym, ◌∙◌, ap, subst, arith}
 use Rattle.std.proofs.lemmas.List.{length-map}
 use Rattle.flowfile_record.specs.declared.worked.Outcome.{Outcome}
-use Rattle.machine_model.specs.Acting.{TakenFile, act}
+use Rattle.machine_model.specs.Acting.{act}
+use Rattle.machine_model.specs.Making.{TakenFile}
 use Rattle.machine_model.specs.Kinds.{take_rule_of, relationships_of}
 use Rattle.machine_model.specs.Laws.{MayTake}
 use Rattle.machine_model.specs.declared.given.Given.{Given}

@@ -2,7 +2,8 @@
 use Rattle.std.specs.Prelude.{◌≡◌, ◌⊎◌, ◌≤◌, nat_le, Bool, List, [], ◌∷◌, length, sum_by, All, None, Some, is_some, IsSome, IsSomeAnd, IfSome}
 use Rattle.flowfile_record.specs.declared.TheConstants.{CONTENT_MAX}
 use Rattle.flowfile_record.specs.declared.worked.Outcome.{Outcome}
-use Rattle.machine_model.specs.Acting.{TakenFile, act}
+use Rattle.machine_model.specs.Acting.{act}
+use Rattle.machine_model.specs.Making.{TakenFile}
 use Rattle.machine_model.specs.Kinds.{take_rule_of, relationships_of}
 use Rattle.machine_model.specs.Laws.{MayTake}
 use Rattle.machine_model.specs.Sound.{IsSoundKind}
