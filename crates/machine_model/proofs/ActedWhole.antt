@@ -182,12 +182,3 @@ put-file conflict [] given one within = tt
 put-file conflict (file ∷ []) given one within =
     put-gives (length file.bytes) conflict given.there file (name_in file.attributes) (All-head (λ (file : TakenFile). IsWithinLimits file.attributes) file [] within)
 put-file conflict (file ∷ other ∷ rest) given one within = absurd (omega arith)
-
-pub act-gives : ActsGiveOutcomes
-act-gives (GetFile pattern) taken given handed =
-    received-gives (map (λ file. length file.bytes) taken) given.file given.bytes (length-map taken (λ (file : TakenFile). length file.bytes) ∙ handed.count) handed.name handed.bytes
-act-gives (GenerateFlowFile count text) taken given handed =
-    generated-gives (map (λ file. length file.bytes) taken) text given.index (length-map taken (λ (file : TakenFile). length file.bytes) ∙ handed.count) handed.index
-    (omega (arith, text-short (get (generated_attributes given.index)) handed.sound.texts.0 (tree_of text) handed.sound.texts.1))
-act-gives (PutFile conflict) taken given handed = put-file conflict taken given handed.count handed.attributes
-act-gives _ taken given handed = tt
