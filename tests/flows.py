@@ -11,6 +11,7 @@ import random
 import time
 
 import store_format
+from flow_texts import flow, generator, let_go, put, queue, source, state_of, told
 from store_format import CLONE, CREATE, DROP, EXPIRED, RECEIVE, SEND, Expire, Writer
 from support import (BLOCKED, DAMAGED, DONE, LIMIT, MEMORY, REFUSED, SOURCE, THE_TEXT, USAGE, Report, find_program,
                      in_memory, names, need, need_status, new_folder, options, parse_seeded, photo, put_flow,
@@ -24,32 +25,6 @@ TEXT_MAX = 4_194_304
 
 # ---- flows
 
-def source(name, pattern=None):
-    return {"id": name, "type": "GetFile", "properties": {} if pattern is None else {"File Filter": pattern}}
-
-
-def generator(name, count, text=""):
-    return {"id": name, "type": "GenerateFlowFile", "properties": {"Count": str(count), "Custom Text": text}}
-
-
-def put(name, strategy, *terminated, **fields):
-    return {"id": name, "type": "PutFile", "properties": {"Conflict Resolution Strategy": strategy},
-            "terminated": list(terminated), **fields}
-
-
-def let_go(name, strategy, **fields):
-    """A put that lets all of its files go."""
-    return put(name, strategy, "success", "failure", **fields)
-
-
-def queue(name, origin, to, relationship="success", **fields):
-    return {"id": name, "from": origin, "to": to, "relationships": [relationship], **fields}
-
-
-def flow(processors, queues):
-    return json.dumps({"processors": processors, "connections": queues}, indent=1).encode()
-
-
 def ring(penalty=0, more=(), **fields):
     """A put that fails where its name stands, and whose failures go back to it."""
     return flow([source("get"), put("put", "fail", "success", penalty=penalty)],
@@ -57,19 +32,6 @@ def ring(penalty=0, more=(), **fields):
 
 
 # ---- what a store tells
-
-def state_of(folder):
-    state = store_format.state_of(store_format.files_in(folder / "store"))
-    need(not isinstance(state, store_format.Damage), f"the store is damaged: {state}")
-    untold = store_format.untold(state)
-    need(not untold, f"the events don't tell of the files {untold[:5]}")
-    return state
-
-
-def told(state):
-    """How often each processor or connection told what, with which detail."""
-    return collections.Counter((event.kind, event.component, event.detail) for event in state.events)
-
 
 def most_in_queues(folder, text):
     """How many files each connection had at most, by the log of a new store."""

@@ -1,59 +1,32 @@
-//! Parts of a case: the kind of its processor, the file that this takes, and what it is given.
+//! Parts of a case: its processor, the file that this takes, and what it is given.
 ghost use Rattle.std.specs.Prelude.{◌≤◌, length, IfOk, IfSome, is_some, ◌≡◌, true};
 ghost use Rattle.flowfile_record.specs.declared.TheConstants.{CONTENT_MAX};
-ghost use Rattle.machine_model.specs.Sound.{IsSoundKind};
+ghost use Rattle.machine_model.specs.Sound.{IsSound};
 ghost use Rattle.process_session.specs.Bench.{IsWhole};
 ghost use Rattle.processor_api.specs.Acts.{AreRead};
 
 use crate::json::{item, items, member, number, text, truth, word};
 use anyhow::{Result, bail};
-use expr_lang::parse;
+use flow_definition::{Builder, FlowError, read_flow};
 use flowfile_record::{Attributes, Bytes, CONTENT_MAX, Name, Text};
-use machine_model::{Conflict, Given, Kind};
+use machine_model::{Flow, Given};
 use process_session::{Taken, TakenList};
-use serde_json::Value;
+use serde_json::{Value, json};
 use std::alloc::Global;
 
-/// The greatest count of a GenerateFlowFile.
-const COUNT_MAX: u64 = 1_000_000;
-
-/// The kind that a case names, with its properties. A GetFile has no filter.
-pub fn kind(alloc: Global, case: &Value) -> Result<Kind>
-    ensures { IfOk result IsSoundKind }
+/// The flow of a case's processor alone, which the case has as a flow's text has it.
+pub fn flow(alloc: Global, case: &Value) -> Result<Flow>
+    ensures { IfOk result IsSound }
 {
-    match word(member(case, "type")?)? {
-        "GetFile" => Ok(Kind::GetFile { filter: None }),
-        "GenerateFlowFile" => generator(alloc, case),
-        "PutFile" => Ok(Kind::PutFile {
-            conflict: conflict(word(member(case, "conflict")?)?)?,
-        }),
-        _ => bail!("no type of a processor"),
-    }
-}
-
-fn generator(alloc: Global, case: &Value) -> Result<Kind>
-    ensures { IfOk result IsSoundKind }
-{
-    let count = number(member(case, "count")?)?;
-    if count > COUNT_MAX {
-        bail!("the count is too great");
-    }
-    let text = text(alloc, member(case, "text")?)?;
-    match parse(alloc, text.as_str()) {
-        Ok(custom_text) => Ok(Kind::GenerateFlowFile {
-            count: count as u32,
-            custom_text,
-        }),
-        Err(error) => bail!("{error}"),
-    }
-}
-
-fn conflict(word: &str) -> Result<Conflict> {
-    match word {
-        "replace" => Ok(Conflict::Replace),
-        "ignore" => Ok(Conflict::Ignore),
-        "fail" => Ok(Conflict::Fail),
-        _ => bail!("no conflict resolution strategy"),
+    let processor = member(case, "processor")?;
+    let text = json!(in alloc; {"processors": [processor], "connections": []})?.to_string(alloc)?;
+    let mut patterns = Builder::new(Vec::new(alloc));
+    match read_flow(alloc, text.as_bytes(), &mut patterns) {
+        Ok(flow) => Ok(flow),
+        Err(FlowError::Rule { rule, place }) => {
+            bail!("rule {} at {}", rule.number(), place.as_str())
+        }
+        Err(FlowError::Memory) => bail!("out of memory"),
     }
 }
 

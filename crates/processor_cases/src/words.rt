@@ -4,20 +4,43 @@ use flowfile_record::{Attributes, Body, End, Origin, Outcome, Worked};
 use std::alloc::Global;
 
 /// Of a longer text the size is told.
-const LONG: usize = 60;
+const LONG: usize = 64;
 
 /// The files of an outcome, and what it sends.
 pub fn outcome_in_words(alloc: Global, outcome: &Outcome) -> Result<String> {
-    let mut told = String::new(alloc);
-    for file in outcome.files.as_slice() {
-        told.push_str(file_in_words(alloc, file)?.as_str())?;
-    }
+    let mut told = files_in_words(alloc, outcome.files.as_slice())?;
     if let Some(sent) = &outcome.sent {
         let place = sent.place;
         let name = text_in_words(alloc, sent.name.text())?;
         told.push_str(format!(in alloc; " sends {place} as {name}")?.as_str())?;
     }
     Ok(told)
+}
+
+// Files that read the same and stand one behind the other are told once, with their number.
+fn files_in_words(alloc: Global, files: &[Worked]) -> Result<String> {
+    let mut told = String::new(alloc);
+    let mut last = String::new(alloc);
+    let mut count = 0u64;
+    for file in files {
+        let file = file_in_words(alloc, file)?;
+        if file.as_str() != last.as_str() {
+            told.push_str(times(alloc, count, last.as_str())?.as_str())?;
+            count = 0;
+        }
+        count = count.saturating_add(1);
+        last = file;
+    }
+    told.push_str(times(alloc, count, last.as_str())?.as_str())?;
+    Ok(told)
+}
+
+fn times(alloc: Global, count: u64, file: &str) -> Result<String> {
+    match count {
+        0 => Ok(String::new(alloc)),
+        1 => Ok(String::from_str(alloc, file)?),
+        _ => Ok(format!(in alloc; "{count} times {file}")?),
+    }
 }
 
 fn file_in_words(alloc: Global, file: &Worked) -> Result<String> {
@@ -27,11 +50,7 @@ fn file_in_words(alloc: Global, file: &Worked) -> Result<String> {
     let end = end_in_words(alloc, file.end)?;
     let written = if file.written { ", written" } else { "" };
     let penalised = if file.penalised { ", penalised" } else { "" };
-    let routed = if file.routed.is_some() {
-        ", routed"
-    } else {
-        ""
-    };
+    let routed = routed_in_words(alloc, file.routed)?;
     Ok(format!(in alloc;
         "[{origin}, {{{attributes} }}, {body}, {end}{written}{penalised}{routed}]"
     )?)
@@ -42,6 +61,7 @@ fn origin_in_words(alloc: Global, origin: &Origin) -> Result<String> {
         Origin::Taken(place) => Ok(format!(in alloc; "taken {place}")?),
         Origin::Created => Ok(String::from_str(alloc, "created")?),
         Origin::Received => Ok(String::from_str(alloc, "received")?),
+        Origin::Cloned(place) => Ok(format!(in alloc; "a clone of {place}")?),
         _ => Ok(String::from_str(alloc, "a child")?),
     }
 }
@@ -77,6 +97,13 @@ fn end_in_words(alloc: Global, end: End) -> Result<String> {
         End::To(relationship) => Ok(format!(in alloc; "to {relationship}")?),
         End::Back => Ok(String::from_str(alloc, "back")?),
         End::Removed => Ok(String::from_str(alloc, "removed")?),
+    }
+}
+
+fn routed_in_words(alloc: Global, routed: Option<u16>) -> Result<String> {
+    match routed {
+        Some(relationship) => Ok(format!(in alloc; ", routed to {relationship}")?),
+        None => Ok(String::new(alloc)),
     }
 }
 

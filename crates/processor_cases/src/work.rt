@@ -8,6 +8,9 @@ use crate::case;
 use anyhow::{Result, bail};
 use flowfile_record::Outcome;
 use machine_model::{Given, Kind, TakeRule};
+use proc_attribute::{
+    AttributesToJson, CryptographicHashContent, DuplicateFlowFile, RouteOnAttribute, UpdateAttribute,
+};
 use proc_source::{GenerateFlowFile, GetFile, PutFile};
 use process_session::TakenList;
 use processor_api::work_on;
@@ -16,16 +19,20 @@ use std::alloc::Global;
 
 /// What the processor of a case makes of what it takes and is given.
 pub fn outcome_of(alloc: Global, case: &Value) -> Result<Outcome> {
-    let kind = case::kind(alloc, case)?;
+    let flow = case::flow(alloc, case)?;
+    let Some(processor) = flow.processors.as_slice().first() else {
+        bail!("there is no processor")
+    };
+    let kind = &processor.kind;
     let taken = case::taken(alloc, case)?;
     let mut given = case::given(alloc, case)?;
     if !may_take(kind.take_rule(), taken.len()) {
         bail!("it takes another number of files");
     }
-    if !is_given(&kind, &given) {
+    if !is_given(kind, &given) {
         bail!("it is given no file");
     }
-    worked(alloc, &kind, taken, &mut given)
+    worked(alloc, kind, taken, &mut given)
 }
 
 /// Whether a rule takes so many files. The rules of several files are nobody's here.
@@ -54,16 +61,29 @@ fn worked(alloc: Global, kind: &Kind, taken: TakenList, given: &mut Given) -> Re
     requires { MayBeHanded kind.now taken given.old }
 {
     if let Some(get_file) = GetFile::of(kind) {
-        let (outcome, _) = work_on(alloc, &get_file, 1, taken, given)?;
-        return Ok(outcome);
+        return Ok(work_on(alloc, &get_file, 1, taken, given)?.0);
     }
     if let Some(generator) = GenerateFlowFile::of(kind) {
-        let (outcome, _) = work_on(alloc, &generator, 1, taken, given)?;
-        return Ok(outcome);
+        return Ok(work_on(alloc, &generator, 1, taken, given)?.0);
     }
     if let Some(put_file) = PutFile::of(kind) {
-        let (outcome, _) = work_on(alloc, &put_file, 2, taken, given)?;
-        return Ok(outcome);
+        return Ok(work_on(alloc, &put_file, 2, taken, given)?.0);
+    }
+    if let Some(update) = UpdateAttribute::of(kind) {
+        return Ok(work_on(alloc, &update, 2, taken, given)?.0);
+    }
+    if let Some(route) = RouteOnAttribute::of(kind) {
+        let relationships = route.own.len() as u16 + 1;
+        return Ok(work_on(alloc, &route, relationships, taken, given)?.0);
+    }
+    if let Some(to_json) = AttributesToJson::of(kind) {
+        return Ok(work_on(alloc, &to_json, 2, taken, given)?.0);
+    }
+    if let Some(duplicate) = DuplicateFlowFile::of(kind) {
+        return Ok(work_on(alloc, &duplicate, 1, taken, given)?.0);
+    }
+    if let Some(hash) = CryptographicHashContent::of(kind) {
+        return Ok(work_on(alloc, &hash, 2, taken, given)?.0);
     }
     bail!("no processor of this type")
 }
