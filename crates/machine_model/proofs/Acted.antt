@@ -55,15 +55,15 @@ put-file conflict (file ∷ other ∷ rest) given one = absurd (omega arith)
 pub passed-then-made : (attributes : AttributeMap) (relationship : ℕ) (made : List Worked) → Each (IsMade 1) made → AreInTurn 0 1 (passed_on 0 attributes false relationship ∷ made)
 passed-then-made attributes relationship made all = taken-then-made (λ place (taken : ℕ). passed_on place attributes false relationship) (λ place taken. refl) (0 ∷ []) made all
 
-routed-then-made : (attributes : AttributeMap) (relationship : ℕ) (made : List Worked) → Each (IsMade 1) made → AreInTurn 0 1 (routed_file attributes relationship ∷ made)
+pub routed-then-made : (attributes : AttributeMap) (relationship : ℕ) (made : List Worked) → Each (IsMade 1) made → AreInTurn 0 1 (routed_file attributes relationship ∷ made)
 routed-then-made attributes relationship made all =
     taken-then-made (λ place (taken : ℕ). record (passed_on place attributes false relationship) { routed = Some relationship }) (λ place taken. refl) (0 ∷ []) made all
 
-written-alone : (attributes : AttributeMap) (bytes : List ℕ) → AreInTurn 0 1 (written_on attributes bytes ∷ [])
+pub written-alone : (attributes : AttributeMap) (bytes : List ℕ) → AreInTurn 0 1 (written_on attributes bytes ∷ [])
 written-alone attributes bytes =
     taken-then-made (λ place (taken : ℕ). record (passed_on place attributes false 0) { body = New bytes; written = true }) (λ place taken. refl) (0 ∷ []) [] tt
 
-is-clone : (attributes : AttributeMap) (relationship : ℕ) → IsMade 1 (clone_of 0 attributes relationship)
+pub is-clone : (attributes : AttributeMap) (relationship : ℕ) → IsMade 1 (clone_of 0 attributes relationship)
 is-clone attributes relationship = record {
   as_made = refl;
   parents = All-cons (λ parent. parent < 1) 0 [] (omega arith) (All-nil (λ parent. parent < 1));
@@ -75,11 +75,11 @@ is-routed attributes relationship = record {
   parents = All-cons (λ parent. parent < 1) 0 [] (omega arith) (All-nil (λ parent. parent < 1));
 }
 
-are-clones : (n : ℕ) (file : Worked) → IsMade 1 file → Each (IsMade 1) (replicate n file)
+pub are-clones : (n : ℕ) (file : Worked) → IsMade 1 file → Each (IsMade 1) (replicate n file)
 are-clones zero file made = tt
 are-clones (suc n) file made = (made, are-clones n file made)
 
-are-routed : (attributes : AttributeMap) (others : List ℕ) → Each (IsMade 1) (map (routed_clone attributes) others)
+pub are-routed : (attributes : AttributeMap) (others : List ℕ) → Each (IsMade 1) (map (routed_clone attributes) others)
 are-routed attributes [] = tt
 are-routed attributes (relationship ∷ others) = (is-routed attributes relationship, are-routed attributes others)
 

@@ -1,138 +1,44 @@
 -- That a session of each type ends with an outcome of its relationships, over what it took.
-use Rattle.std.proofs.Common.{◌≡◌, ℕ, ◌+◌, ◌^◌, ◌<◌, ◌≤◌, Bool, true, false, List, [], ◌∷◌, map, length, refl, sym, ◌∙◌, arith}
-use Rattle.std.specs.Prelude.{All, IfSome, Option, Some, None, codes, decimal, sum_by, nat_lt, not, cond, ◌&&◌}
-use Rattle.std.specs.declared.cmp.Ordering.TheVariants.{Less, Equal, Greater}
-use Rattle.std.specs.Ordering.{nat_cmp}
-use Rattle.std.specs.Cmp.Lexicographic.{slice_cmp, nat_list_cmp_total}
-use Rattle.std.specs.FinMap.{empty, get, insert, entries, contains_key, entries-insert, len-entries, len-empty, slice_cmp-IsAntisymmetric, nat_cmp-IsAntisymmetric}
-use Rattle.std.specs.FinMap.Entries.{by_order, put as put_entry}
+use Rattle.std.proofs.Common.{◌≡◌, ℕ, ◌^◌, ◌<◌, ◌≤◌, Bool, true, false, not, ◌&&◌, List, [], ◌∷◌, ◌++◌, map, length, refl, ◌∙◌, arith}
+use Rattle.std.specs.Prelude.{All, IfSome, Option, Some, None, nat_le, option_map, slice_get, codes, decimal}
+use Rattle.std.specs.FinMap.{get}
 use Rattle.std.specs.List.{list_all}
 use Rattle.std.specs.Str.{IsUtf8}
-use Rattle.std.proofs.lemmas.Bool.{and_parts, ltb-true}
+use Rattle.std.proofs.lemmas.Bool.{and_parts, leb-true}
 use Rattle.std.proofs.lemmas.Fmt.{IsAscii-decimal, length-decimal-le}
-use Rattle.std.proofs.lemmas.List.{length-map}
-use Rattle.std.proofs.lemmas.List.Elements.{All-nil, All-cons, All-head}
-use Rattle.std.proofs.lemmas.List.Sums.{sum_by-cons}
+use Rattle.std.proofs.lemmas.List.{length-append, length-map}
+use Rattle.std.proofs.lemmas.List.Elements.{All-nil, All-head}
 use Rattle.std.proofs.lemmas.Str.{IsUtf8-from_ascii}
-use Rattle.std.proofs.lemmas.Str.Ascii.{IsAscii-from_all}
-use Rattle.flowfile_record.proofs.Entries.{All-put}
-use Rattle.flowfile_record.specs.Attributes.{AttributeMap, IsPair, IsWithinLimits, pair_size, encoded_size}
+use Rattle.flowfile_record.specs.Attributes.{AttributeMap, IsPair, IsWithinLimits}
 use Rattle.flowfile_record.specs.Name.{IsName}
 use Rattle.flowfile_record.specs.NameLemmas.{name-most, name-utf8}
-use Rattle.flowfile_record.specs.Outcome.{is_made, filename_to_come, NamesEachOnce, IsWorked, IsOutcome, AreInTurn}
+use Rattle.flowfile_record.specs.Outcome.{IsOutcome}
 use Rattle.flowfile_record.specs.declared.TheConstants.{CONTENT_MAX}
-use Rattle.flowfile_record.specs.declared.limits.TheConstants.{FILENAME_SIZE}
-use Rattle.flowfile_record.specs.declared.worked.Origin.{Origin}
 use Rattle.flowfile_record.specs.declared.worked.Origin.TheVariants.{Created, Received}
 use Rattle.flowfile_record.specs.declared.worked.Sent.{Sent}
-use Rattle.flowfile_record.specs.declared.worked.Worked.{Worked}
 use Rattle.expr_lang.specs.View.{tree_of}
 use Rattle.expr_lang.specs.declared.syntax.Expr.{Expr}
 use Rattle.machine_model.specs.declared.given.Given.{Given}
 use Rattle.machine_model.specs.declared.kind.Conflict.{Conflict}
 use Rattle.machine_model.specs.declared.kind.Conflict.TheVariants.{Replace, Ignore, Fail}
-use Rattle.machine_model.specs.declared.kind.Kind.TheVariants.{GetFile, GenerateFlowFile, PutFile}
+use Rattle.machine_model.specs.declared.kind.Kind.TheVariants.{GetFile, GenerateFlowFile, PutFile, UpdateAttribute, RouteOnAttribute, AttributesToJson, DuplicateFlowFile, CryptographicHashContent}
+use Rattle.machine_model.specs.declared.kind.OwnExpression.{OwnExpression}
+use Rattle.machine_model.specs.declared.limits.TheConstants.{OWN_NAME_MAX, OWN_PROPERTIES_MAX}
 use Rattle.machine_model.specs.Acting.{act, received, received_attributes, generated, generated_text, generated_attributes, put, put_unless_there, name_in}
 use Rattle.machine_model.specs.Making.{TakenFile, made_file, passed_on}
+use Rattle.machine_model.specs.Kinds.{relationships_of, is_among}
+use Rattle.machine_model.specs.Sound.{within, are_ascending, are_own_names, are_own_relationships}
+use Rattle.machine_model.specs.UpdateAttribute.{update}
+use Rattle.machine_model.specs.RouteOnAttribute.{route}
+use Rattle.machine_model.specs.AttributesToJson.{attributes_to_json}
+use Rattle.machine_model.specs.DuplicateFlowFile.{duplicate}
+use Rattle.machine_model.specs.CryptographicHashContent.{hash_content}
 use Rattle.machine_model.specs.Laws.{ActsGiveOutcomes}
 use Rattle.machine_model.proofs.Acted.{passed_alone}
 use Rattle.machine_model.proofs.ShortTexts.{text-short}
-
--- ---- attributes of which one is set
-
-put-size : (k v : List ℕ) (es : List (List ℕ × List ℕ)) → sum_by pair_size (put_entry (slice_cmp nat_cmp) k v es) ≤ sum_by pair_size es + pair_size (k, v)
-put-size k v [] = omega (arith, sum_by-cons pair_size (k, v) [])
-put-size k v (e ∷ es) =
-    let whole = sum_by-cons pair_size e es in
-    elim (slice_cmp nat_cmp k e.0) as (λ o. sum_by pair_size (by_order o ((k, v) ∷ e ∷ es) ((e.0, v) ∷ es) (e ∷ put_entry (slice_cmp nat_cmp) k v es)) ≤ sum_by pair_size (e ∷ es) + pair_size (k, v)) [
-      | Less ↦ omega (arith, sum_by-cons pair_size (k, v) (e ∷ es))
-      | Equal ↦ omega (arith, whole, sum_by-cons pair_size (e.0, v) es)
-      | Greater ↦ omega (arith, whole, sum_by-cons pair_size e (put_entry (slice_cmp nat_cmp) k v es), put-size k v es)
-    ]
-
-pub insert-size : (attributes : AttributeMap) (k v : List ℕ) → encoded_size (insert attributes k v) ≤ encoded_size attributes + pair_size (k, v)
-unfolding encoded_size
-insert-size attributes k v = rw (entries-insert nat_list_cmp_total attributes k v) (omega (arith, put-size k v (entries attributes)))
-
-pub insert-pairs : (attributes : AttributeMap) (k v : List ℕ) → IsPair (k, v) → All IsPair (entries attributes) → All IsPair (entries (insert attributes k v))
-insert-pairs attributes k v pair all =
-    rw (entries-insert nat_list_cmp_total attributes k v)
-    (All-put nat_list_cmp_total (slice_cmp-IsAntisymmetric nat_cmp-IsAntisymmetric) IsPair k v (entries attributes) pair all)
-
-no-entries : entries (empty {X = List ℕ} {R = slice_cmp nat_cmp}) ≡ []
-no-entries = none_of_none (entries empty) (sym (len-entries empty) ∙ len-empty (slice_cmp nat_cmp) (List ℕ))
-  where
-    none_of_none : {X : Type 0} (xs : List X) → length xs ≡ 0 → xs ≡ []
-    none_of_none [] h = refl
-    none_of_none (x ∷ xs) h = absurd (omega arith)
-
-no-size : encoded_size empty ≡ 2
-unfolding encoded_size
-no-size = rw no-entries refl
-
-no-pairs : All IsPair (entries (empty {X = List ℕ} {R = slice_cmp nat_cmp}))
-no-pairs = rw no-entries (All-nil IsPair)
-
--- attributes with two pairs that are set one behind the other
-two_sized : (k v l w : List ℕ) (most : ℕ) → 2 + pair_size (k, v) + pair_size (l, w) ≤ most → encoded_size (insert (insert empty k v) l w) ≤ most
-two_sized k v l w most h = omega (arith, no-size, insert-size empty k v, insert-size (insert empty k v) l w)
-
-two_pairs : (k v l w : List ℕ) → IsPair (k, v) → IsPair (l, w) → All IsPair (entries (insert (insert (empty {R = slice_cmp nat_cmp}) k v) l w))
-two_pairs k v l w one other = insert-pairs (insert empty k v) l w other (insert-pairs empty k v one no-pairs)
-
-below_128 : (bytes : List ℕ) → list_all (λ byte. nat_lt byte 128) bytes ≡ true → All (λ byte. byte < 128) bytes
-below_128 [] h = All-nil (λ byte. byte < 128)
-below_128 (byte ∷ bytes) h =
-    let parts = and_parts (nat_lt byte 128) (list_all (λ b. nat_lt b 128) bytes) h in
-    All-cons (λ byte. byte < 128) byte bytes (ltb-true byte 128 parts.0) (below_128 bytes parts.1)
-
-pub literal : (bytes : List ℕ) → list_all (λ byte. nat_lt byte 128) bytes ≡ true → IsUtf8 bytes
-literal bytes h = IsUtf8-from_ascii bytes (IsAscii-from_all bytes (below_128 bytes h))
-
-path_pair : IsPair (codes "path", codes "./")
-path_pair = record { key = refl; key_text = literal (codes "path") refl; value_text = literal (codes "./") refl }
-
--- ---- outcomes of one file
-
-to-come-most : (origin : Origin) (attributes : AttributeMap) → filename_to_come origin attributes ≤ 50
-to-come-most origin attributes =
-    elim (is_made origin && not (contains_key attributes (codes "filename"))) as (λ b. cond b FILENAME_SIZE 0 ≤ 50) [ true ↦ omega arith | false ↦ omega arith ]
-
--- a file that is made of bytes within a content, with few attributes
-made-worked : (relationships : ℕ) (sizes : List ℕ) (origin : Origin) (attributes : AttributeMap) (bytes : List ℕ) (written : Bool) → NamesEachOnce origin → 0 < relationships → length bytes ≤ CONTENT_MAX
-    → All IsPair (entries attributes) → encoded_size attributes ≤ 1000 → IsWorked relationships sizes (made_file origin attributes bytes written 0)
-made-worked relationships sizes origin attributes bytes written names some short pairs small = record {
-  names = names;
-  body = short;
-  ends = some;
-  routed = tt;
-  attributes = record { pairs = pairs; size = omega arith };
-  named = omega (arith, to-come-most origin attributes);
-}
-
-passed-worked : (relationships relationship size : ℕ) (attributes : AttributeMap) (penalised : Bool) → relationship < relationships → IsWithinLimits attributes
-    → IsWorked relationships (size ∷ []) (passed_on 0 attributes penalised relationship)
-passed-worked relationships relationship size attributes penalised there within = record {
-  names = tt;
-  body = omega arith;
-  ends = there;
-  routed = tt;
-  attributes = within;
-  named = omega (arith, within.size);
-}
-
-one-outcome : (relationships : ℕ) (sizes : List ℕ) (file : Worked) (sent : Option Sent) → length sizes ≤ 1 → IsWorked relationships sizes file → AreInTurn 0 (length sizes) (file ∷ [])
-    → IfSome sent (λ sent. sent.place < 1) → IsOutcome relationships sizes (record { files = file ∷ []; sent = sent })
-one-outcome relationships sizes file sent few worked turn there = record {
-  taken = omega arith;
-  count = omega arith;
-  in_turn = turn;
-  each = All-cons (IsWorked relationships sizes) file [] worked (All-nil (IsWorked relationships sizes));
-  attributes = omega (arith, worked.attributes.size, sum_by-cons (λ (file : Worked). encoded_size file.attributes) file []);
-  sent = there;
-}
-
--- ---- the types
+use Rattle.machine_model.proofs.AttributesWhole.{one-gives, duplicate-gives, route-gives}
+use Rattle.machine_model.proofs.SetWhole.{IsTextual, update-gives, hash-gives, json-gives}
+use Rattle.machine_model.proofs.OneOutcome.{two_sized, two_pairs, literal, path_pair, made-worked, passed-worked, one-outcome}
 
 received-gives : (sizes : List ℕ) (name bytes : Option (List ℕ)) → length sizes ≡ 0 → IfSome name IsName → IfSome bytes (λ bytes. length bytes ≤ CONTENT_MAX) → IfSome (received name bytes) (IsOutcome 1 sizes)
 received-gives sizes (Some name) (Some bytes) none is_name short =
@@ -182,3 +88,49 @@ put-file conflict [] given one within = tt
 put-file conflict (file ∷ []) given one within =
     put-gives (length file.bytes) conflict given.there file (name_in file.attributes) (All-head (λ (file : TakenFile). IsWithinLimits file.attributes) file [] within)
 put-file conflict (file ∷ other ∷ rest) given one within = absurd (omega arith)
+
+-- ---- own properties, and files of texts
+
+-- few, with names of a key's length
+are_names : (own : List OwnExpression) → are_own_names (map (λ property. property.name) own) ≡ true
+    → (length own ≤ 64) × (list_all (λ name. within 1 (length name) OWN_NAME_MAX) (map (λ property. property.name) own) ≡ true)
+are_names own are =
+    let names = map (λ (property : OwnExpression). property.name) own in
+    let few = nat_le (length names) OWN_PROPERTIES_MAX in
+    let sized = list_all (λ name. within 1 (length name) OWN_NAME_MAX) names in
+    let parts = and_parts few sized (and_parts (few && sized) (are_ascending names) are).0 in
+    (omega (arith, leb-true (length names) OWN_PROPERTIES_MAX parts.0, length-map own (λ (property : OwnExpression). property.name)), parts.1)
+
+all-textual : (taken : List TakenFile) → All (λ file. IsWithinLimits file.attributes) taken → All (λ file. IsUtf8 file.uuid) taken → All IsTextual taken
+all-textual taken within texts place default below = record { attributes = within place default below; uuid = texts place default below }
+
+route-all : (own : List OwnExpression) (taken : List TakenFile) → are_own_relationships (map (λ property. property.name) own) ≡ true → length taken ≡ 1
+    → All (λ file. IsWithinLimits file.attributes) taken
+    → IfSome (option_map (route own) (slice_get taken 0)) (IsOutcome (length (relationships_of (RouteOnAttribute own))) (map (λ file. length file.bytes) taken))
+route-all own taken are one within =
+    let names = map (λ (property : OwnExpression). property.name) own in
+    let relationships = length (names ++ codes "unmatched" ∷ []) in
+    let few = (are_names own (and_parts (are_own_names names) (not (is_among (codes "unmatched") names)) are).0).0 in
+    let more : length own < relationships = omega (arith, length-append names (codes "unmatched" ∷ []), length-map own (λ (property : OwnExpression). property.name)) in
+    one-gives relationships (route own) (λ file. IsWithinLimits file.attributes) (λ file within. route-gives own relationships file more few within) taken one within
+
+pub act-gives : ActsGiveOutcomes
+act-gives (GetFile pattern) taken given handed =
+    received-gives (map (λ file. length file.bytes) taken) given.file given.bytes (length-map taken (λ (file : TakenFile). length file.bytes) ∙ handed.count) handed.name handed.bytes
+act-gives (GenerateFlowFile count text) taken given handed =
+    generated-gives (map (λ file. length file.bytes) taken) text given.index (length-map taken (λ (file : TakenFile). length file.bytes) ∙ handed.count) handed.index
+    (omega (arith, text-short (get (generated_attributes given.index)) handed.sound.texts.0 (tree_of text) handed.sound.texts.1))
+act-gives (PutFile conflict) taken given handed = put-file conflict taken given handed.count handed.attributes
+act-gives (UpdateAttribute own) taken given handed =
+    one-gives 2 (update own) IsTextual
+    (λ file is. update-gives own file (record { lengths = (are_names own handed.sound.ranges).1; texts = handed.names }) is) taken handed.count
+    (all-textual taken handed.attributes handed.uuids)
+act-gives (RouteOnAttribute own) taken given handed = route-all own taken handed.sound.ranges handed.count handed.attributes
+act-gives (AttributesToJson destination names) taken given handed =
+    one-gives 2 (attributes_to_json destination names) IsTextual (λ file is. json-gives destination names file handed.names is) taken handed.count
+    (all-textual taken handed.attributes handed.uuids)
+act-gives (DuplicateFlowFile copies) taken given handed =
+    one-gives 1 (duplicate copies) (λ file. IsWithinLimits file.attributes) (λ file within. duplicate-gives copies file handed.sound.ranges within) taken handed.count handed.attributes
+act-gives CryptographicHashContent taken given handed =
+    one-gives 2 hash_content (λ file. IsWithinLimits file.attributes) hash-gives taken handed.count handed.attributes
+act-gives _ taken given handed = tt

@@ -2,6 +2,7 @@ pub mod Acted
 pub mod ActedWhole
 pub mod Among
 pub mod Ancestry
+pub mod AttributesWhole
 pub mod BatchPlaces
 pub mod Batches
 pub mod Crosses
@@ -12,11 +13,13 @@ pub mod EventsTell
 pub mod Fragments
 pub mod GivenIn
 pub mod GoesOn
+pub mod JsonTexts
 pub mod Keyed
 pub mod KinSets
 pub mod Kinships
 pub mod Numbered
 pub mod Numbers
+pub mod OneOutcome
 pub mod OnlyLineage
 pub mod OnlyOrder
 pub mod Options
@@ -28,12 +31,15 @@ pub mod Preserved
 pub mod QueueOrder
 pub mod Replayed
 pub mod Seen
+pub mod SetWhole
 pub mod Settled
 pub mod SettledNumbers
 pub mod SettlingKeeps
 pub mod ShortTexts
 pub mod Stepped
 pub mod Tally
+pub mod TextParts
+pub mod Texts
 pub mod Took
 pub mod Validity
 pub mod WithoutPast

@@ -18,7 +18,7 @@ use Rattle.machine_model.specs.Acting.{act}
 use Rattle.machine_model.specs.Changing.{without_events, without_past}
 use Rattle.machine_model.specs.Kinds.{take_rule_of}
 use Rattle.machine_model.specs.Laws.{SettlesWithoutPast, StepsWithoutPast, ReplaysWithoutPast}
-use Rattle.machine_model.specs.Stepping.{step, replay, session_step, session_of, session_after, after_session, taken_files, given_at, given_in, as_taken, expire_step, swap_out_step, swap_in_step, same_world, world_after}
+use Rattle.machine_model.specs.Stepping.{step, replay, session_step, session_of, session_after, after_session, taken_files, given_at, given_in, as_taken, expire_step, swap_out_step, swap_in_step, same_world}
 
 -- ---- what may be none
 

@@ -3,7 +3,7 @@
 -- gives up to failure. Success is 0, failure 1.
 use Rattle.std.specs.Prelude.{ℕ, true, false, List, [], ◌∷◌, ◌++◌, map, fold, codes, Option, option_map, unwrap_or}
 use Rattle.std.specs.FinMap.{entries}
-use Rattle.serde_json.specs.Data.{Data, string, object, Members, no_members, put}
+use Rattle.serde_json.specs.Data.{Data, string, object, no_members, put}
 use Rattle.serde_json.specs.Written.{compact_text}
 use Rattle.flowfile_record.specs.Attributes.{AttributeMap}
 use Rattle.flowfile_record.specs.declared.worked.Body.TheVariants.{New}

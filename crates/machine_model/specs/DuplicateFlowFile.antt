@@ -1,5 +1,5 @@
 -- DuplicateFlowFile: so many clones; file and clones to success, which is 0. A limit gives up to success.
-use Rattle.std.specs.Prelude.{ℕ, false, List, [], ◌∷◌, replicate, Option, Some, None, if◌then◌else◌}
+use Rattle.std.specs.Prelude.{ℕ, false, [], ◌∷◌, replicate, Option, Some, None, if◌then◌else◌}
 use Rattle.flowfile_record.specs.declared.worked.Origin.TheVariants.{Cloned}
 use Rattle.flowfile_record.specs.declared.worked.Outcome.{Outcome}
 use Rattle.machine_model.specs.Making.{TakenFile, passed_on, clone_of, may_have, or_given_up}

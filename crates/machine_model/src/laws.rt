@@ -1,6 +1,6 @@
 //! What holds of the machine's definitions, each law as the contract of a function that does nothing.
 ghost use Rattle.std.specs.Prelude.{◌≡◌, ◌*◌, ◌^◌};
-ghost use Rattle.machine_model.specs.Laws.{ViewsCountAll, NoneGoesBeforeItself, GoingBeforeChains, ArrivalsTell, OrderKeepsFiles, OrderHolds, OrderIsOnly, BestIsBest, BestIsOnly, ReplayOfOneMore, ReplayOfJoined, ActsEndAllInTurn, SettlingKeepsNumbers, StepsKeepNumbers, ReplaysKeepNumbers, SettlingNumbersEvents, StepsNumberEvents, ReplaysNumberEvents, ReplaysAddEvents, SettlesWithoutPast, StepsWithoutPast, ReplaysWithoutPast, SettlingTellsKin, StepsTellKin, ReplaysTellKin, NewStatesAreValid, StepsStayValid, ReplaysStayValid, StepsGoOn, ReplaysGoOn, StepsLoseNames, ReplaysLoseNames, OneConnectionHas, PicksMayBeTaken, DueExpiriesHaveSteps, DueSwapOutsHaveSteps, DueSwapInsHaveSteps, LineageIsOnly};
+ghost use Rattle.machine_model.specs.Laws.{ViewsCountAll, NoneGoesBeforeItself, GoingBeforeChains, ArrivalsTell, OrderKeepsFiles, OrderHolds, OrderIsOnly, BestIsBest, BestIsOnly, ReplayOfOneMore, ReplayOfJoined, ActsEndAllInTurn, ActsGiveOutcomes, SettlingKeepsNumbers, StepsKeepNumbers, ReplaysKeepNumbers, SettlingNumbersEvents, StepsNumberEvents, ReplaysNumberEvents, ReplaysAddEvents, SettlesWithoutPast, StepsWithoutPast, ReplaysWithoutPast, SettlingTellsKin, StepsTellKin, ReplaysTellKin, NewStatesAreValid, StepsStayValid, ReplaysStayValid, StepsGoOn, ReplaysGoOn, StepsLoseNames, ReplaysLoseNames, OneConnectionHas, PicksMayBeTaken, DueExpiriesHaveSteps, DueSwapOutsHaveSteps, DueSwapInsHaveSteps, LineageIsOnly};
 
 use crate::{
     CONNECTIONS_MAX, COPIES_MAX, FAN_OUT_MAX, GENERATED_MAX, ID_MAX, LINES_MAX, OWN_NAME_MAX,
@@ -71,6 +71,7 @@ pub fn the_past_is_not_asked()
 /// sound one that is handed what is within the limits of flow files makes an outcome of its relationships.
 pub fn acts_give_outcomes()
     ensures in_turn { ActsEndAllInTurn }
+    ensures whole { ActsGiveOutcomes }
 {}
 
 /// A session leaves the queues well numbered, whatever outcome it had.
