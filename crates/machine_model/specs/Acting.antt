@@ -79,7 +79,8 @@ act (PutFile conflict) taken given =
     option_map (λ file. put conflict given.there file (name_in file.attributes)) (slice_get taken 0)
 act (UpdateAttribute own) taken given = option_map (update own) (slice_get taken 0)
 act (RouteOnAttribute own) taken given = option_map (route own) (slice_get taken 0)
-act (AttributesToJson destination names) taken given = option_map (attributes_to_json destination names) (slice_get taken 0)
+act (AttributesToJson destination names) taken given =
+    option_map (attributes_to_json destination names) (slice_get taken 0)
 act (DuplicateFlowFile copies) taken given = option_map (duplicate copies) (slice_get taken 0)
 act CryptographicHashContent taken given = option_map hash_content (slice_get taken 0)
 act _ taken given = None

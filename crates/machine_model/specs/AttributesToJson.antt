@@ -1,6 +1,6 @@
 -- AttributesToJSON: an object of texts, with its keys in the order of their bytes: the listed attributes, a missing one
--- as the empty text, or all attributes and `uuid`. It goes into the attribute `JSONAttributes` or is the content. A limit
--- gives up to failure. Success is 0, failure 1.
+-- as the empty text, or all attributes and `uuid`. It goes into the attribute `JSONAttributes` or is the content. A
+-- limit gives up to failure. Success is 0, failure 1.
 use Rattle.std.specs.Prelude.{ℕ, true, false, List, [], ◌∷◌, ◌++◌, map, fold, codes, Option, option_map, unwrap_or}
 use Rattle.std.specs.FinMap.{entries}
 use Rattle.serde_json.specs.Data.{Data, string, object, no_members, put}

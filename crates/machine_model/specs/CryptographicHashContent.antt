@@ -1,5 +1,5 @@
--- CryptographicHashContent: the digest of the content in lower-case hexadecimal digits as `content_SHA-256`. A limit gives
--- up to failure. Success is 0, failure 1.
+-- CryptographicHashContent: the digest of the content in lower-case hexadecimal digits as `content_SHA-256`. A limit
+-- gives up to failure. Success is 0, failure 1.
 use Rattle.std.specs.Prelude.{false, [], ◌∷◌, codes, Option, option_map}
 use Rattle.hex.specs.Hex.{encode_lower}
 use Rattle.sha2.specs.Sha256.{sha256}

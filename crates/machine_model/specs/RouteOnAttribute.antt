@@ -1,6 +1,6 @@
--- RouteOnAttribute: of the own relationships those whose expressions are worth the truth value true. The file goes to the
--- first, and a clone to each other one; where none is, to unmatched, which is the last. All of these are noted as routed.
--- A limit gives up to unmatched.
+-- RouteOnAttribute: of the own relationships those whose expressions are worth the truth value true. The file goes to
+-- the first, and a clone to each other one; where none is, to unmatched, which is the last. All of these are noted as
+-- routed. A limit gives up to unmatched.
 use Rattle.std.specs.Prelude.{ℕ, ◌||◌, Bool, true, false, List, [], ◌∷◌, length, map, filter, Option, Some, None, Ok, if◌then◌else◌, ◌==◌}
 use Rattle.std.specs.List.{enumerate_from}
 use Rattle.flowfile_record.specs.Attributes.{AttributeMap}

@@ -1,5 +1,5 @@
--- UpdateAttribute: the values of all own properties over the attributes as they came, and then each set. A value that can't
--- be computed, or a limit, gives up to failure. Success is 0, failure 1.
+-- UpdateAttribute: the values of all own properties over the attributes as they came, and then each set. A value that
+-- can't be computed, or a limit, gives up to failure. Success is 0, failure 1.
 use Rattle.std.specs.Prelude.{ℕ, false, List, [], ◌∷◌, Option, Some, None, option_map, option_and_then, Ok, Err}
 use Rattle.flowfile_record.specs.declared.worked.Origin.TheVariants.{Taken}
 use Rattle.flowfile_record.specs.declared.worked.Outcome.{Outcome}

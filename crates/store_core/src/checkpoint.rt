@@ -35,7 +35,8 @@ impl Store {
         ensures log { OnOk result ((number : ℕ) → self.old.log.number ≡ Some number
             → (self.new.log.number ≡ Some (number + 1)) × (self.new.entries ≡ 0)) }
         ensures state { (kept_by self.new ≡ kept_by self.old) × (self.new.slots ≡ self.old.slots)
-            × (self.new.opened ≡ self.old.opened) × (self.new.events ≡ self.old.events) × (self.new.lot ≡ self.old.lot) }
+            × (self.new.opened ≡ self.old.opened) × (self.new.events ≡ self.old.events)
+            × (self.new.lot ≡ self.old.lot) }
         // Whatever a stop leaves holds the same, and stands for the same state.
         ensures images { self.old.failed ≡ false → Since D.moment D.images disk.old disk.new (Holds self.old) }
         ensures states { self.old.failed ≡ false → (state : State)

@@ -4,8 +4,8 @@ use kept_state::PreparedEntry;
 use prov_store::EventBlocks;
 use std::marker::Model;
 
-/// Files of a connection that expire, each with its event, as a settled session: it takes them and places none, and what
-/// comes next stays.
+/// Files of a connection that expire, each with its event, as a settled session: it takes them and places none, and
+/// what comes next stays.
 #[derive(Debug, Drop)]
 pub struct SettledExpiry {
     pub connection: u16,
