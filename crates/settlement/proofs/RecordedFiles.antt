@@ -17,7 +17,7 @@ use Rattle.flowfile_record.specs.declared.worked.Origin.{Origin}
 use Rattle.flowfile_record.specs.declared.worked.Origin.TheVariants as origin
 use Rattle.flowfile_record.specs.declared.worked.Worked.{Worked}
 use Rattle.machine_model.specs.Placing.{entered_by, entered_in, least, penalty_end_of, uuid_text, with_filename}
-use Rattle.machine_model.proofs.ActedWhole.{insert-pairs, insert-size, literal}
+use Rattle.machine_model.proofs.OneOutcome.{insert-pairs, insert-size, literal}
 use Rattle.machine_model.proofs.Tally.{Each, each-append}
 use Rattle.process_session.specs.declared.file.Source.{Source}
 use Rattle.settlement.specs.Contents.{fresh_in, source_bytes}
