@@ -1,5 +1,5 @@
 -- What a queue holds, and how it is seen.
-use Rattle.std.specs.Prelude.{◌≡◌, ◌≢◌, ℕ, ◌==◌, ◌&&◌, not, nat_lt, min, Bool, true, false, List, [], length, map, filter, All, Option, Some, is_none, if◌then◌else◌}
+use Rattle.std.specs.Prelude.{◌≡◌, ◌≢◌, ℕ, ◌==◌, ◌&&◌, not, nat_lt, min, Bool, true, false, List, [], length, map, filter, All, Option, Some, if◌then◌else◌}
 use Rattle.std.specs.List.{list_all, reduce}
 use Rattle.std.specs.Option.{option_map, option_map_or}
 use Rattle.flowfile_record.specs.NumberedItems.{item_of, with_item, without_item, AscendsByNumber}
@@ -8,7 +8,7 @@ use Rattle.prioritizer.specs.declared.prioritizer.Prioritizer.{Prioritizer}
 use Rattle.machine_model.specs.declared.flow.QueueLimits.{QueueLimits}
 use Rattle.machine_model.specs.declared.kind.TakeRule.{TakeRule}
 use Rattle.machine_model.specs.declared.kind.TakeRule.TheVariants.{Source, One, Bin, Defragment}
-use Rattle.machine_model.specs.Due.{numbers_of, expired_numbers, last_batch}
+use Rattle.machine_model.specs.Due.{numbers_of, expired_numbers}
 use Rattle.machine_model.specs.Laws.{ArrivalsDiffer}
 use Rattle.machine_model.specs.Order.{eligible_files}
 use Rattle.machine_model.specs.Taking.{picks}
@@ -104,12 +104,11 @@ TakesAtMostOne Defragment = ⊥
 
 -- ---- what is due
 
--- no file has expired or waits for its penalty's end, and no batch has to go
+-- no file has expired or waits for its penalty's end
 abbrev pub is_nothing_due : ℕ → QueueState → Bool
 is_nothing_due moment queue =
     let files = (seen queue).active in
     (length (expired_numbers queue.limits moment files) == 0)
-    && is_none (last_batch queue.order queue.limits files)
     && list_all (λ file. not (is_penalised moment file)) files
 
 -- when the first penalty of some files ends that hasn't ended by a moment

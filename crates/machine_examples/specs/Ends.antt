@@ -91,7 +91,7 @@ FilteredIsLeft = (pattern : Pattern) → Finds pattern false →
 abbrev pub FoundIsWanted : Type 0
 FoundIsWanted = (pattern : Pattern) → Finds pattern true → quiet (filtering pattern) nothing_queued left_a 1000 ≡ false
 
--- ---- a batch that can come back, or has to go, keeps a flow from being quiet, though no processor wants
+-- ---- neither a batch that can come back nor one that has to go keeps a flow from being quiet or blocked
 
 -- three files before a MergeContent that waits for five, swapped past so many
 abbrev pub binning : (swap : ℕ) → Flow
@@ -108,3 +108,15 @@ in_batch file = record file { batch = Some 1 }
 
 abbrev pub SwappingIsQuiet : (swap : ℕ) → List QueuedFile → Bool → Type 0
 SwappingIsQuiet swap files answer = quiet (binning swap) (state_of (files ∷ []) 9 9 (0 ∷ 0 ∷ [])) nothing 1000 ≡ answer
+
+-- the ring whose queues are full with three files, and swapped past two
+abbrev pub swapping_ring : Expr → Flow
+swapping_ring text =
+    let limits = record wide { objects = 3; swap = 2 } in
+    record (ring text) {
+      connections = connection (codes "in") 0 1 limits ∷ connection (codes "ab") 1 2 limits
+          ∷ connection (codes "ba") 2 1 limits ∷ [];
+    }
+
+abbrev pub SwappingBlocks : State → Option ℕ → Type 0
+SwappingBlocks state answer = (text : Expr) → blocked (swapping_ring text) state nothing 1000 ≡ answer

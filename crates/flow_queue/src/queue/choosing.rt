@@ -88,14 +88,11 @@ impl Queue {
             || (bytes > 0 && u128::from(bytes) <= self.bytes)
     }
 
-    /// Whether no file has expired or waits for its penalty's end, and no batch has to be swapped out.
+    /// Whether no file has expired or waits for its penalty's end.
     pub fn is_nothing_due(&self, moment: u64) -> bool
         ensures { result ≡ is_nothing_due moment self.now }
     {
-        let swap = u64::from(self.limits.swap);
-        none_expired(&self.files, &self.limits, moment)
-            && count_at_rest(&self.files) < swap + swap / 2
-            && none_penalised(&self.files, moment)
+        none_expired(&self.files, &self.limits, moment) && none_penalised(&self.files, moment)
     }
 
     /// When the first penalty of a file ends that hasn't ended by a moment.
@@ -114,12 +111,6 @@ fn none_expired(files: &[Held], limits: &QueueLimits, moment: u64) -> bool
     files
         .iter()
         .all(|held| held.in_flight || !held.is_expired(limits, moment))
-}
-
-fn count_at_rest(files: &[Held]) -> u64
-    ensures { result ≡ length (filter (λ held. not held.in_flight) files.now) }
-{
-    files.iter().filter(|held| !held.in_flight).count() as u64
 }
 
 fn none_penalised(files: &[Held], moment: u64) -> bool

@@ -21,8 +21,7 @@ returns c = record {
   ring_all_full = λ text. refl;
   filtered = λ pattern none. (rw none refl, rw none refl);
   found = λ pattern some. rw some refl;
-  batch_goes = refl;
-  no_batch_goes = refl;
-  batch_comes = refl;
-  no_batch_comes = refl;
+  batch_to_go = refl;
+  batch_to_come = refl;
+  batches_in_ring = λ text. refl;
 }
