@@ -91,7 +91,7 @@ FilteredIsLeft = (pattern : Pattern) → Finds pattern false →
 abbrev pub FoundIsWanted : Type 0
 FoundIsWanted = (pattern : Pattern) → Finds pattern true → quiet (filtering pattern) nothing_queued left_a 1000 ≡ false
 
--- ---- neither a batch that can come back nor one that has to go keeps a flow from being quiet or blocked
+-- ---- a batch that may be swapped out keeps no flow from being quiet or blocked
 
 -- three files before a MergeContent that waits for five, swapped past so many
 abbrev pub binning : (swap : ℕ) → Flow
@@ -102,9 +102,6 @@ binning swap = record (get_to_put Replace wide) {
       (codes "merged" ∷ codes "original" ∷ codes "failure" ∷ []) ∷ [];
   connections = connection (codes "c1") 0 1 (record wide { swap = swap }) ∷ [];
 }
-
-abbrev pub in_batch : QueuedFile → QueuedFile
-in_batch file = record file { batch = Some 1 }
 
 abbrev pub SwappingIsQuiet : (swap : ℕ) → List QueuedFile → Bool → Type 0
 SwappingIsQuiet swap files answer = quiet (binning swap) (state_of (files ∷ []) 9 9 (0 ∷ 0 ∷ [])) nothing 1000 ≡ answer

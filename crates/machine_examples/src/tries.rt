@@ -12,7 +12,7 @@ ghost use Rattle.machine_examples.specs.Elsewhere.{WantsIs, HeldBackIs, SecondEx
 ghost use Rattle.machine_model.specs.Files.{view_of};
 ghost use Rattle.machine_model.specs.declared.journal.Step.TheVariants.{SwapOut, SwapIn};
 ghost use Rattle.machine_examples.specs.Clones.{EachGoesItsWay, ReceivedSays, GeneratedSays, TwoFanOut, CopiesGoByOriginals, BesideADrop, NoValueIsEmpty, FourClonesFollow, ClonesArePenalisedToo, duplicating, EachConnectionGetsOne, MadeIsNamed, NamedKeepsItsName, TakenStaysNameless};
-ghost use Rattle.machine_examples.specs.Ends.{in_batch as swapped_out, NarrowIs, FilteredIsLeft, FoundIsWanted, SwappingIsQuiet, SwappingBlocks, QuietIs, left_a, taken_a, penalised, BlockedIs, RingIsQuiet, ringed};
+ghost use Rattle.machine_examples.specs.Ends.{NarrowIs, FilteredIsLeft, FoundIsWanted, SwappingIsQuiet, SwappingBlocks, QuietIs, left_a, taken_a, penalised, BlockedIs, RingIsQuiet, ringed};
 ghost use Rattle.machine_examples.specs.Expiries.{ExpiredIs, OneExpires, NoneExpiresAtOnce, TwoExpire, BatchGoes, BatchMustWait, BatchComesBack, GoesAndComesBack, SwapsDueAre, late, late_in_batch};
 ghost use Rattle.machine_examples.specs.Families.{IsAncestorOf, IsNoAncestorOf, IsDescendantOf, IsNoDescendantOf, Tells, TellsNot, cloned, joined, stranger};
 ghost use Rattle.machine_examples.specs.Flows.{GeneratingIsSound, RingIsSound, IsUnsound, MarkedIsSound, ContainedIsNot, ListIs, AloneIsNotJoined, UnmarkedIsUnsound, ExactIsMarked, unconnected, terminated, into_source, doubled, tight, turned, blank, nowhere};
@@ -185,7 +185,7 @@ pub fn picks_are_told()
 {}
 
 /// A flow is quiet where no name is left and nothing is queued, expired or penalised. A ring is blocked where each
-/// processor that wants to work has a full queue behind it. What could be swapped out or in changes neither.
+/// processor that wants to work has a full queue behind it. That a batch may be swapped out changes neither.
 pub fn ends_are_told()
     ensures empty { QuietIs [] taken_a 1000 true }
     ensures left { QuietIs [] left_a 1000 false }
@@ -203,8 +203,7 @@ pub fn ends_are_told()
     ensures ring_all_full { NarrowIs (ringed (a_file 3 1 ∷ []) (a_file 1 2 ∷ []) (a_file 2 3 ∷ []) 2) (Some 0) }
     ensures filtered { FilteredIsLeft }
     ensures found { FoundIsWanted }
-    ensures batch_to_go { SwappingIsQuiet 2 (a_file 1 1 ∷ a_file 2 2 ∷ a_file 3 3 ∷ []) true }
-    ensures batch_to_come { SwappingIsQuiet 3 (a_file 1 1 ∷ a_file 2 2 ∷ swapped_out (a_file 3 3) ∷ []) true }
+    ensures batch_may_go { SwappingIsQuiet 2 (a_file 1 1 ∷ a_file 2 2 ∷ a_file 3 3 ∷ []) true }
     ensures batches_in_ring { SwappingBlocks (ringed [] first_three three_more 3) (Some 1) }
 {}
 

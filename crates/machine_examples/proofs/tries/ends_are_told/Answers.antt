@@ -21,7 +21,6 @@ returns c = record {
   ring_all_full = λ text. refl;
   filtered = λ pattern none. (rw none refl, rw none refl);
   found = λ pattern some. rw some refl;
-  batch_to_go = refl;
-  batch_to_come = refl;
+  batch_may_go = refl;
   batches_in_ring = λ text. refl;
 }
