@@ -1,0 +1,3 @@
+pub mod Clones
+pub mod Duplicating
+pub mod Routing
