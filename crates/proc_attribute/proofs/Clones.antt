@@ -1,24 +1,20 @@
 -- A session of one taken file and its clones: what its calls refuse and change, and its outcome.
-use Rattle.std.proofs.Common.{◌≡◌, ℕ, ◌+◌, ◌*◌, ◌<◌, ◌≤◌, Bool, true, false, cond, List, [], ◌∷◌, ◌++◌, length, map, Option, None, Some, is_none, refl, sym, ◌∙◌, ap, subst, arith, sum_by, length-append, append_assoc}
-use Rattle.std.specs.Prelude.{nat_le, ◌&&◌, is_some, slice_get, slice_set}
+use Rattle.std.proofs.Common.{◌≡◌, ℕ, ◌+◌, ◌*◌, ◌<◌, ◌≤◌, Bool, true, false, cond, List, [], ◌∷◌, ◌++◌, length, map, None, Some, refl, sym, ◌∙◌, ap, subst, arith, sum_by, length-append, append_assoc}
+use Rattle.std.specs.Prelude.{◌&&◌, is_some, slice_get, slice_set}
 use Rattle.std.specs.List.{All}
 use Rattle.std.specs.Option.{option_map_or}
-use Rattle.std.specs.FinMap.{empty}
-use Rattle.std.proofs.Math.ListN.{get_or}
 use Rattle.std.proofs.Math.Seq.{get_or-append_seam, set-append_seam}
 use Rattle.std.proofs.lemmas.Bool.{le-ltb, lt-leb, leb-true}
 use Rattle.std.proofs.lemmas.List.{append-nil, length-map, map-append}
-use Rattle.std.proofs.lemmas.List.Elements.{All-append, All-cons, All-head, All-map, All-nil, All-tail}
+use Rattle.std.proofs.lemmas.List.Elements.{All-append, All-cons, All-head, All-nil, All-tail}
 use Rattle.std.proofs.lemmas.List.Sums.{sum_by-le}
 use Rattle.std.proofs.lemmas.Option.{slice_get-get_or, slice_get_within}
 use Rattle.flowfile_record.specs.Attributes.{AttributeMap, encoded_size}
 use Rattle.flowfile_record.specs.declared.attributes.TheConstants.{ATTRIBUTES_MAX}
 use Rattle.flowfile_record.specs.declared.limits.TheConstants.{FILES_MAX, SESSION_ATTRIBUTES_MAX, WRITTEN_MAX}
-use Rattle.flowfile_record.specs.declared.worked.Body.{Body}
 use Rattle.flowfile_record.specs.declared.worked.Body.TheVariants.{Whole, New}
 use Rattle.flowfile_record.specs.declared.worked.End.{End}
 use Rattle.flowfile_record.specs.declared.worked.End.TheVariants.{To}
-use Rattle.flowfile_record.specs.declared.worked.Origin.{Origin}
 use Rattle.flowfile_record.specs.declared.worked.Origin.TheVariants.{Taken as FromQueue, Cloned}
 use Rattle.flowfile_record.specs.declared.worked.Outcome.{Outcome}
 use Rattle.flowfile_record.specs.declared.worked.Worked.{Worked}
@@ -28,10 +24,10 @@ use Rattle.process_session.specs.declared.error.SessionError.{SessionError}
 use Rattle.process_session.specs.declared.file.File.{File}
 use Rattle.process_session.specs.declared.file.Source.{Source}
 use Rattle.process_session.specs.declared.file.Taken.{Taken}
-use Rattle.process_session.specs.Bench.{Bench, bench_of, attributes_at, attribute_size, body_at, file_size, made_size, source_of, taken_file}
+use Rattle.process_session.specs.Bench.{Bench, bench_of, attributes_at, body_at, file_size, made_size, source_of, taken_file}
 use Rattle.process_session.specs.Changes.{change_at, made_file, with_changed, with_clone, with_end, with_made, with_route}
 use Rattle.process_session.specs.Finish.{is_left_out, is_removed, kept_files, origin_in, outcome_of, sent_in, standing_for, standing_from, worked_of, worked_with}
-use Rattle.process_session.specs.Reasons.{Refusal, where_it_holds, first_refusal, has_ended, unknown_file, already_ended, no_relationship, attributes_too_large, past_limits, session_full, not_accounted_from}
+use Rattle.process_session.specs.Reasons.{Refusal, where_it_holds, first_refusal, unknown_file, already_ended, no_relationship, attributes_too_large, past_limits, session_full, not_accounted_from}
 use Rattle.process_session.specs.Refusals.{refusal_of_clone, refusal_of_finish, refusal_of_route, refusal_of_transfer}
 use Rattle.process_session.proofs.Refusing.{pass, no_refusal}
 use Rattle.machine_model.specs.RouteOnAttribute.{routed_file}
@@ -39,7 +35,7 @@ use Rattle.machine_model.specs.Kinds.{take_rule_of, relationships_of}
 use Rattle.machine_model.specs.declared.given.Given.{Given}
 use Rattle.machine_model.specs.declared.kind.Kind.{Kind}
 use Rattle.machine_model.specs.declared.kind.TakeRule.TheVariants.{One}
-use Rattle.processor_api.specs.Acts.{Begins, KeepsTaken}
+use Rattle.processor_api.specs.Acts.{Begins}
 use Rattle.processor_api.proofs.Began.{one-begins}
 use Rattle.proc_attribute.specs.Cloning.{ended, with_ended, EndsWith, HasTaken, TookOne}
 

@@ -1,6 +1,5 @@
 -- The session of a DuplicateFlowFile.
-use Rattle.std.proofs.Common.{◌≡◌, ℕ, ◌+◌, ◌<◌, ◌≤◌, Bool, true, false, cond, List, [], ◌∷◌, ◌++◌, length, None, Some, refl, sym, ◌∙◌, ap, subst, arith, replicate}
-use Rattle.std.specs.Prelude.{nat_le, ◌&&◌}
+use Rattle.std.proofs.Common.{◌≡◌, ℕ, Bool, true, false, cond, List, [], ◌∷◌, None, Some, refl, sym, ◌∙◌, ap, replicate}
 use Rattle.std.specs.List.{All}
 use Rattle.std.proofs.lemmas.List.Elements.{All-replicate}
 use Rattle.flowfile_record.specs.Attributes.{AttributeMap}
@@ -10,7 +9,7 @@ use Rattle.flowfile_record.specs.declared.worked.Outcome.{Outcome}
 use Rattle.flowfile_record.specs.declared.worked.Worked.{Worked}
 use Rattle.machine_model.specs.Acting.{act}
 use Rattle.machine_model.specs.DuplicateFlowFile.{duplicate}
-use Rattle.machine_model.specs.Making.{TakenFile, clone_of, may_have, or_given_up, passed_on}
+use Rattle.machine_model.specs.Making.{TakenFile, clone_of, may_have, passed_on}
 use Rattle.machine_model.specs.declared.given.Given.{Given}
 use Rattle.machine_model.specs.declared.kind.Kind.TheVariants.{DuplicateFlowFile}
 use Rattle.process_session.specs.Bench.{Bench, attributes_at, bench_of}
@@ -19,7 +18,7 @@ use Rattle.process_session.specs.Finish.{outcome_of}
 use Rattle.process_session.specs.declared.file.Taken.{Taken}
 use Rattle.processor_api.specs.Acts.{Begins, EndsAs, IsTakenAs}
 use Rattle.processor_api.proofs.Began.{one-acts}
-use Rattle.proc_attribute.specs.Cloning.{EndsWith, TookOne, with_ended}
+use Rattle.proc_attribute.specs.Cloning.{EndsWith, with_ended}
 use Rattle.proc_attribute.proofs.Clones.{IsClone, ends-with, passed-is, took-one}
 
 abbrev pub clones_of : ℕ → AttributeMap → List Worked

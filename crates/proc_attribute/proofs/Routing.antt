@@ -1,8 +1,7 @@
 -- The session of a RouteOnAttribute: the places of the relationships that are true, and what is made of them.
-use Rattle.std.proofs.Common.{◌≡◌, ℕ, ◌+◌, ◌<◌, ◌≤◌, Bool, true, false, cond, List, [], ◌∷◌, ◌++◌, length, map, Option, None, Some, refl, sym, ◌∙◌, ap, subst, arith, add-zero, take, get_or, length-append, length-take-le}
+use Rattle.std.proofs.Common.{◌≡◌, ℕ, ◌+◌, ◌<◌, ◌≤◌, Bool, true, false, cond, List, [], ◌∷◌, ◌++◌, length, map, None, Some, refl, sym, ◌∙◌, ap, subst, arith, add-zero, take, get_or, length-append, length-take-le}
 use Rattle.std.specs.Prelude.{codes, filter, nat_le, not, ◌&&◌, ◌||◌, ◌==◌}
 use Rattle.std.specs.List.{All, enumerate_from, list_all}
-use Rattle.std.specs.Option.{option_map_or}
 use Rattle.std.proofs.lemmas.Bool.{and_parts, leb-true, ne_eqb}
 use Rattle.std.proofs.lemmas.List.{append-nil, length-map, map-append, take_more}
 use Rattle.std.proofs.lemmas.List.Elements.{All-cons, All-filter, All-map, All-nil, filter-append}
@@ -14,7 +13,7 @@ use Rattle.flowfile_record.specs.declared.worked.Worked.{Worked}
 use Rattle.expr_lang.specs.Meaning.{Attributes}
 use Rattle.machine_model.specs.Acting.{act}
 use Rattle.machine_model.specs.Making.{TakenFile, found_in, may_have, or_given_up, passed_on}
-use Rattle.machine_model.specs.RouteOnAttribute.{is_true_of, route, routed, routed_clone, routed_file, true_places, with_clones}
+use Rattle.machine_model.specs.RouteOnAttribute.{is_true_of, routed, routed_clone, routed_file, true_places}
 use Rattle.machine_model.specs.Kinds.{is_among}
 use Rattle.machine_model.specs.Sound.{IsSoundKind, are_ascending, are_own_names, within}
 use Rattle.machine_model.specs.declared.limits.TheConstants.{OWN_NAME_MAX, OWN_PROPERTIES_MAX}
@@ -29,7 +28,7 @@ use Rattle.processor_api.specs.Acts.{Begins, EndsAs, IsTakenAs}
 use Rattle.processor_api.proofs.Began.{one-acts}
 use Rattle.proc_attribute.specs.Cloning.{EndsWith, TookOne, with_ended}
 use Rattle.proc_attribute.specs.Routing.{found_of, uuid_at}
-use Rattle.proc_attribute.proofs.Clones.{IsClone, ends-with, no-clones, passed-is, routed-is, took-one, took-relationships}
+use Rattle.proc_attribute.proofs.Clones.{IsClone, ends-with, no-clones, passed-is, routed-is, took-relationships}
 
 -- ---- the places
 

@@ -50,7 +50,11 @@ impl Acts for DuplicateFlowFile {
         _given: &mut Given,
     ) -> Result<(), AllocError> {
         // A session takes nothing back: whether it lets the file be cloned is known before the first clone.
-        let copies = if may_be_cloned(session) { self.copies } else { 0 };
+        let copies = if may_be_cloned(session) {
+            self.copies
+        } else {
+            0
+        };
         add_clones(session, copies)?;
         session.transfer(FILE, SUCCESS).unwrap();
         Ok(())

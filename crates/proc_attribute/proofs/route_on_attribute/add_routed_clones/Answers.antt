@@ -1,4 +1,4 @@
-use Rattle.std.proofs.Common.{◌<◌, ◌≤◌, length, take, sym, ◌∙◌, ap, subst, arith, length-take}
+use Rattle.std.proofs.Common.{◌<◌, length, take, sym, ◌∙◌, ap, subst, arith, length-take}
 use Rattle.std.proofs.lemmas.List.{length-map}
 use Rattle.machine_model.specs.RouteOnAttribute.{routed_clone}
 use Rattle.process_session.specs.Bench.{attributes_at}

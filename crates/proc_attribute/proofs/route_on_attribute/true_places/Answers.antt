@@ -11,10 +11,10 @@ loop-place-preserved g c =
     let property = c.index-own-place.result in
     let there : place < length own = omega arith in
     elim c.if-branch.branch [
-      then-branch+in_ok-push w ↦
-        ap (λ v. v.items) w.places-is ∙ w.in_ok-push.ensures.items ∙ ap (λ xs. xs ++ place ∷ []) c.loop-place.invariant
-        ∙ step-true find own place property there c.index-own-place.is (sym c.in_ok-is_true.ensures ∙ w.if-branch.true)
-    | else-branch w ↦
-        ap (λ v. v.items) w.places-is ∙ c.loop-place.invariant
-        ∙ step-false find own place property there c.index-own-place.is (sym c.in_ok-is_true.ensures ∙ w.if-branch.false)
+      | then-branch+in_ok-push w ↦
+          ap (λ v. v.items) w.places-is ∙ w.in_ok-push.ensures.items ∙ ap (λ xs. xs ++ place ∷ []) c.loop-place.invariant
+          ∙ step-true find own place property there c.index-own-place.is (sym c.in_ok-is_true.ensures ∙ w.if-branch.true)
+      | else-branch w ↦
+          ap (λ v. v.items) w.places-is ∙ c.loop-place.invariant
+          ∙ step-false find own place property there c.index-own-place.is (sym c.in_ok-is_true.ensures ∙ w.if-branch.false)
     ]

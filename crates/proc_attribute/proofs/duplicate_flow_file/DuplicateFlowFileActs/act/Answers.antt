@@ -29,8 +29,8 @@ returns-clause-acts c =
     let copies = c.args.self.now.copies in
     let many : c.if-may_be_cloned.copies ≡ cond (may_be_cloned before) copies 0 =
     elim c.if-may_be_cloned.branch [
-      then-may_be_cloned w ↦ w.copies-is ∙ ap (λ b. cond b copies 0) (sym w.if-may_be_cloned.true ∙ c.may_be_cloned.ensures)
-    | else-may_be_cloned w ↦ w.copies-is ∙ ap (λ b. cond b copies 0) (sym w.if-may_be_cloned.false ∙ c.may_be_cloned.ensures)
+      | then-may_be_cloned w ↦ w.copies-is ∙ ap (λ b. cond b copies 0) (sym w.if-may_be_cloned.true ∙ c.may_be_cloned.ensures)
+      | else-may_be_cloned w ↦ w.copies-is ∙ ap (λ b. cond b copies 0) (sym w.if-may_be_cloned.false ∙ c.may_be_cloned.ensures)
     ] in
     let after : c.transfer.new.self ≡ with_end (with_ended before (clones_of c.if-may_be_cloned.copies (attributes_at before 0))) 0 (To 0) =
     changed_so _ _ _ _ _ c.transfer.ensures.after c.unwrap.ensures ∙ ap (λ b. with_end b 0 (To 0)) c.in_ok-add_clones.ensures in
