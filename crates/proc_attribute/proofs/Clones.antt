@@ -37,7 +37,7 @@ use Rattle.machine_model.specs.declared.kind.Kind.{Kind}
 use Rattle.machine_model.specs.declared.kind.TakeRule.TheVariants.{One}
 use Rattle.processor_api.specs.Acts.{Begins}
 use Rattle.processor_api.proofs.Began.{one-begins}
-use Rattle.proc_attribute.specs.Cloning.{ended, with_ended, EndsWith, HasTaken, TookOne}
+use Rattle.proc_attribute.specs.Cloning.{ended, with_ended, EndsWith, HasTaken, BeganWithOne}
 
 -- ---- the file at the end of a list
 
@@ -135,20 +135,20 @@ pub record IsClone (taken : AttributeMap) (file : Worked) : Type 0 where
 abbrev pub cloned_bench : ℕ → Taken → List Worked → Bench
 cloned_bench n taken clones = with_ended (bench_of n (taken ∷ [])) clones
 
-pub took-cloned : (bench : Bench) (clones : List Worked) (took : TookOne bench) → with_ended bench clones ≡ cloned_bench bench.relationships took.taken clones
+pub took-cloned : (bench : Bench) (clones : List Worked) (took : BeganWithOne bench) → with_ended bench clones ≡ cloned_bench bench.relationships took.taken clones
 took-cloned bench clones took = ap (λ b. with_ended b clones) took.begun
 
-pub took-attributes : (bench : Bench) (took : TookOne bench) → attributes_at bench 0 ≡ took.taken.attributes
+pub took-attributes : (bench : Bench) (took : BeganWithOne bench) → attributes_at bench 0 ≡ took.taken.attributes
 took-attributes bench took = ap (λ b. attributes_at b 0) took.begun
 
-pub cloned-has : (bench : Bench) (clones : List Worked) → TookOne bench → HasTaken (with_ended bench clones)
+pub cloned-has : (bench : Bench) (clones : List Worked) → BeganWithOne bench → HasTaken (with_ended bench clones)
 cloned-has bench clones took = record {
   taken = took.taken;
   more = map ended clones;
   files = ap (λ (b : Bench). b.files) (took-cloned bench clones took);
 }
 
-pub cloned-attributes : (bench : Bench) (clones : List Worked) → TookOne bench → attributes_at (with_ended bench clones) 0 ≡ attributes_at bench 0
+pub cloned-attributes : (bench : Bench) (clones : List Worked) → BeganWithOne bench → attributes_at (with_ended bench clones) 0 ≡ attributes_at bench 0
 cloned-attributes bench clones took = ap (λ b. attributes_at (with_ended b clones) 0) took.begun ∙ sym (took-attributes bench took)
 
 pub no-clones : (bench : Bench) → with_ended bench [] ≡ bench
@@ -158,7 +158,7 @@ pub one-more : (bench : Bench) (clones : List Worked) (file : Worked) → with_e
 one-more bench clones file =
     ap (λ files. record bench { files = files }) (append_assoc bench.files (map ended clones) (ended file ∷ []) ∙ ap (λ files. bench.files ++ files) (sym (map-append ended clones (file ∷ []))))
 
-pub took-has : (bench : Bench) → TookOne bench → HasTaken bench
+pub took-has : (bench : Bench) → BeganWithOne bench → HasTaken bench
 took-has bench took = record { taken = took.taken; more = []; files = ap (λ (b : Bench). b.files) took.begun }
 
 within_limits : (files attributes handed : ℕ) → files ≤ FILES_MAX → attributes ≤ SESSION_ATTRIBUTES_MAX → handed ≤ WRITTEN_MAX → past_limits files attributes handed ≡ None
@@ -196,7 +196,7 @@ clone-free n taken clones may all few =
     (next _ _ (still_open bench 0 (taken_file 0 taken) refl refl)
     (next _ _ (few_attributes _ small) (next _ _ room no_refusal)))
 
-pub took-free : (bench : Bench) (clones : List Worked) → TookOne bench → may_have (Cloned 0) (attributes_at bench 0) ≡ true → All (IsClone (attributes_at bench 0)) clones → length clones < 999 → refusal_of_clone (with_ended bench clones) 0 ≡ None
+pub took-free : (bench : Bench) (clones : List Worked) → BeganWithOne bench → may_have (Cloned 0) (attributes_at bench 0) ≡ true → All (IsClone (attributes_at bench 0)) clones → length clones < 999 → refusal_of_clone (with_ended bench clones) 0 ≡ None
 took-free bench clones took may all few =
     let attributes = took-attributes bench took in
     ap (λ b. refusal_of_clone b 0) (took-cloned bench clones took)
@@ -282,7 +282,7 @@ ends-with bench after attributes file clones taken all is = record {
 -- ---- the taken file itself
 
 -- as it begins, and behind its clones
-pub took-one : (kind : Kind) (bench : Bench) (given : Given) → take_rule_of kind ≡ One → Begins kind bench given → TookOne bench
+pub took-one : (kind : Kind) (bench : Bench) (given : Given) → take_rule_of kind ≡ One → Begins kind bench given → BeganWithOne bench
 took-one kind bench given rule begins =
     let one = one-begins kind bench given rule begins in
     record {
@@ -294,19 +294,19 @@ pub took-relationships : (kind : Kind) (bench : Bench) (given : Given) → Begin
 took-relationships kind bench given begins = ap (λ (b : Bench). b.relationships) begins.begun
 
 -- what is done with it behind its clones is done with that of the session as it begins
-first_is : (bench : Bench) (clones : List Worked) (took : TookOne bench) (acts : Bench → Bench) (file : Worked) → acts (cloned_bench bench.relationships took.taken clones) ≡ ended_bench bench.relationships (source_of took.taken ∷ []) (file ∷ clones)
+first_is : (bench : Bench) (clones : List Worked) (took : BeganWithOne bench) (acts : Bench → Bench) (file : Worked) → acts (cloned_bench bench.relationships took.taken clones) ≡ ended_bench bench.relationships (source_of took.taken ∷ []) (file ∷ clones)
     → acts (with_ended bench clones) ≡ ended_bench bench.relationships bench.sources (file ∷ clones)
 first_is bench clones took acts file is =
     ap acts (took-cloned bench clones took) ∙ is ∙ ap (λ s. ended_bench bench.relationships s (file ∷ clones)) (sym (ap (λ (b : Bench). b.sources) took.begun))
 
-pub passed-is : (bench : Bench) (clones : List Worked) (relationship : ℕ) → TookOne bench → with_end (with_ended bench clones) 0 (To relationship) ≡ ended_bench bench.relationships bench.sources (passed_on 0 (attributes_at bench 0) false relationship ∷ clones)
+pub passed-is : (bench : Bench) (clones : List Worked) (relationship : ℕ) → BeganWithOne bench → with_end (with_ended bench clones) 0 (To relationship) ≡ ended_bench bench.relationships bench.sources (passed_on 0 (attributes_at bench 0) false relationship ∷ clones)
 passed-is bench clones relationship took =
     first_is bench clones took (λ b. with_end b 0 (To relationship)) (passed_on 0 took.taken.attributes false relationship)
     (ap (λ files. record (cloned_bench bench.relationships took.taken clones) { files = files })
     (change-first (λ file. record file { «end» = Some (To relationship) }) (taken_file 0 took.taken) (map ended clones)))
     ∙ ap (λ a. ended_bench bench.relationships bench.sources (passed_on 0 a false relationship ∷ clones)) (sym (took-attributes bench took))
 
-pub routed-is : (bench : Bench) (clones : List Worked) (relationship : ℕ) → TookOne bench
+pub routed-is : (bench : Bench) (clones : List Worked) (relationship : ℕ) → BeganWithOne bench
     → with_end (with_route (with_ended bench clones) 0 relationship) 0 (To relationship) ≡ ended_bench bench.relationships bench.sources (routed_file (attributes_at bench 0) relationship ∷ clones)
 routed-is bench clones relationship took =
     let route : File → File = λ file. record file { routed = Some relationship } in
@@ -324,7 +324,7 @@ first-transfer bench relationship has goes = transfer-free bench 0 relationship 
 pub first-route : (bench : Bench) (relationship : ℕ) → HasTaken bench → relationship < bench.relationships → refusal_of_route bench 0 relationship ≡ None
 first-route bench relationship has goes = route-free bench 0 relationship (taken_file 0 has.taken) (ap (λ files. slice_get files 0) has.files) refl goes
 
-pub cloned-transfer : (bench now : Bench) (clones : List Worked) (relationship : ℕ) → TookOne bench → now ≡ with_ended bench clones → relationship < bench.relationships → refusal_of_transfer now 0 relationship ≡ None
+pub cloned-transfer : (bench now : Bench) (clones : List Worked) (relationship : ℕ) → BeganWithOne bench → now ≡ with_ended bench clones → relationship < bench.relationships → refusal_of_transfer now 0 relationship ≡ None
 cloned-transfer bench now clones relationship took is goes =
     ap (λ b. refusal_of_transfer b 0 relationship) is ∙ first-transfer (with_ended bench clones) relationship (cloned-has bench clones took) goes
 

@@ -26,7 +26,7 @@ use Rattle.process_session.specs.Finish.{outcome_of}
 use Rattle.process_session.specs.declared.file.Taken.{Taken}
 use Rattle.processor_api.specs.Acts.{Begins, EndsAs, IsTakenAs}
 use Rattle.processor_api.proofs.Began.{one-acts}
-use Rattle.proc_attribute.specs.Cloning.{EndsWith, TookOne, with_ended}
+use Rattle.proc_attribute.specs.Cloning.{EndsWith, BeganWithOne, with_ended}
 use Rattle.proc_attribute.specs.Routing.{found_of, uuid_at}
 use Rattle.proc_attribute.proofs.Clones.{IsClone, ends-with, no-clones, passed-is, routed-is, took-relationships}
 
@@ -115,19 +115,19 @@ are-clones attributes others = All-map (IsClone attributes) (routed_clone attrib
     each (one ∷ more) = All-cons (λ relationship. IsClone attributes (routed_clone attributes relationship)) one more (record { origin = refl; attributes = refl; goes = (one, refl) }) (each more)
 
 -- no clones
-pub routes-alone : (before after : Bench) (relationship : ℕ) → TookOne before → after ≡ with_end (with_route before 0 relationship) 0 (To relationship)
+pub routes-alone : (before after : Bench) (relationship : ℕ) → BeganWithOne before → after ≡ with_end (with_route before 0 relationship) 0 (To relationship)
     → EndsWith before after (record { files = routed_file (attributes_at before 0) relationship ∷ []; sent = None })
 routes-alone before after relationship took is =
     ends-with before after (attributes_at before 0) (routed_file (attributes_at before 0) relationship) [] refl (All-nil _)
     (is ∙ ap (λ b. with_end (with_route b 0 relationship) 0 (To relationship)) (sym (no-clones before)) ∙ routed-is before [] relationship took)
 
-pub routes-cloned : (before after : Bench) (first : ℕ) (others : List ℕ) → TookOne before → after ≡ with_end (with_route (with_ended before (routed_clones (attributes_at before 0) others)) 0 first) 0 (To first)
+pub routes-cloned : (before after : Bench) (first : ℕ) (others : List ℕ) → BeganWithOne before → after ≡ with_end (with_route (with_ended before (routed_clones (attributes_at before 0) others)) 0 first) 0 (To first)
     → EndsWith before after (record { files = routed_file (attributes_at before 0) first ∷ routed_clones (attributes_at before 0) others; sent = None })
 routes-cloned before after first others took is =
     let clones = routed_clones (attributes_at before 0) others in
     ends-with before after (attributes_at before 0) (routed_file (attributes_at before 0) first) clones refl (are-clones (attributes_at before 0) others) (is ∙ routed-is before clones first took)
 
-pub gives-up : (before after : Bench) (unmatched : ℕ) → TookOne before → after ≡ with_end before 0 (To unmatched)
+pub gives-up : (before after : Bench) (unmatched : ℕ) → BeganWithOne before → after ≡ with_end before 0 (To unmatched)
     → EndsWith before after (record { files = passed_on 0 (attributes_at before 0) false unmatched ∷ []; sent = None })
 gives-up before after unmatched took is =
     ends-with before after (attributes_at before 0) (passed_on 0 (attributes_at before 0) false unmatched) [] refl (All-nil _)
@@ -151,18 +151,18 @@ routed-none unmatched first others file attributes same isnt =
 abbrev pub EndsRouted : Bench → Bench → (unmatched : ℕ) → List ℕ → Type 0
 EndsRouted before after unmatched places = (file : TakenFile) → file.attributes ≡ attributes_at before 0 → EndsWith before after (routed unmatched file places)
 
-pub none-routed : (before after : Bench) (unmatched : ℕ) (places : List ℕ) → TookOne before → places ≡ [] → after ≡ with_end (with_route before 0 unmatched) 0 (To unmatched) → EndsRouted before after unmatched places
+pub none-routed : (before after : Bench) (unmatched : ℕ) (places : List ℕ) → BeganWithOne before → places ≡ [] → after ≡ with_end (with_route before 0 unmatched) 0 (To unmatched) → EndsRouted before after unmatched places
 none-routed before after unmatched places took none is =
     subst (EndsRouted before after unmatched) (sym none)
     (λ file same. subst (λ a. EndsWith before after (record { files = routed_file a unmatched ∷ []; sent = None })) (sym same) (routes-alone before after unmatched took is))
 
-pub some-routed : (before after : Bench) (unmatched first : ℕ) (others places : List ℕ) → TookOne before → places ≡ first ∷ others → ((length others == 0) || may_have (Cloned 0) (attributes_at before 0)) ≡ true
+pub some-routed : (before after : Bench) (unmatched first : ℕ) (others places : List ℕ) → BeganWithOne before → places ≡ first ∷ others → ((length others == 0) || may_have (Cloned 0) (attributes_at before 0)) ≡ true
     → after ≡ with_end (with_route (with_ended before (routed_clones (attributes_at before 0) others)) 0 first) 0 (To first) → EndsRouted before after unmatched places
 some-routed before after unmatched first others places took are may is =
     subst (EndsRouted before after unmatched) (sym are)
     (λ file same. subst (EndsWith before after) (sym (routed-some unmatched first others file (attributes_at before 0) same may)) (routes-cloned before after first others took is))
 
-pub up-routed : (before after : Bench) (unmatched first : ℕ) (others places : List ℕ) → TookOne before → places ≡ first ∷ others → ((length others == 0) || may_have (Cloned 0) (attributes_at before 0)) ≡ false
+pub up-routed : (before after : Bench) (unmatched first : ℕ) (others places : List ℕ) → BeganWithOne before → places ≡ first ∷ others → ((length others == 0) || may_have (Cloned 0) (attributes_at before 0)) ≡ false
     → after ≡ with_end before 0 (To unmatched) → EndsRouted before after unmatched places
 up-routed before after unmatched first others places took are isnt is =
     subst (EndsRouted before after unmatched) (sym are)

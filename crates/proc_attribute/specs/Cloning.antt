@@ -28,8 +28,8 @@ ended file =
 abbrev pub with_ended : Bench → List Worked → Bench
 with_ended bench files = record bench { files = bench.files ++ map ended files }
 
--- a session that took one file and did nothing yet
-pub record TookOne (bench : Bench) : Type 0 where
+-- a session that took one file and did nothing yet, whatever relationships it has
+pub record BeganWithOne (bench : Bench) : Type 0 where
   pub taken : Taken
   pub begun : bench ≡ bench_of bench.relationships (taken ∷ [])
 

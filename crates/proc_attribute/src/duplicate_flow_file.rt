@@ -3,7 +3,7 @@ ghost use Rattle.std.specs.Prelude.{◌≡◌, ◌<◌, ◌≤◌, replicate, tr
 ghost use Rattle.machine_model.specs.declared.limits.TheConstants.{COPIES_MAX};
 ghost use Rattle.machine_model.specs.Making.{clone_of};
 ghost use Rattle.process_session.specs.Bench.{attributes_at};
-ghost use Rattle.proc_attribute.specs.Cloning.{TookOne, may_be_cloned, with_ended};
+ghost use Rattle.proc_attribute.specs.Cloning.{BeganWithOne, may_be_cloned, with_ended};
 ghost use Rattle.proc_attribute.specs.Duplicating.{is_duplicate_flow_file};
 
 use crate::cloning::{add_clone, may_be_cloned};
@@ -63,7 +63,7 @@ impl Acts for DuplicateFlowFile {
 
 /// So many clones, each to success.
 fn add_clones(session: &mut Session, copies: u16) -> Result<(), AllocError>
-    requires one { TookOne session.old }
+    requires one { BeganWithOne session.old }
     requires success { SUCCESS < session.old.relationships }
     requires few { copies ≤ COPIES_MAX }
     requires may { 0 < copies → may_be_cloned session.old ≡ true }

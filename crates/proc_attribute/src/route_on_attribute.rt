@@ -6,7 +6,7 @@ ghost use Rattle.machine_model.specs.Making.{TakenFile};
 ghost use Rattle.machine_model.specs.RouteOnAttribute.{is_true_of, routed, routed_clone, true_places};
 ghost use Rattle.process_session.specs.Bench.{attributes_at};
 ghost use Rattle.process_session.specs.Changes.{with_end, with_route};
-ghost use Rattle.proc_attribute.specs.Cloning.{EndsWith, HasTaken, TookOne, may_be_cloned, with_ended};
+ghost use Rattle.proc_attribute.specs.Cloning.{EndsWith, HasTaken, BeganWithOne, may_be_cloned, with_ended};
 ghost use Rattle.proc_attribute.specs.Routing.{found_of, is_route_on_attribute};
 
 use crate::FILE;
@@ -67,7 +67,7 @@ fn places_over(
     session: &Session,
     own: &[OwnExpression],
 ) -> Result<Vec<u16>, AllocError>
-    requires one { TookOne session.now }
+    requires one { BeganWithOne session.now }
     requires few { length own.now ≤ OWN_PROPERTIES_MAX }
     ensures { IfOk result (λ places. places.items ≡ true_places (found_of session.now) own.now) }
 {
@@ -112,7 +112,7 @@ fn is_true<S: Subject>(
 
 /// The taken file to the relationship at the first of these places and a clone to each other one, or to `unmatched`.
 fn route(session: &mut Session, unmatched: u16, places: &[u16]) -> Result<(), AllocError>
-    requires one { TookOne session.old }
+    requires one { BeganWithOne session.old }
     requires unmatched { unmatched < session.old.relationships }
     requires there { All (λ place. place < session.old.relationships) places.now }
     requires few { length places.now ≤ OWN_PROPERTIES_MAX }
@@ -143,7 +143,7 @@ fn may_be_routed(session: &Session, others: &[u16]) -> bool
 
 /// A clone of the taken file to each of these relationships.
 fn add_routed_clones(session: &mut Session, relationships: &[u16]) -> Result<(), AllocError>
-    requires one { TookOne session.old }
+    requires one { BeganWithOne session.old }
     requires there { All (λ relationship. relationship < session.old.relationships) relationships.now }
     requires few { length relationships.now ≤ OWN_PROPERTIES_MAX }
     requires may { 0 < length relationships.now → may_be_cloned session.old ≡ true }
