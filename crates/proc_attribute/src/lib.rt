@@ -1,12 +1,16 @@
-//! The processors of attributes: each takes one file, and works on what it says of itself.
+//! The processors of attributes: each takes one file, and works on what is known of it.
 #![tactic(auto)]
 
+mod cryptographic_hash_content;
+mod passing;
 mod taken;
 
-/// The places of the relationships that these processors name.
-pub(crate) const SUCCESS: u16 = 0;
+pub use cryptographic_hash_content::CryptographicHashContent;
 
-pub(crate) const FAILURE: u16 = 1;
+/// The places of the relationships that these processors name.
+const SUCCESS: u16 = 0;
+
+const FAILURE: u16 = 1;
 
 /// The place of the file that each of them takes.
-pub(crate) const FILE: u32 = 0;
+const FILE: u32 = 0;
