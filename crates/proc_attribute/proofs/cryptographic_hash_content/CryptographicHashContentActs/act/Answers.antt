@@ -1,5 +1,5 @@
 use Rattle.std.proofs.Common.{refl, ◌∙◌, ap}
-use Rattle.std.proofs.lemmas.Result.{OnOk-weaker}
+use Rattle.std.proofs.lemmas.Result.{on_ok_weaker}
 use Rattle.hex.specs.Hex.{encode_lower}
 use Rattle.machine_model.specs.declared.kind.Kind.TheVariants.{CryptographicHashContent}
 use Rattle.proc_attribute.proofs.Hashing.{hash-acts}
@@ -12,6 +12,6 @@ note-requires-clause-one c = kind-took CryptographicHashContent c.args.session.n
 pub returns-clause-acts : goal.returns-clause-acts
 returns-clause-acts c =
     let digest-is = c.as_str.ensures.value ∙ c.in_ok-digest.ensures ∙ ap encode_lower c.digest.ensures in
-    OnOk-weaker c.note.result _ _
+    on_ok_weaker c.note.result
     (hash-acts c.args.session.now c.args._given.now c.note.new.session c.in-Ok.content.now c.as_str.result.now c.requires c.in-Ok.ensures.content digest-is)
     c.note.ensures
