@@ -4,8 +4,10 @@
 mod cryptographic_hash_content;
 mod passing;
 mod taken;
+mod update_attribute;
 
 pub use cryptographic_hash_content::CryptographicHashContent;
+pub use update_attribute::UpdateAttribute;
 
 /// The places of the relationships that these processors name.
 const SUCCESS: u16 = 0;
