@@ -1,3 +1,6 @@
 pub mod Clones
 pub mod Duplicating
+pub mod Hashing
+pub mod Passed
 pub mod Routing
+pub mod Updating

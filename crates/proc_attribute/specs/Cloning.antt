@@ -1,15 +1,11 @@
 -- A session that clones the file that it took.
-use Rattle.std.specs.Prelude.{◌≡◌, Bool, List, [], ◌∷◌, ◌++◌, map, Some, None}
+use Rattle.std.specs.Prelude.{◌≡◌, Bool, List, [], ◌∷◌, ◌++◌, map, Some}
 use Rattle.flowfile_record.specs.declared.worked.Origin.TheVariants.{Cloned}
-use Rattle.flowfile_record.specs.declared.worked.Outcome.{Outcome}
 use Rattle.flowfile_record.specs.declared.worked.Worked.{Worked}
 use Rattle.machine_model.specs.Making.{may_have}
 use Rattle.process_session.specs.Bench.{Bench, attributes_at, bench_of, taken_file}
-use Rattle.process_session.specs.Finish.{outcome_of}
-use Rattle.process_session.specs.Refusals.{refusal_of_finish}
 use Rattle.process_session.specs.declared.file.File.{File}
 use Rattle.process_session.specs.declared.file.Taken.{Taken}
-use Rattle.processor_api.specs.Acts.{KeepsTaken}
 
 -- a file of a session, once it has ended as this file of an outcome
 abbrev pub ended : Worked → File
@@ -38,12 +34,6 @@ pub record HasTaken (bench : Bench) : Type 0 where
   pub taken : Taken
   pub more : List File
   pub files : bench.files ≡ taken_file 0 taken ∷ more
-
--- it can be finished with what it took, and has this outcome
-pub record EndsWith (before after : Bench) (wanted : Outcome) : Type 0 where
-  pub finished : refusal_of_finish after ≡ None
-  pub kept : KeepsTaken before after
-  pub outcome : outcome_of after ≡ wanted
 
 -- a clone may have the attributes of its first file
 abbrev pub may_be_cloned : Bench → Bool

@@ -1,16 +1,23 @@
-//! Processors that work on attributes, or go by them.
+//! The processors of attributes: each takes one file, and works on what is known of it.
 #![tactic(auto)]
 
 mod cloning;
+mod cryptographic_hash_content;
 mod duplicate_flow_file;
+mod passing;
 mod route_on_attribute;
 mod taken;
+mod update_attribute;
 
+pub use cryptographic_hash_content::CryptographicHashContent;
 pub use duplicate_flow_file::DuplicateFlowFile;
 pub use route_on_attribute::RouteOnAttribute;
+pub use update_attribute::UpdateAttribute;
 
 /// The places of the relationships that these processors name.
-pub(crate) const SUCCESS: u16 = 0;
+const SUCCESS: u16 = 0;
+
+const FAILURE: u16 = 1;
 
 /// The place of the file that each of them takes.
-pub(crate) const FILE: u32 = 0;
+const FILE: u32 = 0;

@@ -6,7 +6,8 @@ ghost use Rattle.machine_model.specs.Making.{TakenFile};
 ghost use Rattle.machine_model.specs.RouteOnAttribute.{is_true_of, routed, routed_clone, true_places};
 ghost use Rattle.process_session.specs.Bench.{attributes_at};
 ghost use Rattle.process_session.specs.Changes.{with_end, with_route};
-ghost use Rattle.proc_attribute.specs.Cloning.{EndsWith, HasTaken, BeganWithOne, may_be_cloned, with_ended};
+ghost use Rattle.proc_attribute.specs.Cloning.{HasTaken, BeganWithOne, may_be_cloned, with_ended};
+ghost use Rattle.proc_attribute.specs.Passing.{EndsWith};
 ghost use Rattle.proc_attribute.specs.Routing.{found_of, is_route_on_attribute};
 
 use crate::FILE;

@@ -1,8 +1,15 @@
-//! What expressions find of a file that a session took.
+//! What is known of the file that a session took.
+ghost use Rattle.std.specs.Prelude.{◌≡◌, slice_get, Some};
+ghost use Rattle.std.specs.Option.{option_map};
+ghost use Rattle.process_session.specs.Bench.{attributes_at};
+ghost use Rattle.proc_attribute.specs.Passing.{TookOne};
+
+use crate::FILE;
 use expr_lang::Subject;
 use flowfile_record::Attributes;
+use process_session::Session;
 
-/// The attributes of a taken file and its uuid, which is found under the name `uuid`.
+/// The attributes of a taken file and its uuid, which expressions find under the name `uuid`.
 #[derive(Clone, Copy)]
 pub(crate) struct Taken<'s> {
     pub(crate) attributes: &'s Attributes,
@@ -13,7 +20,8 @@ impl Subject for Taken<'_> {
     ghost use Rattle.std.specs.Prelude.{[]};
     ghost use Rattle.machine_model.specs.Making.{found_in};
 
-    ghost attributes = { λ taken. found_in (record { attributes = taken.attributes.now; uuid = taken.uuid.now; bytes = [] }) };
+    ghost attributes = { λ taken.
+        found_in (record { attributes = taken.attributes.now; uuid = taken.uuid.now; bytes = [] }) };
 
     fn find(&self, name: &str) -> Option<&str> {
         if name == "uuid" {
@@ -21,4 +29,16 @@ impl Subject for Taken<'_> {
         }
         self.attributes.get(name)
     }
+}
+
+/// The file of a session that took one.
+pub(crate) fn file_of(session: &Session) -> Taken<'_>
+    requires { TookOne session.now }
+    ensures attributes { result.attributes.now ≡ attributes_at session.now FILE }
+    ensures uuid { option_map (λ source. source.uuid) (slice_get session.now.sources FILE) ≡ Some result.uuid.now }
+{
+    let (Some(attributes), Some(uuid)) = (session.attributes(FILE), session.uuid(FILE)) else {
+        unreachable!()
+    };
+    Taken { attributes, uuid }
 }
