@@ -1,3 +1,4 @@
 pub mod Hashing
+pub mod Json
 pub mod Passed
 pub mod Updating

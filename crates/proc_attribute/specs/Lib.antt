@@ -1,3 +1,4 @@
+pub mod Json
 pub mod Kinds
 pub mod Passing
 pub mod Setting

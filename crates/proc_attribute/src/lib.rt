@@ -1,11 +1,13 @@
 //! The processors of attributes: each takes one file, and works on what is known of it.
 #![tactic(auto)]
 
+mod attributes_to_json;
 mod cryptographic_hash_content;
 mod passing;
 mod taken;
 mod update_attribute;
 
+pub use attributes_to_json::AttributesToJson;
 pub use cryptographic_hash_content::CryptographicHashContent;
 pub use update_attribute::UpdateAttribute;
 
