@@ -1,7 +1,8 @@
 -- What own properties are worth, and what setting them comes to, a property at a time.
 use Rattle.std.proofs.Common.{◌≡◌, ℕ, ◌+◌, ◌<◌, ◌≤◌, Bool, true, false, cond, List, [], ◌∷◌, ◌++◌, length, drop, get_or, map, suc, add-one, drop-cons, Option, None, Some, Ok, Err, Result, refl, sym, ◌∙◌, ap, subst, arith, append_assoc}
-use Rattle.std.specs.Prelude.{◌&&◌, IsTrue, is_some, option_and_then, option_map, not, nat_lt}
+use Rattle.std.specs.Prelude.{◌&&◌, IfSome, IsTrue, is_some, slice_get, option_and_then, option_map, not, nat_lt}
 use Rattle.std.specs.FinMap.{insert}
+use Rattle.std.specs.List.{list_all}
 use Rattle.std.proofs.lemmas.Bool.{leb-false, le-leb, lt-leb, ltb-false, ltb-true}
 use Rattle.flowfile_record.specs.Attributes.{AttributeMap, after_put, encoded_size, has_key_length, is_uuid, put_answer}
 use Rattle.flowfile_record.specs.declared.attributes.TheConstants.{ATTRIBUTES_MAX}
@@ -13,14 +14,23 @@ use Rattle.flowfile_record.specs.declared.worked.Origin.TheVariants.{Taken as Fr
 use Rattle.expr_lang.specs.Meaning.{Attributes, tree_value}
 use Rattle.expr_lang.specs.View.{tree_of}
 use Rattle.machine_model.specs.declared.kind.OwnExpression.{OwnExpression}
-use Rattle.machine_model.specs.Making.{may_have, with_all_set, with_set}
+use Rattle.flowfile_record.specs.declared.worked.Outcome.{Outcome}
+use Rattle.machine_model.specs.Acting.{act}
+use Rattle.machine_model.specs.Making.{TakenFile, found_in, may_have, with_all_set, with_set}
+use Rattle.machine_model.specs.Sound.{IsSoundKind, within}
+use Rattle.machine_model.specs.declared.given.Given.{Given}
+use Rattle.machine_model.specs.declared.kind.Kind.TheVariants.{UpdateAttribute}
+use Rattle.machine_model.specs.declared.limits.TheConstants.{OWN_NAME_MAX}
 use Rattle.machine_model.specs.UpdateAttribute.{own_texts, text_in}
 use Rattle.process_session.specs.Bench.{Bench, attributes_at}
 use Rattle.process_session.specs.Changes.{change_at, with_attributes, with_put}
 use Rattle.process_session.specs.Refusals.{refusal_of_put}
-use Rattle.proc_attribute.specs.Passing.{TookOne}
+use Rattle.process_session.specs.Finish.{outcome_of}
+use Rattle.processor_api.specs.Acts.{Begins, EndsAs}
+use Rattle.processor_api.proofs.Began.{one-acts}
+use Rattle.proc_attribute.specs.Passing.{TookOne, HasOneOpen, EndsWith, all_to, passed_with}
 use Rattle.proc_attribute.specs.Setting.{have_keys}
-use Rattle.proc_attribute.proofs.Passed.{PutComesTo, one_with, put-at-one}
+use Rattle.proc_attribute.proofs.Passed.{PutComesTo, ends-behind, given-up, one_with, put-at-one, taken-attributes, taken-uuid, with-keeps, with-open}
 
 abbrev pub Pair : Type 0
 Pair = List ℕ × List ℕ
@@ -108,12 +118,12 @@ answer-sets attributes key value good = of_tests (is_uuid key) (nat_lt ATTRIBUTE
 
 -- ---- setting them in a session
 
+both : (a b : Bool) → a && b ≡ true → (a ≡ true) × (b ≡ true)
+both true b h = (refl, h)
+both false b h = cc
+
 pub keys-first : (left rest : List Pair) (pair : Pair) → left ≡ pair ∷ rest → have_keys left ≡ true → (has_key_length pair.0 ≡ true) × (have_keys rest ≡ true)
 keys-first left rest pair is keys = both (has_key_length pair.0) (have_keys rest) (sym (ap have_keys is) ∙ keys)
-  where
-    both : (a b : Bool) → a && b ≡ true → (a ≡ true) × (b ≡ true)
-    both true b h = (refl, h)
-    both false b h = cc
 
 with-is : (before : Bench) (one : TookOne before) (attributes : AttributeMap) → with_attributes before 0 attributes ≡ one_with one.taken attributes
 unfolding change_at
@@ -146,3 +156,70 @@ put-keeps before now new one pair value put new-is =
 
 pub put-sets : (before now new : Bench) (one : TookOne before) (pair : Pair) (value : List ℕ) (put : PutOne before now one pair value) → new ≡ with_put now 0 pair.0 value → with_set (FromQueue 0) (attributes_at now 0) pair ≡ Some (attributes_at new 0)
 put-sets before now new one pair value put new-is = put.set_is ∙ ap Some (sym (ap (λ b. attributes_at b 0) (new-is ∙ put.after)))
+
+-- ---- all set, and the file passed on
+
+pub record AllSet (before new : Bench) (one : TookOne before) (wanted : Option AttributeMap) : Type 0 where
+  pub set : AttributeMap
+  pub is : wanted ≡ Some set
+  pub after : new ≡ one_with one.taken set
+
+pub all-set : (before new : Bench) (one : TookOne before) (wanted : Option AttributeMap) → IfSome wanted (λ set. new ≡ with_attributes before 0 set) → is_some wanted ≡ true → AllSet before new one wanted
+all-set before new one (Some set) after may = record { set = set; is = refl; after = after ∙ with-is before one set }
+all-set before new one None after may = cc
+
+pub set-open : (before new : Bench) (one : TookOne before) (wanted : Option AttributeMap) → AllSet before new one wanted → HasOneOpen new
+set-open before new one wanted all = with-open new one.taken all.set all.after
+
+pub set-ends : (before new after : Bench) (one : TookOne before) (wanted : Option AttributeMap) → AllSet before new one wanted → EndsWith new after (all_to 0 new.files) → EndsWith before after (passed_with (attributes_at before 0) wanted)
+set-ends before new after one wanted all ends =
+    ends-behind before new after _ _ (with-keeps before new one.taken one.taken.attributes all.set one.begun all.after)
+    (ap (λ (b : Bench). all_to 0 b.files) all.after ∙ ap (passed_with (attributes_at before 0)) (sym all.is)) ends
+
+pub none-ends : (before after : Bench) (one : TookOne before) (wanted : Option AttributeMap) → wanted ≡ None → EndsWith before after (all_to 1 before.files) → EndsWith before after (passed_with (attributes_at before 0) wanted)
+none-ends before after one wanted none ends =
+    ends-behind before before after _ _ (record { relationships = refl; sources = refl })
+    (ap (λ (b : Bench). all_to 1 b.files) one.begun ∙ ap (λ attributes. passed_with attributes None) (sym (ap (λ b. attributes_at b 0) one.begun))
+    ∙ ap (passed_with (attributes_at before 0)) (sym none)) ends
+
+-- ---- the processor
+
+-- names of own properties may be keys
+pub own-keys : (find : Attributes) (own : List OwnExpression) (pairs : List Pair) → list_all (λ name. within 1 (length name) OWN_NAME_MAX) (map (λ property. property.name) own) ≡ true → own_texts find own ≡ Some pairs → have_keys pairs ≡ true
+own-keys find [] pairs sound is =
+    let none : pairs ≡ [] = cc in
+    ap have_keys none
+own-keys find (property ∷ own) pairs sound is =
+    let named = both (within 1 (length property.name) OWN_NAME_MAX) (list_all (λ name. within 1 (length name) OWN_NAME_MAX) (map (λ property. property.name) own)) sound in
+    of_texts (text_of find property) (own_texts find own) named.0 (λ rest rest-is. own-keys find own rest named.1 rest-is) refl is
+  where
+    of_texts : (text : Option (List ℕ)) (rest : Option (List Pair)) → within 1 (length property.name) OWN_NAME_MAX ≡ true → ((rest : List Pair) → own_texts find own ≡ Some rest → have_keys rest ≡ true) → own_texts find own ≡ rest
+        → option_and_then (λ text. option_map (λ texts. (property.name, text) ∷ texts) rest) text ≡ Some pairs → have_keys pairs ≡ true
+    of_texts None rest named rest-keys rest-is is = cc
+    of_texts (Some text) None named rest-keys rest-is is = cc
+    of_texts (Some text) (Some rest) named rest-keys rest-is is =
+        let pairs-are : pairs ≡ (property.name, text) ∷ rest = cc in
+        let key : has_key_length property.name ≡ true = named in
+        ap have_keys pairs-are ∙ rw (key, rest-keys rest rest-is) refl
+
+pub update-keys : (own : List OwnExpression) (find : Attributes) (pairs : List Pair) → IsSoundKind (UpdateAttribute own) → own_texts find own ≡ Some pairs → have_keys pairs ≡ true
+update-keys own find pairs sound is = own-keys find own pairs (both _ _ (both _ _ sound.ranges).0).1 is
+
+abbrev meant : List OwnExpression → AttributeMap → List ℕ → Outcome
+meant own attributes uuid =
+    passed_with attributes (option_and_then (with_all_set (FromQueue 0) attributes) (own_texts (found_in (record { attributes = attributes; uuid = uuid; bytes = [] })) own))
+
+pub update-acts : (own : List OwnExpression) (before : Bench) (given : Given) (after : Bench) (attributes : AttributeMap) (uuid : List ℕ) (texts : Option (List Pair)) → Begins (UpdateAttribute own) before given → attributes ≡ attributes_at before 0
+    → option_map (λ source. source.uuid) (slice_get before.sources 0) ≡ Some uuid → own_texts (found_in (record { attributes = attributes; uuid = uuid; bytes = [] })) own ≡ texts
+    → EndsWith before after (passed_with (attributes_at before 0) (option_and_then (with_all_set (FromQueue 0) (attributes_at before 0)) texts)) → EndsAs (UpdateAttribute own) before given after
+update-acts own before given after attributes uuid texts begins attributes-is uuid-is texts-is ends =
+    one-acts (UpdateAttribute own) before given after refl begins ends.finished ends.kept
+    (λ taken file began alike. of_file file (taken-attributes before taken file began alike ∙ sym attributes-is) (taken-uuid before taken file uuid began alike uuid-is))
+  where
+    of_file : (file : TakenFile) → file.attributes ≡ attributes → file.uuid ≡ uuid → act (UpdateAttribute own) (file ∷ []) given ≡ Some (outcome_of after)
+    of_file file same-attributes same-uuid =
+        let same : meant own file.attributes file.uuid ≡ passed_with (attributes_at before 0) (option_and_then (with_all_set (FromQueue 0) (attributes_at before 0)) texts) =
+        ap (λ a. meant own a file.uuid) same-attributes ∙ ap (meant own attributes) same-uuid
+        ∙ ap (λ o. passed_with attributes (option_and_then (with_all_set (FromQueue 0) attributes) o)) texts-is
+        ∙ ap (λ a. passed_with a (option_and_then (with_all_set (FromQueue 0) a) texts)) attributes-is in
+        ap Some (given-up file (option_and_then (with_all_set (FromQueue 0) file.attributes) (own_texts (found_in file) own)) ∙ same ∙ sym ends.outcome)

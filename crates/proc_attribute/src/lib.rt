@@ -1,6 +1,7 @@
 //! The processors of attributes: each takes one file, and works on what is known of it.
 #![tactic(auto)]
 
+mod attributes_to_json;
 mod cloning;
 mod cryptographic_hash_content;
 mod duplicate_flow_file;
@@ -9,6 +10,7 @@ mod route_on_attribute;
 mod taken;
 mod update_attribute;
 
+pub use attributes_to_json::AttributesToJson;
 pub use cryptographic_hash_content::CryptographicHashContent;
 pub use duplicate_flow_file::DuplicateFlowFile;
 pub use route_on_attribute::RouteOnAttribute;
