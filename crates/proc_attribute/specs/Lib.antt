@@ -1,0 +1,7 @@
+pub mod Cloning
+pub mod Duplicating
+pub mod Json
+pub mod Kinds
+pub mod Passing
+pub mod Routing
+pub mod Setting
