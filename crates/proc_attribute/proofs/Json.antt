@@ -1,11 +1,11 @@
 -- An AttributesToJson: the object of texts, and a content that is replaced.
 use Rattle.std.proofs.Common.{◌≡◌, ℕ, ◌+◌, ◌≤◌, ◌<◌, Bool, true, false, cond, List, [], ◌∷◌, ◌++◌, length, drop, Option, None, Some, Ordering, Less, Equal, Greater, BTreeMap, String, Global, nat_cmp, refl, sym, ◌∙◌, ap, subst, arith}
-use Rattle.std.specs.Prelude.{◌||◌, codes, fold, nat_le, option_map, slice_get, unwrap_or}
+use Rattle.std.specs.Prelude.{◌||◌, codes, nat_le, option_map, slice_get, unwrap_or}
 use Rattle.std.specs.Cmp.Lexicographic.{slice_cmp}
 use Rattle.std.specs.Ordering.{match_ordering}
 use Rattle.std.proofs.lemmas.Bool.{leb-false, leb-true, lt-ltb}
 use Rattle.std.proofs.lemmas.Option.{get_or_from_slice_get, slice_get_within}
-use Rattle.serde_json.specs.Data.{Data, Members, no_members, member, object, put, string}
+use Rattle.serde_json.specs.Data.{Members, no_members, member, object, put, string}
 use Rattle.serde_json.specs.View.{members_view, view}
 use Rattle.serde_json.specs.Written.{compact_text, has_float, members_have_float}
 use Rattle.serde_json.specs.declared.value.Value.{Value, Object}

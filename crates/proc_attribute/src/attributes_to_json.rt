@@ -97,11 +97,7 @@ fn json_of(alloc: Global, names: &[Text], file: &Taken) -> Result<String, AllocE
     Value::Object(members).to_string(alloc)
 }
 
-fn members_of(
-    alloc: Global,
-    names: &[Text],
-    file: &Taken,
-) -> Result<Map<String, Value>, AllocError>
+fn members_of(alloc: Global, names: &[Text], file: &Taken) -> Result<Map<String, Value>, AllocError>
     ensures { IfOk result (λ members. members_view members.entries ≡ with_texts no_members (listed names.now
         (record { attributes = file.now.attributes.now; uuid = file.now.uuid.now; bytes = [] }))) }
 {
@@ -118,8 +114,11 @@ fn listed_members(
     file: &Taken,
 ) -> Result<Map<String, Value>, AllocError>
     ensures { IfOk result (λ members. members_view members.entries ≡ with_texts no_members
-        (map (λ name. (name, unwrap_or
-        (found_in (record { attributes = file.now.attributes.now; uuid = file.now.uuid.now; bytes = [] }) name) []))
+        (map (λ name. (
+          name,
+          unwrap_or
+              (found_in (record { attributes = file.now.attributes.now; uuid = file.now.uuid.now; bytes = [] }) name) [],
+        ))
         names.now)) }
 {
     let mut members = Map::new(alloc);
