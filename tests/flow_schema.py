@@ -17,6 +17,13 @@ TOLD = {2, 3, 7, 11, 12}
 # A whole number that is written with a sign, a point or an exponent is the same number to a schema.
 WRITTEN = re.compile(r'"(tasks|penalty|expiration|objects|bytes|swap)": (-0\b|[0-9]+\.0\b|[0-9]+[eE][0-9]+)')
 
+# The name of an own property that has too many bytes, but not too many characters, is of a right length to a schema.
+NAME = re.compile(r'"([^"\\]{128,255})": "')
+
+
+def is_untold(text):
+    return WRITTEN.search(text) or any(len(name.encode()) > 255 for name in NAME.findall(text))
+
 
 def text_of(case):
     if "bytes" in case:
@@ -59,7 +66,7 @@ def main():
     validator = jsonschema.Draft7Validator(schema)
     passed = failed = 0
     for name, text, rule in [*cases(), *examples()]:
-        if rule is not None and (rule not in TOLD or WRITTEN.search(text.decode())):
+        if rule is not None and (rule not in TOLD or is_untold(text.decode())):
             continue
         if validator.is_valid(json.loads(text)) == (rule is None):
             passed += 1

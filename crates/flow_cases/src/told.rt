@@ -1,7 +1,7 @@
 //! What an accepted flow is told as.
 use anyhow::Result;
 use flowfile_record::Text;
-use machine_model::{Conflict, Connection, Flow, Kind, Processor};
+use machine_model::{Conflict, Connection, Destination, Flow, Kind, OwnExpression, Processor};
 use std::alloc::Global;
 
 /// The processors and the connections of a flow, one after the other.
@@ -50,7 +50,56 @@ fn kind_told(alloc: Global, kind: &Kind) -> Result<String> {
             let conflict = conflict_told(*conflict);
             Ok(format!(in alloc; "PutFile {conflict}")?)
         }
+        Kind::UpdateAttribute { own } => {
+            let own = own_told(alloc, own.as_slice())?;
+            Ok(format!(in alloc; "UpdateAttribute{own}")?)
+        }
+        Kind::RouteOnAttribute { own } => {
+            let own = own_told(alloc, own.as_slice())?;
+            Ok(format!(in alloc; "RouteOnAttribute{own}")?)
+        }
+        Kind::AttributesToJson { destination, names } => {
+            let destination = destination_told(*destination);
+            let names = listed_told(alloc, names.as_slice())?;
+            Ok(format!(in alloc; "AttributesToJSON {destination}{names}")?)
+        }
+        Kind::DuplicateFlowFile { copies } => Ok(format!(in alloc; "DuplicateFlowFile {copies}")?),
+        Kind::CryptographicHashContent => {
+            Ok(String::from_str(alloc, "CryptographicHashContent")?)
+        }
         _ => Ok(String::from_str(alloc, "another type")?),
+    }
+}
+
+/// The name of each own property in brackets, behind a space.
+fn own_told(alloc: Global, own: &[OwnExpression]) -> Result<String> {
+    let mut text = String::new(alloc);
+    for property in own {
+        push_bracketed(&mut text, property.name.as_str())?;
+    }
+    Ok(text)
+}
+
+/// Each name in brackets, behind a space.
+fn listed_told(alloc: Global, names: &[Text]) -> Result<String> {
+    let mut text = String::new(alloc);
+    for name in names {
+        push_bracketed(&mut text, name.as_str())?;
+    }
+    Ok(text)
+}
+
+fn push_bracketed(text: &mut String, name: &str) -> Result<()> {
+    text.push_str(" [")?;
+    text.push_str(name)?;
+    text.push(']')?;
+    Ok(())
+}
+
+fn destination_told(destination: Destination) -> &'static str {
+    match destination {
+        Destination::Attribute => "flowfile-attribute",
+        Destination::Content => "flowfile-content",
     }
 }
 

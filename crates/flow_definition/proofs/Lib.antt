@@ -1,10 +1,13 @@
 pub mod Answered
+pub mod Commas
 pub mod Digits
 pub mod Ends
 pub mod Given
 pub mod Linked
 pub mod Lists
 pub mod Names
+pub mod Ordered
+pub mod OwnProperties
 pub mod Parts
 pub mod Passed
 pub mod Soundness

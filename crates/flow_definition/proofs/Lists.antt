@@ -1,10 +1,10 @@
 -- Lists of a text, as clauses see them, and what is found in them.
-use Rattle.std.proofs.Common.{◌≡◌, Bool, true, false, cond, ◌&&◌, ◌||◌, List, [], ◌∷◌, Option, Some, None, option_map, map, find, position, length, nat_lt, not, fold, count_by, ◌+◌, String, Global, Bor, string_bytes, refl, ap, ◌∙◌}
+use Rattle.std.proofs.Common.{◌≡◌, suc, Bool, true, false, cond, ◌&&◌, ◌||◌, List, [], ◌∷◌, Option, Some, None, option_map, is_some, map, find, position, length, nat_lt, not, fold, count_by, ◌+◌, String, Global, Bor, string_bytes, refl, ap, ◌∙◌}
 use Rattle.std.specs.List.{list_any, list_all, prefix_len}
 use Rattle.std.proofs.lemmas.List.{length-map}
 use Rattle.serde_json.specs.View.{view, items_view, members_view}
 use Rattle.serde_json.specs.declared.value.Value.{Value}
-use Rattle.flow_definition.specs.Looks.{list_of, member_names}
+use Rattle.flow_definition.specs.Looks.{list_of, member_list, names_of}
 
 pub list_of_view : (vs : List Value) → list_of (items_view vs) ≡ map view vs
 list_of_view [] = refl
@@ -47,6 +47,14 @@ pub seen_behind : {A B : Type 0} (f : A → B) (r : Option (Bor A)) → option_m
 seen_behind f None = refl
 seen_behind f (Some x) = refl
 
-pub member_names_view : (es : List (String Global × Value)) → map string_bytes (map (λ e. e.0) es) ≡ member_names (members_view es)
+pub member_names_view : (es : List (String Global × Value)) → map string_bytes (map (λ e. e.0) es) ≡ names_of (member_list (members_view es))
 member_names_view [] = refl
 member_names_view (e ∷ es) = ap (λ names. string_bytes e.0 ∷ names) (member_names_view es)
+
+pub member_count_view : (es : List (String Global × Value)) → length es ≡ length (member_list (members_view es))
+member_count_view [] = refl
+member_count_view (e ∷ es) = ap suc (member_count_view es)
+
+pub seen_some : {A B : Type 0} (f : A → B) (o : Option A) → is_some o ≡ is_some (option_map f o)
+seen_some f None = refl
+seen_some f (Some x) = refl

@@ -1,5 +1,5 @@
 -- Each processor and each connection of an accepted text is sound.
-use Rattle.std.proofs.Common.{◌≡◌, ℕ, ◌≤◌, true, false, not, List, [], ◌∷◌, ◌++◌, length, map, nat_le, is_none, is_some, slice_get, IfSome, IsSomeAnd, Option, Some, None, option_and_then, All, refl, sym, ap, ◌∙◌, subst}
+use Rattle.std.proofs.Common.{◌≡◌, ℕ, ◌≤◌, true, false, not, List, [], ◌∷◌, ◌++◌, length, map, nat_le, is_none, is_some, slice_get, IfSome, IsSomeAnd, codes, Option, Some, None, option_and_then, All, refl, sym, ap, ◌∙◌, subst}
 use Rattle.std.specs.Option.{option_map_or}
 use Rattle.std.specs.List.{list_all, position_or_len}
 use Rattle.std.proofs.lemmas.Bool.{false≢true, and_from, not-false, cond-true}
@@ -8,24 +8,29 @@ use Rattle.serde_json.specs.Data.{Data}
 use Rattle.serde_json.specs.Find.{as_number, as_u64}
 use Rattle.machine_model.specs.Kinds as kinds
 use Rattle.machine_model.specs.Kinds.{is_among}
-use Rattle.machine_model.specs.Sound.{within, IsSoundKind, MatchesWhole, to_match_whole, is_id, is_sound_processor, is_sound_connection, has_relationships, may_be_target, are_sound_limits, are_distinct_texts, EachOnce}
+use Rattle.machine_model.specs.Sound.{within, IsSoundKind, MatchesWhole, to_match_whole, is_id, is_listed_name, is_sound_processor, is_sound_connection, has_relationships, may_be_target, are_sound_limits, are_distinct_texts, EachOnce}
 use Rattle.machine_model.specs.declared.flow.Flow.{Flow}
 use Rattle.machine_model.specs.declared.flow.Processor.{Processor}
 use Rattle.machine_model.specs.declared.kind.Kind.{Kind}
 use Rattle.machine_model.specs.declared.kind.Kind.TheVariants as kind
-use Rattle.machine_model.specs.declared.limits.TheConstants.{GENERATED_MAX, PENALTY_MAX, PROCESSORS_MAX, QUEUE_LIMIT_MAX, SWAP_MAX, SWAP_MIN, TASKS_MAX}
+use Rattle.machine_model.specs.declared.limits.TheConstants.{COPIES_MAX, GENERATED_MAX, PENALTY_MAX, PROCESSORS_MAX, QUEUE_LIMIT_MAX, SWAP_MAX, SWAP_MIN, TASKS_MAX}
 use Rattle.machine_model.specs.declared.pattern.Pattern.{Pattern}
 use Rattle.flow_definition.specs.declared.field.Field.{Field}
 use Rattle.flow_definition.specs.declared.field.Field.TheVariants.{Processors, Id, Tasks, Penalty, Terminated, From, To, Relationships, Prioritizers, Expiration, Objects, Bytes, Swap}
-use Rattle.flow_definition.specs.declared.processor_type.Property.TheVariants.{FileFilter, Count, CustomText}
-use Rattle.flow_definition.specs.Looks.{value_at, text_at, has_text, items_at, names_at, type_of, relationships_in, processor_named, property_text}
+use Rattle.flow_definition.specs.declared.processor_type.Own.TheVariants as own
+use Rattle.flow_definition.specs.declared.processor_type.ProcessorType.{ProcessorType}
+use Rattle.flow_definition.specs.declared.processor_type.Property.TheVariants.{FileFilter, Count, CustomText, AttributesList, Copies}
+use Rattle.flow_definition.specs.Looks.{value_at, text_at, has_text, items_at, names_at, type_of, relationships_in, relationships_given, names_of, given_in, own_given, own_texts_in, processor_named, property_text}
 use Rattle.flow_definition.specs.Reading.{id_at, place_at, connection_of, IsKindOf, IsProcessorOf, AreProcessorsOf}
 use Rattle.flow_definition.specs.Rules.{may_be_end, in_item, wrong_item, wrong_name}
 use Rattle.flow_definition.specs.Shapes.{number_in}
-use Rattle.flow_definition.specs.Types.{relationships_of, is_source}
+use Rattle.flow_definition.specs.Types.{own_of, relationships_of, is_source}
 use Rattle.flow_definition.proofs.Ends.{HasPlace, place_found, HasProcessor, processor_at}
 use Rattle.flow_definition.proofs.Given.{text_given, id_given, names_given, number_within, number_below, prioritizers_given}
+use Rattle.flow_definition.proofs.Commas.{names_listed}
 use Rattle.flow_definition.proofs.Names.{IsNamed, AreNamed, names_right, names_distinct}
+use Rattle.flow_definition.proofs.Ordered.{AreAscending}
+use Rattle.flow_definition.proofs.OwnProperties.{names_read, own_read, IsOwnRight, attributes_sound, relationships_sound}
 use Rattle.flow_definition.proofs.Passed.{none_map, IsPassedProcessor, ArePassedProcessors, IsPassedConnection, ArePassedConnections}
 
 -- the whole number in a field, where one stands there
@@ -43,35 +48,54 @@ pub record IsTyped (d : Data) (k : Kind) : Type 0 where
   pub typed : is_some (type_of d) ≡ true
   pub names : relationships_in d ≡ kinds.relationships_of k
   pub source : option_map_or is_source (type_of d) false ≡ kinds.is_source k
-  pub sound : IsSoundKind k
+
+abbrev names_by : Data → Option ProcessorType → List (List ℕ)
+names_by d type =
+    names_of (relationships_given (option_map_or own_of type own.Nothing) (given_in d)) ++ option_map_or relationships_of type []
 
 pub kind_typed : (d : Data) (k : Kind) → IsKindOf d k → IsTyped d k
 kind_typed d (kind.GetFile filter) is = record {
   typed = ap is_some is.0;
-  names = ap (λ type. option_map_or relationships_of type []) is.0;
+  names = ap (names_by d) is.0;
   source = ap (λ type. option_map_or is_source type false) is.0;
-  sound = record { ranges = refl; texts = matches (property_text FileFilter d) filter is.1 };
 }
 kind_typed d (kind.GenerateFlowFile count text) is = record {
   typed = ap is_some is.0;
-  names = ap (λ type. option_map_or relationships_of type []) is.0;
+  names = ap (names_by d) is.0;
   source = ap (λ type. option_map_or is_source type false) is.0;
-  sound = record {
-    ranges = ap (λ n. nat_le n GENERATED_MAX) is.1 ∙ number_below 0 GENERATED_MAX (number_in (property_text Count d)) refl;
-    texts = (property_text CustomText d, is.2);
-  };
 }
 kind_typed d (kind.PutFile conflict) is = record {
   typed = ap is_some is.0;
-  names = ap (λ type. option_map_or relationships_of type []) is.0;
+  names = ap (names_by d) is.0;
   source = ap (λ type. option_map_or is_source type false) is.0;
-  sound = record { ranges = refl; texts = tt };
 }
-kind_typed d (kind.UpdateAttribute own) is = absurd is
-kind_typed d (kind.RouteOnAttribute own) is = absurd is
-kind_typed d (kind.AttributesToJson destination names) is = absurd is
-kind_typed d (kind.DuplicateFlowFile copies) is = absurd is
-kind_typed d kind.CryptographicHashContent is = absurd is
+kind_typed d (kind.UpdateAttribute own) is = record {
+  typed = ap is_some is.0;
+  names = ap (names_by d) is.0;
+  source = ap (λ type. option_map_or is_source type false) is.0;
+}
+kind_typed d (kind.RouteOnAttribute list) is = record {
+  typed = ap is_some is.0;
+  names = ap (names_by d) is.0
+      ∙ ap (λ names. names ++ codes "unmatched" ∷ [])
+      (sym (names_read d list (ap (λ type. own_given (option_map_or own_of type own.Nothing) (given_in d)) is.0) is.1));
+  source = ap (λ type. option_map_or is_source type false) is.0;
+}
+kind_typed d (kind.AttributesToJson destination names) is = record {
+  typed = ap is_some is.0;
+  names = ap (names_by d) is.0;
+  source = ap (λ type. option_map_or is_source type false) is.0;
+}
+kind_typed d (kind.DuplicateFlowFile copies) is = record {
+  typed = ap is_some is.0;
+  names = ap (names_by d) is.0;
+  source = ap (λ type. option_map_or is_source type false) is.0;
+}
+kind_typed d kind.CryptographicHashContent is = record {
+  typed = ap is_some is;
+  names = ap (names_by d) is;
+  source = ap (λ type. option_map_or is_source type false) is;
+}
 kind_typed d (kind.SplitText lines) is = absurd is
 kind_typed d (kind.ReplaceText replacement) is = absurd is
 kind_typed d (kind.ExtractText own) is = absurd is
@@ -80,12 +104,44 @@ kind_typed d (kind.MergeContent strategy minimum maximum) is = absurd is
 kind_typed d (kind.SegmentContent size) is = absurd is
 kind_typed d (kind.ModifyBytes start end) is = absurd is
 
-pub sound_kinds : (ds : List Data) (ps : List Processor) → AreProcessorsOf ds ps → All (λ processor. IsSoundKind processor.kind) ps
-sound_kinds [] [] each = All-nil (λ processor. IsSoundKind processor.kind)
-sound_kinds [] (p ∷ ps) each = absurd each
-sound_kinds (d ∷ ds) [] each = absurd each
-sound_kinds (d ∷ ds) (p ∷ ps) each =
-    All-cons (λ processor. IsSoundKind processor.kind) p ps (kind_typed d p.kind each.0.kind).sound (sound_kinds ds ps each.1)
+kind_sound : (d : Data) (k : Kind) → IsOwnRight d → IsKindOf d k → IsSoundKind k
+kind_sound d (kind.GetFile filter) right is =
+    record { ranges = refl; texts = matches (property_text FileFilter d) filter is.1 }
+kind_sound d (kind.GenerateFlowFile count text) right is = record {
+  ranges = ap (λ n. nat_le n GENERATED_MAX) is.1 ∙ number_below 0 GENERATED_MAX (number_in (property_text Count d)) refl;
+  texts = (property_text CustomText d, is.2);
+}
+kind_sound d (kind.PutFile conflict) right is = record { ranges = refl; texts = tt }
+kind_sound d (kind.UpdateAttribute list) right is =
+    record { ranges = attributes_sound d list right is.0 is.1; texts = own_read (own_texts_in d) list is.1 }
+kind_sound d (kind.RouteOnAttribute list) right is =
+    record { ranges = relationships_sound d list right is.0 is.1; texts = own_read (own_texts_in d) list is.1 }
+kind_sound d (kind.AttributesToJson destination names) right is = record {
+  ranges = ap (list_all is_listed_name) is.2 ∙ names_listed (property_text AttributesList d);
+  texts = tt;
+}
+kind_sound d (kind.DuplicateFlowFile copies) right is = record {
+  ranges = ap (λ n. within 1 n COPIES_MAX) is.1 ∙ number_within 100 1 COPIES_MAX (number_in (property_text Copies d)) refl;
+  texts = tt;
+}
+kind_sound d kind.CryptographicHashContent right is = record { ranges = refl; texts = tt }
+kind_sound d (kind.SplitText lines) right is = absurd is
+kind_sound d (kind.ReplaceText replacement) right is = absurd is
+kind_sound d (kind.ExtractText own) right is = absurd is
+kind_sound d (kind.RouteOnContent requirement own) right is = absurd is
+kind_sound d (kind.MergeContent strategy minimum maximum) right is = absurd is
+kind_sound d (kind.SegmentContent size) right is = absurd is
+kind_sound d (kind.ModifyBytes start end) right is = absurd is
+
+pub sound_kinds : (top : Data) (earlier ds : List Data) (ps : List Processor) → ArePassedProcessors top earlier ds → AreAscending ds
+    → AreProcessorsOf ds ps → All (λ processor. IsSoundKind processor.kind) ps
+sound_kinds top earlier [] [] passed ascending each = All-nil (λ processor. IsSoundKind processor.kind)
+sound_kinds top earlier [] (p ∷ ps) passed ascending each = absurd each
+sound_kinds top earlier (d ∷ ds) [] passed ascending each = absurd each
+sound_kinds top earlier (d ∷ ds) (p ∷ ps) passed ascending each =
+    let right : IsOwnRight d = record { right = passed.0.own; few = passed.0.own_few; ascending = ascending.0 } in
+    All-cons (λ processor. IsSoundKind processor.kind) p ps (kind_sound d p.kind right each.0.kind)
+    (sound_kinds top (earlier ++ d ∷ []) ds ps passed.1 ascending.1 each.1)
 
 -- ---- names of relationships
 

@@ -5,15 +5,15 @@ use Rattle.std.specs.List.{list_all, list_any}
 use Rattle.std.proofs.lemmas.Bool.{and_parts, or_parts, cond-true}
 use Rattle.std.proofs.lemmas.Option.{none-some}
 use Rattle.serde_json.specs.Data.{Data}
-use Rattle.machine_model.specs.declared.limits.TheConstants.{PROCESSORS_MAX, CONNECTIONS_MAX}
+use Rattle.machine_model.specs.declared.limits.TheConstants.{PROCESSORS_MAX, CONNECTIONS_MAX, OWN_PROPERTIES_MAX}
 use Rattle.flow_definition.specs.declared.field.Field.{Field}
-use Rattle.flow_definition.specs.declared.field.Field.TheVariants.{Processors, Connections, Id, Terminated, From, To}
+use Rattle.flow_definition.specs.declared.field.Field.TheVariants.{Processors, Connections, Id, Terminated, From, To, Properties}
 use Rattle.flow_definition.specs.declared.field.Level.TheVariants as level
 use Rattle.flow_definition.specs.declared.rule.Rule.{Rule}
 use Rattle.flow_definition.specs.declared.rule.Rule.TheVariants.{MissingField, DoubleId, UnknownEnd, RelationshipUnconnected, BadProperty, TooMany}
 use Rattle.flow_definition.specs.Fields.{fields_of}
-use Rattle.flow_definition.specs.Looks.{items_at, is_object, relationships_in}
-use Rattle.flow_definition.specs.Rules.{Path, in_field, is_missing, missing_field, missing_property, is_doubled, is_unknown_source, is_unknown_target, is_loose, wrong_item, not_of_source, is_misshapen, misshapen_field, bad_property, has_crowded, are_connections_too_many}
+use Rattle.flow_definition.specs.Looks.{items_at, is_object, relationships_in, given_in, own_properties_in}
+use Rattle.flow_definition.specs.Rules.{Path, in_field, in_property, is_missing, missing_field, missing_property, is_doubled, is_unknown_source, is_unknown_target, is_loose, wrong_item, not_of_source, is_misshapen, misshapen_field, is_bad_property, bad_property, has_crowded, are_connections_too_many}
 use Rattle.flow_definition.specs.Walk.{in_top, in_level, in_list_item, in_object, first_in, first_place, first_of, first_rules, last_rules}
 
 -- ---- nothing was found
@@ -102,6 +102,8 @@ pub record IsPassedProcessor (top : Data) (earlier : List Data) (d : Data) : Typ
   pub named : wrong_item Terminated (Some d) d ≡ None
   pub shaped : NoneOf (is_misshapen d) (fields_of level.Processor)
   pub few : has_crowded top d ≡ false
+  pub own : NoneOf (is_bad_property d) (given_in d)
+  pub own_few : nat_lt OWN_PROPERTIES_MAX (length (own_properties_in d)) ≡ false
 
 abbrev pub ArePassedProcessors : (top : Data) (earlier ds : List Data) → Type 0
 ArePassedProcessors top earlier [] = Unit {0}
@@ -112,14 +114,17 @@ pub passed_processors : (top : Data) (earlier ds : List Data) → list_all is_ob
     → first_in (in_level level.Processor DoubleId top) Processors earlier ds ≡ None
     → first_in (in_level level.Processor RelationshipUnconnected top) Processors earlier ds ≡ None
     → first_in (in_level level.Processor BadProperty top) Processors earlier ds ≡ None
+    → first_in (in_level level.Processor TooMany top) Processors earlier ds ≡ None
     → list_any (has_crowded top) ds ≡ false → ArePassedProcessors top earlier ds
-passed_processors top earlier [] objects given once connected shaped few = tt
-passed_processors top earlier (d ∷ ds) objects given once connected shaped few =
+passed_processors top earlier [] objects given once connected shaped own few = tt
+passed_processors top earlier (d ∷ ds) objects given once connected shaped own few =
     let is = and_parts (is_object d) (list_all is_object ds) objects in
     let g = head_passed (in_level level.Processor MissingField top) Processors earlier ds d is.0 given in
     let o = head_passed (in_level level.Processor DoubleId top) Processors earlier ds d is.0 once in
     let c = head_passed (in_level level.Processor RelationshipUnconnected top) Processors earlier ds d is.0 connected in
     let s = head_passed (in_level level.Processor BadProperty top) Processors earlier ds d is.0 shaped in
+    let p = none_or (misshapen_field level.Processor d) (bad_property d) s.0 in
+    let t = head_passed (in_level level.Processor TooMany top) Processors earlier ds d is.0 own in
     let f = or_parts (has_crowded top d) (list_any (has_crowded top) ds) few in
     let linked = none_first (list_any (is_loose top d) (relationships_in d)) [] (wrong_item Terminated (Some d) d) c.0 in (
       record {
@@ -128,11 +133,12 @@ passed_processors top earlier (d ∷ ds) objects given once connected shaped few
         once = (none_first (is_doubled earlier d) (in_field Id) None o.0).0;
         loose = linked.0;
         named = linked.1;
-        shaped = unfound (is_misshapen d) (fields_of level.Processor)
-            (none_map in_field _ (none_or (misshapen_field level.Processor d) (bad_property d) s.0).0);
+        shaped = unfound (is_misshapen d) (fields_of level.Processor) (none_map in_field _ p.0);
         few = f.0;
+        own = unfound (is_bad_property d) (given_in d) (none_map (λ given. in_property given.0) _ p.1);
+        own_few = (none_first _ (in_field Properties) None t.0).0;
       },
-      passed_processors top (earlier ++ d ∷ []) ds is.1 g.1 o.1 c.1 s.1 f.1,
+      passed_processors top (earlier ++ d ∷ []) ds is.1 g.1 o.1 c.1 s.1 t.1 f.1,
     )
 
 pub record IsPassedConnection (top : Data) (earlier : List Data) (d : Data) : Type 0 where

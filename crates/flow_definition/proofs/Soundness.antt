@@ -1,5 +1,5 @@
 -- An accepted flow is sound.
-use Rattle.std.proofs.Common.{◌≡◌, ℕ, ◌≤◌, List, [], length, map, All, Option, Some, None, Result, Ok, Err, IfOk, MatchOption, refl, sym, ap, ◌∙◌, subst}
+use Rattle.std.proofs.Common.{◌≡◌, true, ℕ, ◌≤◌, List, [], length, map, All, Option, Some, None, Result, Ok, Err, IfOk, MatchOption, refl, sym, ap, ◌∙◌, subst}
 use Rattle.std.specs.List.{list_all}
 use Rattle.std.proofs.lemmas.Bool.{ltb-false}
 use Rattle.std.proofs.lemmas.List.{length-map}
@@ -17,12 +17,13 @@ use Rattle.flow_definition.specs.Looks.{value_at, items_at}
 use Rattle.flow_definition.specs.Reading.{IsFlowOf, connection_of}
 use Rattle.flow_definition.specs.Fields.{fields_of}
 use Rattle.flow_definition.specs.Rules.{Path, in_field, is_misshapen}
-use Rattle.flow_definition.specs.Verdict.{IsAnswerOf, IsAnswerBehind, IsSettled, Accepts, Refuses, first_behind, refused}
+use Rattle.flow_definition.specs.Verdict.{object_in, IsAnswerOf, IsAnswerBehind, IsSettled, Accepts, Refuses, first_behind, refused}
 use Rattle.flow_definition.specs.Walk.{first_of, first_rules, last_rules}
 use Rattle.flow_definition.proofs.Ends.{processors_length}
 use Rattle.flow_definition.proofs.Given.{objects_given}
 use Rattle.flow_definition.proofs.Linked.{sound_relationships}
 use Rattle.flow_definition.proofs.Names.{ids_distinct}
+use Rattle.flow_definition.proofs.Ordered.{is_ordered, ordered_in, AreAscending, processors_ascending}
 use Rattle.flow_definition.proofs.Parts.{sound_kinds, named_processors, sound_processors, ids_of, named_connections, connection_ids, sound_connections, orders_once}
 use Rattle.flow_definition.proofs.Passed.{none_or, none_map, unfound, IsUnbroken, unbroken, ArePassedProcessors, passed_processors, ArePassedConnections, passed_connections, IsFew, passed_few}
 
@@ -32,18 +33,21 @@ record IsWhole (top : Data) : Type 0 where
   few : IsFew top
   processors : ArePassedProcessors top [] (items_at Processors top)
   connections : ArePassedConnections top [] (items_at Connections top)
+  ascending : AreAscending (items_at Processors top)
 
-whole : (top : Data) → IsUnbroken top → IsWhole top
-whole top right =
+whole : (top : Data) → is_ordered top ≡ true → IsUnbroken top → IsWhole top
+whole top ordered right =
     let shaped = unfound (is_misshapen top) (fields_of level.Top) (none_map in_field _ right.shaped.whole) in
     let few = passed_few top right.few in
     record {
       few = few;
       processors = passed_processors top [] (items_at Processors top) (objects_given (value_at Processors top) shaped.0)
-          right.given.processors right.once.processors right.connected.processors right.shaped.processors few.crowded;
+          right.given.processors right.once.processors right.connected.processors right.shaped.processors right.few.processors
+          few.crowded;
       connections = passed_connections top [] (items_at Connections top) (objects_given (value_at Connections top) shaped.1.0)
           right.given.connections right.once.connections right.ends.connections right.connected.connections
           right.shaped.connections;
+      ascending = processors_ascending top ordered;
     }
 
 sound : (bytes : List ℕ) (top : Data) (flow : Flow) → IsWhole top → IsFlowOf bytes top flow → IsSound flow
@@ -60,7 +64,7 @@ sound bytes top flow right read =
           ∙ ap are_distinct_texts (connection_ids top (items_at Connections top))
           ∙ ids_distinct [] (items_at Connections top) (named_connections top [] (items_at Connections top) right.connections);
       processors = sound_processors top [] (items_at Processors top) flow.processors right.processors read.processors;
-      kinds = sound_kinds (items_at Processors top) flow.processors read.processors;
+      kinds = sound_kinds top [] (items_at Processors top) flow.processors right.processors right.ascending read.processors;
       connections = ap (list_all (is_sound_connection flow)) read.connections
           ∙ sound_connections top flow [] (items_at Connections top) few read.processors right.connections;
       relationships = sound_relationships top flow [] (items_at Processors top) flow.processors refl few read.connections right.connections
@@ -71,9 +75,9 @@ sound bytes top flow right read =
 
 -- ---- an answer that gives a flow
 
-sound_settled : (R : Type 0) (bytes : List ℕ) (top : Data) (flow : Flow) → first_of first_rules top ≡ None
+sound_settled : (R : Type 0) (bytes : List ℕ) (top : Data) (flow : Flow) → is_ordered top ≡ true → first_of first_rules top ≡ None
     → IsSettled R bytes top (Ok flow) → IsSound flow
-sound_settled R bytes top flow first settled = either (first_behind top settled.0) refl settled.2
+sound_settled R bytes top flow ordered first settled = either (first_behind top settled.0) refl settled.2
   where
     last : first_behind top settled.0 ≡ None → first_of last_rules top ≡ None
     last e =
@@ -84,18 +88,18 @@ sound_settled R bytes top flow first settled = either (first_behind top settled.
 
     either : (o : Option (Rule × Path)) → first_behind top settled.0 ≡ o
         → MatchOption o (Accepts bytes top (Ok flow)) (λ broken. Refuses broken (Ok flow)) → IsSound flow
-    either None e is = sound bytes top flow (whole top (unbroken top first (last e))) is
+    either None e is = sound bytes top flow (whole top ordered (unbroken top first (last e))) is
     either (Some broken) e is = absurd is
 
-sound_of : (R : Type 0) (bytes : List ℕ) (top : Data) (flow : Flow) → IsAnswerOf R bytes top (Ok flow) → IsSound flow
-sound_of R bytes top flow answer = either (first_of first_rules top) refl answer
+sound_of : (R : Type 0) (bytes : List ℕ) (top : Data) (flow : Flow) → is_ordered top ≡ true → IsAnswerOf R bytes top (Ok flow) → IsSound flow
+sound_of R bytes top flow ordered answer = either (first_of first_rules top) refl answer
   where
     either : (o : Option (Rule × Path)) → first_of first_rules top ≡ o
         → MatchOption o (IsAnswerBehind R bytes top (Ok flow)) (λ broken. Refuses broken (Ok flow)) → IsSound flow
-    either None e is = sound_settled R bytes top flow e is
+    either None e is = sound_settled R bytes top flow ordered e is
     either (Some broken) e is = absurd is
 
-pub answer_sound : (R : Type 0) (bytes : List ℕ) (top : Data) (answer : Result Flow FlowError) → IsAnswerOf R bytes top answer
-    → IfOk answer IsSound
-answer_sound R bytes top (Ok flow) answers = sound_of R bytes top flow answers
-answer_sound R bytes top (Err e) answers = tt
+pub answer_sound : (R : Type 0) (bytes : List ℕ) (top : Data) (answer : Result Flow FlowError) → object_in bytes ≡ Some top
+    → IsAnswerOf R bytes top answer → IfOk answer IsSound
+answer_sound R bytes top (Ok flow) read answers = sound_of R bytes top flow (ordered_in bytes top read) answers
+answer_sound R bytes top (Err e) read answers = tt

@@ -7,10 +7,10 @@ use Rattle.serde_json.specs.Data.{Data}
 use Rattle.flow_definition.specs.declared.made.Made.{Made}
 use Rattle.flow_definition.specs.declared.made.Made.TheVariants as made
 use Rattle.flow_definition.specs.declared.made.Refusal.{Refusal}
-use Rattle.flow_definition.specs.declared.made.Refusal.TheVariants.{NoType, Unread, TooBig, NoExpression}
+use Rattle.flow_definition.specs.declared.made.Refusal.TheVariants.{NoType, Unread, TooBig, NoExpression, NoOwnExpression}
 use Rattle.flow_definition.specs.declared.rule.Rule.TheVariants.{UnknownType, BadPattern, BadExpression, PatternTooBig}
-use Rattle.flow_definition.specs.declared.processor_type.ProcessorType.TheVariants.{GenerateFlowFile}
-use Rattle.flow_definition.specs.declared.processor_type.Property.TheVariants.{CustomText}
+use Rattle.flow_definition.specs.declared.processor_type.ProcessorType.TheVariants.{GetFile, GenerateFlowFile}
+use Rattle.flow_definition.specs.declared.processor_type.Property.TheVariants.{FileFilter, CustomText}
 use Rattle.flow_definition.specs.Looks.{type_of, properties_in}
 use Rattle.flow_definition.specs.Types.{properties_of}
 use Rattle.flow_definition.specs.Made.{IsRefusal, IsMade, AreMade, AreAllMade, first_refused, processor_in}
@@ -26,6 +26,7 @@ all_made (made.Refused NoType ∷ ms) k typed read expressed small = absurd (non
 all_made (made.Refused (Unread p) ∷ ms) k typed read expressed small = absurd (none-some _ (sym read))
 all_made (made.Refused (TooBig p) ∷ ms) k typed read expressed small = absurd (none-some _ (sym small))
 all_made (made.Refused (NoExpression p) ∷ ms) k typed read expressed small = absurd (none-some _ (sym expressed))
+all_made (made.Refused (NoOwnExpression n) ∷ ms) k typed read expressed small = absurd (none-some _ (sym expressed))
 
 pub processors_made : (R : Type 0) (ds : List Data) (ms : List Made) → AreMade R ds ms → AreAllMade ms → AreProcessorsOf ds (filter_map processor_in ms)
 processors_made R [] [] each all = tt
@@ -44,6 +45,7 @@ risen R (d ∷ ds) (made.Refused NoType ∷ ms) k path each found = risen R ds m
 risen R (d ∷ ds) (made.Refused (Unread p) ∷ ms) k path each found = risen R ds ms (suc k) path each.1 found
 risen R (d ∷ ds) (made.Refused (TooBig p) ∷ ms) k path each found = each.0.1
 risen R (d ∷ ds) (made.Refused (NoExpression p) ∷ ms) k path each found = risen R ds ms (suc k) path each.1 found
+risen R (d ∷ ds) (made.Refused (NoOwnExpression n) ∷ ms) k path each found = risen R ds ms (suc k) path each.1 found
 
 -- ---- one more processor
 
@@ -58,6 +60,7 @@ refusal_later R S d NoType f h = h
 refusal_later R S d (Unread p) f h = h
 refusal_later R S d (TooBig p) f h = (h.0, f h.1)
 refusal_later R S d (NoExpression p) f h = h
+refusal_later R S d (NoOwnExpression n) f h = h
 
 pub made_later : (R S : Type 0) (ds : List Data) (ms : List Made) → (R → S) → AreMade R ds ms → AreMade S ds ms
 made_later R S [] [] f each = tt
@@ -77,6 +80,10 @@ pub risen_after : (a b c : ℕ) → a ≤ b → HasRisen b c → HasRisen a c
 risen_after a b c later h = λ small. omega (arith, h)
 
 -- ---- properties of a type
+
+pub file_filter_in : (d : Data) → type_of d ≡ Some GetFile → Contains (properties_in d) FileFilter
+file_filter_in d is =
+    subst (λ type. Contains (option_map_or properties_of type []) FileFilter) (sym is) (0, omega arith, refl)
 
 pub custom_text_in : (d : Data) → type_of d ≡ Some GenerateFlowFile → Contains (properties_in d) CustomText
 custom_text_in d is =

@@ -1,4 +1,5 @@
 pub mod Fields
+pub mod Listed
 pub mod Looks
 pub mod Made
 pub mod Numbers

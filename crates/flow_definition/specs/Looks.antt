@@ -1,5 +1,5 @@
 -- What stands in an object of the text, where it is there and of the right kind.
-use Rattle.std.specs.Prelude.{ℕ, Bool, false, List, [], ◌∷◌, map, Option, option_and_then, is_some, unwrap_or, bytes_eq, find, if◌then◌else◌}
+use Rattle.std.specs.Prelude.{ℕ, Bool, false, List, [], ◌∷◌, ◌++◌, map, Option, option_and_then, is_some, unwrap_or, bytes_eq, find, if◌then◌else◌}
 use Rattle.std.specs.Option.{option_map_or}
 use Rattle.std.specs.List.{list_all}
 use Rattle.serde_json.specs.Data.{Data, Items, no_items, item, Members, no_members, member}
@@ -7,9 +7,11 @@ use Rattle.serde_json.specs.Find.{get, as_str, as_array, as_object}
 use Rattle.flow_definition.specs.declared.field.Field.{Field}
 use Rattle.flow_definition.specs.declared.field.Field.TheVariants.{TypeName, Id, Properties, Processors}
 use Rattle.flow_definition.specs.declared.processor_type.ProcessorType.{ProcessorType}
+use Rattle.flow_definition.specs.declared.processor_type.Own.{Own}
+use Rattle.flow_definition.specs.declared.processor_type.Own.TheVariants as own
 use Rattle.flow_definition.specs.declared.processor_type.Property.{Property}
 use Rattle.flow_definition.specs.Fields.{name_of}
-use Rattle.flow_definition.specs.Types.{type_named, properties_of, relationships_of, property_name, default_of}
+use Rattle.flow_definition.specs.Types.{type_named, properties_of, own_of, relationships_of, property_name, default_of}
 
 abbrev pub value_at : Field → Data → Option Data
 value_at f part = get (name_of f) part
@@ -48,13 +50,16 @@ names_in items = if list_all is_text items then map text_of items else []
 abbrev pub names_at : Field → Data → List (List ℕ)
 names_at f part = names_in (items_at f part)
 
-abbrev pub member_names : Members → List (List ℕ)
-member_names no_members = []
-member_names (member k d ms) = k ∷ member_names ms
+abbrev pub member_list : Members → List (List ℕ × Data)
+member_list no_members = []
+member_list (member k d ms) = (k, d) ∷ member_list ms
 
--- the names of an object's members, ascending by their bytes, and none where it is no object
-abbrev pub keys_of : Data → List (List ℕ)
-keys_of d = option_map_or member_names (as_object d) []
+-- the members of an object, ascending by the bytes of their names, and none where it is no object
+abbrev pub members_of : Data → List (List ℕ × Data)
+members_of d = option_map_or member_list (as_object d) []
+
+abbrev pub names_of : List (List ℕ × Data) → List (List ℕ)
+names_of members = map (λ given. given.0) members
 
 -- ---- processors
 
@@ -64,12 +69,16 @@ type_of processor = option_and_then type_named (text_at TypeName processor)
 abbrev pub properties_in : Data → List Property
 properties_in processor = option_map_or properties_of (type_of processor) []
 
-abbrev pub relationships_in : Data → List (List ℕ)
-relationships_in processor = option_map_or relationships_of (type_of processor) []
+abbrev pub fixed_relationships_in : Data → List (List ℕ)
+fixed_relationships_in processor = option_map_or relationships_of (type_of processor) []
 
 -- the first processor with this id
 abbrev pub processor_named : Data → List ℕ → Option Data
 processor_named top id = find (has_text Id id) (items_at Processors top)
+
+-- the properties that a processor gives, and none where they are no object
+abbrev pub given_in : Data → List (List ℕ × Data)
+given_in processor = option_map_or members_of (value_at Properties processor) []
 
 -- the value that a processor gives a property of this name
 abbrev pub given_at : List ℕ → Data → Option Data
@@ -81,3 +90,35 @@ given_text property processor = option_and_then as_str (given_at (property_name 
 -- the text that a processor gives a property, or the one that a missing one stands for
 abbrev pub property_text : Property → Data → List ℕ
 property_text property processor = unwrap_or (given_text property processor) (unwrap_or (default_of property) [])
+
+-- ---- properties of a processor's own, and the relationships that they make
+
+abbrev pub own_in : Data → Own
+own_in processor = option_map_or own_of (type_of processor) own.Nothing
+
+abbrev pub own_given : Own → List (List ℕ × Data) → List (List ℕ × Data)
+own_given own.Nothing given = []
+own_given own.Attributes given = given
+own_given own.Relationships given = given
+
+abbrev pub own_properties_in : Data → List (List ℕ × Data)
+own_properties_in processor = own_given (own_in processor) (given_in processor)
+
+abbrev pub relationships_given : Own → List (List ℕ × Data) → List (List ℕ × Data)
+relationships_given own.Nothing given = []
+relationships_given own.Attributes given = []
+relationships_given own.Relationships given = given
+
+-- an own property makes its relationship by its name, whatever its value is
+abbrev pub own_relationships_in : Data → List (List ℕ)
+own_relationships_in processor = names_of (relationships_given (own_in processor) (given_in processor))
+
+abbrev pub relationships_in : Data → List (List ℕ)
+relationships_in processor = own_relationships_in processor ++ fixed_relationships_in processor
+
+-- the own properties with their texts
+abbrev pub texts_of : List (List ℕ × Data) → List (List ℕ × List ℕ)
+texts_of given = map (λ (name, value). (name, text_of value)) given
+
+abbrev pub own_texts_in : Data → List (List ℕ × List ℕ)
+own_texts_in processor = texts_of (own_properties_in processor)

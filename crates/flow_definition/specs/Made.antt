@@ -1,26 +1,28 @@
 -- What becomes of a processor of the text: it is made, or why it isn't, and where.
-use Rattle.std.specs.Prelude.{◌≡◌, ℕ, suc, ◌==◌, List, [], ◌∷◌, Option, Some, None, option_map, Contains, if◌then◌else◌}
+use Rattle.std.specs.Prelude.{◌≡◌, ℕ, suc, ◌==◌, List, [], ◌∷◌, ◌++◌, All, Option, Some, None, option_map, Contains, if◌then◌else◌}
 use Rattle.std.specs.Option.{option_or}
 use Rattle.expr_lang.specs.Grammar.{IsText}
 use Rattle.expr_lang.specs.Tree.{Tree}
 use Rattle.serde_json.specs.Data.{Data}
 use Rattle.machine_model.specs.Sound.{to_match_whole}
 use Rattle.machine_model.specs.declared.flow.Processor.{Processor}
+use Rattle.flow_definition.specs.declared.expressions.MadeOwn.{MadeOwn}
+use Rattle.flow_definition.specs.declared.expressions.MadeOwn.TheVariants as own
 use Rattle.flow_definition.specs.declared.field.Field.TheVariants.{TypeName, Processors}
 use Rattle.flow_definition.specs.declared.made.Made.{Made}
 use Rattle.flow_definition.specs.declared.made.Made.TheVariants as made
 use Rattle.flow_definition.specs.declared.made.MadeKind.{MadeKind}
 use Rattle.flow_definition.specs.declared.made.MadeKind.TheVariants as kind
 use Rattle.flow_definition.specs.declared.made.Refusal.{Refusal}
-use Rattle.flow_definition.specs.declared.made.Refusal.TheVariants.{NoType, Unread, TooBig, NoExpression}
+use Rattle.flow_definition.specs.declared.made.Refusal.TheVariants.{NoType, Unread, TooBig, NoExpression, NoOwnExpression}
 use Rattle.flow_definition.specs.declared.processor_type.Form.TheVariants.{WholePattern, Expression}
 use Rattle.flow_definition.specs.declared.processor_type.Property.{Property}
 use Rattle.flow_definition.specs.declared.rule.Rule.{Rule}
 use Rattle.flow_definition.specs.declared.rule.Rule.TheVariants.{UnknownType, BadPattern, BadExpression, PatternTooBig}
-use Rattle.flow_definition.specs.Looks.{type_of, properties_in, property_text}
+use Rattle.flow_definition.specs.Looks.{type_of, properties_in, property_text, own_texts_in}
 use Rattle.flow_definition.specs.Numbers.{number_of}
 use Rattle.flow_definition.specs.Patterns.{IsUnread}
-use Rattle.flow_definition.specs.Reading.{IsKindOf, IsProcessorOf}
+use Rattle.flow_definition.specs.Reading.{AreOwnOf, IsKindOf, IsProcessorOf}
 use Rattle.flow_definition.specs.Rules.{Path, in_field, in_property}
 use Rattle.flow_definition.specs.Types.{form_of, property_name}
 use Rattle.flow_definition.specs.Walk.{in_list_item}
@@ -35,12 +37,26 @@ IsPattern d property = Contains (properties_in d) property × (form_of property 
 abbrev pub IsExpression : Data → Property → Type 0
 IsExpression d property = Contains (properties_in d) property × (form_of property ≡ Expression)
 
+-- the first of some own properties whose text is no expression has this name
+pub record IsFirstUnread (texts : List (List ℕ × List ℕ)) (name : List ℕ) : Type 0 where
+  pub before : List (List ℕ × List ℕ)
+  pub text : List ℕ
+  pub behind : List (List ℕ × List ℕ)
+  pub place : texts ≡ before ++ (name, text) ∷ behind
+  pub read : All (λ given. (tree : Tree) × IsText given.1 tree) before
+  pub unread : IsNoExpression text
+
 -- the cause of a refusal. The builder may call any pattern too big where its count of such refusals rose
 abbrev pub IsRefusal : (Risen : Type 0) → Data → Refusal → Type 0
 IsRefusal Risen d NoType = type_of d ≡ None
 IsRefusal Risen d (Unread property) = IsPattern d property × IsUnread (to_match_whole (property_text property d))
 IsRefusal Risen d (TooBig property) = IsPattern d property × Risen
 IsRefusal Risen d (NoExpression property) = IsExpression d property × IsNoExpression (property_text property d)
+IsRefusal Risen d (NoOwnExpression name) = IsFirstUnread (own_texts_in d) name
+
+abbrev pub AreOwnMade : List (List ℕ × List ℕ) → MadeOwn → Type 0
+AreOwnMade texts (own.Read list) = AreOwnOf texts list
+AreOwnMade texts (own.Unread name) = IsFirstUnread texts name
 
 abbrev pub IsMade : (Risen : Type 0) → Data → Made → Type 0
 IsMade Risen d (made.Processor processor) = IsProcessorOf d processor
@@ -61,12 +77,14 @@ rule_of NoType = UnknownType
 rule_of (Unread property) = BadPattern
 rule_of (TooBig property) = PatternTooBig
 rule_of (NoExpression property) = BadExpression
+rule_of (NoOwnExpression name) = BadExpression
 
 abbrev pub part_of : Refusal → Path
 part_of NoType = in_field TypeName
 part_of (Unread property) = in_property (property_name property)
 part_of (TooBig property) = in_property (property_name property)
 part_of (NoExpression property) = in_property (property_name property)
+part_of (NoOwnExpression name) = in_property name
 
 -- where in the processor a refusal by this rule is
 abbrev pub refused_by : Rule → Made → Option Path

@@ -13,18 +13,22 @@ use Rattle.machine_model.specs.declared.flow.Flow.{Flow}
 use Rattle.machine_model.specs.declared.flow.Processor.{Processor}
 use Rattle.machine_model.specs.declared.kind.Conflict.{Conflict}
 use Rattle.machine_model.specs.declared.kind.Conflict.TheVariants.{Fail}
+use Rattle.machine_model.specs.declared.kind.Destination.{Destination}
+use Rattle.machine_model.specs.declared.kind.Destination.TheVariants.{Attribute}
 use Rattle.machine_model.specs.declared.kind.Kind.{Kind}
 use Rattle.machine_model.specs.declared.kind.Kind.TheVariants as kind
+use Rattle.machine_model.specs.declared.kind.OwnExpression.{OwnExpression}
 use Rattle.flow_definition.specs.declared.field.Field.{Field}
 use Rattle.flow_definition.specs.declared.field.Field.TheVariants.{Processors, Connections, Id, Tasks, Penalty, Terminated, From, To, Relationships, Prioritizers, Expiration, Objects, Bytes, Swap}
 use Rattle.flow_definition.specs.declared.field.Shape.{Shape}
 use Rattle.flow_definition.specs.declared.field.Shape.TheVariants as shape
-use Rattle.machine_model.specs.declared.limits.TheConstants.{GENERATED_MAX, PROCESSORS_MAX}
+use Rattle.machine_model.specs.declared.limits.TheConstants.{COPIES_MAX, GENERATED_MAX, PROCESSORS_MAX}
 use Rattle.flow_definition.specs.declared.processor_type.ProcessorType.TheVariants as type
-use Rattle.flow_definition.specs.declared.processor_type.Property.TheVariants.{FileFilter, Count, CustomText, ConflictResolution}
+use Rattle.flow_definition.specs.declared.processor_type.Property.TheVariants.{FileFilter, Count, CustomText, ConflictResolution, AttributesList, JsonDestination, Copies}
 use Rattle.flow_definition.specs.Fields.{shape_of}
-use Rattle.flow_definition.specs.Looks.{value_at, text_at, has_text, items_at, names_at, type_of, property_text}
-use Rattle.flow_definition.specs.Shapes.{conflict_named, number_in, prioritizer_named}
+use Rattle.flow_definition.specs.Listed.{listed_names}
+use Rattle.flow_definition.specs.Looks.{value_at, text_at, has_text, items_at, names_at, type_of, property_text, own_texts_in}
+use Rattle.flow_definition.specs.Shapes.{conflict_named, destination_named, number_in, prioritizer_named}
 
 -- the number, where it is within the range
 abbrev pub number_or : (default least most : ℕ) → Option ℕ → ℕ
@@ -53,6 +57,23 @@ count_in processor = number_or 0 0 GENERATED_MAX (number_in (property_text Count
 abbrev pub conflict_in : Data → Conflict
 conflict_in processor = unwrap_or (conflict_named (property_text ConflictResolution processor)) Fail
 
+abbrev pub destination_in : Data → Destination
+destination_in processor = unwrap_or (destination_named (property_text JsonDestination processor)) Attribute
+
+-- how many copies are made
+abbrev pub copies_in : Data → ℕ
+copies_in processor = number_or 100 1 COPIES_MAX (number_in (property_text Copies processor))
+
+-- properties of a processor's own, each with the expression that its text says
+abbrev pub IsOwnOf : List ℕ × List ℕ → OwnExpression → Type 0
+IsOwnOf (name, text) own = (own.name ≡ name) × IsText text (tree_of own.expression)
+
+abbrev pub AreOwnOf : List (List ℕ × List ℕ) → List OwnExpression → Type 0
+AreOwnOf [] [] = Unit {0}
+AreOwnOf (given ∷ more) (own ∷ rest) = IsOwnOf given own × AreOwnOf more rest
+AreOwnOf [] (own ∷ rest) = ⊥
+AreOwnOf (given ∷ more) [] = ⊥
+
 abbrev pub IsKindOf : Data → Kind → Type 0
 IsKindOf processor (kind.GetFile filter) =
     (type_of processor ≡ Some type.GetFile)
@@ -62,6 +83,16 @@ IsKindOf processor (kind.GenerateFlowFile count text) =
     × IsText (property_text CustomText processor) (tree_of text)
 IsKindOf processor (kind.PutFile conflict) =
     (type_of processor ≡ Some type.PutFile) × (conflict ≡ conflict_in processor)
+IsKindOf processor (kind.UpdateAttribute own) =
+    (type_of processor ≡ Some type.UpdateAttribute) × AreOwnOf (own_texts_in processor) own
+IsKindOf processor (kind.RouteOnAttribute own) =
+    (type_of processor ≡ Some type.RouteOnAttribute) × AreOwnOf (own_texts_in processor) own
+IsKindOf processor (kind.AttributesToJson destination names) =
+    (type_of processor ≡ Some type.AttributesToJson) × (destination ≡ destination_in processor)
+    × (names ≡ listed_names (property_text AttributesList processor))
+IsKindOf processor (kind.DuplicateFlowFile copies) =
+    (type_of processor ≡ Some type.DuplicateFlowFile) × (copies ≡ copies_in processor)
+IsKindOf processor kind.CryptographicHashContent = type_of processor ≡ Some type.CryptographicHashContent
 IsKindOf processor _ = ⊥
 
 pub record IsProcessorOf (d : Data) (processor : Processor) : Type 0 where

@@ -6,13 +6,16 @@ use Rattle.std.specs.List.{list_any}
 use Rattle.serde_json.specs.Data.{Data}
 use Rattle.serde_json.specs.Find.{as_str, as_number}
 use Rattle.machine_model.specs.Kinds.{is_among}
+use Rattle.machine_model.specs.Sound.{within}
 use Rattle.flow_definition.specs.declared.field.Field.{Field}
 use Rattle.flow_definition.specs.declared.field.Field.TheVariants.{Processors, Connections, Id, TypeName, Properties, Terminated, From, To, Relationships}
 use Rattle.flow_definition.specs.declared.field.Level.{Level}
+use Rattle.flow_definition.specs.declared.processor_type.Own.{Own}
+use Rattle.flow_definition.specs.declared.processor_type.Own.TheVariants as own
 use Rattle.flow_definition.specs.declared.processor_type.Property.{Property}
-use Rattle.machine_model.specs.declared.limits.TheConstants.{PROCESSORS_MAX, CONNECTIONS_MAX, FAN_OUT_MAX}
+use Rattle.machine_model.specs.declared.limits.TheConstants.{PROCESSORS_MAX, CONNECTIONS_MAX, FAN_OUT_MAX, OWN_NAME_MAX, OWN_PROPERTIES_MAX}
 use Rattle.flow_definition.specs.Fields.{name_of, fields_of, shape_of, is_required}
-use Rattle.flow_definition.specs.Looks.{value_at, text_at, has_text, items_at, names_at, is_object, keys_of, type_of, properties_in, relationships_in, processor_named, given_at, given_text}
+use Rattle.flow_definition.specs.Looks.{value_at, text_at, has_text, items_at, names_at, is_object, is_text, members_of, names_of, type_of, properties_in, own_in, fixed_relationships_in, relationships_in, own_properties_in, processor_named, given_in, given_at, given_text}
 use Rattle.flow_definition.specs.Shapes.{has_shape, is_in_range, is_of_set, is_number_text}
 use Rattle.flow_definition.specs.Types.{is_source, property_name, default_of, form_of}
 
@@ -130,7 +133,8 @@ abbrev pub not_of_source : Data → Data → Option Path
 not_of_source top connection =
     wrong_item Relationships (option_and_then (processor_named top) (text_at From connection)) connection
 
--- ---- a value is of another kind than it has to be, or outside its set; a property isn't one of the type
+-- ---- a value is of another kind than it has to be, or outside its set; a property isn't one of the type, and none
+-- of the processor's own
 
 abbrev pub is_misshapen : Data → Field → Bool
 is_misshapen part f = option_map_or (λ d. not (has_shape (shape_of f) d)) (value_at f part) false
@@ -141,19 +145,30 @@ misshapen_field l part = option_map in_field (find (is_misshapen part) (fields_o
 abbrev pub property_named : Data → List ℕ → Option Property
 property_named processor name = find (λ p. bytes_eq (property_name p) name) (properties_in processor)
 
-abbrev pub is_bad_value : Data → Option Property → Bool
-is_bad_value given None = true
-is_bad_value given (Some property) = not (option_map_or (is_of_set (form_of property)) (as_str given) false)
+-- an own relationship isn't named as one that is there anyway
+abbrev pub may_be_own : Own → (fixed : List (List ℕ)) → List ℕ → Bool
+may_be_own own.Nothing fixed name = false
+may_be_own own.Attributes fixed name = true
+may_be_own own.Relationships fixed name = not (is_among name fixed)
 
-abbrev pub is_bad_property : Data → List ℕ → Bool
-is_bad_property processor name =
-    option_map_or (λ given. is_bad_value given (property_named processor name)) (given_at name processor) false
+-- an own property has a name of 1 to 255 bytes, and is a text
+abbrev pub is_own_property : Data → List ℕ × Data → Bool
+is_own_property processor (name, value) =
+    within 1 (length name) OWN_NAME_MAX && may_be_own (own_in processor) (fixed_relationships_in processor) name
+    && is_text value
+
+abbrev pub is_bad_value : Data → List ℕ × Data → Option Property → Bool
+is_bad_value processor given None = not (is_own_property processor given)
+is_bad_value processor given (Some property) = not (option_map_or (is_of_set (form_of property)) (as_str given.1) false)
+
+abbrev pub is_bad_property : Data → List ℕ × Data → Bool
+is_bad_property processor given = is_bad_value processor given (property_named processor given.0)
 
 abbrev pub bad_property : Data → Option Path
 bad_property processor =
-    option_map in_property (find (is_bad_property processor) (option_map_or keys_of (value_at Properties processor) []))
+    option_map (λ given. in_property given.0) (find (is_bad_property processor) (given_in processor))
 
--- ---- there are too many processors, connections, or connections of one relationship
+-- ---- there are too many processors, connections, connections of one relationship, or properties of a processor's own
 
 abbrev pub is_crowded : Data → Data → List ℕ → Bool
 is_crowded top processor name =
@@ -172,13 +187,17 @@ too_many top =
     if nat_lt PROCESSORS_MAX (length (items_at Processors top)) then Some (in_field Processors)
     else if are_connections_too_many top then Some (in_field Connections) else None
 
+abbrev pub too_many_own : Data → Option Path
+too_many_own processor =
+    if nat_lt OWN_PROPERTIES_MAX (length (own_properties_in processor)) then Some (in_field Properties) else None
+
 -- ---- a field isn't one of the object's
 
 abbrev pub is_unknown : Level → List ℕ → Bool
 is_unknown l name = not (list_any (λ f. bytes_eq (name_of f) name) (fields_of l))
 
 abbrev pub unknown_field : Level → Data → Option Path
-unknown_field l part = option_map in_unknown (find (is_unknown l) (keys_of part))
+unknown_field l part = option_map in_unknown (find (is_unknown l) (names_of (members_of part)))
 
 -- ---- a number isn't a whole one without sign, point and exponent, or is out of range
 

@@ -9,6 +9,8 @@ use Rattle.serde_json.specs.Find.{as_str, as_array, as_number, as_u64}
 use Rattle.machine_model.specs.Sound.{is_id, within, are_distinct_texts}
 use Rattle.machine_model.specs.declared.kind.Conflict.{Conflict}
 use Rattle.machine_model.specs.declared.kind.Conflict.TheVariants.{Replace, Ignore, Fail}
+use Rattle.machine_model.specs.declared.kind.Destination.{Destination}
+use Rattle.machine_model.specs.declared.kind.Destination.TheVariants.{Attribute, Content}
 use Rattle.prioritizer.specs.Order.{name_of}
 use Rattle.prioritizer.specs.declared.prioritizer.Prioritizer.{Prioritizer}
 use Rattle.prioritizer.specs.declared.prioritizer.Prioritizer.TheVariants.{FirstInFirstOut, NewestFlowFileFirst, OldestFlowFileFirst, PriorityAttribute}
@@ -67,12 +69,21 @@ conflict_name Fail = codes "fail"
 abbrev pub conflict_named : List ℕ → Option Conflict
 conflict_named name = find (λ c. bytes_eq (conflict_name c) name) (Replace ∷ Ignore ∷ Fail ∷ [])
 
+abbrev pub destination_name : Destination → List ℕ
+destination_name Attribute = codes "flowfile-attribute"
+destination_name Content = codes "flowfile-content"
+
+abbrev pub destination_named : List ℕ → Option Destination
+destination_named name = find (λ d. bytes_eq (destination_name d) name) (Attribute ∷ Content ∷ [])
+
 -- the text is of the set that the property has
 abbrev pub is_of_set : Form → List ℕ → Bool
 is_of_set form.Conflict text = is_some (conflict_named text)
+is_of_set form.Destination text = is_some (destination_named text)
 is_of_set form.WholePattern text = true
 is_of_set (form.Number least most) text = true
 is_of_set form.Expression text = true
+is_of_set form.Names text = true
 
 -- the number that 1 to 10 digits write
 abbrev pub number_in : List ℕ → Option ℕ
@@ -84,3 +95,5 @@ is_number_text (form.Number least most) text = option_map_or (λ n. within least
 is_number_text form.WholePattern text = true
 is_number_text form.Expression text = true
 is_number_text form.Conflict text = true
+is_number_text form.Destination text = true
+is_number_text form.Names text = true

@@ -1,19 +1,23 @@
 -- The types of processors, a row for each: its name, whether it makes files and takes none, its properties, ascending
--- by the bytes of their names, and its relationships in their order. Of a property: its name, what it may hold, and
--- what a missing one stands for; a property without a default is required.
+-- by the bytes of their names, what properties of a processor's own are, and its relationships in their order. Own
+-- relationships come before these. A type that has own properties has no other ones. Of a property: its name, what it
+-- may hold, and what a missing one stands for; a property without a default is required.
 use Rattle.std.specs.Prelude.{ℕ, Bool, true, false, List, [], ◌∷◌, Option, Some, None, codes, find, bytes_eq}
-use Rattle.machine_model.specs.declared.limits.TheConstants.{GENERATED_MAX}
+use Rattle.machine_model.specs.declared.limits.TheConstants.{COPIES_MAX, GENERATED_MAX}
 use Rattle.flow_definition.specs.declared.processor_type.ProcessorType.{ProcessorType}
-use Rattle.flow_definition.specs.declared.processor_type.ProcessorType.TheVariants.{GetFile, GenerateFlowFile, PutFile}
+use Rattle.flow_definition.specs.declared.processor_type.ProcessorType.TheVariants.{GetFile, GenerateFlowFile, PutFile, UpdateAttribute, RouteOnAttribute, AttributesToJson, DuplicateFlowFile, CryptographicHashContent}
 use Rattle.flow_definition.specs.declared.processor_type.Property.{Property}
-use Rattle.flow_definition.specs.declared.processor_type.Property.TheVariants.{FileFilter, Count, CustomText, ConflictResolution}
+use Rattle.flow_definition.specs.declared.processor_type.Property.TheVariants.{FileFilter, Count, CustomText, ConflictResolution, AttributesList, JsonDestination, Copies}
 use Rattle.flow_definition.specs.declared.processor_type.Form.{Form}
 use Rattle.flow_definition.specs.declared.processor_type.Form.TheVariants as form
+use Rattle.flow_definition.specs.declared.processor_type.Own.{Own}
+use Rattle.flow_definition.specs.declared.processor_type.Own.TheVariants as own
 
 pub record TypeRow : Type 0 where
   pub name : List ℕ
   pub source : Bool
   pub properties : List Property
+  pub own : Own
   pub relationships : List (List ℕ)
 
 abbrev pub row_of : ProcessorType → TypeRow
@@ -21,18 +25,56 @@ row_of GetFile = record {
   name = codes "GetFile";
   source = true;
   properties = FileFilter ∷ [];
+  own = own.Nothing;
   relationships = codes "success" ∷ [];
 }
 row_of GenerateFlowFile = record {
   name = codes "GenerateFlowFile";
   source = true;
   properties = Count ∷ CustomText ∷ [];
+  own = own.Nothing;
   relationships = codes "success" ∷ [];
 }
 row_of PutFile = record {
   name = codes "PutFile";
   source = false;
   properties = ConflictResolution ∷ [];
+  own = own.Nothing;
+  relationships = codes "success" ∷ codes "failure" ∷ [];
+}
+row_of UpdateAttribute = record {
+  name = codes "UpdateAttribute";
+  source = false;
+  properties = [];
+  own = own.Attributes;
+  relationships = codes "success" ∷ codes "failure" ∷ [];
+}
+row_of RouteOnAttribute = record {
+  name = codes "RouteOnAttribute";
+  source = false;
+  properties = [];
+  own = own.Relationships;
+  relationships = codes "unmatched" ∷ [];
+}
+row_of AttributesToJson = record {
+  name = codes "AttributesToJSON";
+  source = false;
+  properties = AttributesList ∷ JsonDestination ∷ [];
+  own = own.Nothing;
+  relationships = codes "success" ∷ codes "failure" ∷ [];
+}
+row_of DuplicateFlowFile = record {
+  name = codes "DuplicateFlowFile";
+  source = false;
+  properties = Copies ∷ [];
+  own = own.Nothing;
+  relationships = codes "success" ∷ [];
+}
+row_of CryptographicHashContent = record {
+  name = codes "CryptographicHashContent";
+  source = false;
+  properties = [];
+  own = own.Nothing;
   relationships = codes "success" ∷ codes "failure" ∷ [];
 }
 
@@ -51,12 +93,27 @@ property_row ConflictResolution = record {
   form = form.Conflict;
   default = Some (codes "fail");
 }
+property_row AttributesList =
+    record { name = codes "Attributes List"; form = form.Names; default = Some [] }
+property_row JsonDestination = record {
+  name = codes "Destination";
+  form = form.Destination;
+  default = Some (codes "flowfile-attribute");
+}
+property_row Copies = record {
+  name = codes "Number of Copies";
+  form = form.Number 1 COPIES_MAX;
+  default = Some (codes "100");
+}
 
 abbrev pub is_source : ProcessorType → Bool
 is_source type = (row_of type).source
 
 abbrev pub properties_of : ProcessorType → List Property
 properties_of type = (row_of type).properties
+
+abbrev pub own_of : ProcessorType → Own
+own_of type = (row_of type).own
 
 abbrev pub relationships_of : ProcessorType → List (List ℕ)
 relationships_of type = (row_of type).relationships
@@ -66,7 +123,10 @@ type_name type = (row_of type).name
 
 -- the type of a name
 abbrev pub type_named : List ℕ → Option ProcessorType
-type_named name = find (λ type. bytes_eq (type_name type) name) (GetFile ∷ GenerateFlowFile ∷ PutFile ∷ [])
+type_named name =
+    find (λ type. bytes_eq (type_name type) name)
+    (GetFile ∷ GenerateFlowFile ∷ PutFile ∷ UpdateAttribute ∷ RouteOnAttribute ∷ AttributesToJson ∷ DuplicateFlowFile
+    ∷ CryptographicHashContent ∷ [])
 
 abbrev pub property_name : Property → List ℕ
 property_name property = (property_row property).name

@@ -11,7 +11,7 @@ use Rattle.flow_definition.specs.declared.rule.Rule.{Rule}
 use Rattle.flow_definition.specs.declared.rule.Rule.TheVariants.{MissingField, UnknownType, DoubleId, UnknownEnd, RelationshipUnconnected, BadProperty, TooMany, UnknownField, BadNumber}
 use Rattle.flow_definition.specs.Fields.{name_of}
 use Rattle.flow_definition.specs.Looks.{items_at, is_object}
-use Rattle.flow_definition.specs.Rules.{Path, member, item, missing_field, missing_property, unknown_type, doubled_id, unknown_end, unconnected, not_of_source, misshapen_field, bad_property, too_many, unknown_field, bad_number, bad_number_property}
+use Rattle.flow_definition.specs.Rules.{Path, member, item, missing_field, missing_property, unknown_type, doubled_id, unknown_end, unconnected, not_of_source, misshapen_field, bad_property, too_many, too_many_own, unknown_field, bad_number, bad_number_property}
 
 abbrev pub in_top : Rule → Data → Option Path
 in_top MissingField top = missing_field level.Top top
@@ -29,6 +29,7 @@ in_processor DoubleId top earlier processor = doubled_id earlier processor
 in_processor RelationshipUnconnected top earlier processor = unconnected top processor
 in_processor BadProperty top earlier processor =
     option_or (misshapen_field level.Processor processor) (bad_property processor)
+in_processor TooMany top earlier processor = too_many_own processor
 in_processor UnknownField top earlier processor = unknown_field level.Processor processor
 in_processor BadNumber top earlier processor =
     option_or (bad_number level.Processor processor) (bad_number_property processor)

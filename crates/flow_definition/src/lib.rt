@@ -2,8 +2,10 @@
 #![tactic(auto)]
 
 mod error;
+mod expressions;
 mod field;
 mod limits;
+mod listed;
 mod look;
 mod made;
 mod patterns;
@@ -21,6 +23,6 @@ pub use error::FlowError;
 pub use field::{Field, Level, Shape};
 pub use limits::TEXT_MAX;
 pub use patterns::{Builder, PatternError, Patterns};
-pub use processor_type::{Form, ProcessorType, Property};
+pub use processor_type::{Form, Own, ProcessorType, Property};
 pub use rule::Rule;
 pub use text::read_flow;

@@ -1,14 +1,14 @@
 //! Looking into the objects of a flow's text.
-ghost use Rattle.std.specs.Prelude.{◌≡◌, map};
+ghost use Rattle.std.specs.Prelude.{◌≡◌, [], map};
 ghost use Rattle.machine_model.specs.Kinds.{is_among};
 ghost use Rattle.std.specs.List.{list_all};
-ghost use Rattle.std.specs.Option.{option_map};
-ghost use Rattle.serde_json.specs.View.{view};
-ghost use Rattle.flow_definition.specs.Looks.{value_at, is_text, text_of, text_at, has_text, items_of, items_at, names_in, names_at, type_of, properties_in, relationships_in, processor_named, given_at, given_text};
+ghost use Rattle.std.specs.Option.{option_map, option_map_or};
+ghost use Rattle.serde_json.specs.View.{view, members_view};
+ghost use Rattle.flow_definition.specs.Looks.{value_at, is_text, text_of, text_at, has_text, items_of, items_at, names_in, names_at, type_of, properties_in, fixed_relationships_in, processor_named, member_list, given_in, given_at, given_text, own_in, own_properties_in, own_relationships_in, names_of};
 
 use crate::field::Field;
-use crate::processor_type::{ProcessorType, Property};
-use serde_json::Value;
+use crate::processor_type::{Own, ProcessorType, Property};
+use serde_json::{Map, Value};
 
 /// What stands in a field.
 pub(crate) fn value_at(object: &Value, field: Field) -> Option<&Value>
@@ -105,6 +105,17 @@ pub(crate) fn processor_named<'a>(top: &'a Value, id: &str) -> Option<&'a Value>
         .find(|processor| has_text(Field::Id, id, processor))
 }
 
+/// The properties that a processor gives, where they are an object.
+pub(crate) fn given(processor: &Value) -> Option<&Map<String, Value>>
+    ensures { option_map_or (λ members. member_list (members_view members.now.entries)) result []
+        ≡ given_in (view processor.now) }
+{
+    match value_at(processor, Field::Properties) {
+        Some(properties) => properties.as_object(),
+        None => None,
+    }
+}
+
 /// The value that a processor gives a property of this name.
 pub(crate) fn given_at<'a>(name: &str, processor: &'a Value) -> Option<&'a Value>
     ensures { option_map (λ value. view value.now) result ≡ given_at name.now (view processor.now) }
@@ -135,9 +146,9 @@ pub(crate) fn properties_in(processor: &Value) -> &'static [Property]
     }
 }
 
-/// The names of the relationships of a processor's type, and none where it has no type.
-pub(crate) fn relationships_in(processor: &Value) -> &'static [&'static str]
-    ensures { map (λ name. name.now) result.now ≡ relationships_in (view processor.now) }
+/// The names of the fixed relationships of a processor's type, and none where it has no type.
+pub(crate) fn fixed_relationships(processor: &Value) -> &'static [&'static str]
+    ensures { map (λ name. name.now) result.now ≡ fixed_relationships_in (view processor.now) }
 {
     match type_of(processor) {
         Some(kind) => kind.relationships(),
@@ -152,4 +163,45 @@ pub(crate) fn type_of(processor: &Value) -> Option<ProcessorType>
         Some(name) => ProcessorType::named(name),
         None => None,
     }
+}
+
+/// What properties of a processor's own are, and nothing where it has no type.
+pub(crate) fn own_in(processor: &Value) -> Own
+    ensures { result ≡ own_in (view processor.now) }
+{
+    match type_of(processor) {
+        Some(kind) => kind.own(),
+        None => Own::Nothing,
+    }
+}
+
+/// The properties of a processor's own, where it may have some.
+pub(crate) fn own_properties(processor: &Value) -> Option<&Map<String, Value>>
+    ensures { option_map_or (λ members. member_list (members_view members.now.entries)) result []
+        ≡ own_properties_in (view processor.now) }
+{
+    match own_in(processor) {
+        Own::Nothing => None,
+        Own::Attributes => given(processor),
+        Own::Relationships => given(processor),
+    }
+}
+
+/// The properties of a processor's own that make relationships, where it may have such.
+pub(crate) fn own_relationships(processor: &Value) -> Option<&Map<String, Value>>
+    ensures { option_map_or (λ members. names_of (member_list (members_view members.now.entries))) result []
+        ≡ own_relationships_in (view processor.now) }
+{
+    match own_in(processor) {
+        Own::Nothing => None,
+        Own::Attributes => None,
+        Own::Relationships => given(processor),
+    }
+}
+
+/// Whether a name is among some names.
+pub(crate) fn is_one_of(name: &str, names: &[&'static str]) -> bool
+    ensures { result ≡ is_among name.now (map (λ name. name.now) names.now) }
+{
+    names.iter().any(|other| name == *other)
 }

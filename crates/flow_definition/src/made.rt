@@ -9,12 +9,17 @@ ghost use Rattle.flow_definition.specs.Reading.{IsKindOf, IsProcessorOf};
 ghost use Rattle.flow_definition.specs.Patterns.{HasRisen, IsUnread};
 ghost use Rattle.flow_definition.specs.Places.{part_path, place_path};
 
+use crate::expressions::{MadeOwn, make_own};
 use crate::field::Field;
+use crate::listed::listed_names;
 use crate::look::type_of;
 use crate::patterns::{PatternError, Patterns};
 use crate::place::{Part, Place};
 use crate::processor_type::{ProcessorType, Property};
-use crate::reading::{conflict_in, count_in, id_at, penalty_at, property_text, tasks_at, texts_at};
+use crate::reading::{
+    conflict_in, copies_in, count_in, destination_in, id_at, penalty_at, property_text, tasks_at,
+    texts_at,
+};
 use crate::rule::Rule;
 use expr_lang::{ExprError, parse};
 use flowfile_record::Text;
@@ -30,7 +35,7 @@ pub enum Made {
 }
 
 /// Why a processor isn't made, and at which property.
-#[derive(Clone, Copy, Debug, PartialEq, Eq)]
+#[derive(Drop)]
 pub enum Refusal {
     /// Its type isn't known.
     NoType,
@@ -40,28 +45,32 @@ pub enum Refusal {
     TooBig(Property),
     /// A text is no expression.
     NoExpression(Property),
+    /// The text of an own property, of this name, is no expression.
+    NoOwnExpression(Text),
 }
 
 impl Refusal {
-    fn rule(self) -> Rule
-        ensures { result ≡ rule_of self }
+    fn rule(&self) -> Rule
+        ensures { result ≡ rule_of self.now }
     {
         match self {
             Refusal::NoType => Rule::UnknownType,
             Refusal::Unread(_) => Rule::BadPattern,
             Refusal::TooBig(_) => Rule::PatternTooBig,
             Refusal::NoExpression(_) => Rule::BadExpression,
+            Refusal::NoOwnExpression(_) => Rule::BadExpression,
         }
     }
 
-    fn part(self) -> Part<'static>
-        ensures { part_path result ≡ part_of self }
+    fn part(&self) -> Part<'_>
+        ensures { part_path result ≡ part_of self.now }
     {
         match self {
             Refusal::NoType => Part::Field(Field::TypeName),
             Refusal::Unread(property) => Part::Property(property.name()),
             Refusal::TooBig(property) => Part::Property(property.name()),
             Refusal::NoExpression(property) => Part::Property(property.name()),
+            Refusal::NoOwnExpression(name) => Part::Property(name.as_str()),
         }
     }
 }
@@ -131,6 +140,15 @@ fn make_kind<P: Patterns>(
         Some(ProcessorType::PutFile) => Ok(MadeKind::Kind(Kind::PutFile {
             conflict: conflict_in(processor),
         })),
+        Some(ProcessorType::UpdateAttribute) => make_updater(alloc, processor),
+        Some(ProcessorType::RouteOnAttribute) => make_router(alloc, processor),
+        Some(ProcessorType::AttributesToJson) => make_json_writer(alloc, processor),
+        Some(ProcessorType::DuplicateFlowFile) => Ok(MadeKind::Kind(Kind::DuplicateFlowFile {
+            copies: copies_in(processor),
+        })),
+        Some(ProcessorType::CryptographicHashContent) => {
+            Ok(MadeKind::Kind(Kind::CryptographicHashContent))
+        }
         None => Ok(MadeKind::Refused(Refusal::NoType)),
     }
 }
@@ -149,6 +167,37 @@ fn make_generator(alloc: Global, processor: &Value) -> Result<MadeKind, AllocErr
         }
         Err(ExprError::Memory) => Err(AllocError),
     }
+}
+
+fn make_updater(alloc: Global, processor: &Value) -> Result<MadeKind, AllocError>
+    requires { type_of (view processor.now) ≡ Some ProcessorType.UpdateAttribute }
+    ensures { IfOk result (IsMadeKind ⊥ (view processor.now)) }
+{
+    match make_own(alloc, processor)? {
+        MadeOwn::Read(own) => Ok(MadeKind::Kind(Kind::UpdateAttribute { own })),
+        MadeOwn::Unread(name) => Ok(MadeKind::Refused(Refusal::NoOwnExpression(name))),
+    }
+}
+
+fn make_router(alloc: Global, processor: &Value) -> Result<MadeKind, AllocError>
+    requires { type_of (view processor.now) ≡ Some ProcessorType.RouteOnAttribute }
+    ensures { IfOk result (IsMadeKind ⊥ (view processor.now)) }
+{
+    match make_own(alloc, processor)? {
+        MadeOwn::Read(own) => Ok(MadeKind::Kind(Kind::RouteOnAttribute { own })),
+        MadeOwn::Unread(name) => Ok(MadeKind::Refused(Refusal::NoOwnExpression(name))),
+    }
+}
+
+fn make_json_writer(alloc: Global, processor: &Value) -> Result<MadeKind, AllocError>
+    requires { type_of (view processor.now) ≡ Some ProcessorType.AttributesToJson }
+    ensures { IfOk result (IsMadeKind ⊥ (view processor.now)) }
+{
+    let names = listed_names(alloc, property_text(Property::AttributesList, processor))?;
+    Ok(MadeKind::Kind(Kind::AttributesToJson {
+        destination: destination_in(processor),
+        names,
+    }))
 }
 
 fn make_get_file<P: Patterns>(
@@ -184,7 +233,7 @@ fn whole(alloc: Global, pattern: &str) -> Result<Text, AllocError>
 }
 
 /// The first processor that was refused by a rule, and where.
-pub(crate) fn first_refused(rule: Rule, list: &[Made]) -> Option<Place<'static>>
+pub(crate) fn first_refused(rule: Rule, list: &[Made]) -> Option<Place<'_>>
     ensures { option_map place_path result ≡ first_refused rule 0 list.now }
 {
     'made: for (place, made) in list.iter().enumerate() {
@@ -198,7 +247,7 @@ pub(crate) fn first_refused(rule: Rule, list: &[Made]) -> Option<Place<'static>>
     None
 }
 
-fn refused_by(rule: Rule, made: &Made) -> Option<Part<'static>>
+fn refused_by(rule: Rule, made: &Made) -> Option<Part<'_>>
     ensures { option_map part_path result ≡ refused_by rule made.now }
 {
     match made {

@@ -1,9 +1,9 @@
-//! The types of processors: for each its name, its properties and its relationships.
+//! The types of processors: for each its name, its properties, its own ones and its relationships.
 ghost use Rattle.std.specs.Prelude.{◌≡◌, map};
 ghost use Rattle.std.specs.Option.{option_map};
-ghost use Rattle.flow_definition.specs.Types.{type_named, type_name, is_source, properties_of, relationships_of, property_name, form_of, default_of};
+ghost use Rattle.flow_definition.specs.Types.{type_named, type_name, is_source, properties_of, own_of, relationships_of, property_name, form_of, default_of};
 
-use machine_model::GENERATED_MAX;
+use machine_model::{COPIES_MAX, GENERATED_MAX};
 
 /// A type of processor that a flow may name.
 #[derive(Clone, Copy, Debug, PartialEq, Eq)]
@@ -11,6 +11,11 @@ pub enum ProcessorType {
     GetFile,
     GenerateFlowFile,
     PutFile,
+    UpdateAttribute,
+    RouteOnAttribute,
+    AttributesToJson,
+    DuplicateFlowFile,
+    CryptographicHashContent,
 }
 
 /// A property of a type of processor.
@@ -20,6 +25,20 @@ pub enum Property {
     Count,
     CustomText,
     ConflictResolution,
+    AttributesList,
+    JsonDestination,
+    Copies,
+}
+
+/// What the properties of a processor's own are. A type that has such has no other ones.
+#[derive(Clone, Copy, Debug, PartialEq, Eq)]
+pub enum Own {
+    /// There may be none.
+    Nothing,
+    /// Attributes: their names, and expressions of what they are set to.
+    Attributes,
+    /// Relationships: their names, and expressions of which files go there.
+    Relationships,
 }
 
 /// What a property may hold, as a text.
@@ -33,12 +52,21 @@ pub enum Form {
     Expression,
     /// One of the ways to settle a conflict.
     Conflict,
+    /// Names between commas.
+    Names,
+    /// One of the places where attributes are written.
+    Destination,
 }
 
-const ALL: [ProcessorType; 3] = [
+const ALL: [ProcessorType; 8] = [
     ProcessorType::GetFile,
     ProcessorType::GenerateFlowFile,
     ProcessorType::PutFile,
+    ProcessorType::UpdateAttribute,
+    ProcessorType::RouteOnAttribute,
+    ProcessorType::AttributesToJson,
+    ProcessorType::DuplicateFlowFile,
+    ProcessorType::CryptographicHashContent,
 ];
 
 impl ProcessorType {
@@ -57,6 +85,11 @@ impl ProcessorType {
             ProcessorType::GetFile => "GetFile",
             ProcessorType::GenerateFlowFile => "GenerateFlowFile",
             ProcessorType::PutFile => "PutFile",
+            ProcessorType::UpdateAttribute => "UpdateAttribute",
+            ProcessorType::RouteOnAttribute => "RouteOnAttribute",
+            ProcessorType::AttributesToJson => "AttributesToJSON",
+            ProcessorType::DuplicateFlowFile => "DuplicateFlowFile",
+            ProcessorType::CryptographicHashContent => "CryptographicHashContent",
         }
     }
 
@@ -66,7 +99,7 @@ impl ProcessorType {
     {
         match self {
             ProcessorType::GetFile | ProcessorType::GenerateFlowFile => true,
-            ProcessorType::PutFile => false,
+            _ => false,
         }
     }
 
@@ -78,16 +111,38 @@ impl ProcessorType {
             ProcessorType::GetFile => &[Property::FileFilter],
             ProcessorType::GenerateFlowFile => &[Property::Count, Property::CustomText],
             ProcessorType::PutFile => &[Property::ConflictResolution],
+            ProcessorType::UpdateAttribute => &[],
+            ProcessorType::RouteOnAttribute => &[],
+            ProcessorType::AttributesToJson => {
+                &[Property::AttributesList, Property::JsonDestination]
+            }
+            ProcessorType::DuplicateFlowFile => &[Property::Copies],
+            ProcessorType::CryptographicHashContent => &[],
         }
     }
 
-    /// The names of its relationships, in their order.
+    /// What properties of its processors' own are.
+    pub fn own(self) -> Own
+        ensures { result ≡ own_of self }
+    {
+        match self {
+            ProcessorType::UpdateAttribute => Own::Attributes,
+            ProcessorType::RouteOnAttribute => Own::Relationships,
+            _ => Own::Nothing,
+        }
+    }
+
+    /// The names of its relationships, in their order. Own ones come before these.
     pub fn relationships(self) -> &'static [&'static str]
         ensures { map (λ name. name.now) result.now ≡ relationships_of self }
     {
         match self {
             ProcessorType::GetFile | ProcessorType::GenerateFlowFile => &["success"],
-            ProcessorType::PutFile => &["success", "failure"],
+            ProcessorType::DuplicateFlowFile => &["success"],
+            ProcessorType::RouteOnAttribute => &["unmatched"],
+            ProcessorType::PutFile | ProcessorType::UpdateAttribute => &["success", "failure"],
+            ProcessorType::AttributesToJson => &["success", "failure"],
+            ProcessorType::CryptographicHashContent => &["success", "failure"],
         }
     }
 }
@@ -101,6 +156,9 @@ impl Property {
             Property::Count => "Count",
             Property::CustomText => "Custom Text",
             Property::ConflictResolution => "Conflict Resolution Strategy",
+            Property::AttributesList => "Attributes List",
+            Property::JsonDestination => "Destination",
+            Property::Copies => "Number of Copies",
         }
     }
 
@@ -115,6 +173,12 @@ impl Property {
             },
             Property::CustomText => Form::Expression,
             Property::ConflictResolution => Form::Conflict,
+            Property::AttributesList => Form::Names,
+            Property::JsonDestination => Form::Destination,
+            Property::Copies => Form::Number {
+                least: 1,
+                most: COPIES_MAX,
+            },
         }
     }
 
@@ -127,6 +191,9 @@ impl Property {
             Property::Count => None,
             Property::CustomText => Some(""),
             Property::ConflictResolution => Some("fail"),
+            Property::AttributesList => Some(""),
+            Property::JsonDestination => Some("flowfile-attribute"),
+            Property::Copies => Some("100"),
         }
     }
 }

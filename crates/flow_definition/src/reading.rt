@@ -3,15 +3,17 @@ ghost use Rattle.std.specs.Prelude.{◌≡◌, ◌≤◌, ◌<◌, position, map
 ghost use Rattle.std.specs.List.{filter_map};
 ghost use Rattle.serde_json.specs.View.{view};
 ghost use Rattle.flow_definition.specs.Looks.{text_of, has_text, names_at, property_text, items_at};
-ghost use Rattle.flow_definition.specs.Reading.{number_or, number_of, number_at, id_at, count_in, conflict_in, place_below, place_at, connection_of};
+ghost use Rattle.flow_definition.specs.Reading.{number_or, number_of, number_at, id_at, count_in, conflict_in, copies_in, destination_in, place_below, place_at, connection_of};
 ghost use Rattle.flow_definition.specs.Shapes.{prioritizer_named};
 
 use crate::field::{Field, Shape};
 use crate::look::{given_text, has_text, items_at, names_at, text_at, text_of, value_at};
 use crate::processor_type::Property;
-use crate::shape::{conflict_named, is_within, number_in, prioritizer_named};
+use crate::shape::{conflict_named, destination_named, is_within, number_in, prioritizer_named};
 use flowfile_record::{Text, TextList};
-use machine_model::{Conflict, Connection, GENERATED_MAX, PROCESSORS_MAX, QueueLimits};
+use machine_model::{
+    COPIES_MAX, Conflict, Connection, Destination, GENERATED_MAX, PROCESSORS_MAX, QueueLimits,
+};
 use prioritizer::{Order, Prioritizer};
 use serde_json::Value;
 use std::alloc::{AllocError, Global};
@@ -119,6 +121,25 @@ pub(crate) fn conflict_in(processor: &Value) -> Conflict
     ensures { result ≡ conflict_in (view processor.now) }
 {
     conflict_named(property_text(Property::ConflictResolution, processor)).unwrap_or(Conflict::Fail)
+}
+
+pub(crate) fn copies_in(processor: &Value) -> u16
+    ensures { result ≡ copies_in (view processor.now) }
+{
+    number_or(
+        100,
+        1,
+        COPIES_MAX,
+        number_in(property_text(Property::Copies, processor)),
+    ) as u16
+}
+
+pub(crate) fn destination_in(processor: &Value) -> Destination
+    ensures { result ≡ destination_in (view processor.now) }
+{
+    destination_named(property_text(Property::JsonDestination, processor)).unwrap_or(
+        Destination::Attribute,
+    )
 }
 
 /// The place of the processor with the id in a field.

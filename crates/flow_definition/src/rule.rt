@@ -16,13 +16,14 @@ pub enum Rule {
     UnknownEnd,
     /// A relationship is neither terminated nor connected, or both; or a name is none of its processor's.
     RelationshipUnconnected,
-    /// A value is of another kind than it has to be, or outside its set; or a property isn't one of the type.
+    /// A value is of another kind than it has to be, or outside its set; a property isn't one of the type; or one of the
+    /// processor's own may not have its name.
     BadProperty,
     /// A pattern can't be read, or nests too deep.
     BadPattern,
     /// An expression can't be read.
     BadExpression,
-    /// The text is too long, or has too many processors or connections.
+    /// The text is too long, or has too many processors, connections or properties of a processor's own.
     TooMany,
     /// An object has no field of this name.
     UnknownField,

@@ -6,12 +6,12 @@ ghost use Rattle.std.specs.Str.Parse.{digits_value};
 ghost use Rattle.serde_json.specs.View.{view};
 ghost use Rattle.machine_model.specs.Sound.{is_id, are_distinct_texts, is_id_byte, within};
 ghost use Rattle.flow_definition.specs.Looks.{is_object, items_of, text_of};
-ghost use Rattle.flow_definition.specs.Shapes.{has_shape, is_in_range, is_list_of_texts, are_prioritizers, is_prioritizer, is_of_set, number_in, is_number_text, conflict_named, conflict_name, prioritizer_named};
+ghost use Rattle.flow_definition.specs.Shapes.{has_shape, is_in_range, is_list_of_texts, are_prioritizers, is_prioritizer, is_of_set, number_in, is_number_text, conflict_named, conflict_name, destination_named, destination_name, prioritizer_named};
 
 use crate::field::Shape;
 use crate::look::{are_texts, is_among, items_of, names_in, text_of};
 use crate::processor_type::Form;
-use machine_model::Conflict;
+use machine_model::{Conflict, Destination};
 use prioritizer::Prioritizer;
 use serde_json::Value;
 
@@ -145,6 +145,7 @@ pub(crate) fn is_of_set(form: Form, text: &str) -> bool
 {
     match form {
         Form::Conflict => conflict_named(text).is_some(),
+        Form::Destination => destination_named(text).is_some(),
         _ => true,
     }
 }
@@ -168,6 +169,27 @@ fn conflict_name(conflict: Conflict) -> &'static str
         Conflict::Replace => "replace",
         Conflict::Ignore => "ignore",
         Conflict::Fail => "fail",
+    }
+}
+
+/// The place of this name where attributes are written.
+pub(crate) fn destination_named(name: &str) -> Option<Destination>
+    ensures { result ≡ destination_named name.now }
+{
+    DESTINATIONS
+        .iter()
+        .copied()
+        .find(|destination| destination_name(*destination) == name)
+}
+
+const DESTINATIONS: [Destination; 2] = [Destination::Attribute, Destination::Content];
+
+fn destination_name(destination: Destination) -> &'static str
+    ensures { result.now ≡ destination_name destination }
+{
+    match destination {
+        Destination::Attribute => "flowfile-attribute",
+        Destination::Content => "flowfile-content",
     }
 }
 

@@ -143,7 +143,7 @@ fn digest_of(bytes: &[u8]) -> [u8; 32]
 }
 
 /// The first rule that is broken behind the first rules.
-fn first_behind<'a>(top: &'a Value, made: &[Made]) -> Option<Broken<'a>>
+fn first_behind<'a>(top: &'a Value, made: &'a [Made]) -> Option<Broken<'a>>
     ensures { option_map broken_path result ≡ first_behind (view top.now) made.now }
 {
     let last = either(
@@ -165,7 +165,7 @@ fn either<'a>(first: Option<Broken<'a>>, second: Option<Broken<'a>>) -> Option<B
     }
 }
 
-fn refused(rule: Rule, made: &[Made]) -> Option<Broken<'static>>
+fn refused(rule: Rule, made: &[Made]) -> Option<Broken<'_>>
     ensures { option_map broken_path result ≡ refused rule made.now }
 {
     match first_refused(rule, made) {

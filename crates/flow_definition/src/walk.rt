@@ -12,8 +12,8 @@ use crate::place::{Broken, Part, Place};
 use crate::rule::Rule;
 use crate::rules::{
     bad_number, bad_number_property, bad_property, doubled_id, misshapen_field, missing_field,
-    missing_property, not_of_source, too_many, unconnected, unknown_end, unknown_field,
-    unknown_type,
+    missing_property, not_of_source, too_many, too_many_own, unconnected, unknown_end,
+    unknown_field, unknown_type,
 };
 use serde_json::Value;
 
@@ -124,6 +124,7 @@ fn in_processor<'a>(
             misshapen_field(Level::Processor, processor),
             bad_property(processor),
         ),
+        Rule::TooMany => too_many_own(processor),
         Rule::UnknownField => unknown_field(Level::Processor, processor),
         Rule::BadNumber => either(
             bad_number(Level::Processor, processor),

@@ -3,25 +3,26 @@ ghost use Rattle.std.specs.Prelude.{◌≡◌, [], map};
 ghost use Rattle.std.specs.List.{list_any};
 ghost use Rattle.std.specs.Option.{option_map};
 ghost use Rattle.machine_model.specs.Kinds.{is_among};
-ghost use Rattle.serde_json.specs.View.{view};
-ghost use Rattle.flow_definition.specs.Looks.{text_of};
+ghost use Rattle.serde_json.specs.View.{view, members_view};
+ghost use Rattle.flow_definition.specs.Looks.{text_of, names_of, member_list, own_relationships_in, relationships_in};
 ghost use Rattle.flow_definition.specs.Places.{part_path};
 ghost use Rattle.flow_definition.specs.Rules.{leaves, carries, is_connected, is_loose, in_item, is_wrong, wrong_name, wrong_item, unconnected, not_of_source};
 
 use crate::field::Field;
 use crate::look::{
-    has_text, is_among, items_at, names_at, processor_named, relationships_in, text_at, text_of,
-    type_of,
+    fixed_relationships, given_at, has_text, is_among, is_one_of, items_at, names_at, own_in,
+    own_relationships, processor_named, text_at, text_of, type_of,
 };
 use crate::place::Part;
-use serde_json::Value;
+use crate::processor_type::Own;
+use serde_json::{Map, Value};
 
 /// A processor with a relationship that leads nowhere or is terminated and leads somewhere, or the place of a name
 /// in its list of terminated relationships that is wrong.
 pub(crate) fn unconnected(top: &Value, processor: &Value) -> Option<Part<'static>>
     ensures { option_map part_path result ≡ unconnected (view top.now) (view processor.now) }
 {
-    if any_loose(top, processor, relationships_in(processor)) {
+    if has_loose(top, processor) {
         Some(Part::Whole)
     } else {
         wrong_item(Field::Terminated, Some(processor), processor)
@@ -36,6 +37,31 @@ pub(crate) fn not_of_source(top: &Value, connection: &Value) -> Option<Part<'sta
         Some(id) => wrong_item(Field::Relationships, processor_named(top, id), connection),
         None => None,
     }
+}
+
+fn has_loose(top: &Value, processor: &Value) -> bool
+    ensures { result ≡ list_any (is_loose (view top.now) (view processor.now)) (relationships_in (view processor.now)) }
+{
+    has_loose_own(top, processor) || any_loose(top, processor, fixed_relationships(processor))
+}
+
+fn has_loose_own(top: &Value, processor: &Value) -> bool
+    ensures { result
+        ≡ list_any (is_loose (view top.now) (view processor.now)) (own_relationships_in (view processor.now)) }
+{
+    match own_relationships(processor) {
+        Some(members) => any_own_loose(top, processor, members),
+        None => false,
+    }
+}
+
+fn any_own_loose(top: &Value, processor: &Value, members: &Map<String, Value>) -> bool
+    ensures { result ≡ list_any (is_loose (view top.now) (view processor.now))
+        (names_of (member_list (members_view members.now.entries))) }
+{
+    members
+        .keys()
+        .any(|name| is_loose(top, processor, name.as_str()))
 }
 
 fn any_loose(top: &Value, processor: &Value, names: &[&'static str]) -> bool
@@ -91,10 +117,7 @@ fn wrong_item(field: Field, processor: Option<&Value>, object: &Value) -> Option
 {
     match processor {
         Some(processor) => match type_of(processor) {
-            Some(kind) => in_item(
-                field,
-                wrong_name(kind.relationships(), names_at(object, field)),
-            ),
+            Some(_) => in_item(field, wrong_name(processor, names_at(object, field))),
             None => None,
         },
         None => None,
@@ -110,12 +133,12 @@ fn in_item(field: Field, place: Option<usize>) -> Option<Part<'static>>
     }
 }
 
-fn wrong_name(relationships: &[&'static str], names: &[Value]) -> Option<usize>
+fn wrong_name(processor: &Value, names: &[Value]) -> Option<usize>
     ensures { result
-        ≡ wrong_name (map (λ name. name.now) relationships.now) [] (map text_of (map view names.now)) }
+        ≡ wrong_name (relationships_in (view processor.now)) [] (map text_of (map view names.now)) }
 {
     'names: for (place, name) in names.iter().enumerate() {
-        if is_wrong(relationships, &names[..place], text_of(name)) {
+        if is_wrong(processor, &names[..place], text_of(name)) {
             return Some(place);
         }
     }
@@ -123,17 +146,25 @@ fn wrong_name(relationships: &[&'static str], names: &[Value]) -> Option<usize>
 }
 
 /// Whether a name is no relationship, or stands earlier.
-fn is_wrong(relationships: &[&'static str], earlier: &[Value], name: &str) -> bool
+fn is_wrong(processor: &Value, earlier: &[Value], name: &str) -> bool
     ensures { result ≡ is_wrong
-        (map (λ name. name.now) relationships.now) (map text_of (map view earlier.now)) name.now }
+        (relationships_in (view processor.now)) (map text_of (map view earlier.now)) name.now }
 {
-    !is_relationship(name, relationships) || is_among(name, earlier)
+    !is_relationship(name, processor) || is_among(name, earlier)
 }
 
-fn is_relationship(name: &str, relationships: &[&'static str]) -> bool
-    ensures { result ≡ is_among name.now (map (λ name. name.now) relationships.now) }
+fn is_relationship(name: &str, processor: &Value) -> bool
+    ensures { result ≡ is_among name.now (relationships_in (view processor.now)) }
 {
-    relationships
-        .iter()
-        .any(|relationship| name == *relationship)
+    is_own_relationship(name, processor) || is_one_of(name, fixed_relationships(processor))
+}
+
+fn is_own_relationship(name: &str, processor: &Value) -> bool
+    ensures { result ≡ is_among name.now (own_relationships_in (view processor.now)) }
+{
+    match own_in(processor) {
+        Own::Nothing => false,
+        Own::Attributes => false,
+        Own::Relationships => given_at(name, processor).is_some(),
+    }
 }

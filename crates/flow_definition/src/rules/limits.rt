@@ -1,18 +1,18 @@
-//! Too many processors, connections, or connections of one relationship.
-ghost use Rattle.std.specs.Prelude.{◌≡◌, count_by, map};
+//! Too many processors, connections, connections of one relationship, or properties of a processor's own.
+ghost use Rattle.std.specs.Prelude.{◌≡◌, count_by, length, map};
 ghost use Rattle.std.specs.List.{list_any};
 ghost use Rattle.std.specs.Option.{option_map};
-ghost use Rattle.serde_json.specs.View.{view};
-ghost use Rattle.flow_definition.specs.Looks.{relationships_in};
+ghost use Rattle.serde_json.specs.View.{view, members_view};
+ghost use Rattle.flow_definition.specs.Looks.{own_relationships_in, own_properties_in, names_of, member_list};
 ghost use Rattle.flow_definition.specs.Places.{part_path};
-ghost use Rattle.flow_definition.specs.Rules.{too_many, are_connections_too_many, is_crowded, carries, has_crowded};
+ghost use Rattle.flow_definition.specs.Rules.{too_many, too_many_own, are_connections_too_many, is_crowded, carries, has_crowded};
 
 use super::connected::carries;
 use crate::field::Field;
-use crate::look::{items_at, relationships_in};
+use crate::look::{fixed_relationships, items_at, own_properties, own_relationships};
 use crate::place::Part;
-use machine_model::{CONNECTIONS_MAX, FAN_OUT_MAX, PROCESSORS_MAX};
-use serde_json::Value;
+use machine_model::{CONNECTIONS_MAX, FAN_OUT_MAX, OWN_PROPERTIES_MAX, PROCESSORS_MAX};
+use serde_json::{Map, Value};
 
 /// A list that is too long, or that has too many connections of one relationship.
 pub(crate) fn too_many(top: &Value) -> Option<Part<'static>>
@@ -24,6 +24,26 @@ pub(crate) fn too_many(top: &Value) -> Option<Part<'static>>
         Some(Part::Field(Field::Connections))
     } else {
         None
+    }
+}
+
+/// The properties of a processor, where too many are its own.
+pub(crate) fn too_many_own(processor: &Value) -> Option<Part<'static>>
+    ensures { option_map part_path result ≡ too_many_own (view processor.now) }
+{
+    if own_count(processor) > OWN_PROPERTIES_MAX {
+        Some(Part::Field(Field::Properties))
+    } else {
+        None
+    }
+}
+
+fn own_count(processor: &Value) -> u64
+    ensures { result ≡ length (own_properties_in (view processor.now)) }
+{
+    match own_properties(processor) {
+        Some(members) => members.len() as u64,
+        None => 0,
     }
 }
 
@@ -45,7 +65,26 @@ fn any_has_crowded(top: &Value, processors: &[Value]) -> bool
 fn has_crowded(top: &Value, processor: &Value) -> bool
     ensures { result ≡ has_crowded (view top.now) (view processor.now) }
 {
-    any_crowded(top, processor, relationships_in(processor))
+    has_crowded_own(top, processor) || any_crowded(top, processor, fixed_relationships(processor))
+}
+
+fn has_crowded_own(top: &Value, processor: &Value) -> bool
+    ensures { result
+        ≡ list_any (is_crowded (view top.now) (view processor.now)) (own_relationships_in (view processor.now)) }
+{
+    match own_relationships(processor) {
+        Some(members) => any_own_crowded(top, processor, members),
+        None => false,
+    }
+}
+
+fn any_own_crowded(top: &Value, processor: &Value, members: &Map<String, Value>) -> bool
+    ensures { result ≡ list_any (is_crowded (view top.now) (view processor.now))
+        (names_of (member_list (members_view members.now.entries))) }
+{
+    members
+        .keys()
+        .any(|name| is_crowded(top, processor, name.as_str()))
 }
 
 fn any_crowded(top: &Value, processor: &Value, names: &[&'static str]) -> bool

@@ -1,17 +1,23 @@
 //! Types that there aren't, and properties that are missing, none of the type, or out of their set or range.
-ghost use Rattle.std.specs.Prelude.{◌≡◌, bytes_eq, find, string_bytes};
-ghost use Rattle.std.specs.Option.{option_map};
+ghost use Rattle.std.specs.Prelude.{◌≡◌, bytes_eq, false, find, map, not};
+ghost use Rattle.std.specs.Option.{option_map, option_map_or};
+ghost use Rattle.serde_json.specs.Find.{as_str};
 ghost use Rattle.serde_json.specs.View.{view, members_view};
-ghost use Rattle.flow_definition.specs.Looks.{member_names, properties_in};
+ghost use Rattle.flow_definition.specs.Looks.{member_list};
 ghost use Rattle.flow_definition.specs.Places.{part_path};
-ghost use Rattle.flow_definition.specs.Rules.{unknown_type, may_give, is_missing_property, missing_property, property_named, is_bad_value, is_bad_property, bad_property, is_bad_number_property, bad_number_property, in_property};
-ghost use Rattle.flow_definition.specs.Types.{property_name};
+ghost use Rattle.flow_definition.specs.Rules.{unknown_type, may_give, is_missing_property, missing_property, is_bad_property, is_own_property, may_be_own, bad_property, is_bad_number_property, bad_number_property, in_property};
+ghost use Rattle.flow_definition.specs.Shapes.{is_of_set};
+ghost use Rattle.flow_definition.specs.Types.{property_name, form_of};
 
 use crate::field::Field;
-use crate::look::{given_at, given_text, properties_in, text_at, type_of, value_at};
+use crate::look::{
+    fixed_relationships, given, given_at, given_text, is_one_of, own_in, properties_in, text_at,
+    type_of, value_at,
+};
 use crate::place::Part;
-use crate::processor_type::Property;
-use crate::shape::{is_number_text, is_of_set};
+use crate::processor_type::{Own, Property};
+use crate::shape::{is_number_text, is_of_set, is_within};
+use machine_model::OWN_NAME_MAX;
 use serde_json::{Map, Value};
 
 /// A type that there isn't.
@@ -67,55 +73,64 @@ fn may_give(processor: &Value) -> bool
     }
 }
 
-/// A property that isn't one of the type, that is no text, or that is outside its set.
+/// A property that isn't one of the type and may be none of the processor's own, that is no text, or that is outside
+/// its set.
 pub(crate) fn bad_property(processor: &Value) -> Option<Part<'_>>
     ensures { option_map part_path result ≡ bad_property (view processor.now) }
 {
-    match value_at(processor, Field::Properties) {
-        Some(properties) => match properties.as_object() {
-            Some(members) => in_member(first_bad(processor, members)),
-            None => None,
-        },
+    match given(processor) {
+        Some(members) => first_bad(processor, members),
         None => None,
     }
 }
 
-fn in_member(name: Option<&String>) -> Option<Part<'_>>
-    ensures { option_map part_path result ≡ option_map (λ name. in_property (string_bytes name.now)) name.entry }
+fn first_bad<'a>(processor: &Value, members: &'a Map<String, Value>) -> Option<Part<'a>>
+    ensures { option_map part_path result
+        ≡ option_map (λ given. in_property given.0)
+        (find (is_bad_property (view processor.now)) (member_list (members_view members.now.entries))) }
 {
-    match name {
-        Some(name) => Some(Part::Property(name.as_str())),
-        None => None,
+    'members: for (name, value) in members {
+        if is_bad_property(processor, name.as_str(), value) {
+            return Some(Part::Property(name.as_str()));
+        }
+    }
+    None
+}
+
+fn is_bad_property(processor: &Value, name: &str, value: &Value) -> bool
+    ensures { result ≡ is_bad_property (view processor.now) (name.now, view value.now) }
+{
+    match property_named(name, properties_in(processor)) {
+        Some(property) => is_bad_value(value, property),
+        None => !is_own_property(processor, name, value),
     }
 }
 
-fn first_bad<'a>(processor: &Value, members: &'a Map<String, Value>) -> Option<&'a String>
-    ensures { option_map (λ name. string_bytes name.now) result
-        ≡ find (is_bad_property (view processor.now)) (member_names (members_view members.now.entries)) }
+fn is_bad_value(value: &Value, property: Property) -> bool
+    ensures { result ≡ not (option_map_or (is_of_set (form_of property)) (as_str (view value.now)) false) }
 {
-    members
-        .keys()
-        .find(|name| is_bad_property(processor, name.as_str()))
-}
-
-fn is_bad_property(processor: &Value, name: &str) -> bool
-    ensures { result ≡ is_bad_property (view processor.now) name.now }
-{
-    match given_at(name, processor) {
-        Some(value) => is_bad_value(value, property_named(name, properties_in(processor))),
-        None => false,
-    }
-}
-
-fn is_bad_value(value: &Value, property: Option<Property>) -> bool
-    ensures { result ≡ is_bad_value (view value.now) property }
-{
-    match property {
-        Some(property) => match value.as_str() {
-            Some(text) => !is_of_set(property.form(), text),
-            None => true,
-        },
+    match value.as_str() {
+        Some(text) => !is_of_set(property.form(), text),
         None => true,
+    }
+}
+
+/// Whether a processor may have a property of its own of this name and value.
+fn is_own_property(processor: &Value, name: &str, value: &Value) -> bool
+    ensures { result ≡ is_own_property (view processor.now) (name.now, view value.now) }
+{
+    is_within(1, name.len() as u64, OWN_NAME_MAX)
+        && may_be_own(own_in(processor), fixed_relationships(processor), name)
+        && value.is_string()
+}
+
+fn may_be_own(own: Own, fixed: &[&'static str], name: &str) -> bool
+    ensures { result ≡ may_be_own own (map (λ name. name.now) fixed.now) name.now }
+{
+    match own {
+        Own::Nothing => false,
+        Own::Attributes => true,
+        Own::Relationships => !is_one_of(name, fixed),
     }
 }
 
