@@ -1,7 +1,7 @@
--- Where nothing is due and no session comes, the machine is quiet or blocked.
+-- Where no file has expired and no session comes, it ends as the machine does.
 use Rattle.std.proofs.Common.{◌≡◌, ℕ, ◌+◌, ◌==◌, ◌&&◌, ◌||◌, not, Bool, true, false, cond, List, [], ◌∷◌, ◌++◌, length, map, take, drop, min, refl, sym, ap, subst, ◌∙◌, arith, take-append-drop}
-use Rattle.std.specs.Prelude.{nat_lt, Option, Some, None, filter, find, is_none, is_some, option_map, option_and_then, slice_index, bytes_eq}
-use Rattle.std.specs.List.{enumerate_from, flat_map, list_all, list_any, reduce}
+use Rattle.std.specs.Prelude.{nat_lt, Option, Some, None, filter, find, is_some, option_map, option_and_then, slice_get, slice_index, bytes_eq}
+use Rattle.std.specs.List.{cons_option, enumerate_from, filter_map, flat_map, list_all, list_any, reduce}
 use Rattle.std.proofs.lemmas.Bool.{lt-ltb, true≢false}
 use Rattle.machine_model.specs.declared.flow.Connection.{Connection}
 use Rattle.machine_model.specs.declared.flow.Flow.{Flow}
@@ -10,9 +10,9 @@ use Rattle.machine_model.specs.declared.kind.Kind.{Kind}
 use Rattle.machine_model.specs.declared.kind.Kind.TheVariants.{GetFile, GenerateFlowFile}
 use Rattle.machine_model.specs.declared.pattern.Pattern.{Pattern}
 use Rattle.machine_model.specs.Acting.{passes}
-use Rattle.machine_model.specs.Due.{expired_numbers, last_batch, lowest_batch}
+use Rattle.machine_model.specs.Due.{at_place, due_expiry, expired_numbers, some_numbers}
 use Rattle.machine_model.specs.Files.{queues_of}
-use Rattle.machine_model.specs.Quiet.{gives_a_pick, has_source, holds_back, holds_back_any, is_held_back, is_nothing_due_in, nothing_due, quiet, blocked}
+use Rattle.machine_model.specs.Quiet.{gives_a_pick, has_source, holds_back, holds_back_any, is_held_back, is_nothing_due_in, nothing_due, quiet, blocked, wanting, wants}
 use Rattle.machine_model.specs.Kinds.{is_source, take_rule_of}
 use Rattle.machine_model.specs.Order.{eligible_files}
 use Rattle.machine_model.specs.State.{State, World}
@@ -22,10 +22,11 @@ use Rattle.machine_model.specs.View.{FileView, QueueView, is_penalised}
 use Rattle.engine_queues.specs.Choosing.{first_pick}
 use Rattle.engine_queues.specs.Laws.{BlockedIsSeen, QuietIsSeen, SeesTheSame, wants_by}
 use Rattle.engine_choice.specs.declared.choice.Ending.{Ending}
+use Rattle.engine_choice.specs.declared.choice.Ending.TheVariants.{Blocked, Quiet, Rest}
 use Rattle.engine_choice.specs.declared.choice.Taking.{Taking}
 use Rattle.engine_choice.specs.declared.choice.Taking.TheVariants.{Files, Generate, Receive}
 use Rattle.engine_choice.specs.Choice.{choice_at, choice_of, coming_of, ending_by, ending_of, first_blocking, first_penalty_end, fits, in_turn, is_ready, next_choice, place_behind, takers, taking_by, taking_of}
-use Rattle.engine_choice.specs.Laws.{EndsAreMachineEnds, IsEndAt}
+use Rattle.engine_choice.specs.Laws.{EndsAreMachineEnds, IsEndAt, IsMachineEnd}
 use Rattle.engine_choice.proofs.Found.{Each, any-append, each-weaker, none-found-any}
 use Rattle.engine_choice.proofs.Sessions.{stands-among}
 
@@ -214,9 +215,6 @@ module _ (flow : Flow) (queues : ℕ → QueueView) (state : State) (world : Wor
 
 -- ---- nothing waits for its penalty's end
 
-and-four : (a b c d : Bool) → (a && b && c && d) ≡ true → d ≡ true
-and-four a b c d is = and-right (a && b && c) d is
-
 none-waits : (moment : ℕ) (files more : List FileView) → list_all (λ file. not (is_penalised moment file)) files ≡ true
     → filter (nat_lt moment) (map (λ file. file.penalty_end) (files ++ more)) ≡ filter (nat_lt moment) (map (λ file. file.penalty_end) more)
 none-waits moment [] more is = refl
@@ -236,12 +234,64 @@ no-ends queues moment (c ∷ cs) is =
     let queue = queues c.0 in
     let here = and-left (is_nothing_due_in queues moment c) (list_all (is_nothing_due_in queues moment) cs) is in
     let rest = and-right (is_nothing_due_in queues moment c) (list_all (is_nothing_due_in queues moment) cs) is in
-    let waits = and-four (length (expired_numbers c.1.limits moment queue.active) == 0) (is_none (last_batch c.1.order c.1.limits queue.active)) (is_none (lowest_batch c.1.limits queue))
-    (list_all (λ file. not (is_penalised moment file)) queue.active) here in
+    let waits = and-right (length (expired_numbers c.1.limits moment queue.active) == 0) (list_all (λ file. not (is_penalised moment file)) queue.active) here in
     none-waits moment queue.active (flat_map (λ c. (queues c.0).active) cs) waits ∙ no-ends queues moment cs rest
 
 no-penalty : (flow : Flow) (queues : ℕ → QueueView) (moment : ℕ) → nothing_due flow queues moment ≡ true → first_penalty_end flow queues moment ≡ None
 no-penalty flow queues moment is = ap (reduce min) (no-ends queues moment (enumerate_from 0 flow.connections) is)
+
+-- ---- nothing is due where no file has expired and none waits for its penalty's end
+
+abbrev expires : ℕ → Connection → QueueView → Option (List ℕ)
+expires moment connection queue = some_numbers (expired_numbers connection.limits moment queue.active)
+
+none-numbered : (place : ℕ) (numbers : List ℕ) → option_map {U = ℕ × List ℕ} (λ ns. (place, ns)) (some_numbers numbers) ≡ None → (length numbers == 0) ≡ true
+none-numbered place numbers none = by_test (length numbers == 0) none
+  where
+    by_test : (b : Bool) → option_map {U = ℕ × List ℕ} (λ ns. (place, ns)) (cond b None (Some numbers)) ≡ None → b ≡ true
+    by_test true none = refl
+    by_test false none = cc
+
+first-owes-none : {X Y : Type 0} (owes : X → Option Y) (x : X) (xs : List X) → slice_get (filter_map owes (x ∷ xs)) 0 ≡ None → (owes x ≡ None) × (slice_get (filter_map owes xs) 0 ≡ None)
+first-owes-none {X} {Y} owes x xs none = by_owed (owes x) (filter_map owes xs) none
+  where
+    by_owed : (owed : Option Y) (rest : List Y) → slice_get (cons_option owed rest) 0 ≡ None → (owed ≡ None) × (slice_get rest 0 ≡ None)
+    by_owed None rest none = (refl, none)
+    by_owed (Some y) rest none = cc
+
+abbrev ends_past : ℕ → List FileView → List ℕ
+ends_past moment files = filter (nat_lt moment) (map (λ file. file.penalty_end) files)
+
+abbrev NoneWait : ℕ → List FileView → Type 0
+NoneWait moment files = list_all (λ file. not (is_penalised moment file)) files ≡ true
+
+no-ends-first : (moment : ℕ) (files more : List FileView) → ends_past moment (files ++ more) ≡ [] → NoneWait moment files × (ends_past moment more ≡ [])
+no-ends-first moment [] more none = (refl, none)
+no-ends-first moment (file ∷ files) more none = by_test (nat_lt moment file.penalty_end) none (λ later. no-ends-first moment files more later)
+  where
+    by_test : (b : Bool) → cond b (file.penalty_end ∷ ends_past moment (files ++ more)) (ends_past moment (files ++ more)) ≡ []
+        → (ends_past moment (files ++ more) ≡ [] → NoneWait moment files × (ends_past moment more ≡ []))
+        → ((not b && list_all (λ file. not (is_penalised moment file)) files) ≡ true) × (ends_past moment more ≡ [])
+    by_test true none rest = cc
+    by_test false none rest = rest none
+
+none-due-in : (queues : ℕ → QueueView) (moment : ℕ) (cs : List (ℕ × Connection)) → slice_get (filter_map (at_place (expires moment) queues) cs) 0 ≡ None
+    → ends_past moment (flat_map (λ c. (queues c.0).active) cs) ≡ [] → list_all (is_nothing_due_in queues moment) cs ≡ true
+none-due-in queues moment [] fresh free = refl
+none-due-in queues moment (c ∷ cs) fresh free =
+    let queue = queues c.0 in
+    let none = first-owes-none (at_place (expires moment) queues) c cs fresh in
+    let waits = no-ends-first moment queue.active (flat_map (λ d. (queues d.0).active) cs) free in
+    ap (λ b. b && list_all (λ file. not (is_penalised moment file)) queue.active && list_all (is_nothing_due_in queues moment) cs) (none-numbered c.0 (expired_numbers c.1.limits moment queue.active) none.0)
+    ∙ ap (λ b. b && list_all (is_nothing_due_in queues moment) cs) waits.0
+    ∙ none-due-in queues moment cs none.1 waits.1
+
+reduces-none : (ns : List ℕ) → reduce min ns ≡ None → ns ≡ []
+reduces-none [] none = refl
+reduces-none (n ∷ ns) none = cc
+
+none-due : (flow : Flow) (queues : ℕ → QueueView) (moment : ℕ) → due_expiry flow queues moment ≡ None → first_penalty_end flow queues moment ≡ None → nothing_due flow queues moment ≡ true
+none-due flow queues moment fresh free = none-due-in queues moment (enumerate_from 0 flow.connections) fresh (reduces-none _ free)
 
 none-filtered : {X : Type 0} (test : X → Bool) (xs : List X) → filter test xs ≡ [] → list_any test xs ≡ false
 none-filtered test [] is = refl
@@ -305,7 +355,65 @@ module _ (given : PicksAreGiven) (quiet_law : QuietIsSeen) (blocked_law : Blocke
               let Is : Ending → Type 0 = IsEndAt flow state world moment in
               subst Is (ap (ending_by None) (sym it)) (blocked-at p ps c are e)
 
+-- ---- it is quiet and blocked exactly where the machine is
+
+not-true : (b : Bool) → not b ≡ true → b ≡ false
+not-true true is = absurd (true≢false (sym is))
+not-true false is = refl
+
+keeps-none : {X : Type 0} (test : X → Bool) (xs : List X) → list_any test xs ≡ false → filter test xs ≡ []
+keeps-none test [] none = refl
+keeps-none test (x ∷ xs) none = by_test (test x) none (λ later. keeps-none test xs later)
+  where
+    by_test : (b : Bool) → (b || list_any test xs) ≡ false → (list_any test xs ≡ false → filter test xs ≡ []) → cond b (x ∷ filter test xs) (filter test xs) ≡ []
+    by_test true none rest = absurd (true≢false none)
+    by_test false none rest = rest none
+
+blocked-if : (due some held : Bool) (connection : ℕ) (found : Option ℕ) → cond (due && some && held) found None ≡ Some connection → (due ≡ true) × (some ≡ true)
+blocked-if true true held connection found is = (refl, refl)
+blocked-if true false held connection found is = cc
+blocked-if false some held connection found is = cc
+
+module _ (flow : Flow) (state : State) (world : World) (moment : ℕ) where
+  none-wants : quiet flow state world moment ≡ true → wanting flow state world moment ≡ []
+  none-wants is =
+      let all = enumerate_from 0 flow.processors in
+      let test = wants flow state world moment in
+      keeps-none test all (not-true (list_any test all) (and-right (nothing_due flow (queues_of state) moment) (not (list_any test all)) is))
+
+  some-wants : (connection : ℕ) → blocked flow state world moment ≡ Some connection → nat_lt 0 (length (wanting flow state world moment)) ≡ true
+  some-wants connection is = (blocked-if _ (nat_lt 0 (length (wanting flow state world moment))) _ connection _ is).1
+
+  not-both : (connection : ℕ) → quiet flow state world moment ≡ true → blocked flow state world moment ≡ Some connection → ⊥
+  not-both connection quiets blocks =
+      true≢false (sym (some-wants connection blocks) ∙ ap (λ (ps : List (ℕ × Processor)). nat_lt 0 (length ps)) (none-wants quiets))
+
+  exactly : (ending : Ending) → IsEndAt flow state world moment ending → IsMachineEnd flow state world moment ending
+  exactly (Rest until) is = absurd is
+  exactly (Blocked connection) is = record {
+    is_quiet = (λ same. absurd cc, λ quiets. absurd (not-both connection quiets is));
+    is_blocked = λ other. (λ same. is ∙ (let it : connection ≡ other = cc in ap (λ n. Some n) it), λ blocks. let it : connection ≡ other = cc in ap (λ n. Blocked n) it);
+  }
+  exactly Quiet is = record {
+    is_quiet = (λ same. is, λ quiets. refl);
+    is_blocked = λ other. (λ same. absurd cc, λ blocks. absurd (not-both other is blocks));
+  }
+
+  rests : (until : ℕ) → (nothing_due flow (queues_of state) moment ≡ true → ⊥) → IsMachineEnd flow state world moment (Rest until)
+  rests until waits = record {
+    is_quiet = (λ same. absurd cc, λ quiets. absurd (waits (and-left (nothing_due flow (queues_of state) moment) _ quiets)));
+    is_blocked = λ connection. (λ same. absurd cc, λ blocks. absurd (waits (blocked-if (nothing_due flow (queues_of state) moment) _ _ connection _ blocks).0));
+  }
+
 pub ends-are-machine-ends : PicksAreGiven → QuietIsSeen → BlockedIsSeen → EndsAreMachineEnds
-ends-are-machine-ends given quiet_law blocked_law flow queues state world moment last same due none =
-    end-at given quiet_law blocked_law flow queues state world moment same due
-    (takers-held flow queues state.counts (coming_of world) moment (enumerate_from 0 flow.processors) (none-ready flow queues state.counts (coming_of world) moment last none))
+ends-are-machine-ends given quiet_law blocked_law flow queues state world moment last same fresh none = by_rest (first_penalty_end flow queues moment) refl
+  where
+    by_rest : (rest : Option ℕ) → first_penalty_end flow queues moment ≡ rest → IsMachineEnd flow state world moment (ending_of flow queues state.counts (coming_of world) moment)
+    by_rest (Some until) is =
+        let Is : Ending → Type 0 = IsMachineEnd flow state world moment in
+        let waits : nothing_due flow (queues_of state) moment ≡ true → ⊥ = λ due. let free = sym is ∙ no-penalty flow queues moment (same.due moment ∙ due) in absurd cc in
+        subst Is (ap (λ rest. ending_by rest (first_blocking flow queues state.counts (coming_of world) moment)) (sym is)) (rests flow state world moment until waits)
+    by_rest None is =
+        exactly flow state world moment (ending_of flow queues state.counts (coming_of world) moment)
+        (end-at given quiet_law blocked_law flow queues state world moment same (none-due flow queues moment fresh is)
+        (takers-held flow queues state.counts (coming_of world) moment (enumerate_from 0 flow.processors) (none-ready flow queues state.counts (coming_of world) moment last none)))

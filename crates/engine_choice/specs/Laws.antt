@@ -1,11 +1,12 @@
 -- That the session that comes next is one of the machine, and that where none comes the machine is quiet or blocked.
-use Rattle.std.specs.Prelude.{◌≡◌, ℕ, Bool, true, List, [], Option, None, Some, slice_get}
+use Rattle.std.specs.Prelude.{◌≡◌, ◌↔◌, ℕ, Bool, true, List, [], Option, None, Some, slice_get}
 use Rattle.machine_model.specs.declared.flow.Flow.{Flow}
 use Rattle.machine_model.specs.declared.flow.Processor.{Processor}
 use Rattle.machine_model.specs.declared.given.Given.{Given}
+use Rattle.machine_model.specs.Due.{due_expiry}
 use Rattle.machine_model.specs.Files.{queues_of}
 use Rattle.machine_model.specs.Kinds.{take_rule_of}
-use Rattle.machine_model.specs.Quiet.{blocked, nothing_due, quiet}
+use Rattle.machine_model.specs.Quiet.{blocked, quiet}
 use Rattle.machine_model.specs.State.{QueuedFile, State, World}
 use Rattle.machine_model.specs.Stepping.{given_in, is_there, taken_files}
 use Rattle.machine_model.specs.Valid.{IsValid}
@@ -57,15 +58,23 @@ ChoicesAreSessions =
 
 -- ---- the end
 
--- nothing waits where nothing is due: the machine is blocked at this connection, or it is quiet
+-- the machine is blocked at this connection, or it is quiet; a rest is no end
 abbrev pub IsEndAt : Flow → State → World → (moment : ℕ) → Ending → Type 0
 IsEndAt flow state world moment (Rest until) = ⊥
 IsEndAt flow state world moment (Blocked connection) = blocked flow state world moment ≡ Some connection
 IsEndAt flow state world moment Quiet = quiet flow state world moment ≡ true
 
+-- It is quiet exactly where the machine is, and blocked at a connection exactly where the machine is. So it rests exactly
+-- where the machine is neither.
+pub record IsMachineEnd (flow : Flow) (state : State) (world : World) (moment : ℕ) (ending : Ending) : Type 0 where
+  pub is_quiet : (ending ≡ Quiet) ↔ (quiet flow state world moment ≡ true)
+  pub is_blocked : (connection : ℕ)
+      → (ending ≡ Blocked connection) ↔ (blocked flow state world moment ≡ Some connection)
+
+-- where no file has expired and no session comes, by views that see the same as the queues of a state
 abbrev pub EndsAreMachineEnds : Type 0
 EndsAreMachineEnds =
     (flow : Flow) (queues : ℕ → QueueView) (state : State) (world : World) (moment : ℕ) (last : Option ℕ)
-    → SeesTheSame flow queues (queues_of state) → nothing_due flow queues moment ≡ true
+    → SeesTheSame flow queues (queues_of state) → due_expiry flow queues moment ≡ None
     → next_choice flow queues state.counts (coming_of world) moment last ≡ None
-    → IsEndAt flow state world moment (ending_of flow queues state.counts (coming_of world) moment)
+    → IsMachineEnd flow state world moment (ending_of flow queues state.counts (coming_of world) moment)

@@ -11,7 +11,7 @@ pub fn choices_are_sessions()
     picks_may_be_taken();
 }
 
-/// Where nothing is due and no session comes, the machine is quiet, or blocked at the connection that is named.
+/// Where no file has expired and no session comes, it ends as the machine does: quiet and blocked exactly where that is.
 pub fn ends_are_machine_ends()
     ensures { EndsAreMachineEnds }
 {

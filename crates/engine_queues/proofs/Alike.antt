@@ -1,6 +1,6 @@
 -- A queue whose files stand by arrival is seen as one whose files stand in another order.
 use Rattle.std.proofs.Common.{◌≡◌, ℕ, ◌+◌, ◌-◌, ◌==◌, Bool, cond, List, [], map, length, drop, sym, ap, ◌∙◌}
-use Rattle.std.specs.Prelude.{◌&&◌, ◌||◌, not, nat_le, nat_lt, filter, is_none, option_map, slice_get, sum_by, Option, None, Some}
+use Rattle.std.specs.Prelude.{◌&&◌, ◌||◌, not, nat_le, nat_lt, filter, option_map, slice_get, sum_by, Option, None, Some}
 use Rattle.std.specs.List.{list_all, list_any, enumerate_from, filter_map}
 use Rattle.std.proofs.lemmas.List.Kept.{AllPairs-filter}
 use Rattle.std.proofs.lemmas.List.Sorted.{IsPermutation-trans, length_permutation, sum_by-IsPermutation}
@@ -100,8 +100,7 @@ module _ (flow : Flow) (one other : ℕ → QueueView) (alike : (place : ℕ) �
   nothing_same : (moment : ℕ) (c : ℕ × Connection) → is_nothing_due_in one moment c ≡ is_nothing_due_in other moment c
   nothing_same moment c =
       let both = alike c.0 in
-      let limits = c.1.limits in
-      λ i. (length (both.expired moment limits i) == 0) && is_none (both.last c.1.order limits i) && is_none (both.lowest limits i) && both.waits moment i
+      λ i. (length (both.expired moment c.1.limits i) == 0) && both.waits moment i
 
   pub alike-same : SeesTheSame flow one other
   alike-same = record {

@@ -1,6 +1,6 @@
 -- What the queues of a flow owe, told by the queues themselves.
-use Rattle.std.proofs.Common.{◌≡◌, ◌≢◌, ℕ, ◌+◌, ◌<◌, ◌==◌, ◌&&◌, ◌||◌, not, nat_lt, Bool, true, false, cond, List, [], ◌∷◌, length, map, inl, inr, refl, sym, ap, ◌∙◌, zero-add, arith}
-use Rattle.std.specs.Prelude.{Option, Some, None, find, is_none, is_some, slice_get, option_map}
+use Rattle.std.proofs.Common.{◌≡◌, ◌≢◌, ℕ, ◌+◌, ◌<◌, ◌==◌, ◌&&◌, ◌||◌, not, Bool, true, false, cond, List, [], ◌∷◌, length, map, inl, inr, refl, sym, ap, ◌∙◌, zero-add, arith}
+use Rattle.std.specs.Prelude.{Option, Some, None, find, is_some, slice_get, option_map}
 use Rattle.std.specs.List.{list_all, list_any, enumerate_from}
 use Rattle.std.specs.Option.{option_map_or}
 use Rattle.std.proofs.lemmas.Bool.{true≢false, cases_eq, eq-eqb, ne_eqb}
@@ -9,7 +9,7 @@ use Rattle.machine_model.specs.declared.flow.Connection.{Connection}
 use Rattle.machine_model.specs.declared.flow.Flow.{Flow}
 use Rattle.machine_model.specs.declared.flow.Processor.{Processor}
 use Rattle.machine_model.specs.declared.kind.TakeRule.{TakeRule}
-use Rattle.machine_model.specs.Due.{numbers_of, expired_numbers, last_batch, at_place, first_due, some_numbers, due_expiry}
+use Rattle.machine_model.specs.Due.{numbers_of, expired_numbers, at_place, first_due, some_numbers, due_expiry}
 use Rattle.machine_model.specs.Kinds.{take_rule_of}
 use Rattle.machine_model.specs.Order.{eligible_files}
 use Rattle.machine_model.specs.Quiet.{gives_a_pick, is_nothing_due_in, nothing_due, holds_back, holds_back_any, is_held_back, is_full}
@@ -139,24 +139,12 @@ pick-given flow queues moment place processor =
 
 -- ---- nothing is due
 
-none-either : (b : Bool) → is_none (cond b (slice_get {X = ℕ} [] 0) None) ≡ true
-none-either true = refl
-none-either false = refl
-
-and_true : (b : Bool) → b ≡ (b && true)
-and_true true = refl
-and_true false = refl
-
 is_due-here : (moment place : ℕ) (queues : List QueueState) (connection : Connection) (queue : QueueState) → IsOf connection queue → slice_get queues place ≡ Some queue
     → is_nothing_due moment queue ≡ is_nothing_due_in (queue_seen queues) moment (place, connection)
 is_due-here moment place queues connection queue of there =
     let files = (seen queue).active in
     let waits = list_all (λ file. not (is_penalised moment file)) files in
-    ap (λ limits. (length (expired_numbers limits moment files) == 0) && is_none (last_batch queue.order limits files) && waits) of.limits
-    ∙ ap (λ order. (length (expired_numbers connection.limits moment files) == 0) && is_none (last_batch order connection.limits files) && waits) of.order
-    ∙ ap (λ b. b && waits) (and_true ((length (expired_numbers connection.limits moment files) == 0) && is_none (last_batch connection.order connection.limits files)))
-    ∙ ap (λ b. (length (expired_numbers connection.limits moment files) == 0) && is_none (last_batch connection.order connection.limits files) && b && waits)
-    (sym (none-either (nat_lt (length files) connection.limits.swap)))
+    ap (λ limits. (length (expired_numbers limits moment files) == 0) && waits) of.limits
     ∙ ap (λ view. is_nothing_due_in (λ _. view) moment (place, connection)) (sym (seen-at queues place queue there))
 
 pub nothing-due : (moment : ℕ) (queues : List QueueState) (flow : Flow) → AreOf flow queues → list_all (is_nothing_due moment) queues ≡ nothing_due flow (queue_seen queues) moment

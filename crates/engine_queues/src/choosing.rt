@@ -136,7 +136,7 @@ impl Queues {
         next_end(&self.list, moment)
     }
 
-    /// Whether no file has expired or waits for its penalty's end, and no queue has a batch to swap out.
+    /// Whether no file has expired or waits for its penalty's end.
     pub fn is_nothing_due(&self, moment: u64) -> bool
         ensures { (flow : TheFlow) → AreOf flow self.now
             → result ≡ nothing_due flow (queue_seen self.now) moment }
