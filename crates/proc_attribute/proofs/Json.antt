@@ -193,16 +193,16 @@ replace-refused before now after one bytes error small refused now-is ends =
 
 -- ---- the processor
 
-abbrev given_file : AttributeMap → List ℕ → TakenFile
+abbrev pub given_file : AttributeMap → List ℕ → TakenFile
 given_file attributes uuid = record { attributes = attributes; uuid = uuid; bytes = [] }
 
-abbrev noted : AttributeMap → List ℕ → Outcome
+abbrev pub noted : AttributeMap → List ℕ → Outcome
 noted attributes json = passed_with attributes (with_set (FromQueue 0) attributes (codes "JSONAttributes", json))
 
-abbrev replaced : AttributeMap → List ℕ → Outcome
+abbrev pub replaced : AttributeMap → List ℕ → Outcome
 replaced attributes json = replaced_with attributes (as_content json)
 
-abbrev outcome_in : Destination → AttributeMap → (json : List ℕ) → Outcome
+abbrev pub outcome_in : Destination → AttributeMap → (json : List ℕ) → Outcome
 outcome_in Attribute attributes json = noted attributes json
 outcome_in Content attributes json = replaced attributes json
 
