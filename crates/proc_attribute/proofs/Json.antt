@@ -1,11 +1,11 @@
 -- An AttributesToJson: the object of texts, and a content that is replaced.
 use Rattle.std.proofs.Common.{◌≡◌, ℕ, ◌+◌, ◌≤◌, ◌<◌, Bool, true, false, cond, List, [], ◌∷◌, ◌++◌, length, drop, Option, None, Some, Ordering, Less, Equal, Greater, BTreeMap, String, Global, nat_cmp, refl, sym, ◌∙◌, ap, subst, arith}
-use Rattle.std.specs.Prelude.{◌||◌, codes, fold, nat_le, option_map, slice_get, unwrap_or}
+use Rattle.std.specs.Prelude.{◌||◌, codes, nat_le, option_map, slice_get}
 use Rattle.std.specs.Cmp.Lexicographic.{slice_cmp}
 use Rattle.std.specs.Ordering.{match_ordering}
 use Rattle.std.proofs.lemmas.Bool.{leb-false, leb-true, lt-ltb}
 use Rattle.std.proofs.lemmas.Option.{get_or_from_slice_get, slice_get_within}
-use Rattle.serde_json.specs.Data.{Data, Members, no_members, member, object, put, string}
+use Rattle.serde_json.specs.Data.{Members, no_members, member, object, put, string}
 use Rattle.serde_json.specs.View.{members_view, view}
 use Rattle.serde_json.specs.Written.{compact_text, has_float, members_have_float}
 use Rattle.serde_json.specs.declared.value.Value.{Value, Object}
@@ -17,7 +17,7 @@ use Rattle.flowfile_record.specs.declared.worked.Origin.TheVariants.{Taken as Fr
 use Rattle.flowfile_record.specs.declared.worked.Outcome.{Outcome}
 use Rattle.machine_model.specs.Acting.{act}
 use Rattle.machine_model.specs.AttributesToJson.{json_of, noted_in, object_of, written_on}
-use Rattle.machine_model.specs.Making.{TakenFile, alone as alone_outcome, as_content, found_in, or_given_up, with_set}
+use Rattle.machine_model.specs.Making.{TakenFile, alone as alone_outcome, as_content, or_given_up, with_set}
 use Rattle.machine_model.specs.declared.given.Given.{Given}
 use Rattle.machine_model.specs.declared.kind.Destination.{Destination}
 use Rattle.machine_model.specs.declared.kind.Destination.TheVariants.{Attribute, Content}
@@ -55,10 +55,6 @@ texts-append ms (pair ∷ pairs) more = texts-append (put pair.0 (string pair.1)
 -- a pair that was found at its place is the next one
 pub next-got : (pairs : List Pair) (i : ℕ) (pair : Pair) → slice_get pairs i ≡ Some pair → drop i pairs ≡ pair ∷ drop (i + 1) pairs
 next-got pairs i pair is = next-left pairs i pair (slice_get_within pairs i pair is) (sym (get_or_from_slice_get pairs i pair pair is))
-
--- the pair of a listed name
-abbrev pub found_pair : AttributeMap → (uuid : List ℕ) → List ℕ → Pair
-found_pair attributes uuid name = (name, unwrap_or (found_in (record { attributes = attributes; uuid = uuid; bytes = [] }) name) [])
 
 -- ---- no text is a float
 

@@ -1,16 +1,15 @@
 -- A session with one taken file, behind each of its calls.
-use Rattle.std.proofs.Common.{◌≡◌, ℕ, ◌<◌, ◌≤◌, Bool, true, false, cond, List, [], ◌∷◌, length, Option, None, Some, refl, sym, ◌∙◌, ap, subst, arith}
-use Rattle.std.specs.Prelude.{not, ◌&&◌, IfSome, option_map, slice_get}
+use Rattle.std.proofs.Common.{◌≡◌, ℕ, ◌<◌, Bool, true, false, cond, List, [], ◌∷◌, length, Option, None, Some, refl, sym, ◌∙◌, ap, subst, arith}
+use Rattle.std.specs.Prelude.{◌&&◌, IfSome, option_map, slice_get}
 use Rattle.std.specs.FinMap.{insert}
 use Rattle.std.proofs.lemmas.Bool.{leb-false, lt-ltb, leb-true}
-use Rattle.flowfile_record.specs.Attributes.{AttributeMap, encoded_size, has_key_length, is_uuid}
+use Rattle.flowfile_record.specs.Attributes.{AttributeMap, has_key_length, is_uuid}
 use Rattle.flowfile_record.specs.Outcome.{is_made}
 use Rattle.flowfile_record.specs.declared.attributes.TheConstants.{ATTRIBUTES_MAX}
 use Rattle.flowfile_record.specs.declared.worked.End.TheVariants.{To}
 use Rattle.flowfile_record.specs.declared.worked.Origin.{Origin}
 use Rattle.flowfile_record.specs.declared.worked.Origin.TheVariants.{Taken as FromQueue}
 use Rattle.flowfile_record.specs.declared.worked.Outcome.{Outcome}
-use Rattle.machine_model.specs.Acting.{act}
 use Rattle.machine_model.specs.Making.{TakenFile, alone as alone_outcome, may_have, or_given_up, passed_on, with_set}
 use Rattle.machine_model.specs.Kinds.{relationships_of, take_rule_of}
 use Rattle.machine_model.specs.declared.given.Given.{Given}
@@ -27,9 +26,9 @@ use Rattle.process_session.specs.declared.file.File.{File}
 use Rattle.process_session.specs.declared.file.Taken.{Taken}
 use Rattle.process_session.proofs.Refused.{put_refusal}
 use Rattle.process_session.proofs.Refusing.{pass, stop}
-use Rattle.processor_api.specs.Acts.{Begins, EndsAs, IsTakenAs, KeepsTaken}
+use Rattle.processor_api.specs.Acts.{Begins, IsTakenAs, KeepsTaken}
 use Rattle.processor_api.proofs.Alone.{alone, ended-alone, finish-free, outcome-alone, penalize-free, put-alone, put-free, transfer-free}
-use Rattle.processor_api.proofs.Began.{one-acts, one-begins}
+use Rattle.processor_api.proofs.Began.{one-begins}
 use Rattle.proc_attribute.specs.Passing.{TookOne, HasOneOpen, EndsWith, all_to, passed_with}
 
 -- ---- a session with one open file, and how it ends
@@ -144,7 +143,7 @@ refused-put taken attributes key value good isnt may =
     let large = too_large _ (leb-false _ _ may) in (
       _,
       put_refusal bench 0 key value isnt
-      ∙ next _ _ _ (known bench taken attributes refl) (next _ _ _ (still_open bench taken attributes refl) (next _ _ _ (good_key key good) (stop _ _ _ (sym large)))),
+          ∙ next _ _ _ (known bench taken attributes refl) (next _ _ _ (still_open bench taken attributes refl) (next _ _ _ (good_key key good) (stop _ _ _ (sym large)))),
     )
 
 put-comes : (taken : Taken) (attributes : AttributeMap) (key value : List ℕ) → has_key_length key ≡ true → PutComesTo taken (one_with taken attributes) key value (with_set (FromQueue 0) attributes (key, value))

@@ -1,22 +1,20 @@
 -- What own properties are worth, and what setting them comes to, a property at a time.
-use Rattle.std.proofs.Common.{◌≡◌, ℕ, ◌+◌, ◌<◌, ◌≤◌, Bool, true, false, cond, List, [], ◌∷◌, ◌++◌, length, drop, get_or, map, suc, add-one, drop-cons, Option, None, Some, Ok, Err, Result, refl, sym, ◌∙◌, ap, subst, arith, append_assoc}
-use Rattle.std.specs.Prelude.{◌&&◌, IfSome, IsTrue, is_some, slice_get, option_and_then, option_map, not, nat_lt}
+use Rattle.std.proofs.Common.{◌≡◌, ℕ, ◌+◌, ◌<◌, ◌≤◌, Bool, true, false, List, [], ◌∷◌, ◌++◌, length, drop, get_or, map, suc, add-one, drop-cons, Option, None, Some, Ok, Err, Result, refl, sym, ◌∙◌, ap, arith, append_assoc}
+use Rattle.std.specs.Prelude.{◌&&◌, IfSome, is_some, slice_get, option_and_then, option_map, nat_lt}
 use Rattle.std.specs.FinMap.{insert}
 use Rattle.std.specs.List.{list_all}
-use Rattle.std.proofs.lemmas.Bool.{leb-false, le-leb, lt-leb, ltb-false, ltb-true}
+use Rattle.std.proofs.lemmas.Bool.{le-leb, lt-leb, ltb-false, ltb-true}
 use Rattle.flowfile_record.specs.Attributes.{AttributeMap, after_put, encoded_size, has_key_length, is_uuid, put_answer}
 use Rattle.flowfile_record.specs.declared.attributes.TheConstants.{ATTRIBUTES_MAX}
 use Rattle.flowfile_record.specs.declared.attributes.AttrError.{AttrError}
-use Rattle.flowfile_record.specs.declared.attributes.AttrError.TheVariants.{BadKey, TooLarge}
 use Rattle.flowfile_record.specs.declared.attributes.Put.{Put}
-use Rattle.flowfile_record.specs.declared.attributes.Put.TheVariants.{Stored, Ignored}
 use Rattle.flowfile_record.specs.declared.worked.Origin.TheVariants.{Taken as FromQueue}
 use Rattle.expr_lang.specs.Meaning.{Attributes, tree_value}
 use Rattle.expr_lang.specs.View.{tree_of}
 use Rattle.machine_model.specs.declared.kind.OwnExpression.{OwnExpression}
 use Rattle.flowfile_record.specs.declared.worked.Outcome.{Outcome}
 use Rattle.machine_model.specs.Acting.{act}
-use Rattle.machine_model.specs.Making.{TakenFile, found_in, may_have, with_all_set, with_set}
+use Rattle.machine_model.specs.Making.{TakenFile, found_in, with_all_set, with_set}
 use Rattle.machine_model.specs.Sound.{IsSoundKind, within}
 use Rattle.machine_model.specs.declared.given.Given.{Given}
 use Rattle.machine_model.specs.declared.kind.Kind.TheVariants.{UpdateAttribute}

@@ -1,10 +1,15 @@
 -- What an AttributesToJson builds, and what it leaves of a file whose content it replaces.
-use Rattle.std.specs.Prelude.{ℕ, false, List, Option, Some, None, fold}
+use Rattle.std.specs.Prelude.{ℕ, false, List, [], Option, Some, None, fold, unwrap_or}
 use Rattle.serde_json.specs.Data.{Members, put, string}
 use Rattle.flowfile_record.specs.Attributes.{AttributeMap}
 use Rattle.flowfile_record.specs.declared.worked.Outcome.{Outcome}
 use Rattle.machine_model.specs.AttributesToJson.{written_on}
-use Rattle.machine_model.specs.Making.{alone, passed_on}
+use Rattle.machine_model.specs.Making.{alone, found_in, passed_on}
+
+-- a listed name with the text that is found under it, or the empty one
+abbrev pub found_pair : AttributeMap → (uuid : List ℕ) → List ℕ → List ℕ × List ℕ
+found_pair attributes uuid name =
+    (name, unwrap_or (found_in (record { attributes = attributes; uuid = uuid; bytes = [] }) name) [])
 
 -- members with these texts put, one after another
 abbrev pub with_texts : Members → List (List ℕ × List ℕ) → Members

@@ -1,15 +1,15 @@
 //! Attributes as JSON.
-ghost use Rattle.std.specs.Prelude.{◌≡◌, ◌++◌, ◌∷◌, [], IfOk, IfSome, OnOk, codes, is_some, map, string_bytes, unwrap_or};
+ghost use Rattle.std.specs.Prelude.{◌≡◌, ◌++◌, ◌∷◌, [], IfOk, IfSome, OnOk, codes, is_some, map, string_bytes};
 ghost use Rattle.std.specs.FinMap.{entries};
 ghost use Rattle.serde_json.specs.Data.{no_members, string};
 ghost use Rattle.serde_json.specs.Data.{put as with_member};
 ghost use Rattle.serde_json.specs.View.{members_view};
-ghost use Rattle.machine_model.specs.Making.{as_content, found_in};
+ghost use Rattle.machine_model.specs.Making.{as_content};
 ghost use Rattle.machine_model.specs.AttributesToJson.{json_of, listed};
 ghost use Rattle.process_session.specs.Bench.{attributes_at};
 ghost use Rattle.proc_attribute.specs.Kinds.{is_attributes_to_json};
 ghost use Rattle.proc_attribute.specs.Passing.{TookOne, EndsWith};
-ghost use Rattle.proc_attribute.specs.Json.{replaced_with, with_texts};
+ghost use Rattle.proc_attribute.specs.Json.{found_pair, replaced_with, with_texts};
 
 use crate::passing::{note, pass};
 use crate::taken::{Taken, file_of};
@@ -97,11 +97,7 @@ fn json_of(alloc: Global, names: &[Text], file: &Taken) -> Result<String, AllocE
     Value::Object(members).to_string(alloc)
 }
 
-fn members_of(
-    alloc: Global,
-    names: &[Text],
-    file: &Taken,
-) -> Result<Map<String, Value>, AllocError>
+fn members_of(alloc: Global, names: &[Text], file: &Taken) -> Result<Map<String, Value>, AllocError>
     ensures { IfOk result (λ members. members_view members.entries ≡ with_texts no_members (listed names.now
         (record { attributes = file.now.attributes.now; uuid = file.now.uuid.now; bytes = [] }))) }
 {
@@ -118,9 +114,7 @@ fn listed_members(
     file: &Taken,
 ) -> Result<Map<String, Value>, AllocError>
     ensures { IfOk result (λ members. members_view members.entries ≡ with_texts no_members
-        (map (λ name. (name, unwrap_or
-        (found_in (record { attributes = file.now.attributes.now; uuid = file.now.uuid.now; bytes = [] }) name) []))
-        names.now)) }
+        (map (found_pair file.now.attributes.now file.now.uuid.now) names.now)) }
 {
     let mut members = Map::new(alloc);
     for name in names {

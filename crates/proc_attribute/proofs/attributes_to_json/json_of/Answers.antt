@@ -1,4 +1,4 @@
-use Rattle.std.proofs.Common.{[], string_bytes}
+use Rattle.std.proofs.Common.{string_bytes}
 use Rattle.std.proofs.lemmas.Result.{IfOk-weaker}
 use Rattle.machine_model.specs.AttributesToJson.{listed}
 use Rattle.proc_attribute.proofs.Json.{given_file, object-text}

@@ -1,9 +1,7 @@
-use Rattle.std.proofs.Common.{◌≡◌, [], drop, map, unwrap_or}
-use Rattle.machine_model.specs.Making.{found_in}
+use Rattle.std.proofs.Common.{◌≡◌, drop, map}
 use Rattle.serde_json.specs.Data.{no_members}
 use Rattle.serde_json.specs.View.{members_view}
-use Rattle.proc_attribute.specs.Json.{with_texts}
-use Rattle.proc_attribute.proofs.Json.{found_pair}
+use Rattle.proc_attribute.specs.Json.{found_pair, with_texts}
 use Rattle.proc_attribute.proofs.attributes_to_json.listed_members.Given as goal
 
 abbrev pub invariant-loop-name : goal.invariant-loop-name

@@ -1,5 +1,4 @@
-use Rattle.std.proofs.Common.{◌≡◌, ◌+◌, ◌∷◌, List, drop, map, refl}
-use Rattle.flowfile_record.specs.declared.worked.Origin.TheVariants.{Taken as FromQueue}
+use Rattle.std.proofs.Common.{◌≡◌, ◌+◌, List, drop, map, refl}
 use Rattle.process_session.specs.Bench.{attributes_at}
 use Rattle.process_session.specs.Changes.{with_put}
 use Rattle.processor_api.proofs.Answered.{changed_so, only_memory}

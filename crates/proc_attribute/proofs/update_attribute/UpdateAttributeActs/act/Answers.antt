@@ -1,13 +1,10 @@
-use Rattle.std.proofs.Common.{◌≡◌, List, [], Option, None, Some, map, true, refl, sym, ◌∙◌, ap}
+use Rattle.std.proofs.Common.{◌≡◌, List, [], None, Some, map, refl, sym, ◌∙◌, ap}
 use Rattle.std.specs.Option.{option_map}
 use Rattle.std.proofs.lemmas.Result.{on_ok_weaker}
-use Rattle.flowfile_record.specs.declared.worked.Origin.TheVariants.{Taken as FromQueue}
 use Rattle.expr_lang.specs.Meaning.{Attributes}
-use Rattle.machine_model.specs.Making.{found_in, with_all_set}
+use Rattle.machine_model.specs.Making.{found_in}
 use Rattle.machine_model.specs.UpdateAttribute.{own_texts}
 use Rattle.machine_model.specs.declared.kind.Kind.TheVariants.{UpdateAttribute}
-use Rattle.process_session.specs.Bench.{attributes_at}
-use Rattle.proc_attribute.specs.Passing.{EndsWith, passed_with}
 use Rattle.proc_attribute.specs.Setting.{have_keys, set_by}
 use Rattle.proc_attribute.proofs.Passed.{kind-took, took-open}
 use Rattle.proc_attribute.proofs.Updating.{Pair, none-ends, update-acts, update-keys}
