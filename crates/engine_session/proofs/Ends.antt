@@ -17,7 +17,7 @@ use Rattle.checkpoint_store.specs.Consistent.{IsConsistent, IsFileIn}
 use Rattle.machine_model.specs.declared.flow.Flow.{Flow}
 use Rattle.machine_model.specs.declared.given.Given.{Given}
 use Rattle.machine_model.specs.declared.kind.Kind.{Kind}
-use Rattle.machine_model.specs.declared.kind.Kind.TheVariants.{GetFile, GenerateFlowFile, PutFile}
+use Rattle.machine_model.specs.declared.kind.Kind.TheVariants.{GetFile, GenerateFlowFile, PutFile, UpdateAttribute, RouteOnAttribute, AttributesToJson, DuplicateFlowFile, CryptographicHashContent}
 use Rattle.machine_model.specs.Kinds.{take_rule_of, relationships_of}
 use Rattle.machine_model.specs.Laws.{MayTake}
 use Rattle.process_session.specs.Bench.{source_of}
@@ -42,6 +42,11 @@ few : (kind : Kind) (count : ℕ) → IsTrue (is_built kind) → MayTake (take_r
 few (GetFile filter) count built may = omega (arith, may)
 few (GenerateFlowFile most text) count built may = omega (arith, may)
 few (PutFile conflict) count built may = omega (arith, may)
+few (UpdateAttribute own) count built may = omega (arith, may)
+few (RouteOnAttribute own) count built may = omega (arith, may)
+few (AttributesToJson destination names) count built may = omega (arith, may)
+few (DuplicateFlowFile copies) count built may = omega (arith, may)
+few CryptographicHashContent count built may = omega (arith, may)
 few _ count built may = absurd (false≢true built)
 
 -- and one file's content is read

@@ -11,11 +11,20 @@ use Rattle.process_session.specs.Bench.{source_of, sizes_of}
 use Rattle.process_session.specs.declared.file.Source.{Source}
 use Rattle.process_session.specs.declared.file.Taken.{Taken}
 use Rattle.processor_api.specs.Acts.{IsOutcomeOf, MayBeHanded}
+use Rattle.proc_attribute.specs.Duplicating.{is_duplicate_flow_file}
+use Rattle.proc_attribute.specs.Kinds.{is_attributes_to_json, is_cryptographic_hash_content, is_update_attribute}
+use Rattle.proc_attribute.specs.Routing.{is_route_on_attribute}
 use Rattle.proc_source.specs.Kinds.{is_get_file, is_generate_flow_file, is_put_file}
+
+-- a processor of this kind works on attributes, or goes by them
+abbrev pub is_of_attributes : Kind → Bool
+is_of_attributes kind =
+    is_update_attribute kind || is_route_on_attribute kind || is_attributes_to_json kind || is_duplicate_flow_file kind
+    || is_cryptographic_hash_content kind
 
 -- there are processors of this kind
 abbrev pub is_built : Kind → Bool
-is_built kind = is_get_file kind || is_generate_flow_file kind || is_put_file kind
+is_built kind = is_get_file kind || is_generate_flow_file kind || is_put_file kind || is_of_attributes kind
 
 -- the processor at this place may be handed these files
 pub record MayWork (flow : Flow) (place : ℕ) (taken : List Taken) (given : Given) : Type 0 where

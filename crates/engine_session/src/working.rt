@@ -1,10 +1,13 @@
 //! The work of a flow's processors.
 ghost use Rattle.std.specs.Prelude.{IfOk, IsTrue};
 ghost use Rattle.processor_api.specs.Acts.{KeepsGiven, MayBeHanded};
-ghost use Rattle.engine_session.specs.Working.{is_built, IsWorkAt, IsWorkOf, MayWork};
+ghost use Rattle.engine_session.specs.Working.{is_built, is_of_attributes, IsWorkAt, IsWorkOf, MayWork};
 
 use flowfile_record::Outcome;
 use machine_model::{Flow, Given, Kind};
+use proc_attribute::{
+    AttributesToJson, CryptographicHashContent, DuplicateFlowFile, RouteOnAttribute, UpdateAttribute,
+};
 use proc_source::{GenerateFlowFile, GetFile, PutFile};
 use process_session::{SourceList, TakenList};
 use processor_api::work_on;
@@ -49,6 +52,37 @@ fn work_as(
     }
     if let Some(put_file) = PutFile::of(kind) {
         return work_on(alloc, &put_file, 2, taken, given);
+    }
+    work_on_attributes(alloc, kind, taken, given)
+}
+
+/// The same of a processor of attributes.
+fn work_on_attributes(
+    alloc: Global,
+    kind: &Kind,
+    taken: TakenList,
+    given: &mut Given,
+) -> Result<(Outcome, SourceList), AllocError>
+    requires built { IsTrue (is_of_attributes kind.now) }
+    requires handed { MayBeHanded kind.now taken given.old }
+    ensures work { IfOk result (IsWorkOf kind.now taken given.old) }
+    ensures given { KeepsGiven given.old given.new }
+{
+    if let Some(update) = UpdateAttribute::of(kind) {
+        return work_on(alloc, &update, 2, taken, given);
+    }
+    if let Some(route) = RouteOnAttribute::of(kind) {
+        let relationships = route.own.len() as u16 + 1;
+        return work_on(alloc, &route, relationships, taken, given);
+    }
+    if let Some(to_json) = AttributesToJson::of(kind) {
+        return work_on(alloc, &to_json, 2, taken, given);
+    }
+    if let Some(duplicate) = DuplicateFlowFile::of(kind) {
+        return work_on(alloc, &duplicate, 1, taken, given);
+    }
+    if let Some(hash) = CryptographicHashContent::of(kind) {
+        return work_on(alloc, &hash, 2, taken, given);
     }
     unreachable!()
 }

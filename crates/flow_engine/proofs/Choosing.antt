@@ -4,7 +4,7 @@ use Rattle.std.proofs.lemmas.Bool.{and_parts}
 use Rattle.std.proofs.lemmas.List.{length-map}
 use Rattle.std.proofs.lemmas.List.Elements.{All-head, All-tail}
 use Rattle.std.specs.Prelude.{All, IsTrue, Option, None, Some, IfSome, nat_le, slice_get, slice_index}
-use Rattle.std.specs.Option.{option_map_or}
+use Rattle.std.specs.Option.{option_map, option_map_or}
 use Rattle.disk_trait.specs.Files.{Files}
 use Rattle.flowfile_record.specs.NamedFile.{bytes_of}
 use Rattle.flowfile_record.specs.declared.TheConstants.{CONTENT_MAX}
@@ -19,10 +19,15 @@ use Rattle.machine_model.specs.declared.given.Given.{Given}
 use Rattle.machine_model.specs.declared.journal.Step.{Step}
 use Rattle.machine_model.specs.declared.journal.Step.TheVariants.{Session}
 use Rattle.machine_model.specs.declared.kind.Kind.{Kind}
-use Rattle.machine_model.specs.declared.kind.Kind.TheVariants.{GetFile, GenerateFlowFile, PutFile}
+use Rattle.machine_model.specs.declared.kind.Kind.TheVariants.{GetFile, GenerateFlowFile, PutFile, UpdateAttribute, RouteOnAttribute, AttributesToJson, DuplicateFlowFile, CryptographicHashContent}
 use Rattle.machine_model.specs.declared.pattern.Pattern.{Pattern}
 use Rattle.machine_model.specs.Acting.{act, generated, name_in, put, received, received_attributes}
-use Rattle.machine_model.specs.Making.{alone, made_file}
+use Rattle.machine_model.specs.Making.{TakenFile, alone, made_file}
+use Rattle.machine_model.specs.UpdateAttribute.{update}
+use Rattle.machine_model.specs.RouteOnAttribute.{route}
+use Rattle.machine_model.specs.AttributesToJson.{attributes_to_json}
+use Rattle.machine_model.specs.DuplicateFlowFile.{duplicate}
+use Rattle.machine_model.specs.CryptographicHashContent.{hash_content}
 use Rattle.machine_model.specs.Files.{queues_of}
 use Rattle.machine_model.specs.Kinds.{take_rule_of}
 use Rattle.machine_model.specs.Laws.{MayTake}
@@ -62,6 +67,11 @@ takes_at_most_one : (kind : Kind) → IsTrue (is_built kind) → TakesAtMostOne 
 takes_at_most_one (GetFile filter) built = tt
 takes_at_most_one (GenerateFlowFile count text) built = tt
 takes_at_most_one (PutFile conflict) built = tt
+takes_at_most_one (UpdateAttribute own) built = tt
+takes_at_most_one (RouteOnAttribute own) built = tt
+takes_at_most_one (AttributesToJson destination names) built = tt
+takes_at_most_one (DuplicateFlowFile copies) built = tt
+takes_at_most_one CryptographicHashContent built = tt
 takes_at_most_one kind built = absurd (true≢false (sym built))
 
 pub may_choose : (e : EngineState) → IsSound e.flow → AreBuilt e.flow → flow_in (kept_by e.store) ≡ identity_of e.flow → AreQueuesOf e.flow (kept_by e.store) e.queues → e.listing.flow ≡ e.flow
@@ -109,6 +119,12 @@ received_is filter state files handed name (Some n) (Some b) file_is bytes_is is
   is = ap (λ (o : Option (List ℕ)). received o handed.bytes) file_is ∙ ap (received (Some n)) bytes_is;
 }
 
+-- a kind that makes something of its one file, whatever it is given
+one_outcome : (kind : Kind) (makes : TakenFile → Outcome) → ((taken : List TakenFile) (given : Given) → act kind taken given ≡ option_map makes (slice_get taken 0)) → (state : State) (files : List QueuedFile) (given : Given) → length files ≡ 1
+    → HasOutcome kind state files given
+one_outcome kind makes acts state [] given one = absurd (omega (arith, one))
+one_outcome kind makes acts state (file ∷ more) given one = record { outcome = makes (as_taken state file); is = acts (map (as_taken state) (file ∷ more)) given }
+
 -- what the processors of a built kind are handed makes an outcome
 module _ (place : ℕ) (state : State) (world : World) (files : List QueuedFile) (given : Given) where
   outcome_in : (kind : Kind) → IsTrue (is_built kind) → MayTake (take_rule_of kind) (length files) → IfSome (given_in kind place state world files given) (HasOutcome kind state files)
@@ -127,6 +143,11 @@ module _ (place : ℕ) (state : State) (world : World) (files : List QueuedFile)
       of_one : (some : List QueuedFile) → length some ≡ 1 → HasOutcome (PutFile conflict) state some given
       of_one [] one = absurd (omega (arith, one))
       of_one (file ∷ more) one = record { outcome = put conflict given.there (as_taken state file) (name_in file.attributes); is = refl }
+  outcome_in (UpdateAttribute own) built many = one_outcome (UpdateAttribute own) (update own) (λ taken given. refl) state files given many
+  outcome_in (RouteOnAttribute own) built many = one_outcome (RouteOnAttribute own) (route own) (λ taken given. refl) state files given many
+  outcome_in (AttributesToJson destination names) built many = one_outcome (AttributesToJson destination names) (attributes_to_json destination names) (λ taken given. refl) state files given many
+  outcome_in (DuplicateFlowFile copies) built many = one_outcome (DuplicateFlowFile copies) (duplicate copies) (λ taken given. refl) state files given many
+  outcome_in CryptographicHashContent built many = one_outcome CryptographicHashContent hash_content (λ taken given. refl) state files given many
   outcome_in kind built many = absurd (true≢false (sym built))
 
 no_bytes : (moment : ℕ) (there : Bool) (takes : Taking) → (given_for moment there takes).bytes ≡ None

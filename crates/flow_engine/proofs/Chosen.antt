@@ -18,9 +18,8 @@ use Rattle.machine_model.specs.declared.flow.Connection.{Connection}
 use Rattle.machine_model.specs.declared.flow.Flow.{Flow}
 use Rattle.machine_model.specs.declared.flow.Processor.{Processor}
 use Rattle.machine_model.specs.declared.given.Given.{Given}
-use Rattle.machine_model.specs.declared.kind.Conflict.{Conflict}
 use Rattle.machine_model.specs.declared.kind.Kind.{Kind}
-use Rattle.machine_model.specs.declared.kind.Kind.TheVariants.{GetFile, GenerateFlowFile, PutFile}
+use Rattle.machine_model.specs.declared.kind.Kind.TheVariants.{GetFile, GenerateFlowFile, PutFile, UpdateAttribute, RouteOnAttribute, AttributesToJson, DuplicateFlowFile, CryptographicHashContent}
 use Rattle.machine_model.specs.declared.kind.TakeRule.{TakeRule}
 use Rattle.machine_model.specs.declared.kind.TakeRule.TheVariants.{One}
 use Rattle.machine_model.specs.declared.limits.TheConstants.{GENERATED_MAX}
@@ -147,6 +146,13 @@ pub record TakesSo (k : Kept) (names : List (List ℕ)) (moment : ℕ) (kind : K
   pub file : (given : Given) (there : Bool) → record given { bytes = None } ≡ given_for moment there taking → received_name kind given.file ≡ option_to_list given.file
   pub index : (given : Given) (there : Bool) → record given { bytes = None } ≡ given_for moment there taking → given.index < NUMBER_LIMIT
 
+-- a kind that takes one file, and is given nothing beside it
+record TakesOneFile (kind : Kind) : Type 0 where
+  pub rule : take_rule_of kind ≡ One
+  pub to : (given : Given) → IsGivenTo kind given
+  pub file : received_name kind None ≡ []
+  pub taking : (names : List (List ℕ)) (made : ℕ) (pick : Option (ℕ × List ℕ)) → taking_by kind names made pick ≡ option_map (λ files. Files files.0 files.1) pick
+
 module _ (k : Kept) (names : List (List ℕ)) (moment made : ℕ) (pick : Option (ℕ × List ℕ)) where
   -- what is picked is one live file
   abbrev Picks : TakeRule → Type 0
@@ -162,15 +168,24 @@ module _ (k : Kept) (names : List (List ℕ)) (moment made : ℕ) (pick : Option
     index = λ given there is. let index : given.index ≡ 0 = ap (λ (g : Given). g.index) is in omega (arith, index);
   }
 
-  taken_so : (conflict : Conflict) (connection : ℕ) (numbers : List ℕ) → (are_active_in k.files connection numbers ≡ true) × (length numbers ≡ 1) → TakesSo k names moment (PutFile conflict) (Files connection numbers)
-  taken_so conflict connection numbers active = record {
+  taken_so : (kind : Kind) → TakesOneFile kind → (connection : ℕ) (numbers : List ℕ) → (are_active_in k.files connection numbers ≡ true) × (length numbers ≡ 1) → TakesSo k names moment kind (Files connection numbers)
+  taken_so kind one connection numbers active = record {
     may = active;
     named = tt;
-    rule = active.1;
-    to = λ given there is has. tt;
-    file = λ given there is. let file : given.file ≡ None = ap (λ (g : Given). g.file) is in subst (λ (o : Option (List ℕ)). received_name (PutFile conflict) o ≡ option_to_list o) (sym file) refl;
+    rule = subst (λ rule. MayTake rule (length numbers)) (sym one.rule) active.1;
+    to = λ given there is has. one.to given;
+    file = λ given there is. let file : given.file ≡ None = ap (λ (g : Given). g.file) is in subst (λ (o : Option (List ℕ)). received_name kind o ≡ option_to_list o) (sym file) one.file;
     index = λ given there is. let index : given.index ≡ 0 = ap (λ (g : Given). g.index) is in omega (arith, index);
   }
+
+  one_taken_so : (kind : Kind) → TakesOneFile kind → (taking : Taking) → Picks (take_rule_of kind) → taking_by kind names made pick ≡ Some taking → TakesSo k names moment kind taking
+  one_taken_so kind one taking may is = by_pick pick refl (sym (one.taking names made pick) ∙ is)
+    where
+      by_pick : (o : Option (ℕ × List ℕ)) → pick ≡ o → option_map (λ files. Files files.0 files.1) o ≡ Some taking → TakesSo k names moment kind taking
+      by_pick None e is = absurd cc
+      by_pick (Some (connection, numbers)) e is =
+          let same : Files connection numbers ≡ taking = cc in
+          subst (TakesSo k names moment kind) same (taken_so kind one connection numbers (may one.rule connection numbers e))
 
   generated_so : (count : ℕ) (text : Expr) → IsSoundKind (GenerateFlowFile count text) → nat_lt made count ≡ true → TakesSo k names moment (GenerateFlowFile count text) (Generate (made + 1))
   generated_so count text sound less = record {
@@ -197,13 +212,12 @@ module _ (k : Kept) (names : List (List ℕ)) (moment made : ℕ) (pick : Option
       by_count : (b : Bool) → nat_lt made count ≡ b → cond b (Some (Generate (made + 1))) None ≡ Some taking → TakesSo k names moment (GenerateFlowFile count text) taking
       by_count false e is = absurd cc
       by_count true e is = let same : Generate (made + 1) ≡ taking = cc in subst (TakesSo k names moment (GenerateFlowFile count text)) same (generated_so count text sound e)
-  takes_so (PutFile conflict) taking sound built may is = by_pick pick refl is
-    where
-      by_pick : (o : Option (ℕ × List ℕ)) → pick ≡ o → option_map (λ files. Files files.0 files.1) o ≡ Some taking → TakesSo k names moment (PutFile conflict) taking
-      by_pick None e is = absurd cc
-      by_pick (Some (connection, numbers)) e is =
-          let same : Files connection numbers ≡ taking = cc in
-          subst (TakesSo k names moment (PutFile conflict)) same (taken_so conflict connection numbers (may refl connection numbers e))
+  takes_so (PutFile conflict) taking sound built may is = one_taken_so (PutFile conflict) (record { rule = refl; to = λ given. tt; file = refl; taking = λ names made pick. refl }) taking may is
+  takes_so (UpdateAttribute own) taking sound built may is = one_taken_so (UpdateAttribute own) (record { rule = refl; to = λ given. tt; file = refl; taking = λ names made pick. refl }) taking may is
+  takes_so (RouteOnAttribute own) taking sound built may is = one_taken_so (RouteOnAttribute own) (record { rule = refl; to = λ given. tt; file = refl; taking = λ names made pick. refl }) taking may is
+  takes_so (AttributesToJson destination names) taking sound built may is = one_taken_so (AttributesToJson destination names) (record { rule = refl; to = λ given. tt; file = refl; taking = λ names made pick. refl }) taking may is
+  takes_so (DuplicateFlowFile copies) taking sound built may is = one_taken_so (DuplicateFlowFile copies) (record { rule = refl; to = λ given. tt; file = refl; taking = λ names made pick. refl }) taking may is
+  takes_so CryptographicHashContent taking sound built may is = one_taken_so CryptographicHashContent (record { rule = refl; to = λ given. tt; file = refl; taking = λ names made pick. refl }) taking may is
   takes_so kind taking sound built may is = absurd cc
 
 -- ---- the session that comes next
