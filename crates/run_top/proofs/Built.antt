@@ -31,6 +31,11 @@ built_one : (d : Data) (k : Kind) → IsKindOf d k → is_built k ≡ true
 built_one d (kind.GetFile filter) is = refl
 built_one d (kind.GenerateFlowFile count text) is = refl
 built_one d (kind.PutFile conflict) is = refl
+built_one d (kind.UpdateAttribute own) is = refl
+built_one d (kind.RouteOnAttribute own) is = refl
+built_one d (kind.AttributesToJson destination names) is = refl
+built_one d (kind.DuplicateFlowFile copies) is = refl
+built_one d kind.CryptographicHashContent is = refl
 built_one d _ is = absurd is
 
 built_all : (ds : List Data) (ps : List Processor) → AreProcessorsOf ds ps → All (λ processor. IsTrue (is_built processor.kind)) ps
