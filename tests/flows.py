@@ -13,7 +13,7 @@ import time
 import store_format
 from flow_texts import flow, generator, let_go, put, queue, source, state_of, told
 from store_format import CLONE, CREATE, DROP, EXPIRED, RECEIVE, SEND, Expire, Writer
-from support import (BLOCKED, DAMAGED, DONE, LIMIT, MEMORY, REFUSED, SOURCE, THE_TEXT, USAGE, Report, find_program,
+from support import (BLOCKED, DAMAGED, DONE, LIMIT, REFUSED, SOURCE, THE_TEXT, USAGE, Report, find_program,
                      in_memory, names, need, need_status, new_folder, options, parse_seeded, photo, put_flow,
                      read_files, run, run_for, start, wait_for, work_folder, write_files)
 
@@ -327,16 +327,22 @@ class Cases:
             state = self.ends_with(folder, {"a": b"before", "b": b"free"})
             need(told(state)[EXPIRED, "back", ""] == 1, f"the events tell {told(state)}")
 
-    def would_swap(self):
-        """A flow that can't go on, with a queue of which a part would have to be swapped out: 12."""
-        with self.folder(ring(more={"swap": 2}, objects=1)) as folder:
-            files = {name: name.encode() * 9 for name in "abcde"}
-            write_files(folder / "in", files)
-            write_files(folder / "out", {"a": b"before"})
-            for _ in range(2):
-                self.run(folder, MEMORY)
-                need(dict(state_of(folder).queued()) == files, f"{state_of(folder).queued()} wait")
-                need(names(folder / "in") == [] and names(folder / "out") == ["a"], "in or out differs")
+    def past_swap(self):
+        """A flow that can't go on, with a queue past its threshold of swapping: 10, be that the full one or another."""
+        files = {name: name.encode() * 9 for name in "abcde"}
+        for text, failing, waiting in ((ring(more={"swap": 2}, objects=1), "a", [4, 1]),
+                                       (ring(swap=2, objects=3), "abc", [2, 3])):
+            with self.folder(text) as folder:
+                before = {name: b"before" for name in failing}
+                write_files(folder / "in", files)
+                write_files(folder / "out", before)
+                self.run(folder, BLOCKED)
+                state = state_of(folder)
+                need(dict(state.queued()) == files, f"{state.queued()} wait")
+                held = collections.Counter(file.connection for file in state.files.values())
+                need([held[0], held[1]] == waiting, f"{held} wait in the queues")
+                need(names(folder / "in") == [] and read_files(folder / "out") == before, "in or out differs")
+                self.changes_nothing(folder, BLOCKED)
 
     def journal_is_full(self):
         """A put that fails without a penalty tries on until the run's journal is full: 11. The next run delivers."""
@@ -534,7 +540,7 @@ def main():
             ("claims are emptied on the way", cases.reclaims),
             ("a ring that is full: 10, again and again, nothing lost", cases.blocks),
             ("a ring whose file expires goes on", cases.unblocks),
-            ("a ring that would have to swap: 12, nothing lost", cases.would_swap),
+            ("a ring past a threshold of swapping: 10, nothing lost", cases.past_swap),
             ("a changed text, or a store of the fixed flow of before: 3, nothing written", cases.other_text),
             ("no flow.json: 8, nothing touched", cases.no_text),
             ("texts that break a rule: 3, nothing touched", cases.refused_texts),

@@ -6,17 +6,16 @@ use Rattle.std.specs.List.{fold, reduce}
 use Rattle.disk_trait.specs.Files.{Files}
 use Rattle.flowfile_record.specs.NamedFile.{NamedFile}
 use Rattle.machine_model.specs.Files.{queues_of}
-use Rattle.machine_model.specs.Quiet.{nothing_due}
 use Rattle.machine_model.specs.State.{Machine}
 use Rattle.engine_choice.specs.Choice.{coming_of, ending_by, ending_of, first_blocking, first_penalty_end, next_choice}
-use Rattle.engine_choice.specs.Laws.{EndsAreMachineEnds, IsEndAt}
+use Rattle.engine_choice.specs.Laws.{EndsAreMachineEnds, IsEndAt, IsMachineEnd}
 use Rattle.engine_choice.specs.declared.choice.Choice.{Choice}
 use Rattle.engine_choice.specs.declared.choice.Ending.{Ending}
 use Rattle.engine_choice.specs.declared.choice.Ending.TheVariants.{Blocked, Quiet, Rest}
 use Rattle.engine_queues.specs.Laws.{SeesTheSame}
 use Rattle.engine_queues.specs.Queues.{queue_seen}
 use Rattle.store_core.specs.Store.{kept_by}
-use Rattle.flow_engine.specs.Driving.{GoesOn, IsEnded, IsTurned, choice_in, ending_in, to_go}
+use Rattle.flow_engine.specs.Driving.{GoesOn, IsEnded, IsNoneExpired, IsTurned, choice_in, ending_in, to_go}
 use Rattle.flow_engine.specs.Engine.{EngineState}
 use Rattle.flow_engine.specs.Running.{IsRunning}
 
@@ -58,34 +57,31 @@ goes_on_at_end e moment Quiet is = tt
 
 -- ---- the end is the machine's
 
-abbrev pub IsNoRest : Ending → Type 0
-IsNoRest ending = (until : ℕ) → ending ≡ Rest until → ⊥
-
 module _ (law : EndsAreMachineEnds) {D : Type 0} (moment : D → ℕ) (images : D → ℕ → Files → Type 0) (e : EngineState) (opened : Machine) (first now : D) (left : List NamedFile) (standing : List ℕ → Option (List ℕ))
     (time : ℕ) (run : IsRunning moment images e opened first now left standing) (seen : SeesTheSame e.flow (queue_seen e.queues) (queues_of run.reached.state)) (counts : (kept_by e.store).counts ≡ run.reached.state.counts) where
-  machine_end : nothing_due e.flow (queue_seen e.queues) time ≡ true → choice_in e time ≡ None → IsEndAt e.flow run.reached.state run.reached.world time (ending_in e time)
-  machine_end due none =
+  machine_end : IsNoneExpired e time → choice_in e time ≡ None → IsMachineEnd e.flow run.reached.state run.reached.world time (ending_in e time)
+  machine_end fresh none =
       let choice_of_counts = λ (made : List ℕ). next_choice e.flow (queue_seen e.queues) made (coming_of run.reached.world) time e.last in
       let choice_of_names = λ (names : List (List ℕ)). next_choice e.flow (queue_seen e.queues) (kept_by e.store).counts names time e.last in
       let end_of_counts = λ (made : List ℕ). ending_of e.flow (queue_seen e.queues) made (coming_of run.reached.world) time in
       let end_of_names = λ (names : List (List ℕ)). ending_of e.flow (queue_seen e.queues) (kept_by e.store).counts names time in
-      let is : IsEndAt e.flow run.reached.state run.reached.world time (end_of_counts run.reached.state.counts) =
-      law e.flow (queue_seen e.queues) run.reached.state run.reached.world time e.last seen due (ap choice_of_counts (sym counts) ∙ ap choice_of_names run.to.coming ∙ none) in
-      subst (IsEndAt e.flow run.reached.state run.reached.world time) (ap end_of_counts (sym counts) ∙ ap end_of_names run.to.coming) is
+      let is : IsMachineEnd e.flow run.reached.state run.reached.world time (end_of_counts run.reached.state.counts) =
+      law e.flow (queue_seen e.queues) run.reached.state run.reached.world time e.last seen fresh (ap choice_of_counts (sym counts) ∙ ap choice_of_names run.to.coming ∙ none) in
+      subst (IsMachineEnd e.flow run.reached.state run.reached.world time) (ap end_of_counts (sym counts) ∙ ap end_of_names run.to.coming) is
 
-  ended : (ending : Ending) → ending ≡ ending_in e time → nothing_due e.flow (queue_seen e.queues) time ≡ true → choice_in e time ≡ None → IsEnded moment images e opened first now left standing time ending
-  ended ending is due none = record {
+  ended : (ending : Ending) → IsEndAt e.flow run.reached.state run.reached.world time ending → IsEnded moment images e opened first now left standing time ending
+  ended ending ends = record {
     journal = run.journal;
     reached = run.reached;
     to = run.to;
-    ends = subst (IsEndAt e.flow run.reached.state run.reached.world time) (sym is) (machine_end due none);
+    ends = ends;
   }
 
-  pub turned_at_end : (ending : Ending) → ending ≡ ending_in e time → (IsNoRest ending → nothing_due e.flow (queue_seen e.queues) time ≡ true) → choice_in e time ≡ None
+  pub turned_at_end : (ending : Ending) → ending ≡ ending_in e time → IsNoneExpired e time → choice_in e time ≡ None
       → IsTurned moment images e opened first now left standing time (Some ending)
-  turned_at_end (Rest until) is due none = run
-  turned_at_end (Blocked connection) is due none = ended (Blocked connection) is (due (λ until rests. cc)) none
-  turned_at_end Quiet is due none = ended Quiet is (due (λ until rests. cc)) none
+  turned_at_end (Rest until) is fresh none = run
+  turned_at_end (Blocked connection) is fresh none = ended (Blocked connection) (((machine_end fresh none).is_blocked connection).0 (sym is))
+  turned_at_end Quiet is fresh none = ended Quiet ((machine_end fresh none).is_quiet.0 (sym is))
 
 -- ---- what a turn answered
 

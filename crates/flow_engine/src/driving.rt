@@ -1,13 +1,11 @@
 //! An engine goes on until nothing is left to do.
-ghost use Rattle.std.specs.Prelude.{◌≡◌, ◌⊎◌, true, ℕ, ◌+◌, ◌-◌, ◌^◌, ◌<◌, List, Option, Some, Ok, IfOk, OnOk, IfErr, IsErrOf, IsTrue};
+ghost use Rattle.std.specs.Prelude.{◌≡◌, ◌⊎◌, ℕ, ◌+◌, ◌-◌, ◌^◌, ◌<◌, List, Option, Some, Ok, IfOk, OnOk, IsErrOf, IsTrue};
 ghost use Rattle.disk_trait.specs.declared.damage.Damage.{Damage as TheDamage};
 ghost use Rattle.kept_state.specs.declared.limit.Limit.{Limit as TheLimit};
 ghost use Rattle.machine_model.specs.State.{Machine};
-ghost use Rattle.machine_model.specs.Quiet.{nothing_due};
 ghost use Rattle.engine_choice.specs.Choice.{MayChoose};
-ghost use Rattle.engine_queues.specs.Queues.{queue_seen};
 ghost use Rattle.store_core.specs.Store.{kept_by};
-ghost use Rattle.flow_engine.specs.Driving.{choice_in, ending_in, GoesOn, IsEnded, IsTurned, ShowsState};
+ghost use Rattle.flow_engine.specs.Driving.{choice_in, ending_in, GoesOn, IsEnded, IsNoneExpired, IsTurned, ShowsState};
 ghost use Rattle.flow_run.specs.Run.{StandsFor};
 ghost use Rattle.flowfile_wal.specs.Calls.{InEach};
 ghost use Rattle.flow_run.specs.Ending.{journal_full};
@@ -133,6 +131,7 @@ impl Engine<'_> {
     ) -> Result<Option<Ending>, EngineError>
         requires ready { IsReady D.tells D.held D.moment D.images self.old disk.old }
         requires left { IsTrue I.tells → AreTakeable (I.left inbox.old) self.old.listing.names }
+        requires none_expired { IsNoneExpired self.old moment }
         requires most { self.old.most < 2 ^ 64 - 1 }
         ensures turned { IfOk result (λ ending. IsTrue D.tells → IsTrue I.tells → IsTrue O.tells
             → (opened : Machine) (first : D)
@@ -249,28 +248,19 @@ impl Engine<'_> {
         )
     }
 
-    // How it ends where no session comes. An end that isn't the machine's is for want of memory: a queue has so many
-    // files that some were to be swapped out.
-    fn ending(&self, alloc: Global, moment: u64) -> Result<Ending, EngineError>
+    // How it ends where no session comes.
+    fn ending(&self, alloc: Global, moment: u64) -> Result<Ending, AllocError>
         requires { MayChoose self.now.flow self.now.queues (kept_by self.now.store).counts self.now.listing }
-        ensures ending { IfOk result (λ ending. ending ≡ ending_in self.now moment) }
-        ensures due { IfOk result (λ ending. ((until : ℕ) → ending ≡ Ending.Rest until → ⊥)
-            → nothing_due self.now.flow (queue_seen self.now.queues) moment ≡ true) }
-        ensures kinds { IfErr result (λ error. error ≡ EngineError.Memory) }
+        ensures { IfOk result (λ ending. ending ≡ ending_in self.now moment) }
     {
         let counts = self.store.state().counts.as_slice();
-        let ending = ending(
+        ending(
             alloc,
             self.flow,
             &self.queues,
             counts,
             &self.listing,
             moment,
-        )?;
-        match ending {
-            Ending::Rest { .. } => Ok(ending),
-            _ if self.queues.is_nothing_due(moment) => Ok(ending),
-            _ => Err(EngineError::Memory),
-        }
+        )
     }
 }
