@@ -7,9 +7,7 @@ use Rattle.disk_trait.proofs.Moments.{nothing, wider}
 use Rattle.flowfile_record.specs.NamedFile.{NamedFile}
 use Rattle.kept_state.specs.declared.limit.Limit.{Limit as TheLimit}
 use Rattle.machine_model.specs.declared.flow.Flow.{Flow}
-use Rattle.machine_model.specs.Due.{due_expiry}
 use Rattle.machine_model.specs.State.{Machine}
-use Rattle.engine_queues.specs.Queues.{queue_seen}
 use Rattle.flow_run.specs.Ending.{journal_full}
 use Rattle.flow_run.specs.Going.{IsSpared}
 use Rattle.flow_run.specs.Laws.{FaultsEnd}
@@ -18,7 +16,6 @@ use Rattle.flow_run.specs.Work.{IsAtWork, IsReadDamaged, IsRefused}
 use Rattle.flow_run.specs.declared.ended.Ended.TheVariants as ended
 use Rattle.flow_run.specs.declared.ended.Fault.{Fault}
 use Rattle.flow_run.specs.declared.ended.Fault.TheVariants as fault
-use Rattle.flow_engine.specs.Driving.{IsNoneExpired}
 use Rattle.flow_engine.specs.Engine.{EngineState, IsOfSameRun}
 use Rattle.flow_engine.specs.Errors.{CountsEachFault, ended_by}
 use Rattle.flow_engine.specs.Running.{IsLimited, IsRunning, Stops}
@@ -37,10 +34,6 @@ same_run_on old mid new first second = record {
   most = second.most ∙ first.most;
   lot = second.lot ∙ first.lot;
 }
-
--- .. and what has expired is seen without the store
-pub none_expired_still : (old new : EngineState) (moment : ℕ) → new ≡ record old { store = new.store } → IsNoneExpired old moment → IsNoneExpired new moment
-none_expired_still old new moment rest none = (λ i. due_expiry (rest i).flow (queue_seen (rest i).queues) moment) ∙ none
 
 -- ---- faults are counted
 

@@ -17,7 +17,7 @@ returns-in_err-checkpoint-clause-alone g c =
 
 pub returns-in_err-checkpoint-clause-unwritten : goal.returns-in_err-checkpoint-clause-unwritten
 returns-in_err-checkpoint-clause-unwritten g c is =
-    let p = err_from_is_err_and c.from_residual-in_err-checkpoint.result c.from_residual-in_err-checkpoint.ensures.1 in
+    let p = err_from_is_err_and c.from_residual.result c.from_residual.ensures.1 in
     let was : c.in_err-checkpoint.field-0.0 ≡ StoreError.Memory = memory_of c.in_err-checkpoint.field-0.0 c.in_err-checkpoint.ensures.kinds (cc (p.1, p.2, is)) in
     (c.checkpoint.ensures.untouched (inl (c.in_err-checkpoint.was ∙ ap Err was))).1
 

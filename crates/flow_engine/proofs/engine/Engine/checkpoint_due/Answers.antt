@@ -10,7 +10,7 @@ use Rattle.flow_engine.proofs.engine.Engine.checkpoint_due.Goals as goal
 
 pub checkpoint-requires-clause-number : goal.checkpoint-requires-clause-number
 checkpoint-requires-clause-number g c κs within number is =
-    can_follow c.self.inside.checkpoint c.self.inside.store.entries number (sym (c.wants_checkpoint.ensures number is) ∙ c.if-wants_checkpoint.true)
+    can_follow c.self.inside.checkpoint c.self.inside.store.entries number (sym (c.wants_checkpoint.ensures number is) ∙ c.if-not-wants_checkpoint.false)
 
 pub returns-in_err-checkpoint-clause-stopped : goal.returns-in_err-checkpoint-clause-stopped
 returns-in_err-checkpoint-clause-stopped g c error is opened first left standing run =
@@ -25,7 +25,7 @@ returns-in_err-checkpoint-clause-stopped g c error is opened first left standing
     let f : EngineState = record e { store = c.checkpoint.new.store } in
     let same : IsOfSameRun e f = record { flow = refl; most = refl; lot = c.checkpoint.ensures.same.1 } in
     let work = subst (λ (u : EngineState). IsAtWork u.flow tells held moment images u.store old) (sym c.self.view_is) c.requires.work in
-    let p = err_from_is_err_and c.from_residual-in_err-checkpoint.result c.from_residual-in_err-checkpoint.ensures.1 in
+    let p = err_from_is_err_and c.from_residual.result c.from_residual.ensures.1 in
     let told : c.in_err-checkpoint.field-0.0 ≡ error = cc (p.1, p.2, is) in
     stops_by tells held moment images e f same opened first old new left standing c.faults_end_a_run.ensures.between error
     (subst (λ (er : EngineError). (er ≡ EngineError.Disk) ⊎ (er ≡ EngineError.Memory)) told c.in_err-checkpoint.ensures.kinds)
