@@ -353,7 +353,7 @@ class Cases:
             (folder / "out" / "a").unlink()
             self.run(folder)
             need(read_files(folder / "out") == {"a": b"new"}, f"out holds {names(folder / 'out')}")
-            return f"a log of {(folder / 'store' / 'log-1').stat().st_size / 1e6:.0f} MB"
+            return f"log {state_of(folder).log} is current"
 
     # What isn't run.
 

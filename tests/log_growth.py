@@ -152,6 +152,9 @@ class Opening:
             (folder / part).mkdir()
 
     def again(self, waits):
+        # Those of the checkpoint that the last run made.
+        for name in ("log-2", "snapshot-2"):
+            (self.folder / "store" / name).unlink(missing_ok=True)
         for name, data in self.files.items():
             (self.folder / "store" / name).write_bytes(data)
         ended = run(self.program, self.folder)

@@ -30,13 +30,12 @@ use Rattle.store_core.specs.Flow as store
 use Rattle.store_core.specs.Flow.{flow_in}
 use Rattle.store_core.specs.State.{stands_for}
 use Rattle.store_core.specs.Store.{EachStandsFor, IsKeptOn, StoreState, kept_by}
-use Rattle.store_core.specs.Touched.{MayTouch, TouchesOnly}
 use Rattle.store_core.specs.declared.error.StoreError.{StoreError}
 use Rattle.engine_core.specs.Committing.{identity_of}
 use Rattle.engine_queues.specs.Settling.{IsKeptAfter}
 use Rattle.flow_run.specs.Going.{IsBetween, IsStepped}
 use Rattle.flow_run.specs.Run.{StandsFor}
-use Rattle.flow_run.specs.Work.{IsAtWork, IsRefused, WritesLog}
+use Rattle.flow_run.specs.Work.{IsAtWork, IsRefused}
 use Rattle.flow_engine.specs.Committing.{with_room}
 use Rattle.flow_engine.specs.Errors.{error_of}
 use Rattle.flow_engine.specs.declared.error.EngineError.{EngineError}
@@ -166,27 +165,6 @@ still_works {A = A} result s t before now answer is works refusal = by t.failed 
         absurd
         (⊎_elim (λ (was : s.failed ≡ true). false≢true (sym works ∙ was)) (λ (failed : result ≡ Err StoreError.Disk). let both : ◌≡◌ {A = Result A StoreError} (Ok answer) (Err StoreError.Disk) = sym is ∙ failed in cc)
         (refusal.failed.0 so))
-
--- ---- which files change
-
-touches_nothing : (log : Option ℕ) (files : Files) → TouchesOnly (MayTouch log) files files
-touches_nothing log files f other = refl
-
-module _ {D : Type 0} (moment : D → ℕ) (images : D → ℕ → Files → Type 0) where
-  pub writes_none : (log : Option ℕ) (disk : D) → WritesLog moment images log disk disk
-  writes_none log disk = wider moment images disk disk (images disk (moment disk)) (After (TouchesOnly (MayTouch log)) (images disk (moment disk))) (nothing moment images disk) (λ c left. (c, left, touches_nothing log c))
-
-  pub reads_only : (log : Option ℕ) (held : D → Files) (old new : D) → Stays held moment images old new → WritesLog moment images log old new
-  reads_only log held old new stays = wider moment images old new (images old (moment old)) (After (TouchesOnly (MayTouch log)) (images old (moment old))) (only_read moment images held old new stays) (λ c left. (c, left, touches_nothing log c))
-
-  pub writes_in_turn : (log : Option ℕ) (old mid new : D) → WritesLog moment images log old mid → WritesLog moment images log mid new → WritesLog moment images log old new
-  writes_in_turn log old mid new first second =
-      step_after_step moment images old mid new (TouchesOnly (MayTouch log)) (TouchesOnly (MayTouch log)) (TouchesOnly (MayTouch log)) (images old (moment old)) first second
-      (λ d c r. r) (λ d e c r s f other. s f other ∙ r f other)
-
-  -- the same log under another name
-  pub writes_to : (log other : Option ℕ) (old new : D) → other ≡ log → WritesLog moment images other old new → WritesLog moment images log old new
-  writes_to log other old new same = subst (λ (l : Option ℕ). WritesLog moment images l old new) same
 
 -- ---- errors
 

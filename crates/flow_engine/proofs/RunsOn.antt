@@ -68,6 +68,14 @@ module _ {D : Type 0} (tells : Bool) (held : D → Files) (moment : D → ℕ) (
         (subst (λ (ended : Ended). HasRun e.flow ended time tells held moment images e.store.lot opened first new left standing) (sym is)
         (law e.flow e.store.lot time opened run.reached first old new run.journal left standing cause run.to.run (spared run.reached run.to.run.holds)))
 
+    -- the disk's, or want of memory
+    pub stops_by : FaultsEnd tells held moment images → (error : EngineError) → (error ≡ EngineError.Disk) ⊎ (error ≡ EngineError.Memory) → ((m : Machine) → StandsIn e old m → IsSpared e.flow moment images e.store.lot m old new)
+        → IsRunning moment images e opened first old left standing → Stops error tells held moment images f opened first new left standing
+    stops_by law error (inl is) spared run =
+        subst (λ (er : EngineError). Stops er tells held moment images f opened first new left standing) (sym is) (stops_spared law EngineError.Disk fault.Disk refl spared run)
+    stops_by law error (inr is) spared run =
+        subst (λ (er : EngineError). Stops er tells held moment images f opened first new left standing) (sym is) (stops_spared law EngineError.Memory fault.Memory refl spared run)
+
     -- a step of a queue
     module _ (leaves : QueuesLeaveTheWorld) (one : Step) (queue : IsOfQueue one) where
       pub runs_stepped : SteppedRunsGoOn moment images → f.entries ≡ e.entries + 1 → f.listing ≡ e.listing → ((m : Machine) → StandsIn e old m → IsDone e.flow moment images e.store.lot m one old new)

@@ -1,11 +1,13 @@
 -- What a reclaim and the commit of expired files leave.
-use Rattle.std.proofs.Common.{◌≡◌, ◌⊎◌, inl, inr, ⊎_elim, ℕ, Bool, true, false, List, [], ◌+◌, length, refl, sym, ap, subst, ◌∙◌}
-use Rattle.std.specs.Prelude.{Option, Some, Result, Ok, Err}
-use Rattle.std.proofs.lemmas.Bool.{false≢true}
+use Rattle.std.proofs.Common.{◌≡◌, ◌⊎◌, inl, inr, ⊎_elim, ℕ, Bool, true, false, List, [], ◌+◌, ◌-◌, length, refl, sym, ap, subst, ◌∙◌, arith}
+use Rattle.std.specs.Prelude.{Option, Some, Result, Ok, Err, nat_le, nat_lt}
+use Rattle.std.proofs.lemmas.Bool.{and_parts, false≢true, ltb-true}
 use Rattle.disk_trait.specs.Files.{Files}
 use Rattle.disk_trait.specs.Images.{After, Since}
 use Rattle.disk_trait.proofs.Moments.{wider}
+use Rattle.flowfile_record.specs.Encoding.{IsNumber}
 use Rattle.flowfile_record.specs.declared.change.Settled.{Settled}
+use Rattle.flowfile_record.specs.declared.limits.TheConstants.{NUMBER_LIMIT}
 use Rattle.flowfile_record.specs.Stored.{Kept}
 use Rattle.record_codec.specs.Placeless.{placeless_entry}
 use Rattle.record_codec.specs.declared.entry.ExpireEntry.{ExpireEntry}
@@ -24,8 +26,10 @@ use Rattle.kept_state.specs.declared.limit.Limit.{Limit}
 use Rattle.kept_state.proofs.Expiring.{expiry_live}
 use Rattle.machine_model.specs.declared.flow.Flow.{Flow}
 use Rattle.machine_model.specs.Changing.{state_after}
+use Rattle.machine_model.specs.Due.{is_checkpoint_due}
 use Rattle.machine_model.specs.State.{Machine, State}
-use Rattle.store_core.specs.Calls.{RefusesOnFault}
+use Rattle.store_core.specs.Calls.{IsDiskOrMemory, RefusesOnFault}
+use Rattle.store_core.specs.Checkpoint.{Checkpoints}
 use Rattle.store_core.specs.Change.{IsLimitOf, MayExpire, fresh_sizes_of, kept_with}
 use Rattle.store_core.specs.Committed.{HasChange, PreparedChange}
 use Rattle.store_core.specs.Flow.{flow_in}
@@ -39,6 +43,7 @@ use Rattle.engine_core.specs.Committing.{identity_of}
 use Rattle.flow_run.specs.Going.{IsBetween, IsSpared, IsStepped}
 use Rattle.flow_run.specs.Run.{StandsFor}
 use Rattle.flow_run.specs.Work.{IsAtWork, IsRefused, WritesLog}
+use Rattle.flow_run.proofs.Writing.{checkpoint_writes, log_writes, writes_as}
 use Rattle.flow_engine.specs.Errors.{error_of}
 use Rattle.flow_engine.specs.declared.error.EngineError.{EngineError}
 
@@ -63,6 +68,18 @@ limit_of StoreError.MustReopen limit is = absurd cc
 limit_of (StoreError.Limit other) limit is = let same : other ≡ limit = cc in ap StoreError.Limit same
 limit_of (StoreError.Damaged damage) limit is = absurd cc
 limit_of (StoreError.OtherFlow kept found) limit is = absurd cc
+
+-- .. and want of memory, of a call that tells no damage
+pub memory_of : (e : StoreError) → IsDiskOrMemory e ⊎ (e ≡ StoreError.MustReopen) → error_of e ≡ EngineError.Memory → e ≡ StoreError.Memory
+memory_of StoreError.Disk kind is = absurd cc
+memory_of StoreError.Memory kind is = refl
+memory_of StoreError.MustReopen kind is = absurd cc
+memory_of (StoreError.Limit limit) kind is = absurd cc
+memory_of (StoreError.Damaged damage) kind is = absurd cc
+memory_of (StoreError.OtherFlow kept found) kind is =
+    absurd
+    (⊎_elim (λ (either : IsDiskOrMemory (StoreError.OtherFlow kept found)). ⊎_elim (λ (disk : StoreError.OtherFlow kept found ≡ StoreError.Disk). cc) (λ (memory : StoreError.OtherFlow kept found ≡ StoreError.Memory). cc) either)
+    (λ (reopen : StoreError.OtherFlow kept found ≡ StoreError.MustReopen). cc) kind)
 
 -- ---- what the files stand for
 
@@ -104,6 +121,14 @@ module _ {D : Type 0} (moment : D → ℕ) (images : D → ℕ → Files → Typ
       since = committed_between;
       done = λ c now. stands_back flow s after (state_after (content_in (held old)) before.state settled) c flow_is makes (acknowledged before.state begins_with c now);
     }
+
+-- ---- a checkpoint that is due
+
+-- the next log has a number
+pub can_follow : (checkpoint entries number : ℕ) → is_checkpoint_due checkpoint entries number ≡ true → IsNumber (number + 1)
+can_follow checkpoint entries number due =
+    let below = ltb-true number (NUMBER_LIMIT - 1) (and_parts (nat_le checkpoint entries) (nat_lt number (NUMBER_LIMIT - 1)) due).1 in
+    omega (arith, below)
 
 -- ---- what is kept behind it
 
@@ -152,5 +177,8 @@ touches_claims log slots a b step f other = step.others f (λ is. other (inl is)
 pub writes_by_reclaim : {D : Type 0} (moment : D → ℕ) (images : D → ℕ → Files → Type 0) (log : Option ℕ) (slots : List Slot) (old new : D)
     → Since moment images old new (After (IdleShortened slots) (images old (moment old))) → WritesLog moment images log old new
 writes_by_reclaim moment images log slots old new since =
-    wider moment images old new (After (IdleShortened slots) (images old (moment old))) (After (TouchesOnly (MayTouch log)) (images old (moment old))) since
-    (λ c after. (after.0, after.1, touches_claims log slots after.0 c after.2))
+    writes_as moment images log (IdleShortened slots) old new (λ a b step. log_writes log a b (touches_claims log slots a b step)) since
+
+pub writes_by_checkpoint : {D : Type 0} (moment : D → ℕ) (images : D → ℕ → Files → Type 0) (log : Option ℕ) (number : ℕ) (old new : D) → log ≡ Some number
+    → ((n : ℕ) → log ≡ Some n → Since moment images old new (After (Checkpoints n) (images old (moment old)))) → WritesLog moment images log old new
+writes_by_checkpoint moment images log number old new is since = writes_as moment images log (Checkpoints number) old new (checkpoint_writes log number is) (since number is)

@@ -26,14 +26,13 @@ use Rattle.flow_engine.proofs.Choosing.{HasStep}
 -- ---- the same run
 
 pub same_run : (e : EngineState) → IsOfSameRun e e
-same_run e = record { flow = refl; most = refl; lot = refl; log = refl }
+same_run e = record { flow = refl; most = refl; lot = refl }
 
 pub same_run_on : (old mid new : EngineState) → IsOfSameRun old mid → IsOfSameRun mid new → IsOfSameRun old new
 same_run_on old mid new first second = record {
   flow = second.flow ∙ first.flow;
   most = second.most ∙ first.most;
   lot = second.lot ∙ first.lot;
-  log = second.log ∙ first.log;
 }
 
 -- ---- faults are counted

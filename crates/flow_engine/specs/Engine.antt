@@ -14,7 +14,8 @@ use Rattle.engine_session.specs.Working.{is_built}
 use Rattle.flow_run.specs.Work.{IsAtWork}
 
 -- The flow that it runs; the store and the queues of what it keeps; the names of the inbox that are to come; the
--- processor that got the last session; how many entries the journal has, and how many it may have.
+-- processor that got the last session; how many entries the journal has, and how many it may have; with how many entries
+-- in its log the store makes a checkpoint.
 pub record EngineState : Type 0 where
   pub flow : Flow
   pub store : StoreState
@@ -23,6 +24,7 @@ pub record EngineState : Type 0 where
   pub last : Option ℕ
   pub entries : ℕ
   pub most : ℕ
+  pub checkpoint : ℕ
 
 -- there are processors of each kind of the flow
 abbrev pub AreBuilt : Flow → Type 0
@@ -44,9 +46,8 @@ abbrev pub AreTakeable : List NamedFile → List (List ℕ) → Type 0
 AreTakeable left names =
     All (λ name. IsSomeAnd (bytes_of left name) (λ bytes. length bytes ≤ CONTENT_MAX)) names
 
--- the run's constants stay: the flow, the journal's limit, the store's lot and its log
+-- the run's constants stay: the flow, the journal's limit and the store's lot
 pub record IsOfSameRun (old new : EngineState) : Type 0 where
   pub flow : new.flow ≡ old.flow
   pub most : new.most ≡ old.most
   pub lot : new.store.lot ≡ old.store.lot
-  pub log : new.store.log.number ≡ old.store.log.number

@@ -1,5 +1,5 @@
--- Files of a connection expire by a step of the machine.
-use Rattle.std.specs.Prelude.{◌≡◌, ℕ, List, Some}
+-- Files of a connection expire by a step of the machine, and a new log begins where that is due.
+use Rattle.std.specs.Prelude.{◌≡◌, ℕ, ◌+◌, true, List, Some}
 use Rattle.disk_trait.specs.Files.{Files}
 use Rattle.flowfile_record.specs.declared.change.Settled.{Settled}
 use Rattle.flowfile_record.specs.declared.content.ContentRef.{ContentRef}
@@ -8,11 +8,13 @@ use Rattle.machine_model.specs.declared.flow.Flow.{Flow}
 use Rattle.machine_model.specs.declared.journal.Step.{Step}
 use Rattle.machine_model.specs.declared.journal.Step.TheVariants.{Expire}
 use Rattle.machine_model.specs.Changing.{state_after}
+use Rattle.machine_model.specs.Due.{is_checkpoint_due}
 use Rattle.machine_model.specs.State.{Machine}
 use Rattle.machine_model.specs.Stepping.{step}
 use Rattle.engine_core.specs.Expiring.{HaveContents}
 use Rattle.flow_run.specs.Going.{IsBetween, IsStepped}
 use Rattle.flow_run.specs.Run.{IsStateOf}
+use Rattle.flow_engine.specs.Engine.{EngineState}
 
 -- there is such a step, and what it leaves is so
 pub record GoesTo (flow : Flow) (before : Machine) (one : Step) (so : Machine → Type 0) : Type 0 where
@@ -39,3 +41,9 @@ abbrev pub IsCutOff : {D : Type 0} → Flow → (D → ℕ) → (D → ℕ → F
     → (old new : D) → Type 0
 IsCutOff flow moment images lot before one old new =
     GoesTo flow before one (λ after. IsBetween flow moment images lot before after old new)
+
+-- where a checkpoint was due, the log is the next one
+abbrev pub IsCheckpointed : (old new : EngineState) → Type 0
+IsCheckpointed old new =
+    (number : ℕ) → old.store.log.number ≡ Some number
+    → is_checkpoint_due old.checkpoint old.store.entries number ≡ true → new.store.log.number ≡ Some (number + 1)

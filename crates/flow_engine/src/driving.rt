@@ -12,7 +12,7 @@ ghost use Rattle.flow_run.specs.Ending.{journal_full};
 ghost use Rattle.flow_engine.specs.Engine.{AreTakeable, IsOfSameRun, IsReady};
 ghost use Rattle.flow_engine.specs.Errors.{CountsEachFault};
 ghost use Rattle.flow_engine.specs.Running.{IsRunning, Stops};
-ghost use Rattle.flow_run.specs.Work.{IsAtWork, IsReadDamaged, IsRefused, WritesLog};
+ghost use Rattle.flow_run.specs.Work.{IsAtWork, IsNoEarlier, IsReadDamaged, IsRefused, WritesLog};
 ghost use Rattle.flow_engine.specs.declared.error.EngineError.{EngineError as TheError};
 
 use crate::EngineError;
@@ -104,6 +104,7 @@ impl Engine<'_> {
         ensures ready { OnOk result (IsReady D.tells D.held D.moment D.images self.new disk.new) }
         ensures left { OnOk result (IsTrue I.tells → AreTakeable (I.left inbox.new) self.new.listing.names) }
         ensures same { IsOfSameRun self.old self.new }
+        ensures log { OnOk result (IsNoEarlier self.old.store.log.number self.new.store.log.number) }
         ensures alone { WritesLog D.moment D.images self.old.store.log.number disk.old disk.new }
         ensures refused { (limit : TheLimit) → IsErrOf result (EngineError.Limit limit)
             → IsRefused self.old.flow D.tells D.held D.moment D.images limit self.new.store disk.new
@@ -147,6 +148,7 @@ impl Engine<'_> {
         ensures ready { OnOk result (IsReady D.tells D.held D.moment D.images self.new disk.new) }
         ensures left { OnOk result (IsTrue I.tells → AreTakeable (I.left inbox.new) self.new.listing.names) }
         ensures same { IsOfSameRun self.old self.new }
+        ensures log { self.new.store.log.number ≡ self.old.store.log.number }
         ensures alone { WritesLog D.moment D.images self.old.store.log.number disk.old disk.new }
         ensures refused { (limit : TheLimit) → IsErrOf result (EngineError.Limit limit)
             → IsRefused self.old.flow D.tells D.held D.moment D.images limit self.new.store disk.new
@@ -196,6 +198,7 @@ impl Engine<'_> {
         ensures ready { OnOk result (IsReady D.tells D.held D.moment D.images self.new disk.new) }
         ensures left { OnOk result (IsTrue I.tells → AreTakeable (I.left inbox.new) self.new.listing.names) }
         ensures same { IsOfSameRun self.old self.new }
+        ensures log { self.new.store.log.number ≡ self.old.store.log.number }
         ensures alone { WritesLog D.moment D.images self.old.store.log.number disk.old disk.new }
         ensures refused { (limit : TheLimit) → IsErrOf result (EngineError.Limit limit)
             → IsRefused self.old.flow D.tells D.held D.moment D.images limit self.new.store disk.new

@@ -23,8 +23,9 @@ use store_core::Store;
 use world_io::{CONTENT_MAX, Inbox, Name};
 
 /// What runs a flow: the store and the queues of what it keeps, the names of the inbox that are to come, the processor
-/// that got the last session, how many entries the journal has, how many it may have, and how many of them came since
-/// the claims were last reclaimed. It holds no device: each call takes those that it needs.
+/// that got the last session, how many entries the journal has, how many it may have, with how many entries in its log
+/// the store makes a checkpoint, and how many entries came since the claims were last reclaimed. It holds no device:
+/// each call takes those that it needs.
 #[derive(Drop)]
 pub struct Engine<'f> {
     pub flow: &'f Flow,
@@ -34,6 +35,7 @@ pub struct Engine<'f> {
     pub last: Option<u16>,
     pub entries: u64,
     pub most: u64,
+    pub checkpoint: u64,
     pub since_reclaim: u64,
 }
 
@@ -55,17 +57,20 @@ impl<'f> Model for Engine<'f> {
       last = engine.last;
       entries = engine.entries;
       most = engine.most;
+      checkpoint = engine.checkpoint;
     } };
 }
 
 impl<'f> Engine<'f> {
-    /// An engine that is to run a flow over a store of it, until the journal has `most` entries. The inbox is listed
-    /// once: files that come later aren't seen, and those that are larger than a content may be are left there.
+    /// An engine that is to run a flow over a store of it, until the journal has `most` entries, with a checkpoint where
+    /// the log has `checkpoint` entries. The inbox is listed once: files that come later aren't seen, and those that are
+    /// larger than a content may be are left there.
     pub fn open<I: Inbox>(
         alloc: Global,
         flow: &'f Flow,
         store: Store,
         most: u64,
+        checkpoint: u64,
         inbox: &mut I,
     ) -> Result<Engine<'f>, EngineError>
         requires sound { IsSound flow.now }
@@ -94,6 +99,7 @@ impl<'f> Engine<'f> {
             last: None,
             entries: 0,
             most,
+            checkpoint,
             since_reclaim: 0,
         })
     }

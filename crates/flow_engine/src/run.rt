@@ -30,13 +30,15 @@ use store_core::Store;
 use world_io::{Clock, Inbox, Outbox};
 
 /// Runs a flow over a store of it that was opened: session after session until nothing is left to do, all of it is
-/// held back by full connections, or the journal has `most` entries. Then the store is closed. It tells how that ended;
-/// after a fault the store isn't closed, and is to be opened anew.
+/// held back by full connections, or the journal has `most` entries. Then the store is closed. Where the log has
+/// `checkpoint` entries, a new one begins behind a snapshot. It tells how that ended; after a fault the store isn't
+/// closed, and is to be opened anew.
 pub fn run_flow<D: Disk, I: Inbox, O: Outbox, C: Clock>(
     alloc: Global,
     flow: &Flow,
     store: Store,
     most: u64,
+    checkpoint: u64,
     disk: &mut D,
     inbox: &mut I,
     outbox: &mut O,
@@ -65,7 +67,7 @@ pub fn run_flow<D: Disk, I: Inbox, O: Outbox, C: Clock>(
 {
     faults_end_a_run::<D>();
     run_ends::<D>();
-    let mut engine = match Engine::open(alloc, flow, store, most, inbox) {
+    let mut engine = match Engine::open(alloc, flow, store, most, checkpoint, inbox) {
         Ok(engine) => engine,
         Err(error) => return error.ended(),
     };

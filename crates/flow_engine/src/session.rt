@@ -73,6 +73,7 @@ impl Engine<'_> {
         ensures left { OnOk result (IsTrue I.tells → AreTakeable (I.left inbox.new) self.new.listing.names) }
         ensures entries { OnOk result (self.new.entries ≡ self.old.entries + 1) }
         ensures same { IsOfSameRun self.old self.new }
+        ensures log { self.new.store.log.number ≡ self.old.store.log.number }
         ensures alone { WritesLog D.moment D.images self.old.store.log.number disk.old disk.new }
         ensures refused { (limit : TheLimit) → IsErrOf result (EngineError.Limit limit)
             → IsRefused self.old.flow D.tells D.held D.moment D.images limit self.new.store disk.new }

@@ -1,13 +1,14 @@
-//! What an engine does between two sessions: files expire, and claims are reclaimed.
+//! What an engine does between two sessions: files expire, a new log begins, and claims are reclaimed.
 ghost use Rattle.std.specs.Prelude.{◌≡◌, ◌⊎◌, ℕ, ◌+◌, ◌-◌, ◌^◌, ◌<◌, List, Option, Some, Ok, IfOk, OnOk, IfErr, IsErrOf, IsTrue};
 ghost use Rattle.disk_trait.specs.Faults.{CountsFaults};
+ghost use Rattle.flowfile_record.specs.Encoding.{IsNumber};
 ghost use Rattle.flowfile_record.specs.NamedFile.{NamedFile};
 ghost use Rattle.flowfile_wal.specs.Calls.{InEach};
 ghost use Rattle.kept_state.specs.declared.limit.Limit.{Limit as TheLimit};
 ghost use Rattle.machine_model.specs.declared.flow.Flow.{Flow as TheFlow};
 ghost use Rattle.machine_model.specs.declared.journal.Entry.{Entry as TheEntry};
 ghost use Rattle.machine_model.specs.declared.journal.Step.TheVariants.{Expire};
-ghost use Rattle.machine_model.specs.Due.{due_expiry};
+ghost use Rattle.machine_model.specs.Due.{due_expiry, is_checkpoint_due};
 ghost use Rattle.machine_model.specs.Sound.{IsSound};
 ghost use Rattle.machine_model.specs.State.{Machine};
 ghost use Rattle.store_core.specs.Change.{HasLiveContents, MayExpire};
@@ -23,8 +24,8 @@ ghost use Rattle.flow_run.specs.Going.{IsSpared};
 ghost use Rattle.flow_run.specs.Run.{IsAtLimit, StandsFor};
 ghost use Rattle.flow_engine.specs.Engine.{IsOfSameRun, IsReady};
 ghost use Rattle.flow_engine.specs.Running.{IsRunning, Stops};
-ghost use Rattle.flow_engine.specs.Tending.{IsCutOff, IsDone, MakesExpiry};
-ghost use Rattle.flow_run.specs.Work.{IsAtWork, IsRefused, WritesLog};
+ghost use Rattle.flow_engine.specs.Tending.{IsCheckpointed, IsCutOff, IsDone, MakesExpiry};
+ghost use Rattle.flow_run.specs.Work.{IsAtWork, IsNoEarlier, IsRefused, WritesLog};
 ghost use Rattle.flow_engine.specs.declared.error.EngineError.{EngineError as TheError};
 ghost use Rattle.flow_engine.specs.declared.tending.Tended.TheVariants.{Expired, Nothing};
 
@@ -34,12 +35,13 @@ use crate::tied::holds_its_state;
 use disk_trait::Disk;
 use engine_core::{due_expiries_may_expire, expire_files, held_contents_are_read};
 use engine_queues::{Expiry, Queues, what_is_kept_is_seen};
+use flowfile_record::NUMBER_LIMIT;
 use flow_run::{faults_end_a_run, run_goes_on, worlds_follow_steps};
 use machine_model::{Flow, RECLAIM_ENTRIES};
 use std::alloc::{AllocError, Global};
 use store_core::{Limit, SettledExpiry, Store, Which};
 
-/// What was due: files of a connection expired, or nothing.
+/// What expired: files of a connection, or nothing.
 #[derive(Clone, Copy, Debug, PartialEq, Eq)]
 pub enum Tended {
     Expired,
@@ -47,7 +49,8 @@ pub enum Tended {
 }
 
 impl Engine<'_> {
-    /// Reclaims the claims where that is due, and lets the expired files of the first connection that has some go.
+    /// Lets the expired files of the first connection that has some go. Where there are none, it makes a checkpoint if
+    /// that is due, and reclaims the claims if that is due.
     pub fn tend<D: Disk>(
         &mut self,
         alloc: Global,
@@ -69,10 +72,12 @@ impl Engine<'_> {
         ensures expired { result ≡ Ok Expired → self.new.entries ≡ self.old.entries + 1 }
         ensures none { result ≡ Ok Nothing
             → IsNoneExpired self.new moment × (self.new.entries ≡ self.old.entries) }
+        ensures checkpointed { result ≡ Ok Nothing → IsCheckpointed self.old self.new }
         // On any devices.
         ensures ready { OnOk result (IsReady D.tells D.held D.moment D.images self.new disk.new) }
         ensures names { self.new.listing ≡ self.old.listing }
         ensures same { IsOfSameRun self.old self.new }
+        ensures log { OnOk result (IsNoEarlier self.old.store.log.number self.new.store.log.number) }
         ensures alone { WritesLog D.moment D.images self.old.store.log.number disk.old disk.new }
         ensures refused { (limit : TheLimit) → IsErrOf result (EngineError.Limit limit)
             → IsRefused self.old.flow D.tells D.held D.moment D.images limit self.new.store disk.new
@@ -82,8 +87,44 @@ impl Engine<'_> {
             ⊎ ((limit : TheLimit) × (error ≡ EngineError.Limit limit))) }
         ensures cause { CountsFaults (D.faults disk.old) (D.faults disk.new) (IsErrOf result EngineError.Disk) }
     {
-        self.reclaim_due(disk)?;
-        self.expire_due(alloc, disk, moment)
+        match self.expire_due(alloc, disk, moment)? {
+            Tended::Expired => Ok(Tended::Expired),
+            Tended::Nothing => {
+                self.checkpoint_due(disk)?;
+                self.reclaim_due(disk)?;
+                Ok(Tended::Nothing)
+            }
+        }
+    }
+
+    // Begins a new log behind a snapshot where that is due. All memory is taken before the first call of the disk.
+    fn checkpoint_due<D: Disk>(&mut self, disk: &mut D) -> Result<(), EngineError>
+        requires { IsReady D.tells D.held D.moment D.images self.old disk.old }
+        ensures goes_on { OnOk result ((opened : Machine) (first : D) (left : List NamedFile)
+            (standing : List ℕ → Option (List ℕ))
+            → IsRunning D.moment D.images self.old opened first disk.old left standing
+            → IsRunning D.moment D.images self.new opened first disk.new left standing) }
+        ensures stopped { (error : TheError) → IsErrOf result error → (opened : Machine) (first : D)
+            (left : List NamedFile) (standing : List ℕ → Option (List ℕ))
+            → IsRunning D.moment D.images self.old opened first disk.old left standing
+            → Stops error D.tells D.held D.moment D.images self.new opened first disk.new left standing }
+        ensures made { OnOk result (IsCheckpointed self.old self.new) }
+        ensures ready { OnOk result (IsReady D.tells D.held D.moment D.images self.new disk.new) }
+        ensures rest { self.new ≡ record self.old { store = self.new.store } }
+        ensures same { IsOfSameRun self.old self.new }
+        ensures log { OnOk result (IsNoEarlier self.old.store.log.number self.new.store.log.number) }
+        ensures unwritten { IsErrOf result EngineError.Memory → disk.new ≡ disk.old }
+        ensures alone { WritesLog D.moment D.images self.old.store.log.number disk.old disk.new }
+        ensures kinds { IfErr result (λ error. (error ≡ EngineError.Disk) ⊎ (error ≡ EngineError.Memory)) }
+        ensures cause { CountsFaults (D.faults disk.old) (D.faults disk.new) (IsErrOf result EngineError.Disk) }
+    {
+        if !wants_checkpoint(&self.store, self.checkpoint) {
+            return Ok(());
+        }
+        run_goes_on::<D>();
+        faults_end_a_run::<D>();
+        checkpoint(&mut self.store, disk)?;
+        Ok(())
     }
 
     // Reclaims the claims where that is due.
@@ -98,9 +139,9 @@ impl Engine<'_> {
             → IsRunning D.moment D.images self.old opened first disk.old left standing
             → Stops EngineError.Disk D.tells D.held D.moment D.images self.new opened first disk.new left standing }
         ensures ready { OnOk result (IsReady D.tells D.held D.moment D.images self.new disk.new) }
-        ensures names { self.new.listing ≡ self.old.listing }
-        ensures entries { self.new.entries ≡ self.old.entries }
+        ensures rest { self.new ≡ record self.old { store = self.new.store } }
         ensures same { IsOfSameRun self.old self.new }
+        ensures log { self.new.store.log.number ≡ self.old.store.log.number }
         ensures alone { WritesLog D.moment D.images self.old.store.log.number disk.old disk.new }
         ensures kinds { IfErr result (λ error. error ≡ EngineError.Disk) }
         ensures cause { CountsFaults (D.faults disk.old) (D.faults disk.new) (IsErrOf result EngineError.Disk) }
@@ -133,11 +174,11 @@ impl Engine<'_> {
             → IsRunning D.moment D.images self.old opened first disk.old left standing
             → Stops error D.tells D.held D.moment D.images self.new opened first disk.new left standing }
         ensures expired { result ≡ Ok Expired → self.new.entries ≡ self.old.entries + 1 }
-        ensures none { result ≡ Ok Nothing
-            → IsNoneExpired self.new moment × (self.new.entries ≡ self.old.entries) }
+        ensures none { result ≡ Ok Nothing → IsNoneExpired self.new moment × (self.new ≡ self.old) }
         ensures ready { OnOk result (IsReady D.tells D.held D.moment D.images self.new disk.new) }
         ensures names { self.new.listing ≡ self.old.listing }
         ensures same { IsOfSameRun self.old self.new }
+        ensures log { self.new.store.log.number ≡ self.old.store.log.number }
         ensures alone { WritesLog D.moment D.images self.old.store.log.number disk.old disk.new }
         ensures refused { (limit : TheLimit) → IsErrOf result (EngineError.Limit limit)
             → IsRefused self.old.flow D.tells D.held D.moment D.images limit self.new.store disk.new
@@ -176,6 +217,39 @@ impl Engine<'_> {
         self.since_reclaim = self.since_reclaim.saturating_add(1);
         Ok(Tended::Expired)
     }
+}
+
+// Whether the log has so many entries, and another one can follow it.
+fn wants_checkpoint(store: &Store, checkpoint: u64) -> bool
+    ensures { (number : ℕ) → store.now.log.number ≡ Some number
+        → result ≡ is_checkpoint_due checkpoint store.now.entries number }
+{
+    store.log_entries() >= checkpoint && store.log_number() < NUMBER_LIMIT - 1
+}
+
+// Begins a new log behind a snapshot. Whatever a stop leaves stands for the same state.
+fn checkpoint<D: Disk>(store: &mut Store, disk: &mut D) -> Result<(), EngineError>
+    requires work { (flow : TheFlow) × IsAtWork flow D.tells D.held D.moment D.images store.old disk.old }
+    requires number { (number : ℕ) → store.old.log.number ≡ Some number → IsNumber (number + 1) }
+    ensures spared { (flow : TheFlow) (before : Machine)
+        → IsAtWork flow D.tells D.held D.moment D.images store.old disk.old
+        → InEach (D.images disk.old (D.moment disk.old)) (StandsFor flow store.old.lot before)
+        → IsSpared flow D.moment D.images store.old.lot before disk.old disk.new }
+    ensures work { OnOk result ((flow : TheFlow)
+        → IsAtWork flow D.tells D.held D.moment D.images store.old disk.old
+        → IsAtWork flow D.tells D.held D.moment D.images store.new disk.new) }
+    ensures same { (kept_by store.new ≡ kept_by store.old) × (store.new.lot ≡ store.old.lot) }
+    ensures next { OnOk result ((number : ℕ) → store.old.log.number ≡ Some number
+        → store.new.log.number ≡ Some (number + 1)) }
+    ensures log { OnOk result (IsNoEarlier store.old.log.number store.new.log.number) }
+    ensures unwritten { IsErrOf result EngineError.Memory → disk.new ≡ disk.old }
+    ensures alone { WritesLog D.moment D.images store.old.log.number disk.old disk.new }
+    ensures kinds { IfErr result (λ error. (error ≡ EngineError.Disk) ⊎ (error ≡ EngineError.Memory)) }
+    ensures cause { CountsFaults (D.faults disk.old) (D.faults disk.new) (IsErrOf result EngineError.Disk) }
+{
+    let _number = store.log_number();
+    store.checkpoint(disk)?;
+    Ok(())
 }
 
 // Empties the claims that no live content stands in. Whatever a stop leaves stands for the same state.

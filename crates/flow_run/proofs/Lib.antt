@@ -6,3 +6,4 @@ pub mod Left
 pub mod Memory
 pub mod Outgoing
 pub mod Steps
+pub mod Writing

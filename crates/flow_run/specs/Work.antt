@@ -1,8 +1,10 @@
 -- A store at work for a flow, and what its calls leave on any disk.
-use Rattle.std.specs.Prelude.{◌≡◌, ◌⊎◌, ℕ, ◌+◌, ◌≤◌, Bool, false, IsTrue, Contains, Option}
+use Rattle.std.specs.Prelude.{◌≡◌, ◌⊎◌, ℕ, ◌≤◌, ◌<◌, Bool, false, IsTrue, Contains, Option, Some}
 use Rattle.disk_trait.specs.Files.{Files}
 use Rattle.disk_trait.specs.Faults.{CountsFaults}
 use Rattle.disk_trait.specs.Images.{After, Since, Stays}
+use Rattle.disk_trait.specs.declared.file_name.FileKind.TheVariants.{Claim, Events, Log, Snapshot}
+use Rattle.disk_trait.specs.declared.file_name.FileName.{FileName}
 use Rattle.flowfile_record.specs.declared.change.Settled.{Settled}
 use Rattle.flowfile_record.specs.declared.content.ContentRef.{ContentRef}
 use Rattle.kept_state.specs.declared.limit.Limit.{Limit}
@@ -10,7 +12,7 @@ use Rattle.machine_model.specs.declared.flow.Flow.{Flow}
 use Rattle.store_core.specs.Change.{MayChange, IsLimitOf}
 use Rattle.store_core.specs.Flow.{flow_in}
 use Rattle.store_core.specs.Store.{StoreState, kept_by, live_in, IsKeptOn}
-use Rattle.store_core.specs.Touched.{MayTouch, TouchesOnly, Frees}
+use Rattle.store_core.specs.Touched.{OnlyShortens, TouchesOnly, Frees}
 use Rattle.engine_core.specs.Committing.{identity_of}
 
 -- the store is of the flow, works, and has in memory what the disk holds
@@ -20,10 +22,37 @@ pub record IsAtWork {D : Type 0} (flow : Flow) (tells : Bool) (held : D → File
   pub flow_is : flow_in (kept_by s) ≡ identity_of flow
   pub kept : IsKeptOn tells held moment images s disk
 
--- only files of claims and of events change, and the log of this number
+-- ---- which files change
+
+-- this number is the log's or a later one, ..
+abbrev pub IsFrom : (log : Option ℕ) → ℕ → Type 0
+IsFrom log n = (first : ℕ) × (log ≡ Some first) × (first ≤ n)
+
+-- .. or a later one
+abbrev pub IsPast : (log : Option ℕ) → ℕ → Type 0
+IsPast log n = (first : ℕ) × (log ≡ Some first) × (first < n)
+
+-- the log's number is the same or a later one
+abbrev pub IsNoEarlier : (old new : Option ℕ) → Type 0
+IsNoEarlier old new = (n : ℕ) → new ≡ Some n → IsFrom old n
+
+-- what is written behind a log of this number: files of claims and of events, this log and later ones, and later
+-- snapshots
+abbrev pub MayWriteFrom : (log : Option ℕ) → FileName → Type 0
+MayWriteFrom log f =
+    (f.kind ≡ Claim) ⊎ (f.kind ≡ Events) ⊎ ((f.kind ≡ Log) × IsFrom log f.number)
+    ⊎ ((f.kind ≡ Snapshot) × IsPast log f.number)
+
+-- Each other file is as it was or shorter, and the same but for this log's snapshot.
+pub record WritesFrom (log : Option ℕ) (old new : Files) : Type 0 where
+  pub shorter : OnlyShortens (MayWriteFrom log) old new
+  pub others : TouchesOnly (λ f. MayWriteFrom log f ⊎ ((f.kind ≡ Snapshot) × IsFrom log f.number)) old new
+
 abbrev pub WritesLog : {D : Type 0} → (D → ℕ) → (D → ℕ → Files → Type 0) → (log : Option ℕ) → (old new : D) → Type 0
 WritesLog moment images log old new =
-    Since moment images old new (After (TouchesOnly (MayTouch log)) (images old (moment old)))
+    Since moment images old new (After (WritesFrom log) (images old (moment old)))
+
+-- ---- why a run ends
 
 -- A store at work was asked for this change, which would pass a limit, the first of them.
 pub record IsRefused {D : Type 0} (flow : Flow) (tells : Bool) (held : D → Files) (moment : D → ℕ)

@@ -1,9 +1,8 @@
 -- What a run promises.
-use Rattle.std.specs.Prelude.{◌≡◌, ◌⊎◌, ℕ, ◌+◌, ◌≤◌, Bool, true, List, Option}
+use Rattle.std.specs.Prelude.{◌≡◌, ◌⊎◌, ℕ, ◌+◌, ◌≤◌, Bool, true, List, Option, Some}
 use Rattle.disk_trait.specs.Faults.{CountsFaults}
 use Rattle.disk_trait.specs.Files.{Files}
 use Rattle.disk_trait.specs.Images.{SinceMoment, Since}
-use Rattle.disk_trait.specs.declared.file_name.FileKind.TheVariants.{Claim, Events}
 use Rattle.disk_trait.specs.declared.file_name.FileName.{FileName}
 use Rattle.flowfile_record.specs.NamedFile.{NamedFile}
 use Rattle.flowfile_wal.specs.Current.{current_number}
@@ -13,10 +12,10 @@ use Rattle.machine_model.specs.State.{Machine}
 use Rattle.store_core.specs.Calls.{SinceSync, IsUnwritten}
 use Rattle.store_core.specs.Flow as store
 use Rattle.store_core.specs.Opened.{SameMeaning}
-use Rattle.store_core.specs.Touched.{IsOfLog, OnlyShortens}
+use Rattle.store_core.specs.Touched.{IsOfLog, OnlyShortens, log_opened}
 use Rattle.flow_run.specs.Ending.{IsLimitMet}
 use Rattle.flow_run.specs.Run.{HasRun}
-use Rattle.flow_run.specs.Work.{IsReadDamaged}
+use Rattle.flow_run.specs.Work.{IsReadDamaged, MayWriteFrom}
 use Rattle.flow_run.specs.declared.ended.Ended.{Ended}
 use Rattle.run_top.specs.Opening.{IsShutStatus, IsToldBy}
 use Rattle.run_top.specs.Status.{status_of_end}
@@ -85,10 +84,10 @@ pub record IsToldShut {D I O : Type 0} (flow : store.Flow) (status : ℕ) (tells
 
 -- ---- behind the opening, on any disk
 
--- What a run writes: files of claims and of events, and the log that is current at the start. Where none is, the first
--- log and its snapshot, which are made.
+-- What a run writes: files of claims and of events, the log that is current at the start, later logs and their
+-- snapshots. Where none is current, the first log and its snapshot, which are made, and what is later.
 abbrev pub MayWrite : Files → FileName → Type 0
-MayWrite files f = (f.kind ≡ Claim) ⊎ (f.kind ≡ Events) ⊎ IsOfLog (current_number files) f
+MayWrite files f = IsOfLog (current_number files) f ⊎ MayWriteFrom (Some (log_opened (current_number files))) f
 
 -- from behind the opening's first sync on, whatever a stop may leave has each other file as it was at the start or
 -- shorter

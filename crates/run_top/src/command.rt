@@ -36,6 +36,9 @@ use world_io::{Clock, Gate, Inbox, Outbox, Sink, Source};
 /// The greatest number of sessions of a run, and of other entries of its journal.
 pub const MAX_COMMITS: u64 = 1_048_576;
 
+/// With how many entries in a log a new one begins, behind a snapshot.
+pub const CHECKPOINT_ENTRIES: u64 = 4_096;
+
 /// Runs the command that the words say, and answers its status.
 ///
 /// The one command is `run`: it reads the flow's text from its source, and opens the flow's store on the disk, or makes
@@ -83,8 +86,8 @@ pub fn run<R, D: Disk, I: Inbox, O: Outbox, F: Source, P: Patterns, S: Sink, C: 
         → IsNotRead result (HasRisen (P.faults patterns.old) (P.faults patterns.new)) F.tells (F.rest flow.old)
         disk.old disk.new inbox.old inbox.new outbox.old outbox.new }
 
-    // Whatever the status, only claims, events, the log and a new store's snapshot are written; or the opening's first
-    // sync failed; or there was no flow to run.
+    // Whatever the status, only claims, events, the log, later logs with their snapshots, and a new store's snapshot
+    // are written; or the opening's first sync failed; or there was no flow to run.
     ensures alone { is_run words.now ≡ true → WritesAlone D.moment D.images (D.held disk.old) disk.old disk.new
         ⊎ IsNotOpened result D.moment D.images disk.old disk.new inbox.old inbox.new outbox.old outbox.new
         ⊎ IsNotRead result (HasRisen (P.faults patterns.old) (P.faults patterns.new)) F.tells (F.rest flow.old)
@@ -123,7 +126,16 @@ pub fn run<R, D: Disk, I: Inbox, O: Outbox, F: Source, P: Patterns, S: Sink, C: 
         return USAGE;
     }
     match read(alloc, flow, patterns) {
-        Ok(flow) => status_of_run(run_over(alloc, &flow, lot, disk, inbox, outbox, clock)),
+        Ok(flow) => status_of_run(run_over(
+            alloc,
+            &flow,
+            lot,
+            CHECKPOINT_ENTRIES,
+            disk,
+            inbox,
+            outbox,
+            clock,
+        )),
         Err(error) => error.status(),
     }
 }
@@ -138,11 +150,12 @@ pub fn are_run(words: &[String]) -> bool
     }
 }
 
-// Opens the store of a flow, and runs the flow over it.
-fn run_over<D: Disk, I: Inbox, O: Outbox, C: Clock>(
+/// Opens the store of a flow, and runs the flow over it, with a checkpoint where the log has `checkpoint` entries.
+pub fn run_over<D: Disk, I: Inbox, O: Outbox, C: Clock>(
     alloc: Global,
     flow: &Flow,
     lot: u64,
+    checkpoint: u64,
     disk: &mut D,
     inbox: &mut I,
     outbox: &mut O,
@@ -183,5 +196,15 @@ fn run_over<D: Disk, I: Inbox, O: Outbox, C: Clock>(
     what_is_kept_is_a_state();
     events_up_to_the_last_are_in_a_row();
     let _stored = store.state();
-    Ok(run_flow(alloc, flow, store, MAX_COMMITS, disk, inbox, outbox, clock))
+    Ok(run_flow(
+        alloc,
+        flow,
+        store,
+        MAX_COMMITS,
+        checkpoint,
+        disk,
+        inbox,
+        outbox,
+        clock,
+    ))
 }

@@ -14,7 +14,8 @@ use Rattle.flow_engine.specs.declared.error.EngineError.{EngineError}
 use Rattle.flow_engine.specs.declared.error.EngineError.TheVariants.{Damaged, Limit}
 use Rattle.flow_engine.proofs.Closing.{begun, by_damage, closes_blocked, closes_limited, closes_quiet, ends_on_faults, limit_met, limit_of, no_limit_faults, not_opened, run_of, works_on}
 use Rattle.flow_engine.proofs.Turning.{IsNoLimit, damaged_by, each_counts_after, has_run}
-use Rattle.flow_engine.proofs.Writes.{writes_by_close, writes_in_turn, writes_none, writes_on}
+use Rattle.flow_run.proofs.Writing.{same_log, writes_in_turn, writes_none, writes_on}
+use Rattle.flow_engine.proofs.Writes.{writes_by_close}
 use Rattle.flow_engine.proofs.run.run_flow.Goals as goal
 
 pub returns-in-Err-clause-headline : goal.returns-in-Err-clause-headline
@@ -48,7 +49,7 @@ pub returns-in-Ok-Blocked-clause-alone : goal.returns-in-Ok-Blocked-clause-alone
 returns-in-Ok-Blocked-clause-alone g c =
     let D = g.D.Disk in
     let log = c.args.store.log.number in
-    let drives = writes_on D.moment D.images log c.in-Ok.engine.store.log.number c.args.disk.now c.args.disk.now c.drive.new.disk (ap (λ (t : StoreState). t.log.number) c.in-Ok.ensures.opened.store_is) (writes_none D.moment D.images log c.args.disk.now) c.drive.ensures.alone in
+    let drives = writes_on D.moment D.images log c.in-Ok.engine.store.log.number c.args.disk.now c.args.disk.now c.drive.new.disk (same_log log c.in-Ok.engine.store.log.number (ap (λ (t : StoreState). t.log.number) c.in-Ok.ensures.opened.store_is)) (writes_none D.moment D.images log c.args.disk.now) c.drive.ensures.alone in
     writes_in_turn D.moment D.images log c.args.disk.now c.drive.new.disk c.close.new.disk drives (writes_by_close D.moment D.images log c.engine.inside.store c.drive.new.disk c.close.new.disk c.close.ensures.alone)
 
 pub returns-in-Ok-Quiet-clause-headline : goal.returns-in-Ok-Quiet-clause-headline
@@ -74,7 +75,7 @@ pub returns-in-Ok-Quiet-clause-alone : goal.returns-in-Ok-Quiet-clause-alone
 returns-in-Ok-Quiet-clause-alone g c =
     let D = g.D.Disk in
     let log = c.args.store.log.number in
-    let drives = writes_on D.moment D.images log c.in-Ok.engine.store.log.number c.args.disk.now c.args.disk.now c.drive.new.disk (ap (λ (t : StoreState). t.log.number) c.in-Ok.ensures.opened.store_is) (writes_none D.moment D.images log c.args.disk.now) c.drive.ensures.alone in
+    let drives = writes_on D.moment D.images log c.in-Ok.engine.store.log.number c.args.disk.now c.args.disk.now c.drive.new.disk (same_log log c.in-Ok.engine.store.log.number (ap (λ (t : StoreState). t.log.number) c.in-Ok.ensures.opened.store_is)) (writes_none D.moment D.images log c.args.disk.now) c.drive.ensures.alone in
     writes_in_turn D.moment D.images log c.args.disk.now c.drive.new.disk c.close-in-Ok-Quiet.new.disk drives (writes_by_close D.moment D.images log c.engine.inside.store c.drive.new.disk c.close-in-Ok-Quiet.new.disk c.close-in-Ok-Quiet.ensures.alone)
 
 pub close-requires-in-Err-drive-clause-kept : goal.close-requires-in-Err-drive-clause-kept
@@ -119,7 +120,7 @@ pub returns-clause-alone : goal.returns-clause-alone
 returns-clause-alone g c =
     let D = g.D.Disk in
     let log = c.args.store.log.number in
-    let drives = writes_on D.moment D.images log c.in-Ok.engine.store.log.number c.args.disk.now c.args.disk.now c.drive.new.disk (ap (λ (t : StoreState). t.log.number) c.in-Ok.ensures.opened.store_is) (writes_none D.moment D.images log c.args.disk.now) c.drive.ensures.alone in
+    let drives = writes_on D.moment D.images log c.in-Ok.engine.store.log.number c.args.disk.now c.args.disk.now c.drive.new.disk (same_log log c.in-Ok.engine.store.log.number (ap (λ (t : StoreState). t.log.number) c.in-Ok.ensures.opened.store_is)) (writes_none D.moment D.images log c.args.disk.now) c.drive.ensures.alone in
     writes_in_turn D.moment D.images log c.args.disk.now c.drive.new.disk c.close-in-Err-drive.new.disk drives (writes_by_close D.moment D.images log c.engine.inside.store c.drive.new.disk c.close-in-Err-drive.new.disk c.close-in-Err-drive.ensures.alone)
 
 pub returns-clause-limited : goal.returns-clause-limited
@@ -158,7 +159,7 @@ returns-in_default g c =
           (c.drive.ensures.same.flow ∙ is.flow_is) (c.drive.ensures.same.lot ∙ ap (λ (t : StoreState). t.lot) is.store_is)
           (has_run D.tells D.held D.moment D.images e opened first c.drive.new.disk now_left now_standing error none stop time));
       alone =
-          writes_on D.moment D.images c.args.store.log.number e0.store.log.number c.args.disk.now c.args.disk.now c.drive.new.disk (ap (λ (t : StoreState). t.log.number) is.store_is)
+          writes_on D.moment D.images c.args.store.log.number e0.store.log.number c.args.disk.now c.args.disk.now c.drive.new.disk (same_log c.args.store.log.number e0.store.log.number (ap (λ (t : StoreState). t.log.number) is.store_is))
           (writes_none D.moment D.images c.args.store.log.number c.args.disk.now) c.drive.ensures.alone;
       limited = λ limit ends. absurd (no_limit_faults error none limit (sym so ∙ ends));
       damaged = λ damage ends.

@@ -8,7 +8,8 @@ use Rattle.engine_core.specs.Committing.{identity_of}
 use Rattle.engine_queues.specs.Queues.{AreQueuesOf}
 use Rattle.engine_queues.specs.Settling.{IsKeptAfter, MaySettleOver}
 use Rattle.engine_queues.proofs.ForCallers.{may_still_settle}
-use Rattle.flow_engine.proofs.Committed.{committed, committed_between, flow_after, kept_after, still_works, writes_to}
+use Rattle.flow_run.proofs.Writing.{touches_log}
+use Rattle.flow_engine.proofs.Committed.{committed, committed_between, flow_after, kept_after, still_works}
 use Rattle.flow_engine.proofs.session.commit.Goals as goal
 
 pub returns-in_err-commit-clause-cut_off : goal.returns-in_err-commit-clause-cut_off
@@ -18,12 +19,12 @@ returns-in_err-commit-clause-cut_off g c is flow before after work stands makes 
 
 pub returns-in_err-commit-clause-alone : goal.returns-in_err-commit-clause-alone
 returns-in_err-commit-clause-alone g c =
-    writes_to g.D.Disk.moment g.D.Disk.images c.args.store.now.log.number c.prepare.new.self.log.number c.args.disk.now c.commit.new.disk (ap (λ (s : StoreState). s.log.number) c.prepare.ensures.same)
+    touches_log g.D.Disk.moment g.D.Disk.images c.args.store.now.log.number c.prepare.new.self.log.number c.args.disk.now c.commit.new.disk (ap (λ (s : StoreState). s.log.number) c.prepare.ensures.same)
     c.commit.ensures.alone
 
 pub returns-clause-alone : goal.returns-clause-alone
 returns-clause-alone g c =
-    writes_to g.D.Disk.moment g.D.Disk.images c.args.store.now.log.number c.prepare.new.self.log.number c.args.disk.now c.commit.new.disk (ap (λ (s : StoreState). s.log.number) c.prepare.ensures.same)
+    touches_log g.D.Disk.moment g.D.Disk.images c.args.store.now.log.number c.prepare.new.self.log.number c.args.disk.now c.commit.new.disk (ap (λ (s : StoreState). s.log.number) c.prepare.ensures.same)
     c.commit.ensures.alone
 
 pub returns-clause-stepped : goal.returns-clause-stepped

@@ -1,4 +1,4 @@
-use Rattle.std.proofs.Common.{◌≡◌, ℕ, List, length, ap, subst, sym, ◌∙◌, inl}
+use Rattle.std.proofs.Common.{◌≡◌, ℕ, List, length, ap, refl, subst, sym, ◌∙◌, inl}
 use Rattle.std.specs.Prelude.{Err}
 use Rattle.std.proofs.lemmas.List.{length-map}
 use Rattle.std.proofs.lemmas.Result.{err_from_is_err_and}
@@ -10,6 +10,7 @@ use Rattle.store_core.specs.Flow as store
 use Rattle.store_core.specs.Store.{kept_by}
 use Rattle.store_core.specs.declared.error.StoreError.{StoreError}
 use Rattle.engine_queues.specs.Settling.{MayExpireIn}
+use Rattle.flow_run.proofs.Writing.{touches_log}
 use Rattle.flow_engine.proofs.Tended.{committed, committed_between, kept_after, limit_of, passes, refuses}
 use Rattle.flow_engine.proofs.tending.expire.Goals as goal
 
@@ -98,3 +99,9 @@ returns-clause-queues g c =
     c.expire.ensures flow (kept_by s) (kept_by c.commit.new.self)
     (subst (λ (ns : List ℕ). MayExpireIn flow (kept_by s) x.connection ns c.args.queues.now) (sym same) may)
     (left.files ∙ ap (λ (ns : List ℕ). left_after ns (kept_by s).files) (sym same))
+
+pub returns-in_err-commit-clause-alone : goal.returns-in_err-commit-clause-alone
+returns-in_err-commit-clause-alone g c = touches_log g.D.Disk.moment g.D.Disk.images c.args.store.now.log.number c.args.store.now.log.number c.args.disk.now c.commit.new.disk refl c.commit.ensures.alone
+
+pub returns-clause-alone : goal.returns-clause-alone
+returns-clause-alone g c = touches_log g.D.Disk.moment g.D.Disk.images c.args.store.now.log.number c.args.store.now.log.number c.args.disk.now c.commit.new.disk refl c.commit.ensures.alone

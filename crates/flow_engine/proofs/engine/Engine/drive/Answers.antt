@@ -2,16 +2,16 @@ use Rattle.std.proofs.Common.{arith, ◌≡◌, ℕ, sym, ◌∙◌, ap}
 use Rattle.std.specs.Prelude.{Some, None}
 use Rattle.engine_choice.specs.declared.choice.Ending.{Ending}
 use Rattle.engine_choice.specs.declared.choice.Ending.TheVariants.{Blocked, Quiet, Rest}
+use Rattle.flow_run.proofs.Writing.{later_log, writes_on}
 use Rattle.flow_engine.proofs.Ending.{ends_blocked, ends_quiet, rests, went_on}
 use Rattle.flow_engine.proofs.Turning.{no_fault, same_run_on, works_for}
-use Rattle.flow_engine.proofs.Writes.{writes_on}
 use Rattle.flow_engine.proofs.engine.Engine.drive.Goals as goal
 
 pub returns-in_err-turn-clause-alone : goal.returns-in_err-turn-clause-alone
 returns-in_err-turn-clause-alone g c =
     let D = g.D.Disk in
     let inv = c.loop-until.invariant in
-    writes_on D.moment D.images c.args.self.now.store.log.number c.loop-until.self.store.log.number c.args.disk.now c.loop-until.disk c.turn.new.disk inv.same.log inv.alone c.turn.ensures.alone
+    writes_on D.moment D.images c.args.self.now.store.log.number c.loop-until.self.store.log.number c.args.disk.now c.loop-until.disk c.turn.new.disk inv.log inv.alone c.turn.ensures.alone
 
 pub loop-until-preserved-in-None : goal.loop-until-preserved-in-None
 loop-until-preserved-in-None g c =
@@ -21,7 +21,8 @@ loop-until-preserved-in-None g c =
       ready = c.in_ok-turn.ensures.ready;
       left = λ told. c.in_ok-turn.ensures.left told;
       same = same_run_on c.args.self.now c.loop-until.self c.turn.new.self inv.same c.turn.ensures.same;
-      alone = writes_on D.moment D.images c.args.self.now.store.log.number c.loop-until.self.store.log.number c.args.disk.now c.loop-until.disk c.turn.new.disk inv.same.log inv.alone c.turn.ensures.alone;
+      log = later_log c.args.self.now.store.log.number c.loop-until.self.store.log.number c.turn.new.self.store.log.number inv.log c.in_ok-turn.ensures.log;
+      alone = writes_on D.moment D.images c.args.self.now.store.log.number c.loop-until.self.store.log.number c.args.disk.now c.loop-until.disk c.turn.new.disk inv.log inv.alone c.turn.ensures.alone;
       runs = λ telling in_telling out_telling opened first run.
           went_on D.moment D.images c.turn.new.self opened first c.turn.new.disk (g.I.Inbox.left c.turn.new.inbox) (g.O.Outbox.standing c.turn.new.outbox) c.now-moment.result c.in_ok-turn.field-0
           (c.in_ok-turn.ensures.turned telling in_telling out_telling opened first (inv.runs telling in_telling out_telling opened first run)) c.in-None.is;
@@ -38,7 +39,8 @@ loop-until-preserved g c =
       ready = c.in_ok-turn.ensures.ready;
       left = λ told. c.in_ok-turn.ensures.left told;
       same = same_run_on c.args.self.now c.loop-until.self c.turn.new.self inv.same c.turn.ensures.same;
-      alone = writes_on D.moment D.images c.args.self.now.store.log.number c.loop-until.self.store.log.number c.args.disk.now c.loop-until.disk c.turn.new.disk inv.same.log inv.alone c.turn.ensures.alone;
+      log = later_log c.args.self.now.store.log.number c.loop-until.self.store.log.number c.turn.new.self.store.log.number inv.log c.in_ok-turn.ensures.log;
+      alone = writes_on D.moment D.images c.args.self.now.store.log.number c.loop-until.self.store.log.number c.args.disk.now c.loop-until.disk c.turn.new.disk inv.log inv.alone c.turn.ensures.alone;
       runs = λ telling in_telling out_telling opened first run.
           rests D.moment D.images c.turn.new.self opened first c.turn.new.disk (g.I.Inbox.left c.turn.new.inbox) (g.O.Outbox.standing c.turn.new.outbox) c.now-moment.result c.in_ok-turn.field-0
           (c.in_ok-turn.ensures.turned telling in_telling out_telling opened first (inv.runs telling in_telling out_telling opened first run)) c.in-Some-Rest.until (c.in-Some-Rest.is ∙ ap (λ (a : Ending). Some a) (c.in-Some-Rest.field-0-is));
@@ -60,7 +62,7 @@ returns-in-Some-Blocked g c =
       no_rest = λ until is. cc;
       work = works_for D.tells D.held D.moment D.images c.args.self.now.flow c.turn.new.self.flow c.turn.new.self c.turn.new.disk (c.turn.ensures.same.flow ∙ inv.same.flow) c.in_ok-turn.ensures.ready.work;
       same = same_run_on c.args.self.now c.loop-until.self c.turn.new.self inv.same c.turn.ensures.same;
-      alone = writes_on D.moment D.images c.args.self.now.store.log.number c.loop-until.self.store.log.number c.args.disk.now c.loop-until.disk c.turn.new.disk inv.same.log inv.alone c.turn.ensures.alone;
+      alone = writes_on D.moment D.images c.args.self.now.store.log.number c.loop-until.self.store.log.number c.args.disk.now c.loop-until.disk c.turn.new.disk inv.log inv.alone c.turn.ensures.alone;
       refused = λ limit is. absurd cc;
       damaged = λ damage is. absurd cc;
       cause =
@@ -82,7 +84,7 @@ returns-in-Some-Quiet g c =
       no_rest = λ until is. cc;
       work = works_for D.tells D.held D.moment D.images c.args.self.now.flow c.turn.new.self.flow c.turn.new.self c.turn.new.disk (c.turn.ensures.same.flow ∙ inv.same.flow) c.in_ok-turn.ensures.ready.work;
       same = same_run_on c.args.self.now c.loop-until.self c.turn.new.self inv.same c.turn.ensures.same;
-      alone = writes_on D.moment D.images c.args.self.now.store.log.number c.loop-until.self.store.log.number c.args.disk.now c.loop-until.disk c.turn.new.disk inv.same.log inv.alone c.turn.ensures.alone;
+      alone = writes_on D.moment D.images c.args.self.now.store.log.number c.loop-until.self.store.log.number c.args.disk.now c.loop-until.disk c.turn.new.disk inv.log inv.alone c.turn.ensures.alone;
       refused = λ limit is. absurd cc;
       damaged = λ damage is. absurd cc;
       cause =

@@ -24,7 +24,7 @@ returns-then-self-clause-stopped g c error is telling opened first left standing
     let images = g.D.Disk.images in
     let disk = c.args.disk.now in
     let i = c.self.inside in
-    let e : EngineState = record { flow = i.flow.now; store = i.store; queues = i.queues; listing = i.listing; last = i.last; entries = i.entries; most = i.most } in
+    let e : EngineState = record { flow = i.flow.now; store = i.store; queues = i.queues; listing = i.listing; last = i.last; entries = i.entries; most = i.most; checkpoint = i.checkpoint } in
     let laws = g.met.D.Disk g.world.𝓛 g.world.𝓜 g.world.𝓡 ((λ s x. x), (λ x. x), (λ x. x), λ x. x) in
     let ready = subst (λ (u : EngineState). IsReady tells held moment images u disk) (sym c.self.view_is) c.requires.ready in
     let expiry = c.in-Some.expiry in
@@ -52,9 +52,9 @@ returns-in_err-expire-clause-stopped g c error is telling opened first left stan
     let old = c.args.disk.now in
     let new = c.expire.new.disk in
     let i = c.self.inside in
-    let e : EngineState = record { flow = i.flow.now; store = i.store; queues = i.queues; listing = i.listing; last = i.last; entries = i.entries; most = i.most } in
+    let e : EngineState = record { flow = i.flow.now; store = i.store; queues = i.queues; listing = i.listing; last = i.last; entries = i.entries; most = i.most; checkpoint = i.checkpoint } in
     let f : EngineState = record e { store = c.expire.new.store; queues = c.expire.new.queues } in
-    let same : IsOfSameRun e f = record { flow = refl; most = refl; lot = c.expire.ensures.same.0; log = c.expire.ensures.same.1 } in
+    let same : IsOfSameRun e f = record { flow = refl; most = refl; lot = c.expire.ensures.same.0 } in
     let p = err_from_is_err_and c.from_residual-in_err-expire.result c.from_residual-in_err-expire.ensures.1 in
     let told : c.in_err-expire.field-0.0 ≡ error = cc (p.1, p.2, is) in
     let was = c.in_err-expire.was ∙ ap Err told in
@@ -87,9 +87,9 @@ returns-clause-goes_on g c telling opened first left standing run =
     let old = c.args.disk.now in
     let new = c.expire.new.disk in
     let i = c.self.inside in
-    let e : EngineState = record { flow = i.flow.now; store = i.store; queues = i.queues; listing = i.listing; last = i.last; entries = i.entries; most = i.most } in
+    let e : EngineState = record { flow = i.flow.now; store = i.store; queues = i.queues; listing = i.listing; last = i.last; entries = i.entries; most = i.most; checkpoint = i.checkpoint } in
     let f : EngineState = record e { store = c.expire.new.store; queues = c.expire.new.queues; entries = i.entries + 1 } in
-    let same : IsOfSameRun e f = record { flow = refl; most = refl; lot = c.expire.ensures.same.0; log = c.expire.ensures.same.1 } in
+    let same : IsOfSameRun e f = record { flow = refl; most = refl; lot = c.expire.ensures.same.0 } in
     let expiry = c.in-Some.expiry in
     runs_stepped tells held moment images e f same opened first old new left standing c.worlds_follow_steps.ensures.queues (Expire expiry.connection expiry.numbers c.args.moment) tt
     c.run_goes_on.ensures.step refl refl (λ m stands. c.in_ok-expire.ensures.done telling m stands)

@@ -21,7 +21,8 @@ use Rattle.flow_engine.specs.Job.{MayHand}
 use Rattle.flow_engine.specs.Running.{Stops}
 use Rattle.flow_engine.specs.declared.error.EngineError.{EngineError}
 use Rattle.flow_engine.proofs.Chosen.{job_receives, may_hand, next_first, next_is_left, next_takes_it, next_there_is}
-use Rattle.flow_engine.proofs.Committed.{reads_only, refuses, writes_in_turn, writes_to}
+use Rattle.flow_run.proofs.Writing.{reads_only, writes_in_turn, writes_to}
+use Rattle.flow_engine.proofs.Committed.{refuses}
 use Rattle.flow_engine.proofs.Goes.{goes_on, named_so, on_any, on_one, spared_by_read, stops_behind, stops_in_commit, stops_unmoved, takes_received}
 use Rattle.flow_engine.proofs.Left.{distinct_without, takeable_without}
 use Rattle.flow_engine.proofs.Steps.{next_there, queued_then, runs_on, step_so}
@@ -135,6 +136,7 @@ returns-in_err-changed-clause-stopped g c error is telling in_telling out_tellin
       last = c.self.inside.last;
       entries = c.self.inside.entries;
       most = c.self.inside.most;
+      checkpoint = c.self.inside.checkpoint;
     } in
     stops_unmoved D.tells D.held D.moment D.images e f opened first c.args.disk.now c.hand.new.disk (g.I.Inbox.left c.args.inbox.now) (g.O.Outbox.standing c.args.outbox.now) run
     (ap (λ (x : EngineState). x.flow) c.self.view_is) (c.hand.ensures.lot.0 ∙ ap (λ (x : EngineState). x.store.lot) c.self.view_is)
@@ -162,6 +164,7 @@ returns-in_err-commit-clause-stopped g c error is telling in_telling out_telling
       last = c.self.inside.last;
       entries = c.self.inside.entries;
       most = c.self.inside.most;
+      checkpoint = c.self.inside.checkpoint;
     } in
     let told = c.in_ok-job.ensures.told telling in_telling out_telling in
     let at = step_so D.tells D.held D.moment D.images _ e c.self.view_is c.args.disk.now c.requires.ready c.holds_its_state.ensures.kept.0 c.args.moment c.args.choice c.requires.chosen
@@ -209,6 +212,7 @@ returns-clause-goes_on g c = on_one c.remove.result _ _ (λ removed telling in_t
       last = Some c.args.choice.processor;
       entries = c.one_more-self-inside.result;
       most = c.self.inside.most;
+      checkpoint = c.self.inside.checkpoint;
     } in
     let told = c.in_ok-job.ensures.told telling in_telling out_telling in
     let at = step_so D.tells D.held D.moment D.images _ e c.self.view_is c.args.disk.now c.requires.ready c.holds_its_state.ensures.kept.0 c.args.moment c.args.choice c.requires.chosen
@@ -253,6 +257,7 @@ returns-clause-stopped g c error is telling in_telling out_telling opened first 
       last = Some c.args.choice.processor;
       entries = c.one_more-self-inside.result;
       most = c.self.inside.most;
+      checkpoint = c.self.inside.checkpoint;
     } in
     let told = c.in_ok-job.ensures.told telling in_telling out_telling in
     let at = step_so D.tells D.held D.moment D.images _ e c.self.view_is c.args.disk.now c.requires.ready c.holds_its_state.ensures.kept.0 c.args.moment c.args.choice c.requires.chosen

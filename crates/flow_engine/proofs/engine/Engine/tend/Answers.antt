@@ -1,13 +1,32 @@
-use Rattle.flow_engine.proofs.RunsOn.{on_ok_leads}
-use Rattle.flow_engine.proofs.Writes.{writes_on}
+use Rattle.flow_run.proofs.Writing.{later_log, same_log, writes_on}
 use Rattle.flow_engine.proofs.engine.Engine.tend.Goals as goal
 
-pub returns-clause-goes_on : goal.returns-clause-goes_on
-returns-clause-goes_on g c =
-    on_ok_leads c.expire_due.result _ _ (λ on telling opened first left standing run. on telling opened first left standing (c.in_ok-reclaim_due.ensures.goes_on opened first left standing run))
-    c.expire_due.ensures.goes_on
+pub returns-in_err-checkpoint_due-in-Nothing-clause-alone : goal.returns-in_err-checkpoint_due-in-Nothing-clause-alone
+returns-in_err-checkpoint_due-in-Nothing-clause-alone g c =
+    let D = g.D.Disk in
+    let log = c.args.self.now.store.log.number in
+    let mid = c.expire_due.new.self.store.log.number in
+    writes_on D.moment D.images log mid c.args.disk.now c.expire_due.new.disk c.checkpoint_due.new.disk (same_log log mid c.expire_due.ensures.log) c.expire_due.ensures.alone c.checkpoint_due.ensures.alone
 
-pub returns-clause-alone : goal.returns-clause-alone
-returns-clause-alone g c =
-    writes_on g.D.Disk.moment g.D.Disk.images c.args.self.now.store.log.number c.reclaim_due.new.self.store.log.number c.args.disk.now c.reclaim_due.new.disk c.expire_due.new.disk c.reclaim_due.ensures.same.log
-    c.reclaim_due.ensures.alone c.expire_due.ensures.alone
+pub returns-in_err-reclaim_due-in-Nothing-clause-stopped : goal.returns-in_err-reclaim_due-in-Nothing-clause-stopped
+returns-in_err-reclaim_due-in-Nothing-clause-stopped g c error is telling opened first left standing run = ?
+
+pub returns-in_err-reclaim_due-in-Nothing-clause-alone : goal.returns-in_err-reclaim_due-in-Nothing-clause-alone
+returns-in_err-reclaim_due-in-Nothing-clause-alone g c =
+    let D = g.D.Disk in
+    let log = c.args.self.now.store.log.number in
+    let mid = c.expire_due.new.self.store.log.number in
+    let next = c.checkpoint_due.new.self.store.log.number in
+    let same = same_log log mid c.expire_due.ensures.log in
+    writes_on D.moment D.images log next c.args.disk.now c.checkpoint_due.new.disk c.reclaim_due.new.disk (later_log log mid next same c.in_ok-checkpoint_due.ensures.log)
+    (writes_on D.moment D.images log mid c.args.disk.now c.expire_due.new.disk c.checkpoint_due.new.disk same c.expire_due.ensures.alone c.checkpoint_due.ensures.alone) c.reclaim_due.ensures.alone
+
+pub returns-in_ok-reclaim_due-in-Nothing-clause-alone : goal.returns-in_ok-reclaim_due-in-Nothing-clause-alone
+returns-in_ok-reclaim_due-in-Nothing-clause-alone g c =
+    let D = g.D.Disk in
+    let log = c.args.self.now.store.log.number in
+    let mid = c.expire_due.new.self.store.log.number in
+    let next = c.checkpoint_due.new.self.store.log.number in
+    let same = same_log log mid c.expire_due.ensures.log in
+    writes_on D.moment D.images log next c.args.disk.now c.checkpoint_due.new.disk c.reclaim_due.new.disk (later_log log mid next same c.in_ok-checkpoint_due.ensures.log)
+    (writes_on D.moment D.images log mid c.args.disk.now c.expire_due.new.disk c.checkpoint_due.new.disk same c.expire_due.ensures.alone c.checkpoint_due.ensures.alone) c.reclaim_due.ensures.alone

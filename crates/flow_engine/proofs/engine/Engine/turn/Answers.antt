@@ -1,5 +1,5 @@
 use Rattle.std.proofs.lemmas.Result.{IfOk-weaker}
-use Rattle.flow_engine.proofs.Writes.{writes_on}
+use Rattle.flow_run.proofs.Writing.{writes_on}
 use Rattle.flow_engine.proofs.engine.Engine.turn.Goals as goal
 
 pub returns-in-Nothing-clause-turned : goal.returns-in-Nothing-clause-turned
@@ -13,4 +13,4 @@ returns-in-Nothing-clause-turned g c =
 pub returns-in-Nothing-clause-alone : goal.returns-in-Nothing-clause-alone
 returns-in-Nothing-clause-alone g c =
     writes_on g.D.Disk.moment g.D.Disk.images c.args.self.now.store.log.number c.tend.new.self.store.log.number c.args.disk.now c.tend.new.disk c.go_on.new.disk
-    c.tend.ensures.same.log c.tend.ensures.alone c.go_on.ensures.alone
+    c.in_ok-tend.ensures.log c.tend.ensures.alone c.go_on.ensures.alone

@@ -1,0 +1,62 @@
+use Rattle.std.proofs.Common.{◌≡◌, ◌⊎◌, ◌∙◌, refl, sym, subst}
+use Rattle.std.proofs.lemmas.Result.{err_from_is_err_and}
+use Rattle.flow_run.specs.Work.{IsAtWork, IsNoEarlier, WritesLog}
+use Rattle.flow_engine.specs.Engine.{EngineState, IsOfSameRun}
+use Rattle.flow_engine.specs.Running.{IsRunning}
+use Rattle.flow_engine.specs.declared.error.EngineError.{EngineError}
+use Rattle.flow_engine.proofs.RunsOn.{runs_spared, stops_by}
+use Rattle.flow_engine.proofs.Tended.{can_follow}
+use Rattle.flow_engine.proofs.engine.Engine.checkpoint_due.Goals as goal
+
+pub checkpoint-requires-clause-number : goal.checkpoint-requires-clause-number
+checkpoint-requires-clause-number g c κs within number is =
+    can_follow c.self.inside.checkpoint c.self.inside.store.entries number (sym (c.wants_checkpoint.ensures number is) ∙ c.if-not-wants_checkpoint.false)
+
+pub returns-in_err-checkpoint-clause-stopped : goal.returns-in_err-checkpoint-clause-stopped
+returns-in_err-checkpoint-clause-stopped g c error is opened first left standing run =
+    let tells = g.D.Disk.tells in
+    let held = g.D.Disk.held in
+    let moment = g.D.Disk.moment in
+    let images = g.D.Disk.images in
+    let old = c.args.disk.now in
+    let new = c.checkpoint.new.disk in
+    let i = c.self.inside in
+    let e : EngineState = record { flow = i.flow.now; store = i.store; queues = i.queues; listing = i.listing; last = i.last; entries = i.entries; most = i.most; checkpoint = i.checkpoint } in
+    let f : EngineState = record e { store = c.checkpoint.new.store } in
+    let same : IsOfSameRun e f = record { flow = refl; most = refl; lot = c.checkpoint.ensures.same.1 } in
+    let work = subst (λ (u : EngineState). IsAtWork u.flow tells held moment images u.store old) (sym c.self.view_is) c.requires.work in
+    let p = err_from_is_err_and c.from_residual.result c.from_residual.ensures.1 in
+    let told : c.in_err-checkpoint.field-0.0 ≡ error = cc (p.1, p.2, is) in
+    stops_by tells held moment images e f same opened first old new left standing c.faults_end_a_run.ensures.between error
+    (subst (λ (er : EngineError). (er ≡ EngineError.Disk) ⊎ (er ≡ EngineError.Memory)) told c.in_err-checkpoint.ensures.kinds)
+    (λ m stands. c.checkpoint.ensures.spared i.flow.now m work stands)
+    (subst (λ (u : EngineState). IsRunning moment images u opened first old left standing) (sym c.self.view_is) run)
+
+pub returns-in_err-checkpoint-clause-alone : goal.returns-in_err-checkpoint-clause-alone
+returns-in_err-checkpoint-clause-alone g c =
+    subst (λ (u : EngineState). WritesLog g.D.Disk.moment g.D.Disk.images u.store.log.number c.args.disk.now c.checkpoint.new.disk) c.self.view_is c.checkpoint.ensures.alone
+
+pub returns-clause-goes_on : goal.returns-clause-goes_on
+returns-clause-goes_on g c opened first left standing run =
+    let tells = g.D.Disk.tells in
+    let held = g.D.Disk.held in
+    let moment = g.D.Disk.moment in
+    let images = g.D.Disk.images in
+    let old = c.args.disk.now in
+    let new = c.checkpoint.new.disk in
+    let i = c.self.inside in
+    let e : EngineState = record { flow = i.flow.now; store = i.store; queues = i.queues; listing = i.listing; last = i.last; entries = i.entries; most = i.most; checkpoint = i.checkpoint } in
+    let f : EngineState = record e { store = c.checkpoint.new.store } in
+    let same : IsOfSameRun e f = record { flow = refl; most = refl; lot = c.checkpoint.ensures.same.1 } in
+    let work = subst (λ (u : EngineState). IsAtWork u.flow tells held moment images u.store old) (sym c.self.view_is) c.requires.work in
+    runs_spared tells held moment images e f same opened first old new left standing c.run_goes_on.ensures.spared refl refl
+    (λ m stands. c.checkpoint.ensures.spared i.flow.now m work stands)
+    (subst (λ (u : EngineState). IsRunning moment images u opened first old left standing) (sym c.self.view_is) run)
+
+pub returns-clause-log : goal.returns-clause-log
+returns-clause-log g c =
+    subst (λ (u : EngineState). IsNoEarlier u.store.log.number c.checkpoint.new.store.log.number) c.self.view_is c.in_ok-checkpoint.ensures.log
+
+pub returns-clause-alone : goal.returns-clause-alone
+returns-clause-alone g c =
+    subst (λ (u : EngineState). WritesLog g.D.Disk.moment g.D.Disk.images u.store.log.number c.args.disk.now c.checkpoint.new.disk) c.self.view_is c.checkpoint.ensures.alone

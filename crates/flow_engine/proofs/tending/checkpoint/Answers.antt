@@ -1,0 +1,35 @@
+use Rattle.std.proofs.Common.{◌≡◌, ◌∙◌, ap, inl}
+use Rattle.std.specs.Prelude.{Err}
+use Rattle.std.proofs.lemmas.Result.{err_from_is_err_and}
+use Rattle.store_core.specs.declared.error.StoreError.{StoreError}
+use Rattle.flow_run.proofs.Writing.{next_log}
+use Rattle.flow_engine.specs.declared.error.EngineError.{EngineError}
+use Rattle.flow_engine.proofs.Tended.{memory_of, spares, writes_by_checkpoint}
+use Rattle.flow_engine.proofs.tending.checkpoint.Goals as goal
+
+pub returns-in_err-checkpoint-clause-spared : goal.returns-in_err-checkpoint-clause-spared
+returns-in_err-checkpoint-clause-spared g c flow before work stands =
+    spares g.D.Disk.moment g.D.Disk.images flow c.args.store.now c.args.disk.now c.checkpoint.new.disk before work.flow_is stands (c.checkpoint.ensures.states work.works)
+
+pub returns-in_err-checkpoint-clause-alone : goal.returns-in_err-checkpoint-clause-alone
+returns-in_err-checkpoint-clause-alone g c =
+    writes_by_checkpoint g.D.Disk.moment g.D.Disk.images c.args.store.now.log.number c.log_number-number.result c.args.disk.now c.checkpoint.new.disk c.log_number-number.ensures c.checkpoint.ensures.alone
+
+pub returns-in_err-checkpoint-clause-unwritten : goal.returns-in_err-checkpoint-clause-unwritten
+returns-in_err-checkpoint-clause-unwritten g c is =
+    let p = err_from_is_err_and c.from_residual.result c.from_residual.ensures.1 in
+    let was : c.in_err-checkpoint.field-0.0 ≡ StoreError.Memory = memory_of c.in_err-checkpoint.field-0.0 c.in_err-checkpoint.ensures.kinds (cc (p.1, p.2, is)) in
+    (c.checkpoint.ensures.untouched (inl (c.in_err-checkpoint.was ∙ ap Err was))).1
+
+pub returns-clause-spared : goal.returns-clause-spared
+returns-clause-spared g c flow before work stands =
+    spares g.D.Disk.moment g.D.Disk.images flow c.args.store.now c.args.disk.now c.checkpoint.new.disk before work.flow_is stands (c.checkpoint.ensures.states work.works)
+
+pub returns-clause-log : goal.returns-clause-log
+returns-clause-log g c =
+    let number = c.log_number-number.result in
+    next_log c.args.store.now.log.number c.checkpoint.new.self.log.number number c.log_number-number.ensures ((c.in_ok-checkpoint.ensures.log number c.log_number-number.ensures).0)
+
+pub returns-clause-alone : goal.returns-clause-alone
+returns-clause-alone g c =
+    writes_by_checkpoint g.D.Disk.moment g.D.Disk.images c.args.store.now.log.number c.log_number-number.result c.args.disk.now c.checkpoint.new.disk c.log_number-number.ensures c.checkpoint.ensures.alone
