@@ -1,10 +1,10 @@
 #!/usr/bin/env python3
 """Tries checkpoints over real folders: a run whose log is begun anew, and such runs killed at random moments.
 
-A generator makes files that a put delivers, two entries for each. Where the log has 4,096 entries the program writes a
-snapshot and begins the next log, so the store's files stay small however many entries there were; its events grow. After
-each kill the store stands for a state, by the format alone, with no more entries in its log than that, and at the end each
-file was delivered.
+A generator makes files that a put delivers, two entries for each. Where the log has 4,096 entries the program writes
+a snapshot and begins the next log, so the store's files stay small however many entries there were; its events grow.
+After each kill the store stands for a state, by the format alone, with no more entries in its log than that, and at
+the end each file was delivered.
 """
 
 import random
@@ -55,13 +55,13 @@ class Cases:
             need_status(run(self.program, folder), DONE)
             self.seconds = time.monotonic() - began
             state = self.delivered(folder)
-            made, rest = divmod(2 * self.files - 1, ENTRIES)
-            need((state.log, len(state.entries)) == (made + 1, rest + 1),
+            made, rest = divmod(2 * self.files, ENTRIES)
+            need((state.log, len(state.entries)) == (made + 1, rest),
                  f"log {state.log} has {len(state.entries)} entries behind {made} checkpoints")
             kept = [name for name in names(folder / "store") if not name.startswith("events-")]
             need(kept == ["lock", f"log-{made + 1}", f"snapshot-{made + 1}"], f"store holds {kept}")
-            return (f"{2 * self.files} entries, {made} checkpoints: log and snapshot {size_of(folder, 'log', 'snapshot')} "
-                    f"bytes, events {size_of(folder, 'events')} bytes")
+            return (f"{2 * self.files} entries, {made} checkpoints: log and snapshot "
+                    f"{size_of(folder, 'log', 'snapshot')} bytes, events {size_of(folder, 'events')} bytes")
 
     def killed(self):
         """Runs that are killed again and again: nothing is lost, and no log grows past its limit."""
@@ -77,8 +77,8 @@ class Cases:
                 self.delivered(folder)
             rounds += 1
         need(max(logs) > 1, "no kill came behind a checkpoint")
-        return (f"{kills} kills in {rounds} folders of {self.files} files, behind logs up to {max(logs)}; logs, snapshots "
-                f"and claims had at most {largest} bytes")
+        return (f"{kills} kills in {rounds} folders of {self.files} files, behind logs up to {max(logs)}; logs, "
+                f"snapshots and claims had at most {largest} bytes")
 
     def is_killed(self, folder):
         child = start(self.program, folder)
