@@ -1,18 +1,27 @@
 -- What a session sends, by its processor's kind: a PutFile may send the one file that it took, and no other kind sends.
-use Rattle.std.proofs.Common.{◌≡◌, ◌⊎◌, inl, inr, ⊎_elim, ℕ, Bool, true, false, List, [], ◌∷◌, refl, sym, ap, subst}
-use Rattle.std.specs.Prelude.{All, Option, None, Some, option_map, slice_get}
+use Rattle.std.proofs.Common.{◌≡◌, ◌⊎◌, inl, inr, ⊎_elim, ℕ, Bool, true, false, List, [], ◌∷◌, map, length, refl, sym, ◌∙◌, ap, subst}
+use Rattle.std.specs.Prelude.{All, Option, None, Some, IfSome, ◌==◌, ◌||◌, cond, codes, option_map, replicate, slice_get}
 use Rattle.std.proofs.lemmas.List.Elements.{All-cons, All-nil}
 use Rattle.flowfile_record.specs.declared.content.ContentRef.{ContentRef}
 use Rattle.flowfile_record.specs.declared.flow_file.FlowFile.{FlowFile}
+use Rattle.flowfile_record.specs.Attributes.{AttributeMap}
+use Rattle.flowfile_record.specs.declared.worked.Origin.TheVariants.{Taken, Cloned}
 use Rattle.flowfile_record.specs.declared.worked.Outcome.{Outcome}
 use Rattle.flowfile_record.specs.declared.worked.Sent.{Sent}
 use Rattle.machine_model.specs.declared.given.Given.{Given}
 use Rattle.machine_model.specs.declared.kind.Conflict.{Conflict}
 use Rattle.machine_model.specs.declared.kind.Conflict.TheVariants.{Replace, Ignore, Fail}
+use Rattle.machine_model.specs.declared.kind.Destination.{Destination}
+use Rattle.machine_model.specs.declared.kind.Destination.TheVariants.{Attribute, Content}
 use Rattle.machine_model.specs.declared.kind.Kind.{Kind}
-use Rattle.machine_model.specs.declared.kind.Kind.TheVariants.{GetFile, GenerateFlowFile, PutFile}
+use Rattle.machine_model.specs.declared.kind.Kind.TheVariants.{GetFile, GenerateFlowFile, PutFile, UpdateAttribute, RouteOnAttribute, AttributesToJson, DuplicateFlowFile, CryptographicHashContent}
 use Rattle.machine_model.specs.Acting.{act, name_in, put, received}
-use Rattle.machine_model.specs.Making.{TakenFile}
+use Rattle.machine_model.specs.Making.{TakenFile, alone, passed_on, clone_of, found_in, may_have, with_set, as_content, or_given_up}
+use Rattle.machine_model.specs.UpdateAttribute.{update, updated}
+use Rattle.machine_model.specs.RouteOnAttribute.{route, routed, routed_file, routed_clone, true_places, with_clones}
+use Rattle.machine_model.specs.AttributesToJson.{attributes_to_json, json_of, noted_in, written_on}
+use Rattle.machine_model.specs.DuplicateFlowFile.{duplicate, duplicated}
+use Rattle.machine_model.specs.CryptographicHashContent.{hash_content, hashed}
 use Rattle.process_session.specs.declared.file.Source.{Source}
 use Rattle.settlement.specs.Contents.{IsBodyWithin}
 use Rattle.settlement.specs.Handed.{AreRead}
@@ -31,12 +40,65 @@ nothing_received (Some name) (Some bytes) outcome is = nothing _ outcome is refl
 some_is : (a b : Outcome) → ◌≡◌ {A = Option Outcome} (Some a) (Some b) → a ≡ b
 some_is a b is = cc
 
+-- what makes one outcome of one file, and sends nothing
+of_file : (makes : TakenFile → Outcome) → ((file : TakenFile) → (makes file).sent ≡ None) → (found : Option TakenFile) (outcome : Outcome) → option_map makes found ≡ Some outcome → outcome.sent ≡ None
+of_file makes each None outcome is = absurd cc
+of_file makes each (Some file) outcome is = ap (λ (o : Outcome). o.sent) (sym (some_is (makes file) outcome is)) ∙ each file
+
+abbrev SendsNothing : Option Outcome → Type 0
+SendsNothing made = IfSome made (λ outcome. outcome.sent ≡ None)
+
+or_given_up_sends : (relationship : ℕ) (file : TakenFile) (made : Option Outcome) → SendsNothing made → (or_given_up relationship (file ∷ []) made).sent ≡ None
+or_given_up_sends relationship file (Some outcome) nothing = nothing
+or_given_up_sends relationship file None nothing = refl
+
+set_sends : (set : Option AttributeMap) → SendsNothing (option_map (λ attributes. alone (passed_on 0 attributes false 0)) set)
+set_sends (Some attributes) = refl
+set_sends None = tt
+
+noted_sends : (destination : Destination) (file : TakenFile) (json : List ℕ) → SendsNothing (noted_in destination file json)
+noted_sends Attribute file json = set_sends (with_set (Taken 0) file.attributes (codes "JSONAttributes", json))
+noted_sends Content file json = written (as_content json)
+  where
+    written : (content : Option (List ℕ)) → SendsNothing (option_map (λ bytes. alone (written_on file.attributes bytes)) content)
+    written (Some bytes) = refl
+    written None = tt
+
+duplicated_sends : (copies : ℕ) (file : TakenFile) → SendsNothing (duplicated copies file)
+duplicated_sends copies file =
+    elim (may_have (Cloned 0) file.attributes) as (λ b. SendsNothing (cond b (Some (record { files = passed_on 0 file.attributes false 0 ∷ replicate copies (clone_of 0 file.attributes 0); sent = None })) None)) [
+      | true ↦ refl
+      | false ↦ tt
+    ]
+
+clones_send : (attributes : AttributeMap) (first : ℕ) (others : List ℕ) → SendsNothing (with_clones attributes first others)
+clones_send attributes first others =
+    elim ((length others == 0) || may_have (Cloned 0) attributes) as (λ b. SendsNothing (cond b (Some (record { files = routed_file attributes first ∷ map (routed_clone attributes) others; sent = None })) None)) [
+      | true ↦ refl
+      | false ↦ tt
+    ]
+
+routed_sends : (unmatched : ℕ) (file : TakenFile) (places : List ℕ) → (routed unmatched file places).sent ≡ None
+routed_sends unmatched file [] = refl
+routed_sends unmatched file (first ∷ others) = or_given_up_sends unmatched file (with_clones file.attributes first others) (clones_send file.attributes first others)
+
 -- what sends is a PutFile
 pub sends_or_puts : (kind : Kind) (taken : List TakenFile) (given : Given) (outcome : Outcome) → act kind taken given ≡ Some outcome
     → (outcome.sent ≡ None) ⊎ ((conflict : Conflict) × (kind ≡ PutFile conflict))
 sends_or_puts (PutFile conflict) taken given outcome acts = inr (conflict, refl)
 sends_or_puts (GetFile filter) taken given outcome acts = inl (nothing_received given.file given.bytes outcome acts)
 sends_or_puts (GenerateFlowFile count text) taken given outcome acts = inl (ap (λ (o : Outcome). o.sent) (sym (some_is _ outcome acts)))
+sends_or_puts (UpdateAttribute own) taken given outcome acts =
+    inl (of_file (update own) (λ file. or_given_up_sends 1 file (updated own file) (set_sends _)) (slice_get taken 0) outcome acts)
+sends_or_puts (RouteOnAttribute own) taken given outcome acts =
+    inl (of_file (route own) (λ file. routed_sends (length own) file (true_places (found_in file) own)) (slice_get taken 0) outcome acts)
+sends_or_puts (AttributesToJson destination names) taken given outcome acts =
+    inl (of_file (attributes_to_json destination names)
+    (λ file. or_given_up_sends 1 file (noted_in destination file (json_of names file)) (noted_sends destination file (json_of names file))) (slice_get taken 0) outcome acts)
+sends_or_puts (DuplicateFlowFile copies) taken given outcome acts =
+    inl (of_file (duplicate copies) (λ file. or_given_up_sends 0 file (duplicated copies file) (duplicated_sends copies file)) (slice_get taken 0) outcome acts)
+sends_or_puts CryptographicHashContent taken given outcome acts =
+    inl (of_file hash_content (λ file. or_given_up_sends 1 file (hashed file) (set_sends _)) (slice_get taken 0) outcome acts)
 sends_or_puts _ taken given outcome acts = absurd cc
 
 -- ---- what is left of the taken files
