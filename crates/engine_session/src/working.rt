@@ -6,7 +6,8 @@ ghost use Rattle.engine_session.specs.Working.{is_built, is_of_attributes, IsWor
 use flowfile_record::Outcome;
 use machine_model::{Flow, Given, Kind};
 use proc_attribute::{
-    AttributesToJson, CryptographicHashContent, DuplicateFlowFile, RouteOnAttribute, UpdateAttribute,
+    AttributesToJson, CryptographicHashContent, DuplicateFlowFile, RouteOnAttribute,
+    UpdateAttribute,
 };
 use proc_source::{GenerateFlowFile, GetFile, PutFile};
 use process_session::{SourceList, TakenList};

@@ -9,7 +9,8 @@ use anyhow::{Result, bail};
 use flowfile_record::Outcome;
 use machine_model::{Given, Kind, TakeRule};
 use proc_attribute::{
-    AttributesToJson, CryptographicHashContent, DuplicateFlowFile, RouteOnAttribute, UpdateAttribute,
+    AttributesToJson, CryptographicHashContent, DuplicateFlowFile, RouteOnAttribute,
+    UpdateAttribute,
 };
 use proc_source::{GenerateFlowFile, GetFile, PutFile};
 use process_session::TakenList;
