@@ -1,11 +1,7 @@
 //! A run over devices in memory, stopped at every moment and begun anew.
 use super::*;
-use crate::command::run_over;
-use crate::opening::open;
-use crate::text::read;
 use disk_trait::{Disk, MemoryDisk, Pick};
 use flow_definition::Builder;
-use flow_run::Ended;
 use flowfile_record::{Event, EventKind};
 use prov_store::Events;
 use sha2::{Digest, Sha256};
@@ -147,73 +143,6 @@ fn runs_again(alloc: Global, disk: &MemoryDisk, pick: Pick) -> Result<u32, Fail>
         }
     }
     Ok(runs)
-}
-
-// A flow that makes four files, which go through one after the other.
-const BEAT: &str = r#"{
-  "processors": [
-    { "id": "beat", "type": "GenerateFlowFile", "properties": { "Count": "4", "Custom Text": "x" } },
-    { "id": "put", "type": "PutFile", "terminated": ["success", "failure"] }
-  ],
-  "connections": [
-    { "id": "made", "from": "beat", "to": "put", "relationships": ["success"] }
-  ]
-}"#;
-
-// The moments from before the second checkpoint to behind it, where one is made at every second entry. A file's two
-// sessions make 11 calls, as above, and a checkpoint makes 10: two for the snapshot, six begin the log, and two cuts.
-const SECOND_CHECKPOINT: [u64; 2] = [42, 52];
-
-// Runs the flow with a checkpoint at every second entry. Where it delivers so many files, and each event of the four is
-// told once: the number of the log that is current then, and its entries.
-fn goes_by_logs(
-    alloc: Global,
-    disk: &mut MemoryDisk,
-    delivered: usize,
-) -> Result<(u64, u64), Fail> {
-    let mut source = MemorySource::new(BEAT.as_bytes().to_vec(alloc)?, Vec::new(alloc));
-    let mut patterns = Builder::new(Vec::new(alloc));
-    let Ok(flow) = read(alloc, &mut source, &mut patterns) else {
-        return Err("no flow")?;
-    };
-    let mut inbox = MemoryInbox::new(Vec::new(alloc), Vec::new(alloc));
-    let mut outbox = MemoryOutbox::new(Vec::new(alloc), Vec::new(alloc));
-    let mut clock = MemoryClock::new(1000, 0);
-    let ended = run_over(
-        alloc,
-        &flow,
-        0,
-        2,
-        disk,
-        &mut inbox,
-        &mut outbox,
-        &mut clock,
-    );
-    if !matches!(ended, Ok(Ended::Quiet)) || outbox.count() != delivered {
-        return Err("not all were delivered")?;
-    }
-    let Ok(store) = open(alloc, 0, disk, &flow) else {
-        return Err("no store")?;
-    };
-    if store.event_counts().counts != [4, 0, 0, 0, 0, 0, 0, 0, 4, 4, 0, 0] {
-        return Err("an event that nothing caused, or none where there was a cause")?;
-    }
-    Ok((store.log_number(), store.log_entries()))
-}
-
-#[test]
-fn wherever_a_checkpoint_stops_the_next_run_goes_on(rt: HostRuntime) -> Result<(), Fail> {
-    let alloc = rt.alloc();
-    let mut disk = MemoryDisk::new(Vec::new(alloc));
-    assert!(rt; goes_by_logs(alloc, &mut disk, 4)? == (5, 0));
-    let [first, last] = SECOND_CHECKPOINT;
-    for pick in [Pick::Old, Pick::New, Pick::Torn(1), Pick::Torn(0x5a5a)] {
-        for moment in first..=last {
-            let mut left = disk.stopped(moment, pick)?;
-            assert!(rt; goes_by_logs(alloc, &mut left, 2)? == (5, 0));
-        }
-    }
-    Ok(())
 }
 
 #[test]
