@@ -125,18 +125,20 @@ class Cases:
                  f"the events tell {kinds(state)}")
 
     def duplicates(self):
-        """Copies go by success with the file, each under its own uuid, into a queue that wasn't full before."""
-        text = flow([generator("gen", 2, "x"), processor("dup", "DuplicateFlowFile", {"Number of Copies": "4"}),
-                     let_go("put", "replace")],
+        """Copies go by success with the file, under its name, into a queue that wasn't full before."""
+        text = flow([generator("gen", 2, "${generate.index}"),
+                     processor("dup", "DuplicateFlowFile", {"Number of Copies": "4"}), let_go("put", "replace")],
                     [queue("c1", "gen", "dup"), queue("c2", "dup", "put", objects=2)])
         with work_folder(self.parent, text) as folder:
             self.run(folder)
             state = state_of(folder)
-            out = {store_format.uuid_of(state.store, number): b"x" for number in range(1, 11)}
+            made = [event.file for event in state.events if event.kind == CREATE]
+            out = {store_format.uuid_of(state.store, number): str(place).encode()
+                   for place, number in enumerate(made, 1)}
             need(read_files(folder / "out") == out, f"out holds {names(folder / 'out')}")
             need(kinds(state) == {CREATE: 2, CLONE: 8, SEND: 10, DROP: 10}, f"the events tell {kinds(state)}")
-            family = [event.children for event in state.events if event.kind == CLONE]
-            need(len(set(family)) == 8, f"the clones are {family}")
+            family = [(event.file, event.children) for event in state.events if event.kind == CLONE]
+            need(len(set(family)) == 8 and {file for file, _ in family} == set(made), f"the clones are {family}")
 
     def refuses(self):
         """Own properties that break a rule: nothing is touched."""
@@ -149,9 +151,12 @@ class Cases:
                     processor("p", "CryptographicHashContent", {"a": "x"}, BOTH)):
             with work_folder(self.parent, flow([source("get"), one], [queue("c", "get", "p")])) as folder:
                 write_files(folder / "in", {"a": b"one"})
+                self.run(folder, REFUSED)
                 before = photo(folder)
                 self.run(folder, REFUSED)
                 need(photo(folder) == before, f"the run of {one} changed something")
+                need(read_files(folder / "in") == {"a": b"one"}, f"the run of {one} took a file")
+                need(not names(folder / "out"), f"the run of {one} delivered {names(folder / 'out')}")
 
     def killed(self):
         """All of them in one flow: at the end all is delivered, and the events tell of each file."""
