@@ -83,7 +83,7 @@ class Cases:
     def is_killed(self, folder):
         child = start(self.program, folder)
         try:
-            status = child.wait(timeout=random.uniform(0, self.seconds / 4))
+            status = child.wait(timeout=random.uniform(0, self.seconds / 2))
         except subprocess.TimeoutExpired:
             child.kill()
             child.wait()
