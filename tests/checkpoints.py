@@ -67,7 +67,8 @@ class Cases:
         """Runs that are killed again and again: nothing is lost, and no log grows past its limit."""
         kills, rounds, largest, last = 0, 0, 0, 0
         while kills < self.count or last < 2:
-            need(rounds < 100, "no kill came behind a checkpoint")
+            need(rounds < 1000, "no kill came behind a checkpoint")
+            before = kills
             with work_folder(self.parent, text_of(self.files)) as folder:
                 while self.is_killed(folder):
                     kills += 1
@@ -78,6 +79,8 @@ class Cases:
                     largest = max(largest, size_of(folder, "log", "snapshot", "claim"))
                 self.delivered(folder)
             rounds += 1
+            # Some kills for each folder: the first run may have been slower or faster than these.
+            self.seconds *= 0.7 if kills - before < 3 else 1.3 if kills - before > 40 else 1
         return (f"{kills} kills in {rounds} folders of {self.files} files, behind logs up to {last}; logs, "
                 f"snapshots and claims had at most {largest} bytes")
 
