@@ -52,7 +52,19 @@ kept_code =
     (coded× (coded_list coded_ℕ)
     (coded× coded_ℕ (coded× coded_ℕ
     (coded× coded_ℕ (coded× coded_ℕ (coded× (coded_list active_code) (coded_list batch_code))))))))))
-    (λ k. (k.store, (k.flow, (k.connections, (k.counts, (k.next_number, (k.next_arrival, (k.last_event, (k.next_batch, (k.files, k.batches))))))))))
+    (λ k. (
+      k.store,
+      (
+        k.flow,
+        (
+          k.connections,
+          (
+            k.counts,
+            (k.next_number, (k.next_arrival, (k.last_event, (k.next_batch, (k.files, k.batches))))),
+          ),
+        ),
+      ),
+    ))
     (λ t. record {
       store = t.0;
       flow = t.1.0;
