@@ -15,7 +15,7 @@ use Rattle.machine_model.specs.declared.given.Given.{Given}
 use Rattle.machine_model.specs.declared.kind.Conflict.{Conflict}
 use Rattle.machine_model.specs.declared.kind.Conflict.TheVariants.{Replace, Ignore, Fail}
 use Rattle.machine_model.specs.declared.kind.Kind.{Kind}
-use Rattle.machine_model.specs.declared.kind.Kind.TheVariants.{GetFile, GenerateFlowFile, PutFile, UpdateAttribute, RouteOnAttribute, AttributesToJson, DuplicateFlowFile, CryptographicHashContent}
+use Rattle.machine_model.specs.declared.kind.Kind.TheVariants.{GetFile, GenerateFlowFile, PutFile, UpdateAttribute, RouteOnAttribute, AttributesToJson, DuplicateFlowFile, CryptographicHashContent, SplitText, MergeContent, SegmentContent, ModifyBytes}
 use Rattle.machine_model.specs.declared.pattern.Pattern.{Pattern}
 use Rattle.machine_model.specs.Making.{TakenFile, made_file, passed_on, alone}
 use Rattle.machine_model.specs.UpdateAttribute.{update}
@@ -23,6 +23,10 @@ use Rattle.machine_model.specs.RouteOnAttribute.{route}
 use Rattle.machine_model.specs.AttributesToJson.{attributes_to_json}
 use Rattle.machine_model.specs.DuplicateFlowFile.{duplicate}
 use Rattle.machine_model.specs.CryptographicHashContent.{hash_content}
+use Rattle.machine_model.specs.SplitText.{split}
+use Rattle.machine_model.specs.MergeContent.{merge}
+use Rattle.machine_model.specs.SegmentContent.{segment}
+use Rattle.machine_model.specs.ModifyBytes.{modify}
 
 -- GetFile: the inbox's file, named `filename`, at `path` ./, to success (0)
 abbrev pub received_attributes : List ℕ → AttributeMap
@@ -83,4 +87,8 @@ act (AttributesToJson destination names) taken given =
     option_map (attributes_to_json destination names) (slice_get taken 0)
 act (DuplicateFlowFile copies) taken given = option_map (duplicate copies) (slice_get taken 0)
 act CryptographicHashContent taken given = option_map hash_content (slice_get taken 0)
+act (SplitText lines) taken given = option_map (split lines) (slice_get taken 0)
+act (MergeContent strategy minimum maximum) taken given = Some (merge strategy taken)
+act (SegmentContent size) taken given = option_map (segment size) (slice_get taken 0)
+act (ModifyBytes start end) taken given = option_map (modify start end) (slice_get taken 0)
 act _ taken given = None

@@ -11,12 +11,17 @@ pub mod Kinds
 pub mod Laws
 pub mod Lineage
 pub mod Making
+pub mod MergeContent
+pub mod ModifyBytes
 pub mod Order
+pub mod Parts
 pub mod Placing
 pub mod Quiet
 pub mod RouteOnAttribute
+pub mod SegmentContent
 pub mod Settling
 pub mod Sound
+pub mod SplitText
 pub mod State
 pub mod Stepping
 pub mod Taking
