@@ -13,7 +13,7 @@ use Rattle.machine_model.specs.declared.kind.Conflict.{Conflict}
 use Rattle.machine_model.specs.declared.kind.Destination.{Destination}
 use Rattle.machine_model.specs.declared.kind.Destination.TheVariants.{Attribute, Content}
 use Rattle.machine_model.specs.declared.kind.Conflict.TheVariants.{Replace, Ignore, Fail}
-use Rattle.machine_model.specs.declared.kind.Kind.TheVariants.{GetFile, GenerateFlowFile, PutFile, UpdateAttribute, RouteOnAttribute, AttributesToJson, DuplicateFlowFile, CryptographicHashContent}
+use Rattle.machine_model.specs.declared.kind.Kind.TheVariants.{GetFile, GenerateFlowFile, PutFile, UpdateAttribute, RouteOnAttribute, AttributesToJson, DuplicateFlowFile, CryptographicHashContent, SplitText, MergeContent, SegmentContent, ModifyBytes}
 use Rattle.machine_model.specs.Acting.{act, received, put, put_unless_there, name_in}
 use Rattle.machine_model.specs.Making.{TakenFile, alone, passed_on, clone_of, found_in, may_have, with_set, as_content, or_given_up}
 use Rattle.machine_model.specs.UpdateAttribute.{update, updated}
@@ -21,7 +21,12 @@ use Rattle.machine_model.specs.RouteOnAttribute.{route, routed, routed_file, rou
 use Rattle.machine_model.specs.AttributesToJson.{attributes_to_json, json_of, noted_in, written_on}
 use Rattle.machine_model.specs.DuplicateFlowFile.{duplicate, duplicated}
 use Rattle.machine_model.specs.CryptographicHashContent.{hash_content, hashed}
+use Rattle.machine_model.specs.ModifyBytes.{modify, without_ends}
+use Rattle.machine_model.specs.Parts.{groups_of}
+use Rattle.machine_model.specs.SegmentContent.{segment, bytes_together}
+use Rattle.machine_model.specs.SplitText.{split, lines_of, lines_together}
 use Rattle.machine_model.specs.Laws.{EndsAllInTurn, ActsEndAllInTurn}
+use Rattle.machine_model.proofs.InTurn.{merge-turn, parts-turn}
 use Rattle.machine_model.proofs.Outcomes.{IsMade, taken-then-made}
 use Rattle.machine_model.proofs.Tally.{Each}
 
@@ -139,4 +144,11 @@ act-ends (DuplicateFlowFile copies) taken given may =
     one-file (duplicate copies) (λ file. or-given-up-ends 0 file (duplicated copies file) (duplicated-ends copies file)) taken may
 act-ends CryptographicHashContent taken given may =
     one-file hash_content (λ file. or-given-up-ends 1 file (hashed file) (with-attributes-ends _)) taken may
+act-ends (SplitText lines) taken given may =
+    one-file (split lines) (λ file. parts-turn 0 1 file (map lines_together (groups_of lines (lines_of file.bytes)))) taken may
+act-ends (MergeContent strategy minimum maximum) taken given may = merge-turn strategy taken
+act-ends (SegmentContent size) taken given may =
+    one-file (segment size) (λ file. parts-turn 1 0 file (map bytes_together (groups_of size file.bytes))) taken may
+act-ends (ModifyBytes start end) taken given may =
+    one-file (modify start end) (λ file. written-alone file.attributes (without_ends start end file.bytes)) taken may
 act-ends _ taken given may = tt

@@ -21,22 +21,30 @@ use Rattle.expr_lang.specs.declared.syntax.Expr.{Expr}
 use Rattle.machine_model.specs.declared.given.Given.{Given}
 use Rattle.machine_model.specs.declared.kind.Conflict.{Conflict}
 use Rattle.machine_model.specs.declared.kind.Conflict.TheVariants.{Replace, Ignore, Fail}
-use Rattle.machine_model.specs.declared.kind.Kind.TheVariants.{GetFile, GenerateFlowFile, PutFile, UpdateAttribute, RouteOnAttribute, AttributesToJson, DuplicateFlowFile, CryptographicHashContent}
+use Rattle.machine_model.specs.declared.kind.Kind.TheVariants.{GetFile, GenerateFlowFile, PutFile, UpdateAttribute, RouteOnAttribute, AttributesToJson, DuplicateFlowFile, CryptographicHashContent, SplitText, MergeContent, SegmentContent, ModifyBytes}
+use Rattle.machine_model.specs.declared.kind.MergeStrategy.{MergeStrategy}
+use Rattle.machine_model.specs.declared.kind.MergeStrategy.TheVariants.{BinPacking, Defragment}
 use Rattle.machine_model.specs.declared.kind.OwnExpression.{OwnExpression}
+use Rattle.flowfile_record.specs.declared.limits.TheConstants.{TAKEN_MAX}
 use Rattle.machine_model.specs.declared.limits.TheConstants.{OWN_NAME_MAX, OWN_PROPERTIES_MAX}
 use Rattle.machine_model.specs.Acting.{act, received, received_attributes, generated, generated_text, generated_attributes, put, put_unless_there, name_in}
 use Rattle.machine_model.specs.Making.{TakenFile, made_file, passed_on}
 use Rattle.machine_model.specs.Kinds.{relationships_of, is_among}
-use Rattle.machine_model.specs.Sound.{within, are_ascending, are_own_names, are_own_relationships}
+use Rattle.machine_model.specs.Sound.{within, are_ascending, are_entries_sound, are_own_names, are_own_relationships}
 use Rattle.machine_model.specs.UpdateAttribute.{update}
 use Rattle.machine_model.specs.RouteOnAttribute.{route}
 use Rattle.machine_model.specs.AttributesToJson.{attributes_to_json}
 use Rattle.machine_model.specs.DuplicateFlowFile.{duplicate}
 use Rattle.machine_model.specs.CryptographicHashContent.{hash_content}
+use Rattle.machine_model.specs.ModifyBytes.{modify}
+use Rattle.machine_model.specs.SegmentContent.{segment}
+use Rattle.machine_model.specs.SplitText.{split}
 use Rattle.machine_model.specs.Laws.{ActsGiveOutcomes}
 use Rattle.machine_model.proofs.Acted.{passed_alone}
 use Rattle.machine_model.proofs.ShortTexts.{text-short}
 use Rattle.machine_model.proofs.AttributesWhole.{one-gives, duplicate-gives, route-gives}
+use Rattle.machine_model.proofs.Merged.{merge-gives}
+use Rattle.machine_model.proofs.Parted.{IsTakenFile, all-taken, modify-gives, segment-gives, split-gives}
 use Rattle.machine_model.proofs.SetWhole.{IsTextual, update-gives, hash-gives, json-gives}
 use Rattle.machine_model.proofs.OneOutcome.{two_sized, two_pairs, literal, path_pair, made-worked, passed-worked, one-outcome}
 
@@ -114,6 +122,15 @@ route-all own taken are one within =
     let more : length own < relationships = omega (arith, length-append names (codes "unmatched" ∷ []), length-map own (λ (property : OwnExpression). property.name)) in
     one-gives relationships (route own) (λ file. IsWithinLimits file.attributes) (λ file within. route-gives own relationships file more few within) taken one within
 
+-- a bin has no more files than its maximum
+bin-few : (strategy : MergeStrategy) (minimum maximum count : ℕ) → (within 1 minimum TAKEN_MAX && within 1 maximum TAKEN_MAX && are_entries_sound strategy minimum maximum) ≡ true
+    → count ≤ maximum → count ≤ 1_000
+bin-few strategy minimum maximum count are few =
+    let bounds = and_parts (within 1 minimum TAKEN_MAX && within 1 maximum TAKEN_MAX) (are_entries_sound strategy minimum maximum) are in
+    let greatest = and_parts (within 1 minimum TAKEN_MAX) (within 1 maximum TAKEN_MAX) bounds.0 in
+    let most = and_parts (nat_le 1 maximum) (nat_le maximum TAKEN_MAX) greatest.1 in
+    omega (arith, few, leb-true maximum TAKEN_MAX most.1)
+
 pub act-gives : ActsGiveOutcomes
 act-gives (GetFile pattern) taken given handed =
     received-gives (map (λ file. length file.bytes) taken) given.file given.bytes (length-map taken (λ (file : TakenFile). length file.bytes) ∙ handed.count) handed.name handed.bytes
@@ -133,4 +150,15 @@ act-gives (DuplicateFlowFile copies) taken given handed =
     one-gives 1 (duplicate copies) (λ file. IsWithinLimits file.attributes) (λ file within. duplicate-gives copies file handed.sound.ranges within) taken handed.count handed.attributes
 act-gives CryptographicHashContent taken given handed =
     one-gives 2 hash_content (λ file. IsWithinLimits file.attributes) hash-gives taken handed.count handed.attributes
+act-gives (SplitText lines) taken given handed =
+    one-gives 3 (split lines) IsTakenFile (split-gives lines) taken handed.count (all-taken taken handed.attributes handed.uuids handed.contents)
+act-gives (MergeContent BinPacking minimum maximum) taken given handed =
+    merge-gives BinPacking taken handed.count.0 (bin-few BinPacking minimum maximum (length taken) handed.sound.ranges handed.count.1)
+    (all-taken taken handed.attributes handed.uuids handed.contents)
+act-gives (MergeContent Defragment minimum maximum) taken given handed =
+    merge-gives Defragment taken handed.count.0 handed.count.1 (all-taken taken handed.attributes handed.uuids handed.contents)
+act-gives (SegmentContent size) taken given handed =
+    one-gives 3 (segment size) IsTakenFile (segment-gives size) taken handed.count (all-taken taken handed.attributes handed.uuids handed.contents)
+act-gives (ModifyBytes start end) taken given handed =
+    one-gives 1 (modify start end) IsTakenFile (modify-gives start end) taken handed.count (all-taken taken handed.attributes handed.uuids handed.contents)
 act-gives _ taken given handed = tt

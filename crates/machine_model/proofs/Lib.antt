@@ -13,10 +13,13 @@ pub mod EventsTell
 pub mod Fragments
 pub mod GivenIn
 pub mod GoesOn
+pub mod InTurn
 pub mod JsonTexts
 pub mod Keyed
 pub mod KinSets
 pub mod Kinships
+pub mod Lessened
+pub mod Merged
 pub mod Numbered
 pub mod Numbers
 pub mod OneOutcome
@@ -25,6 +28,7 @@ pub mod OnlyOrder
 pub mod Options
 pub mod Ordered
 pub mod Outcomes
+pub mod Parted
 pub mod Picked
 pub mod Places
 pub mod Preserved

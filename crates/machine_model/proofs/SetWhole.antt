@@ -110,7 +110,7 @@ pairs-find name (pair ∷ pairs) all =
       | false ↦ pairs-find name pairs (All-tail IsPair pair pairs all)
     ]
 
-attributes-find : (attributes : AttributeMap) → IsWithinLimits attributes → FindsTexts (get attributes)
+pub attributes-find : (attributes : AttributeMap) → IsWithinLimits attributes → FindsTexts (get attributes)
 attributes-find attributes within name = rw (get-entries attributes name) (pairs-find name (entries attributes) within.pairs)
 
 found-in-texts : (file : TakenFile) → IsTextual file → FindsTexts (found_in file)

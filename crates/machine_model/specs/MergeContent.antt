@@ -1,7 +1,7 @@
 -- MergeContent: one file that joins all that were taken. It has the attributes that they share, without those of a
--- fragment, and is told how many they were; its content is theirs, joined in their order. It goes to merged, which is 0,
--- the taken files to original, 1. Under Defragment the taken files have to be all fragments of one whole, in turn, and
--- where they share the name of that whole it is that of the joined file; otherwise, or at a limit, it gives up to
+-- fragment, and is told how many they were; its content is theirs, joined in their order. It goes to merged, which is
+-- 0, the taken files to original, 1. Under Defragment the taken files have to be all fragments of one whole, in turn,
+-- and where they share the name of that whole it is that of the joined file. Otherwise, or at a limit, it gives up to
 -- failure, 2.
 use Rattle.std.specs.Prelude.{ℕ, ◌==◌, ◌&&◌, Bool, true, false, List, [], ◌∷◌, ◌++◌, length, map, fold, codes, decimal, Option, Some, None, option_map, option_and_then, if◌then◌else◌}
 use Rattle.std.specs.FinMap.{empty, get, remove}

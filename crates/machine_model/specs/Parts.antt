@@ -59,7 +59,8 @@ all_set_beside others attributes (pair ∷ pairs) =
 
 -- The parts from one on, of so many: its index, where it begins, and how many bytes the attributes of the files before
 -- it have together.
-abbrev pub parts_from : TakenFile → (relationship count index offset others : ℕ) → List Piece → Option (List Worked)
+abbrev pub parts_from : TakenFile → (relationship count index offset others : ℕ) → List Piece
+    → Option (List Worked)
 parts_from file relationship count index offset others [] = Some []
 parts_from file relationship count index offset others (piece ∷ pieces) =
     option_and_then (λ attributes.
