@@ -13,7 +13,7 @@ use Rattle.machine_model.specs.declared.kind.Conflict.{Conflict}
 use Rattle.machine_model.specs.declared.kind.Destination.{Destination}
 use Rattle.machine_model.specs.declared.kind.Destination.TheVariants.{Attribute, Content}
 use Rattle.machine_model.specs.declared.kind.Conflict.TheVariants.{Replace, Ignore, Fail}
-use Rattle.machine_model.specs.declared.kind.Kind.TheVariants.{GetFile, GenerateFlowFile, PutFile, UpdateAttribute, RouteOnAttribute, AttributesToJson, DuplicateFlowFile, CryptographicHashContent}
+use Rattle.machine_model.specs.declared.kind.Kind.TheVariants.{GetFile, GenerateFlowFile, PutFile, UpdateAttribute, RouteOnAttribute, AttributesToJson, DuplicateFlowFile, CryptographicHashContent, RouteOnContent}
 use Rattle.machine_model.specs.Acting.{act, received, put, put_unless_there, name_in}
 use Rattle.machine_model.specs.Making.{TakenFile, alone, passed_on, clone_of, found_in, may_have, with_set, as_content, or_given_up}
 use Rattle.machine_model.specs.UpdateAttribute.{update, updated}
@@ -21,6 +21,7 @@ use Rattle.machine_model.specs.RouteOnAttribute.{route, routed, routed_file, rou
 use Rattle.machine_model.specs.AttributesToJson.{attributes_to_json, json_of, noted_in, written_on}
 use Rattle.machine_model.specs.DuplicateFlowFile.{duplicate, duplicated}
 use Rattle.machine_model.specs.CryptographicHashContent.{hash_content, hashed}
+use Rattle.machine_model.specs.RouteOnContent.{route_by_content, found_places}
 use Rattle.machine_model.specs.Laws.{EndsAllInTurn, ActsEndAllInTurn}
 use Rattle.machine_model.proofs.Outcomes.{IsMade, taken-then-made}
 use Rattle.machine_model.proofs.Tally.{Each}
@@ -139,4 +140,6 @@ act-ends (DuplicateFlowFile copies) taken given may =
     one-file (duplicate copies) (λ file. or-given-up-ends 0 file (duplicated copies file) (duplicated-ends copies file)) taken may
 act-ends CryptographicHashContent taken given may =
     one-file hash_content (λ file. or-given-up-ends 1 file (hashed file) (with-attributes-ends _)) taken may
+act-ends (RouteOnContent requirement own) taken given may =
+    one-file (route_by_content own) (λ file. routed-ends (length own) file (found_places file.bytes own)) taken may
 act-ends _ taken given may = tt

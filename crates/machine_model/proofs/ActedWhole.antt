@@ -21,7 +21,7 @@ use Rattle.expr_lang.specs.declared.syntax.Expr.{Expr}
 use Rattle.machine_model.specs.declared.given.Given.{Given}
 use Rattle.machine_model.specs.declared.kind.Conflict.{Conflict}
 use Rattle.machine_model.specs.declared.kind.Conflict.TheVariants.{Replace, Ignore, Fail}
-use Rattle.machine_model.specs.declared.kind.Kind.TheVariants.{GetFile, GenerateFlowFile, PutFile, UpdateAttribute, RouteOnAttribute, AttributesToJson, DuplicateFlowFile, CryptographicHashContent}
+use Rattle.machine_model.specs.declared.kind.Kind.TheVariants.{GetFile, GenerateFlowFile, PutFile, UpdateAttribute, RouteOnAttribute, AttributesToJson, DuplicateFlowFile, CryptographicHashContent, RouteOnContent}
 use Rattle.machine_model.specs.declared.kind.OwnExpression.{OwnExpression}
 use Rattle.machine_model.specs.declared.limits.TheConstants.{OWN_NAME_MAX, OWN_PROPERTIES_MAX}
 use Rattle.machine_model.specs.Acting.{act, received, received_attributes, generated, generated_text, generated_attributes, put, put_unless_there, name_in}
@@ -38,6 +38,8 @@ use Rattle.machine_model.proofs.Acted.{passed_alone}
 use Rattle.machine_model.proofs.ShortTexts.{text-short}
 use Rattle.machine_model.proofs.AttributesWhole.{one-gives, duplicate-gives, route-gives}
 use Rattle.machine_model.proofs.SetWhole.{IsTextual, update-gives, hash-gives, json-gives}
+use Rattle.machine_model.proofs.PatternsWhole.{route-by-content-gives}
+use Rattle.machine_model.proofs.OwnNames.{are_names}
 use Rattle.machine_model.proofs.OneOutcome.{two_sized, two_pairs, literal, path_pair, made-worked, passed-worked, one-outcome}
 
 received-gives : (sizes : List ℕ) (name bytes : Option (List ℕ)) → length sizes ≡ 0 → IfSome name IsName → IfSome bytes (λ bytes. length bytes ≤ CONTENT_MAX) → IfSome (received name bytes) (IsOutcome 1 sizes)
@@ -91,16 +93,6 @@ put-file conflict (file ∷ other ∷ rest) given one within = absurd (omega ari
 
 -- ---- own properties, and files of texts
 
--- few, with names of a key's length
-are_names : (own : List OwnExpression) → are_own_names (map (λ property. property.name) own) ≡ true
-    → (length own ≤ 64) × (list_all (λ name. within 1 (length name) OWN_NAME_MAX) (map (λ property. property.name) own) ≡ true)
-are_names own are =
-    let names = map (λ (property : OwnExpression). property.name) own in
-    let few = nat_le (length names) OWN_PROPERTIES_MAX in
-    let sized = list_all (λ name. within 1 (length name) OWN_NAME_MAX) names in
-    let parts = and_parts few sized (and_parts (few && sized) (are_ascending names) are).0 in
-    (omega (arith, leb-true (length names) OWN_PROPERTIES_MAX parts.0, length-map own (λ (property : OwnExpression). property.name)), parts.1)
-
 all-textual : (taken : List TakenFile) → All (λ file. IsWithinLimits file.attributes) taken → All (λ file. IsUtf8 file.uuid) taken → All IsTextual taken
 all-textual taken within texts place default below = record { attributes = within place default below; uuid = texts place default below }
 
@@ -110,7 +102,7 @@ route-all : (own : List OwnExpression) (taken : List TakenFile) → are_own_rela
 route-all own taken are one within =
     let names = map (λ (property : OwnExpression). property.name) own in
     let relationships = length (names ++ codes "unmatched" ∷ []) in
-    let few = (are_names own (and_parts (are_own_names names) (not (is_among (codes "unmatched") names)) are).0).0 in
+    let few = (are_names (λ property. property.name) own (and_parts (are_own_names names) (not (is_among (codes "unmatched") names)) are).0).0 in
     let more : length own < relationships = omega (arith, length-append names (codes "unmatched" ∷ []), length-map own (λ (property : OwnExpression). property.name)) in
     one-gives relationships (route own) (λ file. IsWithinLimits file.attributes) (λ file within. route-gives own relationships file more few within) taken one within
 
@@ -123,7 +115,7 @@ act-gives (GenerateFlowFile count text) taken given handed =
 act-gives (PutFile conflict) taken given handed = put-file conflict taken given handed.count handed.attributes
 act-gives (UpdateAttribute own) taken given handed =
     one-gives 2 (update own) IsTextual
-    (λ file is. update-gives own file (record { lengths = (are_names own handed.sound.ranges).1; texts = handed.names }) is) taken handed.count
+    (λ file is. update-gives own file (record { lengths = (are_names (λ property. property.name) own handed.sound.ranges).1; texts = handed.names }) is) taken handed.count
     (all-textual taken handed.attributes handed.uuids)
 act-gives (RouteOnAttribute own) taken given handed = route-all own taken handed.sound.ranges handed.count handed.attributes
 act-gives (AttributesToJson destination names) taken given handed =
@@ -133,4 +125,5 @@ act-gives (DuplicateFlowFile copies) taken given handed =
     one-gives 1 (duplicate copies) (λ file. IsWithinLimits file.attributes) (λ file within. duplicate-gives copies file handed.sound.ranges within) taken handed.count handed.attributes
 act-gives CryptographicHashContent taken given handed =
     one-gives 2 hash_content (λ file. IsWithinLimits file.attributes) hash-gives taken handed.count handed.attributes
+act-gives (RouteOnContent requirement own) taken given handed = route-by-content-gives requirement own taken handed.sound.ranges handed.count handed.attributes
 act-gives _ taken given handed = tt

@@ -25,6 +25,8 @@ pub mod OnlyOrder
 pub mod Options
 pub mod Ordered
 pub mod Outcomes
+pub mod OwnNames
+pub mod PatternsWhole
 pub mod Picked
 pub mod Places
 pub mod Preserved

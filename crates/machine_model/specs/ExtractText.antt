@@ -60,8 +60,8 @@ as_named pairs = if list_all (λ pair. has_key_length pair.0) pairs then Some pa
 abbrev pub extracted : List OwnPattern → TakenFile → Option Outcome
 extracted own file =
     if is_utf8 file.bytes && any_finds file.bytes own then
-        option_map (λ attributes. alone (passed_on 0 attributes false 0))
-        (option_and_then (with_all_set (Taken 0) file.attributes) (as_named (found_pairs file.bytes own)))
+    option_map (λ attributes. alone (passed_on 0 attributes false 0))
+    (option_and_then (with_all_set (Taken 0) file.attributes) (as_named (found_pairs file.bytes own)))
     else None
 
 abbrev pub extract_text : List OwnPattern → TakenFile → Outcome
