@@ -13,7 +13,7 @@ use Rattle.machine_model.specs.declared.kind.Conflict.{Conflict}
 use Rattle.machine_model.specs.declared.kind.Destination.{Destination}
 use Rattle.machine_model.specs.declared.kind.Destination.TheVariants.{Attribute, Content}
 use Rattle.machine_model.specs.declared.kind.Conflict.TheVariants.{Replace, Ignore, Fail}
-use Rattle.machine_model.specs.declared.kind.Kind.TheVariants.{GetFile, GenerateFlowFile, PutFile, UpdateAttribute, RouteOnAttribute, AttributesToJson, DuplicateFlowFile, CryptographicHashContent, SplitText, MergeContent, SegmentContent, ModifyBytes}
+use Rattle.machine_model.specs.declared.kind.Kind.TheVariants.{GetFile, GenerateFlowFile, PutFile, UpdateAttribute, RouteOnAttribute, AttributesToJson, DuplicateFlowFile, CryptographicHashContent, SplitText, MergeContent, SegmentContent, ModifyBytes, RouteOnContent}
 use Rattle.machine_model.specs.Acting.{act, received, put, put_unless_there, name_in}
 use Rattle.machine_model.specs.Making.{TakenFile, alone, passed_on, clone_of, found_in, may_have, with_set, as_content, or_given_up}
 use Rattle.machine_model.specs.UpdateAttribute.{update, updated}
@@ -25,6 +25,7 @@ use Rattle.machine_model.specs.ModifyBytes.{modify, without_ends}
 use Rattle.machine_model.specs.Parts.{groups_of}
 use Rattle.machine_model.specs.SegmentContent.{segment, bytes_together}
 use Rattle.machine_model.specs.SplitText.{split, lines_of, lines_together}
+use Rattle.machine_model.specs.RouteOnContent.{route_by_content, found_places}
 use Rattle.machine_model.specs.Laws.{EndsAllInTurn, ActsEndAllInTurn}
 use Rattle.machine_model.proofs.InTurn.{merge-turn, parts-turn}
 use Rattle.machine_model.proofs.Outcomes.{IsMade, taken-then-made}
@@ -151,4 +152,6 @@ act-ends (SegmentContent size) taken given may =
     one-file (segment size) (λ file. parts-turn 1 0 file (map bytes_together (groups_of size file.bytes))) taken may
 act-ends (ModifyBytes start end) taken given may =
     one-file (modify start end) (λ file. written-alone file.attributes (without_ends start end file.bytes)) taken may
+act-ends (RouteOnContent requirement own) taken given may =
+    one-file (route_by_content own) (λ file. routed-ends (length own) file (found_places file.bytes own)) taken may
 act-ends _ taken given may = tt

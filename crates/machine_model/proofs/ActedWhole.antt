@@ -21,7 +21,7 @@ use Rattle.expr_lang.specs.declared.syntax.Expr.{Expr}
 use Rattle.machine_model.specs.declared.given.Given.{Given}
 use Rattle.machine_model.specs.declared.kind.Conflict.{Conflict}
 use Rattle.machine_model.specs.declared.kind.Conflict.TheVariants.{Replace, Ignore, Fail}
-use Rattle.machine_model.specs.declared.kind.Kind.TheVariants.{GetFile, GenerateFlowFile, PutFile, UpdateAttribute, RouteOnAttribute, AttributesToJson, DuplicateFlowFile, CryptographicHashContent, SplitText, MergeContent, SegmentContent, ModifyBytes}
+use Rattle.machine_model.specs.declared.kind.Kind.TheVariants.{GetFile, GenerateFlowFile, PutFile, UpdateAttribute, RouteOnAttribute, AttributesToJson, DuplicateFlowFile, CryptographicHashContent, SplitText, MergeContent, SegmentContent, ModifyBytes, RouteOnContent}
 use Rattle.machine_model.specs.declared.kind.MergeStrategy.{MergeStrategy}
 use Rattle.machine_model.specs.declared.kind.MergeStrategy.TheVariants.{BinPacking, Defragment}
 use Rattle.machine_model.specs.declared.kind.OwnExpression.{OwnExpression}
@@ -46,6 +46,8 @@ use Rattle.machine_model.proofs.AttributesWhole.{one-gives, duplicate-gives, rou
 use Rattle.machine_model.proofs.Merged.{merge-gives}
 use Rattle.machine_model.proofs.Parted.{IsTakenFile, all-taken, modify-gives, segment-gives, split-gives}
 use Rattle.machine_model.proofs.SetWhole.{IsTextual, update-gives, hash-gives, json-gives}
+use Rattle.machine_model.proofs.PatternsWhole.{route-by-content-gives}
+use Rattle.machine_model.proofs.OwnNames.{are_names}
 use Rattle.machine_model.proofs.OneOutcome.{two_sized, two_pairs, literal, path_pair, made-worked, passed-worked, one-outcome}
 
 received-gives : (sizes : List ℕ) (name bytes : Option (List ℕ)) → length sizes ≡ 0 → IfSome name IsName → IfSome bytes (λ bytes. length bytes ≤ CONTENT_MAX) → IfSome (received name bytes) (IsOutcome 1 sizes)
@@ -99,16 +101,6 @@ put-file conflict (file ∷ other ∷ rest) given one within = absurd (omega ari
 
 -- ---- own properties, and files of texts
 
--- few, with names of a key's length
-are_names : (own : List OwnExpression) → are_own_names (map (λ property. property.name) own) ≡ true
-    → (length own ≤ 64) × (list_all (λ name. within 1 (length name) OWN_NAME_MAX) (map (λ property. property.name) own) ≡ true)
-are_names own are =
-    let names = map (λ (property : OwnExpression). property.name) own in
-    let few = nat_le (length names) OWN_PROPERTIES_MAX in
-    let sized = list_all (λ name. within 1 (length name) OWN_NAME_MAX) names in
-    let parts = and_parts few sized (and_parts (few && sized) (are_ascending names) are).0 in
-    (omega (arith, leb-true (length names) OWN_PROPERTIES_MAX parts.0, length-map own (λ (property : OwnExpression). property.name)), parts.1)
-
 all-textual : (taken : List TakenFile) → All (λ file. IsWithinLimits file.attributes) taken → All (λ file. IsUtf8 file.uuid) taken → All IsTextual taken
 all-textual taken within texts place default below = record { attributes = within place default below; uuid = texts place default below }
 
@@ -118,7 +110,7 @@ route-all : (own : List OwnExpression) (taken : List TakenFile) → are_own_rela
 route-all own taken are one within =
     let names = map (λ (property : OwnExpression). property.name) own in
     let relationships = length (names ++ codes "unmatched" ∷ []) in
-    let few = (are_names own (and_parts (are_own_names names) (not (is_among (codes "unmatched") names)) are).0).0 in
+    let few = (are_names (λ property. property.name) own (and_parts (are_own_names names) (not (is_among (codes "unmatched") names)) are).0).0 in
     let more : length own < relationships = omega (arith, length-append names (codes "unmatched" ∷ []), length-map own (λ (property : OwnExpression). property.name)) in
     one-gives relationships (route own) (λ file. IsWithinLimits file.attributes) (λ file within. route-gives own relationships file more few within) taken one within
 
@@ -140,7 +132,7 @@ act-gives (GenerateFlowFile count text) taken given handed =
 act-gives (PutFile conflict) taken given handed = put-file conflict taken given handed.count handed.attributes
 act-gives (UpdateAttribute own) taken given handed =
     one-gives 2 (update own) IsTextual
-    (λ file is. update-gives own file (record { lengths = (are_names own handed.sound.ranges).1; texts = handed.names }) is) taken handed.count
+    (λ file is. update-gives own file (record { lengths = (are_names (λ property. property.name) own handed.sound.ranges).1; texts = handed.names }) is) taken handed.count
     (all-textual taken handed.attributes handed.uuids)
 act-gives (RouteOnAttribute own) taken given handed = route-all own taken handed.sound.ranges handed.count handed.attributes
 act-gives (AttributesToJson destination names) taken given handed =
@@ -161,4 +153,5 @@ act-gives (SegmentContent size) taken given handed =
     one-gives 3 (segment size) IsTakenFile (segment-gives size) taken handed.count (all-taken taken handed.attributes handed.uuids handed.contents)
 act-gives (ModifyBytes start end) taken given handed =
     one-gives 1 (modify start end) IsTakenFile (modify-gives start end) taken handed.count (all-taken taken handed.attributes handed.uuids handed.contents)
+act-gives (RouteOnContent requirement own) taken given handed = route-by-content-gives requirement own taken handed.sound.ranges handed.count handed.attributes
 act-gives _ taken given handed = tt

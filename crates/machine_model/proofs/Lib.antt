@@ -29,6 +29,8 @@ pub mod Options
 pub mod Ordered
 pub mod Outcomes
 pub mod Parted
+pub mod OwnNames
+pub mod PatternsWhole
 pub mod Picked
 pub mod Places
 pub mod Preserved

@@ -15,7 +15,7 @@ use Rattle.machine_model.specs.declared.given.Given.{Given}
 use Rattle.machine_model.specs.declared.kind.Conflict.{Conflict}
 use Rattle.machine_model.specs.declared.kind.Conflict.TheVariants.{Replace, Ignore, Fail}
 use Rattle.machine_model.specs.declared.kind.Kind.{Kind}
-use Rattle.machine_model.specs.declared.kind.Kind.TheVariants.{GetFile, GenerateFlowFile, PutFile, UpdateAttribute, RouteOnAttribute, AttributesToJson, DuplicateFlowFile, CryptographicHashContent, SplitText, MergeContent, SegmentContent, ModifyBytes}
+use Rattle.machine_model.specs.declared.kind.Kind.TheVariants.{GetFile, GenerateFlowFile, PutFile, UpdateAttribute, RouteOnAttribute, AttributesToJson, DuplicateFlowFile, CryptographicHashContent, SplitText, MergeContent, SegmentContent, ModifyBytes, RouteOnContent}
 use Rattle.machine_model.specs.declared.pattern.Pattern.{Pattern}
 use Rattle.machine_model.specs.Making.{TakenFile, made_file, passed_on, alone}
 use Rattle.machine_model.specs.UpdateAttribute.{update}
@@ -27,6 +27,7 @@ use Rattle.machine_model.specs.SplitText.{split}
 use Rattle.machine_model.specs.MergeContent.{merge}
 use Rattle.machine_model.specs.SegmentContent.{segment}
 use Rattle.machine_model.specs.ModifyBytes.{modify}
+use Rattle.machine_model.specs.RouteOnContent.{route_by_content}
 
 -- GetFile: the inbox's file, named `filename`, at `path` ./, to success (0)
 abbrev pub received_attributes : List ℕ → AttributeMap
@@ -91,4 +92,5 @@ act (SplitText lines) taken given = option_map (split lines) (slice_get taken 0)
 act (MergeContent strategy minimum maximum) taken given = Some (merge strategy taken)
 act (SegmentContent size) taken given = option_map (segment size) (slice_get taken 0)
 act (ModifyBytes start end) taken given = option_map (modify start end) (slice_get taken 0)
+act (RouteOnContent requirement own) taken given = option_map (route_by_content own) (slice_get taken 0)
 act _ taken given = None
