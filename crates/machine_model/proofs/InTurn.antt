@@ -1,6 +1,6 @@
 -- That what parts and merged files come from ends in turn.
 use Rattle.std.proofs.Common.{◌≡◌, ℕ, zero, suc, ◌+◌, ◌<◌, ◌≤◌, Bool, true, false, cond, ◌&&◌, List, [], ◌∷◌, ◌++◌, length, refl, subst, arith}
-use Rattle.std.specs.Prelude.{All, IfSome, Option, Some, None, ◌==◌, nat_lt, option_map, option_and_then}
+use Rattle.std.specs.Prelude.{All, IfSome, Option, Some, None, ◌==◌, nat_lt, option_map}
 use Rattle.std.specs.List.{range_with_len}
 use Rattle.std.proofs.lemmas.List.{append-nil}
 use Rattle.std.proofs.lemmas.List.Elements.{All-nil, All-cons}

@@ -6,6 +6,7 @@ pub mod AttributesWhole
 pub mod BatchPlaces
 pub mod Batches
 pub mod Crosses
+pub mod Cuts
 pub mod Drafted
 pub mod DueSteps
 pub mod EventRows

@@ -1,5 +1,5 @@
 -- That a file that joins others, and these, make an outcome.
-use Rattle.std.proofs.Common.{◌≡◌, ℕ, zero, suc, ◌+◌, ◌*◌, ◌<◌, ◌≤◌, Bool, true, false, cond, List, [], ◌∷◌, ◌++◌, map, length, refl, ◌∙◌, subst, sym, arith}
+use Rattle.std.proofs.Common.{◌≡◌, ℕ, zero, suc, ◌+◌, ◌*◌, ◌<◌, ◌≤◌, true, false, cond, List, [], ◌∷◌, ◌++◌, map, length, refl, subst, arith}
 use Rattle.std.specs.Prelude.{All, IfSome, Option, Some, None, ◌==◌, nat_le, option_map, option_and_then, fold, codes, decimal}
 use Rattle.std.specs.FinMap.{get, insert, remove}
 use Rattle.std.specs.List.{AllByRecursion, IsDistinct, concat, range_with_len}

@@ -79,7 +79,7 @@ path_pair = record { key = refl; key_text = literal (codes "path") refl; value_t
 
 -- ---- outcomes of one file
 
-to-come-most : (origin : Origin) (attributes : AttributeMap) → filename_to_come origin attributes ≤ 50
+pub to-come-most : (origin : Origin) (attributes : AttributeMap) → filename_to_come origin attributes ≤ 50
 to-come-most origin attributes =
     elim (is_made origin && not (contains_key attributes (codes "filename"))) as (λ b. cond b FILENAME_SIZE 0 ≤ 50) [ true ↦ omega arith | false ↦ omega arith ]
 

@@ -1,6 +1,6 @@
 -- That parts of a content, and a content without its ends, make outcomes.
-use Rattle.std.proofs.Common.{◌≡◌, ℕ, zero, suc, ◌+◌, ◌-◌, ◌<◌, ◌≤◌, Bool, true, false, cond, ◌&&◌, List, [], ◌∷◌, ◌++◌, map, length, take, drop, refl, sym, ap, ◌∙◌, arith}
-use Rattle.std.specs.Prelude.{All, IfSome, Option, Some, None, ◌==◌, nat_le, nat_lt, option_map, option_and_then, unwrap_or, sum_by, codes, decimal}
+use Rattle.std.proofs.Common.{◌≡◌, ℕ, zero, suc, ◌+◌, ◌-◌, ◌<◌, ◌≤◌, true, false, cond, ◌&&◌, List, [], ◌∷◌, ◌++◌, map, length, take, drop, refl, sym, ap, ◌∙◌, arith}
+use Rattle.std.specs.Prelude.{All, IfSome, Option, Some, None, ◌==◌, nat_le, nat_lt, option_map, unwrap_or, sum_by, codes, decimal}
 use Rattle.std.specs.FinMap.{get, insert, entries}
 use Rattle.std.specs.Str.{IsUtf8}
 use Rattle.std.proofs.lemmas.Bool.{and_parts, leb-true, ltb-true}

@@ -3,10 +3,8 @@ use Rattle.std.specs.Prelude.{ℕ, zero, suc, ◌+◌, ◌==◌, ◌&&◌, nat_l
 use Rattle.std.specs.FinMap.{get, insert}
 use Rattle.flowfile_record.specs.Attributes.{AttributeMap, encoded_size}
 use Rattle.flowfile_record.specs.declared.limits.TheConstants.{FILES_MAX, SESSION_ATTRIBUTES_MAX}
-use Rattle.flowfile_record.specs.declared.worked.Body.TheVariants.{Whole, Part}
-use Rattle.flowfile_record.specs.declared.worked.End.TheVariants.{To}
-use Rattle.flowfile_record.specs.declared.worked.Origin.{Origin}
-use Rattle.flowfile_record.specs.declared.worked.Origin.TheVariants.{Cloned, Part as PartOf}
+use Rattle.flowfile_record.specs.declared.worked.Body.TheVariants.{Part}
+use Rattle.flowfile_record.specs.declared.worked.Origin.TheVariants.{Part as PartOf}
 use Rattle.flowfile_record.specs.declared.worked.Worked.{Worked}
 use Rattle.flowfile_record.specs.declared.worked.Outcome.{Outcome}
 use Rattle.machine_model.specs.Making.{TakenFile, passed_on, clone_of, may_have}

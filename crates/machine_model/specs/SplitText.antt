@@ -1,6 +1,6 @@
 -- SplitText: a line ends behind a line feed, or at the content's end. Each group of so many lines is a part, which is
 -- told how many lines it has. Parts to splits, which is 1, the file to original, 0. A limit gives up to failure, 2.
-use Rattle.std.specs.Prelude.{ℕ, ◌==◌, List, [], ◌∷◌, length, map, sum_by, codes, decimal, Option, if◌then◌else◌}
+use Rattle.std.specs.Prelude.{ℕ, ◌==◌, List, [], ◌∷◌, length, map, sum_by, codes, decimal, if◌then◌else◌}
 use Rattle.flowfile_record.specs.declared.worked.Outcome.{Outcome}
 use Rattle.machine_model.specs.Making.{TakenFile, or_given_up}
 use Rattle.machine_model.specs.Parts.{Piece, groups_of, parted}
