@@ -1,10 +1,9 @@
 -- That a session of each type ends with an outcome of its relationships, over what it took.
-use Rattle.std.proofs.Common.{◌≡◌, ℕ, ◌^◌, ◌<◌, ◌≤◌, Bool, true, false, not, ◌&&◌, List, [], ◌∷◌, ◌++◌, map, length, refl, ◌∙◌, arith}
-use Rattle.std.specs.Prelude.{All, IfSome, Option, Some, None, nat_le, option_map, slice_get, codes, decimal}
+use Rattle.std.proofs.Common.{◌≡◌, ℕ, ◌^◌, ◌<◌, ◌≤◌, Bool, true, false, not, List, [], ◌∷◌, ◌++◌, map, length, refl, ◌∙◌, arith}
+use Rattle.std.specs.Prelude.{All, IfSome, Option, Some, None, option_map, slice_get, codes, decimal}
 use Rattle.std.specs.FinMap.{get}
-use Rattle.std.specs.List.{list_all}
 use Rattle.std.specs.Str.{IsUtf8}
-use Rattle.std.proofs.lemmas.Bool.{and_parts, leb-true}
+use Rattle.std.proofs.lemmas.Bool.{and_parts}
 use Rattle.std.proofs.lemmas.Fmt.{IsAscii-decimal, length-decimal-le}
 use Rattle.std.proofs.lemmas.List.{length-append, length-map}
 use Rattle.std.proofs.lemmas.List.Elements.{All-nil, All-head}
@@ -21,24 +20,25 @@ use Rattle.expr_lang.specs.declared.syntax.Expr.{Expr}
 use Rattle.machine_model.specs.declared.given.Given.{Given}
 use Rattle.machine_model.specs.declared.kind.Conflict.{Conflict}
 use Rattle.machine_model.specs.declared.kind.Conflict.TheVariants.{Replace, Ignore, Fail}
-use Rattle.machine_model.specs.declared.kind.Kind.TheVariants.{GetFile, GenerateFlowFile, PutFile, UpdateAttribute, RouteOnAttribute, AttributesToJson, DuplicateFlowFile, CryptographicHashContent, RouteOnContent}
+use Rattle.machine_model.specs.declared.kind.Kind.TheVariants.{GetFile, GenerateFlowFile, PutFile, UpdateAttribute, RouteOnAttribute, AttributesToJson, DuplicateFlowFile, CryptographicHashContent, ReplaceText, ExtractText, RouteOnContent}
 use Rattle.machine_model.specs.declared.kind.OwnExpression.{OwnExpression}
-use Rattle.machine_model.specs.declared.limits.TheConstants.{OWN_NAME_MAX, OWN_PROPERTIES_MAX}
 use Rattle.machine_model.specs.Acting.{act, received, received_attributes, generated, generated_text, generated_attributes, put, put_unless_there, name_in}
 use Rattle.machine_model.specs.Making.{TakenFile, made_file, passed_on}
 use Rattle.machine_model.specs.Kinds.{relationships_of, is_among}
-use Rattle.machine_model.specs.Sound.{within, are_ascending, are_own_names, are_own_relationships}
+use Rattle.machine_model.specs.Sound.{within, are_own_names, are_own_relationships}
 use Rattle.machine_model.specs.UpdateAttribute.{update}
 use Rattle.machine_model.specs.RouteOnAttribute.{route}
 use Rattle.machine_model.specs.AttributesToJson.{attributes_to_json}
 use Rattle.machine_model.specs.DuplicateFlowFile.{duplicate}
 use Rattle.machine_model.specs.CryptographicHashContent.{hash_content}
+use Rattle.machine_model.specs.ReplaceText.{replace_text}
+use Rattle.machine_model.specs.ExtractText.{extract_text}
 use Rattle.machine_model.specs.Laws.{ActsGiveOutcomes}
 use Rattle.machine_model.proofs.Acted.{passed_alone}
 use Rattle.machine_model.proofs.ShortTexts.{text-short}
 use Rattle.machine_model.proofs.AttributesWhole.{one-gives, duplicate-gives, route-gives}
 use Rattle.machine_model.proofs.SetWhole.{IsTextual, update-gives, hash-gives, json-gives}
-use Rattle.machine_model.proofs.PatternsWhole.{route-by-content-gives}
+use Rattle.machine_model.proofs.PatternsWhole.{replace-gives, extract-gives, route-by-content-gives}
 use Rattle.machine_model.proofs.OwnNames.{are_names}
 use Rattle.machine_model.proofs.OneOutcome.{two_sized, two_pairs, literal, path_pair, made-worked, passed-worked, one-outcome}
 
@@ -125,5 +125,9 @@ act-gives (DuplicateFlowFile copies) taken given handed =
     one-gives 1 (duplicate copies) (λ file. IsWithinLimits file.attributes) (λ file within. duplicate-gives copies file handed.sound.ranges within) taken handed.count handed.attributes
 act-gives CryptographicHashContent taken given handed =
     one-gives 2 hash_content (λ file. IsWithinLimits file.attributes) hash-gives taken handed.count handed.attributes
+act-gives (ReplaceText replacement) taken given handed =
+    one-gives 2 (replace_text replacement) (λ file. IsWithinLimits file.attributes) (replace-gives replacement) taken handed.count handed.attributes
+act-gives (ExtractText own) taken given handed =
+    one-gives 2 (extract_text own) (λ file. IsWithinLimits file.attributes) (extract-gives own handed.names) taken handed.count handed.attributes
 act-gives (RouteOnContent requirement own) taken given handed = route-by-content-gives requirement own taken handed.sound.ranges handed.count handed.attributes
 act-gives _ taken given handed = tt

@@ -10,6 +10,7 @@ pub mod Drafted
 pub mod DueSteps
 pub mod EventRows
 pub mod EventsTell
+pub mod ExtractedTexts
 pub mod Fragments
 pub mod GivenIn
 pub mod GoesOn
@@ -17,6 +18,7 @@ pub mod JsonTexts
 pub mod Keyed
 pub mod KinSets
 pub mod Kinships
+pub mod MatchTexts
 pub mod Numbered
 pub mod Numbers
 pub mod OneOutcome

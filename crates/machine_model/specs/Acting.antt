@@ -15,7 +15,7 @@ use Rattle.machine_model.specs.declared.given.Given.{Given}
 use Rattle.machine_model.specs.declared.kind.Conflict.{Conflict}
 use Rattle.machine_model.specs.declared.kind.Conflict.TheVariants.{Replace, Ignore, Fail}
 use Rattle.machine_model.specs.declared.kind.Kind.{Kind}
-use Rattle.machine_model.specs.declared.kind.Kind.TheVariants.{GetFile, GenerateFlowFile, PutFile, UpdateAttribute, RouteOnAttribute, AttributesToJson, DuplicateFlowFile, CryptographicHashContent, RouteOnContent}
+use Rattle.machine_model.specs.declared.kind.Kind.TheVariants.{GetFile, GenerateFlowFile, PutFile, UpdateAttribute, RouteOnAttribute, AttributesToJson, DuplicateFlowFile, CryptographicHashContent, ReplaceText, ExtractText, RouteOnContent}
 use Rattle.machine_model.specs.declared.pattern.Pattern.{Pattern}
 use Rattle.machine_model.specs.Making.{TakenFile, made_file, passed_on, alone}
 use Rattle.machine_model.specs.UpdateAttribute.{update}
@@ -23,6 +23,8 @@ use Rattle.machine_model.specs.RouteOnAttribute.{route}
 use Rattle.machine_model.specs.AttributesToJson.{attributes_to_json}
 use Rattle.machine_model.specs.DuplicateFlowFile.{duplicate}
 use Rattle.machine_model.specs.CryptographicHashContent.{hash_content}
+use Rattle.machine_model.specs.ReplaceText.{replace_text}
+use Rattle.machine_model.specs.ExtractText.{extract_text}
 use Rattle.machine_model.specs.RouteOnContent.{route_by_content}
 
 -- GetFile: the inbox's file, named `filename`, at `path` ./, to success (0)
@@ -84,5 +86,7 @@ act (AttributesToJson destination names) taken given =
     option_map (attributes_to_json destination names) (slice_get taken 0)
 act (DuplicateFlowFile copies) taken given = option_map (duplicate copies) (slice_get taken 0)
 act CryptographicHashContent taken given = option_map hash_content (slice_get taken 0)
+act (ReplaceText replacement) taken given = option_map (replace_text replacement) (slice_get taken 0)
+act (ExtractText own) taken given = option_map (extract_text own) (slice_get taken 0)
 act (RouteOnContent requirement own) taken given = option_map (route_by_content own) (slice_get taken 0)
 act _ taken given = None
