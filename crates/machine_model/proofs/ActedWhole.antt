@@ -1,10 +1,9 @@
 -- That a session of each type ends with an outcome of its relationships, over what it took.
-use Rattle.std.proofs.Common.{◌≡◌, ℕ, ◌^◌, ◌<◌, ◌≤◌, Bool, true, false, not, ◌&&◌, List, [], ◌∷◌, ◌++◌, map, length, refl, ◌∙◌, arith}
-use Rattle.std.specs.Prelude.{All, IfSome, Option, Some, None, nat_le, option_map, slice_get, codes, decimal}
+use Rattle.std.proofs.Common.{◌≡◌, ℕ, ◌^◌, ◌<◌, ◌≤◌, Bool, true, false, not, List, [], ◌∷◌, ◌++◌, map, length, refl, ◌∙◌, arith}
+use Rattle.std.specs.Prelude.{All, IfSome, Option, Some, None, option_map, slice_get, codes, decimal}
 use Rattle.std.specs.FinMap.{get}
-use Rattle.std.specs.List.{list_all}
 use Rattle.std.specs.Str.{IsUtf8}
-use Rattle.std.proofs.lemmas.Bool.{and_parts, leb-true}
+use Rattle.std.proofs.lemmas.Bool.{and_parts}
 use Rattle.std.proofs.lemmas.Fmt.{IsAscii-decimal, length-decimal-le}
 use Rattle.std.proofs.lemmas.List.{length-append, length-map}
 use Rattle.std.proofs.lemmas.List.Elements.{All-nil, All-head}
@@ -21,7 +20,7 @@ use Rattle.expr_lang.specs.declared.syntax.Expr.{Expr}
 use Rattle.machine_model.specs.declared.given.Given.{Given}
 use Rattle.machine_model.specs.declared.kind.Conflict.{Conflict}
 use Rattle.machine_model.specs.declared.kind.Conflict.TheVariants.{Replace, Ignore, Fail}
-use Rattle.machine_model.specs.declared.kind.Kind.TheVariants.{GetFile, GenerateFlowFile, PutFile, UpdateAttribute, RouteOnAttribute, AttributesToJson, DuplicateFlowFile, CryptographicHashContent, SplitText, MergeContent, SegmentContent, ModifyBytes, RouteOnContent}
+use Rattle.machine_model.specs.declared.kind.Kind.TheVariants.{GetFile, GenerateFlowFile, PutFile, UpdateAttribute, RouteOnAttribute, AttributesToJson, DuplicateFlowFile, CryptographicHashContent, SplitText, ReplaceText, ExtractText, RouteOnContent, MergeContent, SegmentContent, ModifyBytes}
 use Rattle.machine_model.specs.declared.kind.MergeStrategy.{MergeStrategy}
 use Rattle.machine_model.specs.declared.kind.MergeStrategy.TheVariants.{BinPacking, Defragment}
 use Rattle.machine_model.specs.declared.kind.OwnExpression.{OwnExpression}
@@ -39,6 +38,8 @@ use Rattle.machine_model.specs.CryptographicHashContent.{hash_content}
 use Rattle.machine_model.specs.ModifyBytes.{modify}
 use Rattle.machine_model.specs.SegmentContent.{segment}
 use Rattle.machine_model.specs.SplitText.{split}
+use Rattle.machine_model.specs.ReplaceText.{replace_text}
+use Rattle.machine_model.specs.ExtractText.{extract_text}
 use Rattle.machine_model.specs.Laws.{ActsGiveOutcomes}
 use Rattle.machine_model.proofs.Acted.{passed_alone}
 use Rattle.machine_model.proofs.ShortTexts.{text-short}
@@ -46,7 +47,7 @@ use Rattle.machine_model.proofs.AttributesWhole.{one-gives, duplicate-gives, rou
 use Rattle.machine_model.proofs.Merged.{merge-gives}
 use Rattle.machine_model.proofs.Parted.{IsTakenFile, all-taken, modify-gives, segment-gives, split-gives}
 use Rattle.machine_model.proofs.SetWhole.{IsTextual, update-gives, hash-gives, json-gives}
-use Rattle.machine_model.proofs.PatternsWhole.{route-by-content-gives}
+use Rattle.machine_model.proofs.PatternsWhole.{replace-gives, extract-gives, route-by-content-gives}
 use Rattle.machine_model.proofs.OwnNames.{are_names}
 use Rattle.machine_model.proofs.OneOutcome.{two_sized, two_pairs, literal, path_pair, made-worked, passed-worked, one-outcome}
 
@@ -144,6 +145,11 @@ act-gives CryptographicHashContent taken given handed =
     one-gives 2 hash_content (λ file. IsWithinLimits file.attributes) hash-gives taken handed.count handed.attributes
 act-gives (SplitText lines) taken given handed =
     one-gives 3 (split lines) IsTakenFile (split-gives lines) taken handed.count (all-taken taken handed.attributes handed.uuids handed.contents)
+act-gives (ReplaceText replacement) taken given handed =
+    one-gives 2 (replace_text replacement) (λ file. IsWithinLimits file.attributes) (replace-gives replacement) taken handed.count handed.attributes
+act-gives (ExtractText own) taken given handed =
+    one-gives 2 (extract_text own) (λ file. IsWithinLimits file.attributes) (extract-gives own handed.names) taken handed.count handed.attributes
+act-gives (RouteOnContent requirement own) taken given handed = route-by-content-gives requirement own taken handed.sound.ranges handed.count handed.attributes
 act-gives (MergeContent BinPacking minimum maximum) taken given handed =
     merge-gives BinPacking taken handed.count.0 (bin-few BinPacking minimum maximum (length taken) handed.sound.ranges handed.count.1)
     (all-taken taken handed.attributes handed.uuids handed.contents)
@@ -153,5 +159,3 @@ act-gives (SegmentContent size) taken given handed =
     one-gives 3 (segment size) IsTakenFile (segment-gives size) taken handed.count (all-taken taken handed.attributes handed.uuids handed.contents)
 act-gives (ModifyBytes start end) taken given handed =
     one-gives 1 (modify start end) IsTakenFile (modify-gives start end) taken handed.count (all-taken taken handed.attributes handed.uuids handed.contents)
-act-gives (RouteOnContent requirement own) taken given handed = route-by-content-gives requirement own taken handed.sound.ranges handed.count handed.attributes
-act-gives _ taken given handed = tt

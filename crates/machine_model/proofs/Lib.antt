@@ -11,6 +11,7 @@ pub mod Drafted
 pub mod DueSteps
 pub mod EventRows
 pub mod EventsTell
+pub mod ExtractedTexts
 pub mod Fragments
 pub mod GivenIn
 pub mod GoesOn
@@ -21,6 +22,7 @@ pub mod KinSets
 pub mod Kinships
 pub mod Lessened
 pub mod Merged
+pub mod MatchTexts
 pub mod Numbered
 pub mod Numbers
 pub mod OneOutcome

@@ -32,7 +32,7 @@ abbrev pub numbered : (name : List ℕ) → (group : ℕ) → List ℕ
 numbered name group = name ++ (codes "." ++ decimal group)
 
 -- `name.i` for each group i that took part, and `name` for group 1, or for the whole where that took no part
-abbrev pub pairs_at : (name : List ℕ) → (groups : ℕ) → (text : List ℕ) → Match → List (List ℕ × List ℕ)
+abbrev pub pairs_at : (name : List ℕ) (groups : ℕ) (text : List ℕ) → Match → List (List ℕ × List ℕ)
 pairs_at name groups text match =
     filter_map
     (λ group. option_map (λ places. (numbered name group, value_between text places)) (group_in match group))
@@ -40,7 +40,7 @@ pairs_at name groups text match =
     ++ (name, value_between text (unwrap_or (group_of match 1) (span match))) ∷ []
 
 -- of a pattern with so many groups, the whole match counted as one
-abbrev pub pairs_of : (name : List ℕ) → Re → (groups : ℕ) → (text : List ℕ) → List (List ℕ × List ℕ)
+abbrev pub pairs_of : (name : List ℕ) (pattern : Re) (groups : ℕ) (text : List ℕ) → List (List ℕ × List ℕ)
 pairs_of name pattern groups text = option_map_or (pairs_at name groups text) (find_str pattern text 0) []
 
 abbrev pub found_pairs : (text : List ℕ) → List OwnPattern → List (List ℕ × List ℕ)
