@@ -1,5 +1,5 @@
 -- Files of events are read, event by event and file by file.
-use Rattle.std.proofs.Common.{◌≡◌, ℕ, zero, suc, ◌+◌, ◌-◌, ◌*◌, ◌/◌, ◌≤◌, ◌<◌, Bool, IsTrue, inl, inr, List, [], ◌∷◌, ◌++◌, length, get_or, take, drop, map, refl, sym, ap, subst, ◌∙◌, arith}
+use Rattle.std.proofs.Common.{◌≡◌, ℕ, suc, ◌+◌, ◌-◌, ◌*◌, ◌/◌, ◌≤◌, ◌<◌, Bool, IsTrue, inl, inr, List, [], ◌∷◌, ◌++◌, length, get_or, drop, sym, ap, subst, ◌∙◌, arith}
 use Rattle.std.specs.Prelude.{Result, Ok, Err, min, All, Contains}
 use Rattle.std.specs.List.{range_with_len}
 use Rattle.std.proofs.lemmas.Bool.{cases_lt}
@@ -18,7 +18,7 @@ use Rattle.prov_store.specs.declared.events.Stale.{Stale}
 use Rattle.prov_store.specs.declared.load.Loading.{Loading}
 use Rattle.prov_store.specs.declared.read.Cursor.{Cursor}
 use Rattle.prov_store.specs.declared.TheConstants.{EVENTS_PER_FILE}
-use Rattle.prov_store.proofs.InFile.{IsRead, read_of, with_first, events_behind, sizes_behind, size_of_first}
+use Rattle.prov_store.proofs.InFile.{read_of, with_first, events_behind, sizes_behind, size_of_first}
 use Rattle.prov_store.proofs.InFiles.{files_behind, no_size, range_both}
 use Rattle.prov_store.proofs.Counting.{counts_are}
 use Rattle.prov_store.proofs.Keeping.{stale_files}

@@ -1,5 +1,5 @@
 -- Where events are read, the first block is whole.
-use Rattle.std.proofs.Common.{◌≡◌, ℕ, zero, suc, ◌+◌, ◌≤◌, ◌<◌, Bool, IsTrue, inl, inr, List, length, drop, refl, sym, ap, subst, ◌∙◌, arith}
+use Rattle.std.proofs.Common.{◌≡◌, ℕ, zero, suc, ◌+◌, ◌<◌, Bool, IsTrue, inl, inr, List, drop, ap, subst, ◌∙◌, arith}
 use Rattle.std.specs.Prelude.{Ok}
 use Rattle.std.proofs.lemmas.Bool.{cases_lt}
 use Rattle.disk_trait.specs.Files.{Files}
@@ -10,8 +10,8 @@ use Rattle.prov_store.specs.Events.{count_in, first_in, events_file, events_from
 use Rattle.prov_store.specs.Loading.{AreRead, bytes_there}
 use Rattle.prov_store.specs.Reading.{HasWhole}
 use Rattle.prov_store.specs.declared.read.Cursor.{Cursor}
-use Rattle.prov_store.proofs.InFile.{First, first_of}
-use Rattle.prov_store.proofs.InFiles.{FirstFile, first_file}
+use Rattle.prov_store.proofs.InFile.{first_of}
+use Rattle.prov_store.proofs.InFiles.{first_file}
 use Rattle.record_codec.specs.Block.{reading_of}
 
 pub first_whole : (count : ℕ) (file : FileName) (at number : ℕ) (bytes : List ℕ) (events : List Event) → events_from count file at number bytes ≡ Ok events → 0 < count → HasWhole (reading_of bytes)

@@ -1,5 +1,5 @@
 -- Files of events that are read as far as some file.
-use Rattle.std.specs.Prelude.{◌≡◌, ℕ, suc, ◌+◌, ◌*◌, ◌/◌, ◌<◌, ◌≤◌, Bool, IsTrue, min, List, ◌++◌, length, drop, map, All, Contains, Ok}
+use Rattle.std.specs.Prelude.{◌≡◌, ℕ, ◌+◌, ◌*◌, ◌/◌, ◌<◌, ◌≤◌, Bool, IsTrue, min, List, ◌++◌, length, drop, map, All, Contains, Ok}
 use Rattle.std.specs.List.{range_with_len}
 use Rattle.disk_trait.specs.Files.{Files}
 use Rattle.flowfile_record.specs.declared.event.Event.{Event}

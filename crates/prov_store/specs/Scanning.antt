@@ -1,10 +1,10 @@
 -- Some of the events of files are found.
-use Rattle.std.specs.Prelude.{◌≡◌, ℕ, ◌+◌, ◌-◌, ◌<◌, ◌≤◌, ◌^◌, ◌&&◌, nat_le, min, max, Bool, IsTrue, List, ◌++◌, length, map, Ok}
+use Rattle.std.specs.Prelude.{◌≡◌, ℕ, ◌+◌, ◌-◌, ◌<◌, ◌≤◌, ◌^◌, ◌&&◌, nat_le, min, max, Bool, IsTrue, List, ◌++◌, map, Ok}
 use Rattle.std.specs.List.{range_with_len}
 use Rattle.disk_trait.specs.Files.{Files}
 use Rattle.flowfile_record.specs.declared.event.Event.{Event}
 use Rattle.prov_store.specs.Events.{events_from, blocks_size}
-use Rattle.prov_store.specs.Loading.{AreRead, bytes_there}
+use Rattle.prov_store.specs.Loading.{bytes_there}
 use Rattle.prov_store.specs.declared.read.Cursor.{Cursor}
 use Rattle.prov_store.specs.declared.scan.Scan.{Scan}
 

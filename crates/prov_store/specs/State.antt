@@ -1,5 +1,5 @@
 -- What is in memory of the files of events, and how it is tied to them.
-use Rattle.std.specs.Prelude.{◌≡◌, ◌≢◌, ℕ, zero, suc, ◌+◌, ◌-◌, ◌/◌, ◌<◌, ◌≤◌, ◌==◌, Bool, IsTrue, List, [], ◌∷◌, ◌++◌, length, map, filter, take, All, Contains, Ok, slice_index, if◌then◌else◌}
+use Rattle.std.specs.Prelude.{◌≡◌, ◌≢◌, ℕ, zero, suc, ◌+◌, ◌-◌, ◌/◌, ◌<◌, ◌≤◌, ◌==◌, Bool, IsTrue, List, length, map, filter, take, All, Contains, Ok, slice_index, if◌then◌else◌}
 use Rattle.std.specs.List.{range_with_len, AllPairs}
 use Rattle.disk_trait.specs.Files.{Files, Shortened}
 use Rattle.disk_trait.specs.declared.file_name.FileKind.TheVariants.{Events}

@@ -1,14 +1,11 @@
-use Rattle.std.proofs.Common.{◌≡◌, ℕ, zero, suc, ◌+◌, ◌-◌, ◌^◌, ◌≤◌, ◌<◌, List, [], ◌∷◌, ◌++◌, length, get_or, slice_index, drop, refl, sym, ap, subst, ◌∙◌, arith, rules}
+use Rattle.std.proofs.Common.{◌≡◌, ◌+◌, ◌-◌, ◌^◌, ◌≤◌, ◌<◌, [], ◌∷◌, ◌++◌, length, slice_index, drop, refl, sym, ap, subst, arith, rules}
 use Rattle.std.specs.Prelude.{All, Ok, Err}
 use Rattle.std.proofs.lemmas.Result.{err_from_is_err_and}
-use Rattle.std.proofs.lemmas.List.{length-append, length-set, drop-drop, append-nil}
+use Rattle.std.proofs.lemmas.List.{length-set}
 use Rattle.disk_trait.specs.Files.{Files}
 use Rattle.flowfile_record.specs.Events.{code_of}
-use Rattle.flowfile_record.specs.declared.event.Event.{Event}
-use Rattle.prov_store.specs.Events.{event_by, events_from, blocks_size}
-use Rattle.prov_store.specs.Loading.{AreRead, bytes_there}
-use Rattle.prov_store.specs.Reading.{HasWhole, IsThere, event_there}
-use Rattle.prov_store.specs.State.{AreCounted}
+use Rattle.prov_store.specs.Loading.{AreRead}
+use Rattle.prov_store.specs.Reading.{HasWhole, event_there}
 use Rattle.prov_store.specs.declared.error.EventsError.TheVariants.{Damaged, Memory}
 use Rattle.prov_store.specs.declared.read.Cursor.{Cursor}
 use Rattle.prov_store.proofs.Counting.{code_within, most_more, counted_one}

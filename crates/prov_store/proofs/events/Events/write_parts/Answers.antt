@@ -1,21 +1,19 @@
-use Rattle.std.proofs.Common.{◌≡◌, ℕ, ◌+◌, ◌-◌, ◌/◌, ◌^◌, ◌<◌, ◌≤◌, ◌++◌, ◌%◌, List, [], false, IsTrue, length, get_or, take, drop, refl, sym, ap, subst, ◌∙◌, arith, rules}
+use Rattle.std.proofs.Common.{◌≡◌, ℕ, ◌+◌, ◌-◌, ◌/◌, ◌<◌, ◌≤◌, ◌++◌, ◌%◌, List, [], false, length, get_or, take, drop, refl, sym, ap, subst, ◌∙◌, arith}
 use Rattle.std.specs.Prelude.{◌==◌}
 use Rattle.std.proofs.lemmas.Bool.Decides.{nat_tests}
 use Rattle.std.proofs.lemmas.List.{length-drop, take_all}
 use Rattle.disk_trait.proofs.FileTables.{on_err}
-use Rattle.disk_trait.specs.Files.{At, Overwritten, Torn}
-use Rattle.disk_trait.specs.Images.{After, Since, next_moment}
+use Rattle.disk_trait.specs.Images.{next_moment}
 use Rattle.flowfile_record.specs.declared.event.Event.{Event}
 use Rattle.prov_store.specs.Blocks.{blocks_of, AreParts, AreEncoded, next_offset}
-use Rattle.prov_store.specs.Events.{events_file}
 use Rattle.prov_store.specs.Growing.{Stands}
-use Rattle.prov_store.specs.State.{GrowsBehind, HasCalled, calls_later, files_for}
+use Rattle.prov_store.specs.State.{HasCalled, calls_later, files_for}
 use Rattle.prov_store.specs.declared.TheConstants.{EVENTS_PER_FILE}
 use Rattle.prov_store.specs.declared.blocks.Part.{Part}
 use Rattle.prov_store.proofs.Cutting.{one_call_more}
 use Rattle.prov_store.proofs.Growing.{ends_there, grows_on, grows_left}
 use Rattle.prov_store.proofs.Parting.{no_part_is, as_many_files}
-use Rattle.prov_store.proofs.Writing.{AtPart, at_part, part_stands}
+use Rattle.prov_store.proofs.Writing.{at_part, part_stands}
 use Rattle.prov_store.proofs.events.Events.write_parts.Goals as goal
 
 abbrev zero_part : Part

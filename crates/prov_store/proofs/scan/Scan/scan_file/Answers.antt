@@ -1,16 +1,14 @@
-use Rattle.std.proofs.Common.{◌≡◌, ℕ, suc, ◌+◌, ◌-◌, ◌*◌, ◌/◌, ◌≤◌, ◌<◌, ◌++◌, List, [], IsTrue, length, take, drop, refl, sym, ap, subst, ◌∙◌, arith, rules}
-use Rattle.std.specs.Prelude.{Ok, Err, filter, map, min, max}
+use Rattle.std.proofs.Common.{◌≡◌, ℕ, ◌+◌, ◌-◌, ◌*◌, ◌++◌, List, take, drop, refl, sym, ap, ◌∙◌, arith}
+use Rattle.std.specs.Prelude.{Err, map, min, max}
 use Rattle.std.specs.List.{range_with_len}
 use Rattle.std.proofs.lemmas.List.{map-append}
 use Rattle.std.proofs.lemmas.Result.{err_from_is_err_and}
-use Rattle.disk_trait.specs.Files.{Files}
 use Rattle.flowfile_record.specs.declared.event.Event.{Event}
-use Rattle.prov_store.specs.Events.{events_file, first_in, blocks_size}
-use Rattle.prov_store.specs.Scanning.{is_within}
+use Rattle.prov_store.specs.Events.{first_in}
 use Rattle.prov_store.specs.declared.TheConstants.{EVENTS_PER_FILE}
 use Rattle.prov_store.specs.declared.error.EventsError.TheVariants.{Damaged}
 use Rattle.prov_store.specs.declared.read.Cursor.{Cursor}
-use Rattle.prov_store.proofs.Scans.{FoundIn, found_in, from_start, there_in_file}
+use Rattle.prov_store.proofs.Scans.{found_in, from_start, there_in_file}
 use Rattle.prov_store.proofs.scan.Scan.scan_file.Goals as goal
 
 pub returns-in_err-cursor-clause-undamaged : goal.returns-in_err-cursor-clause-undamaged

@@ -1,4 +1,4 @@
-use Rattle.std.proofs.Common.{◌≡◌, ◌≤◌, ◌-◌, ◌/◌, ◌+◌, List, IsTrue}
+use Rattle.std.proofs.Common.{◌≡◌, ◌≤◌, ◌-◌, List, IsTrue}
 use Rattle.std.specs.Prelude.{Ok, filter, map, min}
 use Rattle.disk_trait.specs.Images.{Stays}
 use Rattle.flowfile_record.specs.declared.event.Event.{Event}
