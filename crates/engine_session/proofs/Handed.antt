@@ -1,15 +1,16 @@
 -- What a session is handed of live files.
-use Rattle.std.proofs.Common.{◌≡◌, ◌≢◌, ℕ, zero, suc, ◌+◌, Bool, true, List, [], ◌∷◌, length, map, refl, sym, ap, subst, ◌∙◌}
+use Rattle.std.proofs.Common.{◌≡◌, ◌≢◌, ℕ, zero, suc, ◌+◌, ◌≤◌, Bool, true, List, [], ◌∷◌, length, map, refl, sym, ap, subst, ◌∙◌}
 use Rattle.std.specs.Prelude.{All, Contains, Option, None, Some, is_some, IfSome, nat_le, sum_by, slice_index, unwrap_or}
 use Rattle.std.specs.List.{AllPairs}
 use Rattle.std.proofs.lemmas.Bool.{false≢true}
-use Rattle.std.proofs.lemmas.List.Elements.{All-cons, All-nil}
+use Rattle.std.proofs.lemmas.List.Elements.{All-cons, All-contains, All-head, All-nil, All-tail, All-weaker}
 use Rattle.std.proofs.lemmas.List.Sums.{sum_by-cons}
 use Rattle.flowfile_record.specs.Stored.{Kept}
 use Rattle.flowfile_record.specs.declared.TheConstants.{CONTENT_MAX}
 use Rattle.flowfile_record.specs.declared.content.ContentRef.{ContentRef}
 use Rattle.flowfile_record.specs.declared.flow_file.FlowFile.{FlowFile}
 use Rattle.record_codec.specs.ActiveFile.{active}
+use Rattle.checkpoint_store.specs.Consistent.{IsConsistent, IsFileIn}
 use Rattle.machine_model.specs.Changing.{queued_file}
 use Rattle.machine_model.specs.Kinds.{take_rule_of}
 use Rattle.machine_model.specs.Laws.{MayTake}
@@ -23,7 +24,7 @@ use Rattle.processor_api.specs.Acts.{AreTakenAs}
 use Rattle.settlement.specs.Contents.{source_bytes}
 use Rattle.settlement.specs.Handed.{AreRead, sizes_of}
 use Rattle.store_core.specs.State.{state_with}
-use Rattle.engine_session.specs.Handing.{AreReadOf, AreTaken, fit_a_content, taken_as, taken_from}
+use Rattle.engine_session.specs.Handing.{AreReadOf, AreTaken, fit_a_content, live_files, taken_as, taken_from}
 use Rattle.engine_session.specs.Laws.{TakenFilesAreTheMachines, TakenFilesAreThere, TakenFilesMayBeHanded}
 use Rattle.engine_session.proofs.Lookups.{live_count, live_differ, live_there}
 
@@ -86,6 +87,17 @@ are_whole store bytes fits (file ∷ files) (one ∷ contents) read =
     All-cons IsWhole (taken_as store (file, one)) (taken_from store files contents)
     (whole_as (bytes file.content) file.content.size one read.0.size read.0.is) (are_whole store bytes fits files contents read.1)
 
+-- no content is longer than one may be
+are_small : (store : ℕ) (bytes : ContentRef → List ℕ) (fits : Bool) (files : List FlowFile) (contents : List (Option (List ℕ))) → All (λ file. file.content.size ≤ CONTENT_MAX) files
+    → AreReadOf bytes fits files contents → All (λ one. one.size ≤ CONTENT_MAX) (taken_from store files contents)
+are_small store bytes fits [] [] small read = All-nil (λ (one : Taken). one.size ≤ CONTENT_MAX)
+are_small store bytes fits [] (one ∷ contents) small read = absurd read
+are_small store bytes fits (file ∷ files) [] small read = absurd read
+are_small store bytes fits (file ∷ files) (one ∷ contents) small read =
+    All-cons (λ (t : Taken). t.size ≤ CONTENT_MAX) (taken_as store (file, one)) (taken_from store files contents)
+    (All-head (λ (f : FlowFile). f.content.size ≤ CONTENT_MAX) file files small)
+    (are_small store bytes fits files contents (All-tail (λ (f : FlowFile). f.content.size ≤ CONTENT_MAX) file files small) read.1)
+
 are_filled : (store : ℕ) (bytes : ContentRef → List ℕ) (fits : Bool) (files : List FlowFile) (contents : List (Option (List ℕ))) → AreReadOf bytes fits files contents
     → All (λ one. is_some one.bytes ≡ fits) (taken_from store files contents)
 are_filled store bytes fits [] [] read = All-nil (λ (one : Taken). is_some one.bytes ≡ fits)
@@ -95,12 +107,13 @@ are_filled store bytes fits (file ∷ files) (one ∷ contents) read =
     All-cons (λ (t : Taken). is_some t.bytes ≡ fits) (taken_as store (file, one)) (taken_from store files contents) read.0.filled
     (are_filled store bytes fits files contents read.1)
 
-handed_read : (store : ℕ) (bytes : ContentRef → List ℕ) (files : List FlowFile) (contents : List (Option (List ℕ))) → AreReadOf bytes (fit_a_content files) files contents
-    → acts.AreRead (taken_from store files contents)
-handed_read store bytes files contents read =
+handed_read : (store : ℕ) (bytes : ContentRef → List ℕ) (files : List FlowFile) (contents : List (Option (List ℕ))) → All (λ file. file.content.size ≤ CONTENT_MAX) files
+    → AreReadOf bytes (fit_a_content files) files contents → acts.AreRead (taken_from store files contents)
+handed_read store bytes files contents small read =
     let fits : fit_a_content files ≡ acts.fit_a_content (taken_from store files contents) =
     ap (λ n. nat_le n CONTENT_MAX) (sym (taken_sizes store bytes (fit_a_content files) files contents read)) in
     record {
+      small = are_small store bytes (fit_a_content files) files contents small read;
       whole = are_whole store bytes (fit_a_content files) files contents read;
       filled = subst (λ (b : Bool). All (λ one. is_some one.bytes ≡ b) (taken_from store files contents)) fits (are_filled store bytes (fit_a_content files) files contents read);
     }
@@ -112,11 +125,24 @@ pub files_count : (k : Kept) (connection : ℕ) (numbers : List ℕ) (bytes : Co
 files_count k connection numbers bytes files contents taken =
     taken_count k.store bytes (fit_a_content files) files contents taken.read ∙ ap length taken.are ∙ live_count k connection numbers taken.active
 
+-- the files of a consistent state are within the limits of flow files
+live_small : (k : Kept) → IsConsistent k → (connection : ℕ) (files : List FlowFile) → All (λ file. Contains k.files (active connection file)) files → All (λ file. file.content.size ≤ CONTENT_MAX) files
+live_small k consistent connection files there =
+    All-weaker (λ file. Contains k.files (active connection file)) (λ file. file.content.size ≤ CONTENT_MAX)
+    (λ (file : FlowFile) (here : Contains k.files (active connection file)). (All-contains (IsFileIn k) k.files (active connection file) consistent.files here).encoded.file.content.size)
+    files there
+
+taken_small : (k : Kept) (connection : ℕ) (numbers : List ℕ) (bytes : ContentRef → List ℕ) (files : List FlowFile) (contents : List (Option (List ℕ))) → IsConsistent k
+    → AreTaken k connection numbers bytes files contents → All (λ file. file.content.size ≤ CONTENT_MAX) files
+taken_small k connection numbers bytes files contents consistent taken =
+    subst (λ (f : List FlowFile). All (λ file. file.content.size ≤ CONTENT_MAX) f) (sym taken.are)
+    (live_small k consistent connection (live_files k numbers) (live_there k connection numbers taken.active))
+
 pub taken-files-may-be-handed : TakenFilesMayBeHanded
-taken-files-may-be-handed k connection numbers bytes files contents kind given taken sound count is_given = record {
+taken-files-may-be-handed k connection numbers bytes files contents kind given consistent taken sound count is_given = record {
   sound = sound;
   count = subst (MayTake (take_rule_of kind)) (sym (files_count k connection numbers bytes files contents taken)) count;
-  read = handed_read k.store bytes files contents taken.read;
+  read = handed_read k.store bytes files contents (taken_small k connection numbers bytes files contents consistent taken) taken.read;
   is_given = is_given;
 }
 

@@ -28,12 +28,12 @@ use Rattle.engine_session.specs.Handing.{AreTaken, live_files, taken_from}
 
 -- ---- what a session takes
 
--- so many as a rule takes may be handed to a sound processor
+-- where what is kept is consistent, so many as a rule takes may be handed to a sound processor
 abbrev pub TakenFilesMayBeHanded : Type 0
 TakenFilesMayBeHanded =
     (k : Kept) (connection : ℕ) (numbers : List ℕ) (bytes : ContentRef → List ℕ) (files : List FlowFile)
     (contents : List (Option (List ℕ))) (kind : Kind) (given : Given)
-    → AreTaken k connection numbers bytes files contents
+    → IsConsistent k → AreTaken k connection numbers bytes files contents
     → IsSoundKind kind → MayTake (take_rule_of kind) (length numbers) → IsGivenTo kind given
     → MayBeHanded kind (taken_from k.store files contents) given
 

@@ -11,9 +11,7 @@ use Rattle.process_session.specs.Bench.{source_of, sizes_of}
 use Rattle.process_session.specs.declared.file.Source.{Source}
 use Rattle.process_session.specs.declared.file.Taken.{Taken}
 use Rattle.processor_api.specs.Acts.{IsOutcomeOf, MayBeHanded}
-use Rattle.proc_attribute.specs.Duplicating.{is_duplicate_flow_file}
-use Rattle.proc_attribute.specs.Kinds.{is_attributes_to_json, is_cryptographic_hash_content, is_update_attribute}
-use Rattle.proc_attribute.specs.Routing.{is_route_on_attribute}
+use Rattle.proc_attribute.specs.Kinds.{is_attributes_to_json, is_cryptographic_hash_content, is_duplicate_flow_file, is_route_on_attribute, is_update_attribute}
 use Rattle.proc_source.specs.Kinds.{is_get_file, is_generate_flow_file, is_put_file}
 
 -- a processor of this kind works on attributes, or goes by them

@@ -67,14 +67,16 @@ sound_at (first ∷ processors) zero processor all found =
 sound_at (first ∷ processors) (suc place) processor all found =
     sound_at processors place processor (All-tail (λ p. IsSoundKind p.kind) first processors all) found
 
-may_be_handed : TakenFilesMayBeHanded → (flow : Flow) (k : Kept) (job : Job) → IsSound flow → (hand : MayHand flow k job) → MayBeHanded hand.processor.kind (taken_of k job) job.given
-may_be_handed law flow k job sound hand =
-    law k job.connection job.numbers hand.bytes job.files job.contents hand.processor.kind job.given hand.taken
+may_be_handed : TakenFilesMayBeHanded → (flow : Flow) (k : Kept) (job : Job) → IsSound flow → IsConsistent k → (hand : MayHand flow k job)
+    → MayBeHanded hand.processor.kind (taken_of k job) job.given
+may_be_handed law flow k job sound consistent hand =
+    law k job.connection job.numbers hand.bytes job.files job.contents hand.processor.kind job.given consistent hand.taken
     (sound_at flow.processors job.processor hand.processor sound.kinds hand.found) hand.rule hand.given
 
 -- the processor may be handed the job
-pub may_work : TakenFilesMayBeHanded → (flow : Flow) (k : Kept) (job : Job) → IsSound flow → MayHand flow k job → MayWork flow job.processor (taken_of k job) job.given
-may_work law flow k job sound hand = record { processor = hand.processor; found = hand.found; built = hand.built; handed = may_be_handed law flow k job sound hand }
+pub may_work : TakenFilesMayBeHanded → (flow : Flow) (k : Kept) (job : Job) → IsSound flow → IsConsistent k → MayHand flow k job → MayWork flow job.processor (taken_of k job) job.given
+may_work law flow k job sound consistent hand =
+    record { processor = hand.processor; found = hand.found; built = hand.built; handed = may_be_handed law flow k job sound consistent hand }
 
 -- and its work may end
 pub may_end : TakenFilesMayBeHanded → (flow : Flow) (k : Kept) (job : Job) (done : Outcome × List Source) → IsSound flow → IsConsistent k → MayHand flow k job
@@ -85,7 +87,7 @@ may_end law flow k job done sound consistent hand work = record {
   bytes = hand.bytes;
   contents = job.contents;
   taken = hand.taken;
-  may = may_work law flow k job sound hand;
+  may = may_work law flow k job sound consistent hand;
   work = work;
   index = hand.index;
 }
@@ -185,7 +187,7 @@ module _ (laws : Laws) (flow : Flow) (k : Kept) (job : Job) (outcome : Outcome) 
   put_of : (conflict : Conflict) → stands.processor.kind ≡ PutFile conflict → IsPutOf before (session before.state) (sources_of k job)
   put_of conflict is_put =
       let there = laws.there k job.connection job.numbers contents job.files job.contents stands.read in
-      let handed = may_be_handed laws.may flow k job is.sound is.hand in
+      let handed = may_be_handed laws.may flow k job is.sound is.consistent is.hand in
       let count : MayTake (take_rule_of (PutFile conflict)) (length (taken_of k job)) =
       subst (λ (kind : Kind). MayTake (take_rule_of kind) (length (taken_of k job))) (ap (λ (p : Processor). p.kind) same_processor ∙ is_put) handed.count in
       let one = alone k.store job.connection k contents job.files job.contents is.consistent there.there stands.read.read count in
@@ -271,5 +273,7 @@ pub taken_as_of : (k : Kept) (job : Job) (store : ℕ) (files : List FlowFile) (
 taken_as_of k job store files taken is same id = is ∙ (λ i. taken_from (id i) (same i) job.contents)
 
 -- the processor may work on what was taken
-pub may_work_on : TakenFilesMayBeHanded → (flow : Flow) (k : Kept) (job : Job) (taken : List Taken) → IsSound flow → MayHand flow k job → taken ≡ taken_of k job → MayWork flow job.processor taken job.given
-may_work_on law flow k job taken sound hand is = subst (λ (t : List Taken). MayWork flow job.processor t job.given) (sym is) (may_work law flow k job sound hand)
+pub may_work_on : TakenFilesMayBeHanded → (flow : Flow) (k : Kept) (job : Job) (taken : List Taken) → IsSound flow → IsConsistent k → MayHand flow k job → taken ≡ taken_of k job
+    → MayWork flow job.processor taken job.given
+may_work_on law flow k job taken sound consistent hand is =
+    subst (λ (t : List Taken). MayWork flow job.processor t job.given) (sym is) (may_work law flow k job sound consistent hand)

@@ -1,6 +1,7 @@
 -- That sessions of each type end all files that they took, in turn.
 use Rattle.std.proofs.Common.{◌≡◌, ℕ, zero, suc, ◌<◌, Bool, true, false, List, [], ◌∷◌, map, length, refl, arith}
-use Rattle.std.specs.Prelude.{Option, Some, None, IfSome, ◌==◌, ◌||◌, cond, codes, option_map, replicate, slice_get}
+use Rattle.std.specs.Prelude.{Option, Some, None, IfSome, ◌==◌, ◌||◌, ◌&&◌, cond, codes, option_map, replicate, slice_get}
+use Rattle.std.specs.Str.{is_utf8}
 use Rattle.std.proofs.lemmas.List.Elements.{All-nil, All-cons}
 use Rattle.flowfile_record.specs.Attributes.{AttributeMap}
 use Rattle.flowfile_record.specs.Outcome.{AreInTurn}
@@ -13,7 +14,7 @@ use Rattle.machine_model.specs.declared.kind.Conflict.{Conflict}
 use Rattle.machine_model.specs.declared.kind.Destination.{Destination}
 use Rattle.machine_model.specs.declared.kind.Destination.TheVariants.{Attribute, Content}
 use Rattle.machine_model.specs.declared.kind.Conflict.TheVariants.{Replace, Ignore, Fail}
-use Rattle.machine_model.specs.declared.kind.Kind.TheVariants.{GetFile, GenerateFlowFile, PutFile, UpdateAttribute, RouteOnAttribute, AttributesToJson, DuplicateFlowFile, CryptographicHashContent, SplitText, MergeContent, SegmentContent, ModifyBytes}
+use Rattle.machine_model.specs.declared.kind.Kind.TheVariants.{GetFile, GenerateFlowFile, PutFile, UpdateAttribute, RouteOnAttribute, AttributesToJson, DuplicateFlowFile, CryptographicHashContent, SplitText, ReplaceText, ExtractText, RouteOnContent, MergeContent, SegmentContent, ModifyBytes}
 use Rattle.machine_model.specs.Acting.{act, received, put, put_unless_there, name_in}
 use Rattle.machine_model.specs.Making.{TakenFile, alone, passed_on, clone_of, found_in, may_have, with_set, as_content, or_given_up}
 use Rattle.machine_model.specs.UpdateAttribute.{update, updated}
@@ -25,8 +26,12 @@ use Rattle.machine_model.specs.ModifyBytes.{modify, without_ends}
 use Rattle.machine_model.specs.Parts.{groups_of}
 use Rattle.machine_model.specs.SegmentContent.{segment, bytes_together}
 use Rattle.machine_model.specs.SplitText.{split, lines_of, lines_together}
+use Rattle.machine_model.specs.RouteOnContent.{route_by_content, found_places}
 use Rattle.machine_model.specs.Laws.{EndsAllInTurn, ActsEndAllInTurn}
 use Rattle.machine_model.proofs.InTurn.{merge-turn, parts-turn}
+use Rattle.machine_model.specs.ReplaceText.{replace_text, replaced_content}
+use Rattle.machine_model.specs.ExtractText.{extract_text, extracted, any_finds}
+use Rattle.machine_model.proofs.Options.{if_where}
 use Rattle.machine_model.proofs.Outcomes.{IsMade, taken-then-made}
 use Rattle.machine_model.proofs.Tally.{Each}
 
@@ -96,13 +101,13 @@ with-attributes-ends : (set : Option AttributeMap) → IfSome (option_map (λ at
 with-attributes-ends (Some attributes) = passed_alone attributes false 0
 with-attributes-ends None = tt
 
+with-content-ends : (attributes : AttributeMap) (content : Option (List ℕ)) → IfSome (option_map (λ bytes. alone (written_on attributes bytes)) content) (EndsAllInTurn 1)
+with-content-ends attributes (Some bytes) = written-alone attributes bytes
+with-content-ends attributes None = tt
+
 noted-ends : (destination : Destination) (file : TakenFile) (json : List ℕ) → IfSome (noted_in destination file json) (EndsAllInTurn 1)
 noted-ends Attribute file json = with-attributes-ends (with_set (Taken 0) file.attributes (codes "JSONAttributes", json))
-noted-ends Content file json = written_ends (as_content json)
-  where
-    written_ends : (content : Option (List ℕ)) → IfSome (option_map (λ bytes. alone (written_on file.attributes bytes)) content) (EndsAllInTurn 1)
-    written_ends (Some bytes) = written-alone file.attributes bytes
-    written_ends None = tt
+noted-ends Content file json = with-content-ends file.attributes (as_content json)
 
 duplicated-ends : (copies : ℕ) (file : TakenFile) → IfSome (duplicated copies file) (EndsAllInTurn 1)
 duplicated-ends copies file =
@@ -146,9 +151,17 @@ act-ends CryptographicHashContent taken given may =
     one-file hash_content (λ file. or-given-up-ends 1 file (hashed file) (with-attributes-ends _)) taken may
 act-ends (SplitText lines) taken given may =
     one-file (split lines) (λ file. parts-turn 0 1 file (map lines_together (groups_of lines (lines_of file.bytes)))) taken may
+act-ends (ReplaceText replacement) taken given may =
+    one-file (replace_text replacement)
+    (λ file. or-given-up-ends 1 file (option_map (λ bytes. alone (written_on file.attributes bytes)) (replaced_content replacement file.bytes))
+    (with-content-ends file.attributes (replaced_content replacement file.bytes))) taken may
+act-ends (ExtractText own) taken given may =
+    one-file (extract_text own)
+    (λ file. or-given-up-ends 1 file (extracted own file) (if_where (is_utf8 file.bytes && any_finds file.bytes own) _ (EndsAllInTurn 1) (λ found. with-attributes-ends _))) taken may
+act-ends (RouteOnContent requirement own) taken given may =
+    one-file (route_by_content own) (λ file. routed-ends (length own) file (found_places file.bytes own)) taken may
 act-ends (MergeContent strategy minimum maximum) taken given may = merge-turn strategy taken
 act-ends (SegmentContent size) taken given may =
     one-file (segment size) (λ file. parts-turn 1 0 file (map bytes_together (groups_of size file.bytes))) taken may
 act-ends (ModifyBytes start end) taken given may =
     one-file (modify start end) (λ file. written-alone file.attributes (without_ends start end file.bytes)) taken may
-act-ends _ taken given may = tt

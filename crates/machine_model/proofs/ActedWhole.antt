@@ -1,10 +1,9 @@
 -- That a session of each type ends with an outcome of its relationships, over what it took.
-use Rattle.std.proofs.Common.{◌≡◌, ℕ, ◌^◌, ◌<◌, ◌≤◌, Bool, true, false, not, ◌&&◌, List, [], ◌∷◌, ◌++◌, map, length, refl, ◌∙◌, arith}
-use Rattle.std.specs.Prelude.{All, IfSome, Option, Some, None, nat_le, option_map, slice_get, codes, decimal}
+use Rattle.std.proofs.Common.{◌&&◌, ◌≡◌, ℕ, ◌^◌, ◌<◌, ◌≤◌, Bool, true, false, not, List, [], ◌∷◌, ◌++◌, map, length, refl, ◌∙◌, arith}
+use Rattle.std.specs.Prelude.{nat_le, ◌&&◌, All, IfSome, Option, Some, None, option_map, slice_get, codes, decimal}
 use Rattle.std.specs.FinMap.{get}
-use Rattle.std.specs.List.{list_all}
 use Rattle.std.specs.Str.{IsUtf8}
-use Rattle.std.proofs.lemmas.Bool.{and_parts, leb-true}
+use Rattle.std.proofs.lemmas.Bool.{leb-true, and_parts}
 use Rattle.std.proofs.lemmas.Fmt.{IsAscii-decimal, length-decimal-le}
 use Rattle.std.proofs.lemmas.List.{length-append, length-map}
 use Rattle.std.proofs.lemmas.List.Elements.{All-nil, All-head}
@@ -21,7 +20,7 @@ use Rattle.expr_lang.specs.declared.syntax.Expr.{Expr}
 use Rattle.machine_model.specs.declared.given.Given.{Given}
 use Rattle.machine_model.specs.declared.kind.Conflict.{Conflict}
 use Rattle.machine_model.specs.declared.kind.Conflict.TheVariants.{Replace, Ignore, Fail}
-use Rattle.machine_model.specs.declared.kind.Kind.TheVariants.{GetFile, GenerateFlowFile, PutFile, UpdateAttribute, RouteOnAttribute, AttributesToJson, DuplicateFlowFile, CryptographicHashContent, SplitText, MergeContent, SegmentContent, ModifyBytes}
+use Rattle.machine_model.specs.declared.kind.Kind.TheVariants.{GetFile, GenerateFlowFile, PutFile, UpdateAttribute, RouteOnAttribute, AttributesToJson, DuplicateFlowFile, CryptographicHashContent, SplitText, ReplaceText, ExtractText, RouteOnContent, MergeContent, SegmentContent, ModifyBytes}
 use Rattle.machine_model.specs.declared.kind.MergeStrategy.{MergeStrategy}
 use Rattle.machine_model.specs.declared.kind.MergeStrategy.TheVariants.{BinPacking, Defragment}
 use Rattle.machine_model.specs.declared.kind.OwnExpression.{OwnExpression}
@@ -39,6 +38,8 @@ use Rattle.machine_model.specs.CryptographicHashContent.{hash_content}
 use Rattle.machine_model.specs.ModifyBytes.{modify}
 use Rattle.machine_model.specs.SegmentContent.{segment}
 use Rattle.machine_model.specs.SplitText.{split}
+use Rattle.machine_model.specs.ReplaceText.{replace_text}
+use Rattle.machine_model.specs.ExtractText.{extract_text}
 use Rattle.machine_model.specs.Laws.{ActsGiveOutcomes}
 use Rattle.machine_model.proofs.Acted.{passed_alone}
 use Rattle.machine_model.proofs.ShortTexts.{text-short}
@@ -46,6 +47,8 @@ use Rattle.machine_model.proofs.AttributesWhole.{one-gives, duplicate-gives, rou
 use Rattle.machine_model.proofs.Merged.{merge-gives}
 use Rattle.machine_model.proofs.Parted.{IsTakenFile, all-taken, modify-gives, segment-gives, split-gives}
 use Rattle.machine_model.proofs.SetWhole.{IsTextual, update-gives, hash-gives, json-gives}
+use Rattle.machine_model.proofs.PatternsWhole.{replace-gives, extract-gives, route-by-content-gives}
+use Rattle.machine_model.proofs.OwnNames.{are_names}
 use Rattle.machine_model.proofs.OneOutcome.{two_sized, two_pairs, literal, path_pair, made-worked, passed-worked, one-outcome}
 
 received-gives : (sizes : List ℕ) (name bytes : Option (List ℕ)) → length sizes ≡ 0 → IfSome name IsName → IfSome bytes (λ bytes. length bytes ≤ CONTENT_MAX) → IfSome (received name bytes) (IsOutcome 1 sizes)
@@ -99,16 +102,6 @@ put-file conflict (file ∷ other ∷ rest) given one within = absurd (omega ari
 
 -- ---- own properties, and files of texts
 
--- few, with names of a key's length
-are_names : (own : List OwnExpression) → are_own_names (map (λ property. property.name) own) ≡ true
-    → (length own ≤ 64) × (list_all (λ name. within 1 (length name) OWN_NAME_MAX) (map (λ property. property.name) own) ≡ true)
-are_names own are =
-    let names = map (λ (property : OwnExpression). property.name) own in
-    let few = nat_le (length names) OWN_PROPERTIES_MAX in
-    let sized = list_all (λ name. within 1 (length name) OWN_NAME_MAX) names in
-    let parts = and_parts few sized (and_parts (few && sized) (are_ascending names) are).0 in
-    (omega (arith, leb-true (length names) OWN_PROPERTIES_MAX parts.0, length-map own (λ (property : OwnExpression). property.name)), parts.1)
-
 all-textual : (taken : List TakenFile) → All (λ file. IsWithinLimits file.attributes) taken → All (λ file. IsUtf8 file.uuid) taken → All IsTextual taken
 all-textual taken within texts place default below = record { attributes = within place default below; uuid = texts place default below }
 
@@ -118,7 +111,7 @@ route-all : (own : List OwnExpression) (taken : List TakenFile) → are_own_rela
 route-all own taken are one within =
     let names = map (λ (property : OwnExpression). property.name) own in
     let relationships = length (names ++ codes "unmatched" ∷ []) in
-    let few = (are_names own (and_parts (are_own_names names) (not (is_among (codes "unmatched") names)) are).0).0 in
+    let few = (are_names (λ property. property.name) own (and_parts (are_own_names names) (not (is_among (codes "unmatched") names)) are).0).0 in
     let more : length own < relationships = omega (arith, length-append names (codes "unmatched" ∷ []), length-map own (λ (property : OwnExpression). property.name)) in
     one-gives relationships (route own) (λ file. IsWithinLimits file.attributes) (λ file within. route-gives own relationships file more few within) taken one within
 
@@ -140,7 +133,7 @@ act-gives (GenerateFlowFile count text) taken given handed =
 act-gives (PutFile conflict) taken given handed = put-file conflict taken given handed.count handed.attributes
 act-gives (UpdateAttribute own) taken given handed =
     one-gives 2 (update own) IsTextual
-    (λ file is. update-gives own file (record { lengths = (are_names own handed.sound.ranges).1; texts = handed.names }) is) taken handed.count
+    (λ file is. update-gives own file (record { lengths = (are_names (λ property. property.name) own handed.sound.ranges).1; texts = handed.names }) is) taken handed.count
     (all-textual taken handed.attributes handed.uuids)
 act-gives (RouteOnAttribute own) taken given handed = route-all own taken handed.sound.ranges handed.count handed.attributes
 act-gives (AttributesToJson destination names) taken given handed =
@@ -152,6 +145,11 @@ act-gives CryptographicHashContent taken given handed =
     one-gives 2 hash_content (λ file. IsWithinLimits file.attributes) hash-gives taken handed.count handed.attributes
 act-gives (SplitText lines) taken given handed =
     one-gives 3 (split lines) IsTakenFile (split-gives lines) taken handed.count (all-taken taken handed.attributes handed.uuids handed.contents)
+act-gives (ReplaceText replacement) taken given handed =
+    one-gives 2 (replace_text replacement) (λ file. IsWithinLimits file.attributes) (replace-gives replacement) taken handed.count handed.attributes
+act-gives (ExtractText own) taken given handed =
+    one-gives 2 (extract_text own) (λ file. IsWithinLimits file.attributes) (extract-gives own handed.names) taken handed.count handed.attributes
+act-gives (RouteOnContent requirement own) taken given handed = route-by-content-gives requirement own taken handed.sound.ranges handed.count handed.attributes
 act-gives (MergeContent BinPacking minimum maximum) taken given handed =
     merge-gives BinPacking taken handed.count.0 (bin-few BinPacking minimum maximum (length taken) handed.sound.ranges handed.count.1)
     (all-taken taken handed.attributes handed.uuids handed.contents)
@@ -161,4 +159,3 @@ act-gives (SegmentContent size) taken given handed =
     one-gives 3 (segment size) IsTakenFile (segment-gives size) taken handed.count (all-taken taken handed.attributes handed.uuids handed.contents)
 act-gives (ModifyBytes start end) taken given handed =
     one-gives 1 (modify start end) IsTakenFile (modify-gives start end) taken handed.count (all-taken taken handed.attributes handed.uuids handed.contents)
-act-gives _ taken given handed = tt

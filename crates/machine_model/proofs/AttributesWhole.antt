@@ -1,5 +1,5 @@
 -- That what the processors of attributes make of the file that they took is an outcome of theirs.
-use Rattle.std.proofs.Common.{◌≡◌, ℕ, ◌+◌, ◌*◌, ◌<◌, ◌≤◌, true, false, List, [], ◌∷◌, map, length, arith}
+use Rattle.std.proofs.Common.{◌≡◌, ℕ, ◌+◌, ◌*◌, ◌<◌, ◌≤◌, Bool, true, false, List, [], ◌∷◌, map, length, arith}
 use Rattle.std.specs.Prelude.{All, IfSome, IsTrue, Option, Some, None, ◌==◌, nat_le, cond, filter, option_map, replicate, slice_get}
 use Rattle.std.specs.List.{enumerate_from}
 use Rattle.std.proofs.lemmas.Bool.{and_parts, leb-true, ne_eqb}
@@ -12,7 +12,6 @@ use Rattle.flowfile_record.specs.declared.attributes.TheConstants.{ATTRIBUTES_MA
 use Rattle.flowfile_record.specs.declared.worked.Origin.TheVariants.{Cloned}
 use Rattle.flowfile_record.specs.declared.worked.Outcome.{Outcome}
 use Rattle.flowfile_record.specs.declared.worked.Worked.{Worked}
-use Rattle.expr_lang.specs.Meaning.{Attributes}
 use Rattle.machine_model.specs.declared.kind.OwnExpression.{OwnExpression}
 use Rattle.machine_model.specs.declared.limits.TheConstants.{COPIES_MAX}
 use Rattle.machine_model.specs.Making.{TakenFile, passed_on, clone_of, found_in, may_have, or_given_up}
@@ -120,17 +119,17 @@ routed-clone-worked relationships relationship size attributes there within may 
 }
 
 -- few places, all of them lower than another
-record AreFewBelow (most limit : ℕ) (places : List ℕ) : Type 0 where
-  few : length places ≤ most
-  each : All (λ place. place < limit) places
+pub record AreFewBelow (most limit : ℕ) (places : List ℕ) : Type 0 where
+  pub few : length places ≤ most
+  pub each : All (λ place. place < limit) places
 
-places-below : (find : Attributes) (from limit : ℕ) (own : List OwnExpression) → from + length own ≤ limit
-    → AreFewBelow (length own) limit (map (λ p. p.0) (filter (λ p. is_true_of find p.1) (enumerate_from from own)))
-places-below find from limit [] le = record { few = omega arith; each = All-nil (λ place. place < limit) }
-places-below find from limit (property ∷ own) le =
-    let rest = places-below find (from + 1) limit own (omega arith) in
-    let later = filter (λ (p : ℕ × OwnExpression). is_true_of find p.1) (enumerate_from (from + 1) own) in
-    elim (is_true_of find property) as (λ b. AreFewBelow (length (property ∷ own)) limit (map (λ p. p.0) (cond b ((from, property) ∷ later) later))) [
+pub places-below : {A : Type 0} (passes : A → Bool) (from limit : ℕ) (own : List A) → from + length own ≤ limit
+    → AreFewBelow (length own) limit (map (λ p. p.0) (filter (λ p. passes p.1) (enumerate_from from own)))
+places-below passes from limit [] le = record { few = omega arith; each = All-nil (λ place. place < limit) }
+places-below {A} passes from limit (property ∷ own) le =
+    let rest = places-below passes (from + 1) limit own (omega arith) in
+    let later = filter (λ (p : ℕ × A). passes p.1) (enumerate_from (from + 1) own) in
+    elim (passes property) as (λ b. AreFewBelow (length (property ∷ own)) limit (map (λ p. p.0) (cond b ((from, property) ∷ later) later))) [
       | true ↦ record { few = omega (arith, rest.few); each = All-cons (λ place. place < limit) from (map (λ p. p.0) later) (omega arith) rest.each }
       | false ↦ record { few = omega (arith, rest.few); each = rest.each }
     ]
@@ -164,7 +163,7 @@ with-clones-gives relationships size attributes first (other ∷ rest) places wi
     (All-cons (IsWorked relationships (size ∷ [])) (routed_file attributes first) clones (routed-worked relationships first size attributes there within)
     (routed-clones-worked relationships size attributes others behind within may))))
 
-routed-gives : (relationships unmatched : ℕ) (file : TakenFile) (places : List ℕ) → unmatched < relationships → AreFewBelow 64 relationships places → IsWithinLimits file.attributes
+pub routed-gives : (relationships unmatched : ℕ) (file : TakenFile) (places : List ℕ) → unmatched < relationships → AreFewBelow 64 relationships places → IsWithinLimits file.attributes
     → IsOutcome relationships (length file.bytes ∷ []) (routed unmatched file places)
 routed-gives relationships unmatched file [] there places within = routed-alone-gives relationships unmatched (length file.bytes) file.attributes there within
 routed-gives relationships unmatched file (first ∷ others) there places within =
@@ -174,5 +173,5 @@ routed-gives relationships unmatched file (first ∷ others) there places within
 pub route-gives : (own : List OwnExpression) (relationships : ℕ) (file : TakenFile) → length own < relationships → length own ≤ 64 → IsWithinLimits file.attributes
     → IsOutcome relationships (length file.bytes ∷ []) (route own file)
 route-gives own relationships file more few within =
-    let places = places-below (found_in file) 0 relationships own (omega arith) in
+    let places = places-below (is_true_of (found_in file)) 0 relationships own (omega arith) in
     routed-gives relationships (length own) file (true_places (found_in file) own) more (record { few = omega (arith, places.few); each = places.each }) within

@@ -11,6 +11,7 @@ pub mod Drafted
 pub mod DueSteps
 pub mod EventRows
 pub mod EventsTell
+pub mod ExtractedTexts
 pub mod Fragments
 pub mod GivenIn
 pub mod GoesOn
@@ -21,6 +22,7 @@ pub mod KinSets
 pub mod Kinships
 pub mod Lessened
 pub mod Merged
+pub mod MatchTexts
 pub mod Numbered
 pub mod Numbers
 pub mod OneOutcome
@@ -30,6 +32,8 @@ pub mod Options
 pub mod Ordered
 pub mod Outcomes
 pub mod Parted
+pub mod OwnNames
+pub mod PatternsWhole
 pub mod Picked
 pub mod Places
 pub mod Preserved

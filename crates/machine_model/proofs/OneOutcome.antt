@@ -51,7 +51,7 @@ no-entries = none_of_none (entries empty) (sym (len-entries empty) ∙ len-empty
     none_of_none [] h = refl
     none_of_none (x ∷ xs) h = absurd (omega arith)
 
-no-size : encoded_size empty ≡ 2
+pub no-size : encoded_size empty ≡ 2
 unfolding encoded_size
 no-size = rw no-entries refl
 

@@ -15,6 +15,10 @@ pub if_when : {A : Type 0} (b : Bool) (x : A) (P : A → Type 0) → (b ≡ true
 if_when true x P h = h refl
 if_when false x P h = tt
 
+pub if_where : {A : Type 0} (b : Bool) (o : Option A) (P : A → Type 0) → (b ≡ true → IfSome o P) → IfSome (cond b o None) P
+if_where true o P h = h refl
+if_where false o P h = tt
+
 pub when_passes : {A : Type 0} (b : Bool) (x : A) (P : A → Type 0) → b ≡ true → IfSome (cond b (Some x) None) P → P x
 when_passes true x P h is = is
 when_passes false x P h is = absurd (true≢false (sym h))

@@ -42,10 +42,10 @@ use Rattle.machine_model.proofs.Texts.{FindsTexts, GivesText, found-text, expres
 -- ---- attributes that are set
 
 -- a name and a value that attributes may get
-record CanBeSet (pair : List ℕ × List ℕ) : Type 0 where
-  key : IsTrue (has_key_length pair.0)
-  key_text : IsUtf8 pair.0
-  value_text : IsUtf8 pair.1
+pub record CanBeSet (pair : List ℕ × List ℕ) : Type 0 where
+  pub key : IsTrue (has_key_length pair.0)
+  pub key_text : IsUtf8 pair.0
+  pub value_text : IsUtf8 pair.1
 
 both : (a b : Bool) → a ≡ true → b ≡ true → (a && b) ≡ true
 both true true h k = refl
@@ -69,7 +69,7 @@ set-within origin attributes pair can within =
           })
     ] refl
 
-all-set-within : (origin : Origin) (attributes : AttributeMap) (pairs : List (List ℕ × List ℕ)) → All CanBeSet pairs → IsWithinLimits attributes → IfSome (with_all_set origin attributes pairs) IsWithinLimits
+pub all-set-within : (origin : Origin) (attributes : AttributeMap) (pairs : List (List ℕ × List ℕ)) → All CanBeSet pairs → IsWithinLimits attributes → IfSome (with_all_set origin attributes pairs) IsWithinLimits
 all-set-within origin attributes [] can within = within
 all-set-within origin attributes (pair ∷ pairs) can within =
     if_and_then (λ set. with_all_set origin set pairs) (with_set origin attributes pair) IsWithinLimits
@@ -77,7 +77,7 @@ all-set-within origin attributes (pair ∷ pairs) can within =
     (if_at (with_set origin attributes pair) set IsWithinLimits is (set-within origin attributes pair (All-head CanBeSet pair pairs can) within)))
 
 -- the taken file with other attributes
-with-attributes-gives : (size : ℕ) (set : Option AttributeMap) → IfSome set IsWithinLimits → IfSome (option_map (λ attributes. alone (passed_on 0 attributes false 0)) set) (IsOutcome 2 (size ∷ []))
+pub with-attributes-gives : (size : ℕ) (set : Option AttributeMap) → IfSome set IsWithinLimits → IfSome (option_map (λ attributes. alone (passed_on 0 attributes false 0)) set) (IsOutcome 2 (size ∷ []))
 with-attributes-gives size (Some attributes) within = passed-gives 2 0 size attributes (omega arith) within
 with-attributes-gives size None within = tt
 
@@ -165,7 +165,7 @@ listed-texts (name ∷ names) file texts is =
     (All-weaker IsUtf8 (λ name. IsTextPair (name, unwrap_or (found_in file name) []))
     (λ name text. record { name = text; value = found-text (found_in file) (found-in-texts file is) name }) (name ∷ names) texts)
 
-written-worked : (size : ℕ) (attributes : AttributeMap) (bytes : List ℕ) → length bytes ≤ CONTENT_MAX → IsWithinLimits attributes → IsWorked 2 (size ∷ []) (written_on attributes bytes)
+pub written-worked : (size : ℕ) (attributes : AttributeMap) (bytes : List ℕ) → length bytes ≤ CONTENT_MAX → IsWithinLimits attributes → IsWorked 2 (size ∷ []) (written_on attributes bytes)
 written-worked size attributes bytes few within = record {
   names = tt;
   body = few;

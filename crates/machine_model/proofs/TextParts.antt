@@ -78,7 +78,7 @@ digits-low (suc k) n behind low =
 digits-text : (k n : ℕ) → IsUtf8 (digits_onto k 10 false n [])
 digits-text k n = IsUtf8-from_ascii (digits_onto k 10 false n []) (IsAscii-from_all (digits_onto k 10 false n []) (digits-low k n [] (All-nil (λ c. c < 128))))
 
-decimal-text : (n : ℕ) → IsUtf8 (decimal n)
+pub decimal-text : (n : ℕ) → IsUtf8 (decimal n)
 unfolding digits
 decimal-text n = digits-text 64 n
 

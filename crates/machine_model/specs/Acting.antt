@@ -15,7 +15,7 @@ use Rattle.machine_model.specs.declared.given.Given.{Given}
 use Rattle.machine_model.specs.declared.kind.Conflict.{Conflict}
 use Rattle.machine_model.specs.declared.kind.Conflict.TheVariants.{Replace, Ignore, Fail}
 use Rattle.machine_model.specs.declared.kind.Kind.{Kind}
-use Rattle.machine_model.specs.declared.kind.Kind.TheVariants.{GetFile, GenerateFlowFile, PutFile, UpdateAttribute, RouteOnAttribute, AttributesToJson, DuplicateFlowFile, CryptographicHashContent, SplitText, MergeContent, SegmentContent, ModifyBytes}
+use Rattle.machine_model.specs.declared.kind.Kind.TheVariants.{GetFile, GenerateFlowFile, PutFile, UpdateAttribute, RouteOnAttribute, AttributesToJson, DuplicateFlowFile, CryptographicHashContent, SplitText, ReplaceText, ExtractText, RouteOnContent, MergeContent, SegmentContent, ModifyBytes}
 use Rattle.machine_model.specs.declared.pattern.Pattern.{Pattern}
 use Rattle.machine_model.specs.Making.{TakenFile, made_file, passed_on, alone}
 use Rattle.machine_model.specs.UpdateAttribute.{update}
@@ -27,6 +27,9 @@ use Rattle.machine_model.specs.SplitText.{split}
 use Rattle.machine_model.specs.MergeContent.{merge}
 use Rattle.machine_model.specs.SegmentContent.{segment}
 use Rattle.machine_model.specs.ModifyBytes.{modify}
+use Rattle.machine_model.specs.ReplaceText.{replace_text}
+use Rattle.machine_model.specs.ExtractText.{extract_text}
+use Rattle.machine_model.specs.RouteOnContent.{route_by_content}
 
 -- GetFile: the inbox's file, named `filename`, at `path` ./, to success (0)
 abbrev pub received_attributes : List ℕ → AttributeMap
@@ -75,7 +78,7 @@ abbrev pub put : Conflict → (there : Bool) → TakenFile → Option (List ℕ)
 put conflict there file None = alone (passed_on 0 file.attributes true 1)
 put conflict there file (Some name) = put_unless_there conflict there file name
 
--- What a processor of this type makes of the files that it took. Types whose paragraph isn't written yet make nothing.
+-- What a processor of this type makes of the files that it took.
 abbrev pub act : Kind → List TakenFile → Given → Option Outcome
 act (GetFile filter) taken given = received given.file given.bytes
 act (GenerateFlowFile count custom_text) taken given = Some (generated custom_text given.index)
@@ -88,7 +91,9 @@ act (AttributesToJson destination names) taken given =
 act (DuplicateFlowFile copies) taken given = option_map (duplicate copies) (slice_get taken 0)
 act CryptographicHashContent taken given = option_map hash_content (slice_get taken 0)
 act (SplitText lines) taken given = option_map (split lines) (slice_get taken 0)
+act (ReplaceText replacement) taken given = option_map (replace_text replacement) (slice_get taken 0)
+act (ExtractText own) taken given = option_map (extract_text own) (slice_get taken 0)
+act (RouteOnContent requirement own) taken given = option_map (route_by_content own) (slice_get taken 0)
 act (MergeContent strategy minimum maximum) taken given = Some (merge strategy taken)
 act (SegmentContent size) taken given = option_map (segment size) (slice_get taken 0)
 act (ModifyBytes start end) taken given = option_map (modify start end) (slice_get taken 0)
-act _ taken given = None

@@ -22,7 +22,7 @@ use Rattle.machine_model.specs.declared.journal.Step.TheVariants as entry
 use Rattle.machine_model.specs.Due.{numbers_of, due_expiry, due_swap_out, due_swap_in}
 use Rattle.machine_model.specs.Files.{active_views, content_bytes, queue_at, queue_view, queues_of, view_of}
 use Rattle.machine_model.specs.declared.kind.Kind.{Kind}
-use Rattle.machine_model.specs.declared.kind.Kind.TheVariants.{GetFile, UpdateAttribute, AttributesToJson}
+use Rattle.machine_model.specs.declared.kind.Kind.TheVariants.{GetFile, UpdateAttribute, AttributesToJson, ExtractText}
 use Rattle.machine_model.specs.declared.kind.TakeRule.{TakeRule}
 use Rattle.machine_model.specs.declared.kind.TakeRule.TheVariants.{Source, One, Bin, Defragment}
 use Rattle.machine_model.specs.State.{QueuedFile, State, World, Machine}
@@ -146,6 +146,7 @@ ActsEndAllInTurn = (kind : Kind) (taken : List TakenFile) (given : Given) → Ma
 abbrev pub names_in : Kind → List (List ℕ)
 names_in (UpdateAttribute own) = map (λ property. property.name) own
 names_in (AttributesToJson destination names) = names
+names_in (ExtractText own) = map (λ property. property.name) own
 names_in _ = []
 
 -- What a sound processor may be handed: as many files as its rule takes, each within the limits of flow files; an

@@ -6,6 +6,7 @@ pub mod CryptographicHashContent
 pub mod Due
 pub mod DuplicateFlowFile
 pub mod Events
+pub mod ExtractText
 pub mod Files
 pub mod Kinds
 pub mod Laws
@@ -17,8 +18,10 @@ pub mod Order
 pub mod Parts
 pub mod Placing
 pub mod Quiet
+pub mod ReplaceText
 pub mod RouteOnAttribute
 pub mod SegmentContent
+pub mod RouteOnContent
 pub mod Settling
 pub mod Sound
 pub mod SplitText

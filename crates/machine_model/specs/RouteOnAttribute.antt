@@ -21,9 +21,13 @@ is_truth _ = false
 abbrev pub is_true_of : Attributes → OwnExpression → Bool
 is_true_of find property = is_truth (tree_value find (tree_of property.expression) >>= as_truth)
 
+-- the places of the own properties that pass a test
+abbrev pub places_where : {A : Type 0} → (A → Bool) → List A → List ℕ
+places_where passes own = map (λ p. p.0) (filter (λ p. passes p.1) (enumerate_from 0 own))
+
 -- the places of the own relationships that are true
 abbrev pub true_places : Attributes → List OwnExpression → List ℕ
-true_places find own = map (λ p. p.0) (filter (λ p. is_true_of find p.1) (enumerate_from 0 own))
+true_places find own = places_where (is_true_of find) own
 
 -- noted as routed to where it goes
 abbrev pub routed_file : AttributeMap → ℕ → Worked

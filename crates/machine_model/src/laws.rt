@@ -3,9 +3,9 @@ ghost use Rattle.std.specs.Prelude.{◌≡◌, ◌*◌, ◌^◌};
 ghost use Rattle.machine_model.specs.Laws.{ViewsCountAll, NoneGoesBeforeItself, GoingBeforeChains, ArrivalsTell, OrderKeepsFiles, OrderHolds, OrderIsOnly, BestIsBest, BestIsOnly, ReplayOfOneMore, ReplayOfJoined, ActsEndAllInTurn, ActsGiveOutcomes, SettlingKeepsNumbers, StepsKeepNumbers, ReplaysKeepNumbers, SettlingNumbersEvents, StepsNumberEvents, ReplaysNumberEvents, ReplaysAddEvents, SettlesWithoutPast, StepsWithoutPast, ReplaysWithoutPast, SettlingTellsKin, StepsTellKin, ReplaysTellKin, NewStatesAreValid, StepsStayValid, ReplaysStayValid, StepsGoOn, ReplaysGoOn, StepsLoseNames, ReplaysLoseNames, OneConnectionHas, PicksMayBeTaken, DueExpiriesHaveSteps, DueSwapOutsHaveSteps, DueSwapInsHaveSteps, LineageIsOnly};
 
 use crate::{
-    CONNECTIONS_MAX, COPIES_MAX, FAN_OUT_MAX, GENERATED_MAX, ID_MAX, LINES_MAX, OWN_NAME_MAX,
-    OWN_PROPERTIES_MAX, PENALTY_MAX, PROCESSORS_MAX, QUEUE_LIMIT_MAX, SWAP_MAX, SWAP_MIN,
-    TASKS_MAX,
+    CONNECTIONS_MAX, COPIES_MAX, EXTRACTED_MAX, FAN_OUT_MAX, GENERATED_MAX, ID_MAX, LINES_MAX,
+    OWN_NAME_MAX, OWN_PROPERTIES_MAX, PENALTY_MAX, PROCESSORS_MAX, QUEUE_LIMIT_MAX, SWAP_MAX,
+    SWAP_MIN, TASKS_MAX,
 };
 
 /// The limits of a flow as numbers.
@@ -24,6 +24,7 @@ pub fn limits_of_a_flow()
     ensures generated { GENERATED_MAX ≡ 10 ^ 6 }
     ensures copies { COPIES_MAX ≡ 999 }
     ensures lines { LINES_MAX ≡ 10 ^ 9 }
+    ensures extracted { EXTRACTED_MAX ≡ 1024 }
 {}
 
 /// The order of a queue is a total one of files whose arrivals differ.

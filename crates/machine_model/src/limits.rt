@@ -40,3 +40,6 @@ pub const COPIES_MAX: u64 = 999;
 
 /// The greatest number of lines of a part that a content is split into.
 pub const LINES_MAX: u64 = 1_000_000_000;
+
+/// The greatest size of a value that is extracted from a content, in bytes.
+pub const EXTRACTED_MAX: u64 = 1_024;

@@ -37,8 +37,8 @@ use Rattle.machine_model.specs.declared.kind.Kind.{Kind}
 use Rattle.machine_model.specs.declared.kind.TakeRule.TheVariants.{One}
 use Rattle.processor_api.specs.Acts.{Begins}
 use Rattle.processor_api.proofs.Began.{one-begins}
-use Rattle.proc_attribute.specs.Cloning.{ended, with_ended, HasTaken, BeganWithOne}
-use Rattle.proc_attribute.specs.Passing.{EndsWith}
+use Rattle.processor_api.specs.Sessions.{HasTaken, BeganWithOne, EndsWith}
+use Rattle.proc_attribute.specs.Cloning.{ended, with_ended}
 
 -- ---- the file at the end of a list
 

@@ -13,9 +13,10 @@ use Rattle.machine_model.specs.declared.kind.Kind.TheVariants.{CryptographicHash
 use Rattle.process_session.specs.Bench.{Bench, attributes_at, bytes_of}
 use Rattle.process_session.specs.Finish.{outcome_of}
 use Rattle.processor_api.specs.Acts.{Begins, EndsAs}
-use Rattle.processor_api.proofs.Began.{one-acts}
-use Rattle.proc_attribute.specs.Passing.{EndsWith, passed_with}
-use Rattle.proc_attribute.proofs.Passed.{given-up, taken-attributes, taken-content}
+use Rattle.processor_api.proofs.Began.{one-acts, taken-attributes, taken-content}
+use Rattle.processor_api.specs.Sessions.{EndsWith}
+use Rattle.proc_attribute.specs.Passing.{passed_with}
+use Rattle.proc_attribute.proofs.Passed.{given-up}
 
 abbrev pub hashed_from : AttributeMap → List ℕ → Outcome
 hashed_from attributes content = passed_with attributes (with_set (FromQueue 0) attributes (codes "content_SHA-256", encode_lower (sha256 content)))

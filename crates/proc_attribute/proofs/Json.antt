@@ -34,10 +34,11 @@ use Rattle.process_session.specs.declared.file.Taken.{Taken}
 use Rattle.process_session.proofs.Refusing.{pass, stop}
 use Rattle.processor_api.specs.Acts.{Begins, EndsAs, KeepsTaken}
 use Rattle.processor_api.proofs.Alone.{alone, write-free, written-alone}
-use Rattle.processor_api.proofs.Began.{one-acts}
+use Rattle.processor_api.proofs.Began.{one-acts, taken-attributes, taken-uuid}
+use Rattle.processor_api.specs.Sessions.{TookOne, HasOneOpen, EndsWith}
 use Rattle.proc_attribute.specs.Json.{replaced_with, with_texts}
-use Rattle.proc_attribute.specs.Passing.{TookOne, HasOneOpen, EndsWith, all_to, passed_with}
-use Rattle.proc_attribute.proofs.Passed.{ends-behind, given-up, one_with, taken-attributes, taken-uuid, with-keeps}
+use Rattle.proc_attribute.specs.Passing.{all_to, passed_with}
+use Rattle.proc_attribute.proofs.Passed.{ends-behind, given-up, one_with, with-keeps}
 use Rattle.proc_attribute.proofs.Updating.{next-left}
 
 abbrev pub Pair : Type 0

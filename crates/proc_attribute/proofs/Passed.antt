@@ -1,6 +1,6 @@
 -- A session with one taken file, behind each of its calls.
 use Rattle.std.proofs.Common.{◌≡◌, ℕ, ◌<◌, Bool, true, false, cond, List, [], ◌∷◌, length, Option, None, Some, refl, sym, ◌∙◌, ap, subst, arith}
-use Rattle.std.specs.Prelude.{◌&&◌, IfSome, option_map, slice_get}
+use Rattle.std.specs.Prelude.{◌&&◌, option_map}
 use Rattle.std.specs.FinMap.{insert}
 use Rattle.std.proofs.lemmas.Bool.{leb-false, lt-ltb, leb-true}
 use Rattle.flowfile_record.specs.Attributes.{AttributeMap, has_key_length, is_uuid}
@@ -11,11 +11,7 @@ use Rattle.flowfile_record.specs.declared.worked.Origin.{Origin}
 use Rattle.flowfile_record.specs.declared.worked.Origin.TheVariants.{Taken as FromQueue}
 use Rattle.flowfile_record.specs.declared.worked.Outcome.{Outcome}
 use Rattle.machine_model.specs.Making.{TakenFile, alone as alone_outcome, may_have, or_given_up, passed_on, with_set}
-use Rattle.machine_model.specs.Kinds.{relationships_of, take_rule_of}
-use Rattle.machine_model.specs.declared.given.Given.{Given}
-use Rattle.machine_model.specs.declared.kind.Kind.{Kind}
-use Rattle.machine_model.specs.declared.kind.TakeRule.TheVariants.{One}
-use Rattle.process_session.specs.Bench.{Bench, attributes_at, bench_of, bytes_of, source_of, taken_file}
+use Rattle.process_session.specs.Bench.{Bench, attributes_at, source_of, taken_file}
 use Rattle.process_session.specs.Changes.{attributed_file, with_end, with_put}
 use Rattle.process_session.specs.Finish.{origin_in, outcome_of}
 use Rattle.process_session.specs.Reasons.{Refusal, IsErrorFor, already_ended, attributes_too_large, bad_key, first_refusal, unknown_file}
@@ -26,10 +22,10 @@ use Rattle.process_session.specs.declared.file.File.{File}
 use Rattle.process_session.specs.declared.file.Taken.{Taken}
 use Rattle.process_session.proofs.Refused.{put_refusal}
 use Rattle.process_session.proofs.Refusing.{pass, stop}
-use Rattle.processor_api.specs.Acts.{Begins, IsTakenAs, KeepsTaken}
+use Rattle.processor_api.specs.Acts.{KeepsTaken}
 use Rattle.processor_api.proofs.Alone.{alone, ended-alone, finish-free, outcome-alone, penalize-free, put-alone, put-free, transfer-free}
-use Rattle.processor_api.proofs.Began.{one-begins}
-use Rattle.proc_attribute.specs.Passing.{TookOne, HasOneOpen, EndsWith, all_to, passed_with}
+use Rattle.processor_api.specs.Sessions.{TookOne, HasOneOpen, EndsWith}
+use Rattle.proc_attribute.specs.Passing.{all_to, passed_with}
 
 -- ---- a session with one open file, and how it ends
 
@@ -211,28 +207,6 @@ note-refused before now after one key value error good refused other now-is ends
     (wanted ∙ ap (λ b. passed_with (attributes_at b 0) (with_set (FromQueue 0) (attributes_at b 0) (key, value))) (sym one.begun)) ends
 
 -- ---- a processor
-
-pub kind-took : (kind : Kind) (before : Bench) (given : Given) → take_rule_of kind ≡ One → length (relationships_of kind) ≡ 2 → Begins kind before given → TookOne before
-kind-took kind before given rule two begins =
-    let one = one-begins kind before given rule begins in
-    record { taken = one.0; begun = one.1 ∙ ap (λ n. bench_of n (one.0 ∷ [])) two }
-
--- what a file of the machine is, by what the session shows of it
-pub taken-attributes : (before : Bench) (taken : Taken) (file : TakenFile) → before ≡ bench_of before.relationships (taken ∷ []) → IsTakenAs file taken → file.attributes ≡ attributes_at before 0
-taken-attributes before taken file is alike = alike.attributes ∙ sym (ap (λ b. attributes_at b 0) is)
-
-pub taken-uuid : (before : Bench) (taken : Taken) (file : TakenFile) (uuid : List ℕ) → before ≡ bench_of before.relationships (taken ∷ []) → IsTakenAs file taken
-    → option_map (λ source. source.uuid) (slice_get before.sources 0) ≡ Some uuid → file.uuid ≡ uuid
-taken-uuid before taken file uuid is alike shown =
-    let same : Some taken.uuid ≡ Some uuid = sym (ap (λ (b : Bench). option_map (λ source. source.uuid) (slice_get b.sources 0)) is) ∙ shown in
-    let uuid-is : taken.uuid ≡ uuid = cc in
-    alike.uuid ∙ uuid-is
-
-pub taken-content : (before : Bench) (taken : Taken) (file : TakenFile) (content : List ℕ) → before ≡ bench_of before.relationships (taken ∷ []) → IsTakenAs file taken → bytes_of before 0 ≡ Some content → file.bytes ≡ content
-taken-content before taken file content is alike shown =
-    let same : taken.bytes ≡ Some content = sym (ap (λ b. bytes_of b 0) is) ∙ shown in
-    let P : Option (List ℕ) → Type 0 = λ o. IfSome o (λ bytes. bytes ≡ file.bytes) in
-    sym (subst P same alike.bytes)
 
 pub given-up : (file : TakenFile) (set : Option AttributeMap) → or_given_up 1 (file ∷ []) (option_map (λ attributes. alone_outcome (passed_on 0 attributes false 0)) set) ≡ passed_with file.attributes set
 given-up file None = refl

@@ -26,8 +26,8 @@ use Rattle.process_session.specs.Finish.{outcome_of}
 use Rattle.process_session.specs.declared.file.Taken.{Taken}
 use Rattle.processor_api.specs.Acts.{Begins, EndsAs, IsTakenAs}
 use Rattle.processor_api.proofs.Began.{one-acts}
-use Rattle.proc_attribute.specs.Cloning.{BeganWithOne, with_ended}
-use Rattle.proc_attribute.specs.Passing.{EndsWith}
+use Rattle.processor_api.specs.Sessions.{BeganWithOne, EndsWith}
+use Rattle.proc_attribute.specs.Cloning.{with_ended}
 use Rattle.proc_attribute.specs.Routing.{found_of, uuid_at}
 use Rattle.proc_attribute.proofs.Clones.{IsClone, ends-with, no-clones, passed-is, routed-is, took-relationships}
 

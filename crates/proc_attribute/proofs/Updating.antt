@@ -25,10 +25,11 @@ use Rattle.process_session.specs.Changes.{change_at, with_attributes, with_put}
 use Rattle.process_session.specs.Refusals.{refusal_of_put}
 use Rattle.process_session.specs.Finish.{outcome_of}
 use Rattle.processor_api.specs.Acts.{Begins, EndsAs}
-use Rattle.processor_api.proofs.Began.{one-acts}
-use Rattle.proc_attribute.specs.Passing.{TookOne, HasOneOpen, EndsWith, all_to, passed_with}
+use Rattle.processor_api.proofs.Began.{one-acts, taken-attributes, taken-uuid}
+use Rattle.processor_api.specs.Sessions.{TookOne, HasOneOpen, EndsWith}
+use Rattle.proc_attribute.specs.Passing.{all_to, passed_with}
 use Rattle.proc_attribute.specs.Setting.{have_keys}
-use Rattle.proc_attribute.proofs.Passed.{PutComesTo, ends-behind, given-up, one_with, put-at-one, taken-attributes, taken-uuid, with-keeps, with-open}
+use Rattle.proc_attribute.proofs.Passed.{PutComesTo, ends-behind, given-up, one_with, put-at-one, with-keeps, with-open}
 
 abbrev pub Pair : Type 0
 Pair = List ℕ × List ℕ

@@ -1,11 +1,10 @@
 -- A session that clones the file that it took.
-use Rattle.std.specs.Prelude.{◌≡◌, Bool, List, [], ◌∷◌, ◌++◌, map, Some}
+use Rattle.std.specs.Prelude.{Bool, List, ◌++◌, map, Some}
 use Rattle.flowfile_record.specs.declared.worked.Origin.TheVariants.{Cloned}
 use Rattle.flowfile_record.specs.declared.worked.Worked.{Worked}
 use Rattle.machine_model.specs.Making.{may_have}
-use Rattle.process_session.specs.Bench.{Bench, attributes_at, bench_of, taken_file}
+use Rattle.process_session.specs.Bench.{Bench, attributes_at}
 use Rattle.process_session.specs.declared.file.File.{File}
-use Rattle.process_session.specs.declared.file.Taken.{Taken}
 
 -- a file of a session, once it has ended as this file of an outcome
 abbrev pub ended : Worked → File
@@ -23,17 +22,6 @@ ended file =
 -- more files, which have ended, behind those that a session has
 abbrev pub with_ended : Bench → List Worked → Bench
 with_ended bench files = record bench { files = bench.files ++ map ended files }
-
--- a session that took one file and did nothing yet, whatever relationships it has
-pub record BeganWithOne (bench : Bench) : Type 0 where
-  pub taken : Taken
-  pub begun : bench ≡ bench_of bench.relationships (taken ∷ [])
-
--- its first file is as it was taken
-pub record HasTaken (bench : Bench) : Type 0 where
-  pub taken : Taken
-  pub more : List File
-  pub files : bench.files ≡ taken_file 0 taken ∷ more
 
 -- a clone may have the attributes of its first file
 abbrev pub may_be_cloned : Bench → Bool

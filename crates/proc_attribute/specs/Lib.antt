@@ -1,5 +1,4 @@
 pub mod Cloning
-pub mod Duplicating
 pub mod Json
 pub mod Kinds
 pub mod Passing

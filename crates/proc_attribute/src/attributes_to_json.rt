@@ -7,8 +7,8 @@ ghost use Rattle.serde_json.specs.View.{members_view};
 ghost use Rattle.machine_model.specs.Making.{as_content};
 ghost use Rattle.machine_model.specs.AttributesToJson.{json_of, listed};
 ghost use Rattle.process_session.specs.Bench.{attributes_at};
+ghost use Rattle.processor_api.specs.Sessions.{TookOne, EndsWith};
 ghost use Rattle.proc_attribute.specs.Kinds.{is_attributes_to_json};
-ghost use Rattle.proc_attribute.specs.Passing.{TookOne, EndsWith};
 ghost use Rattle.proc_attribute.specs.Json.{found_pair, replaced_with, with_texts};
 
 use crate::passing::{note, pass};

@@ -4,7 +4,8 @@ ghost use Rattle.machine_model.specs.Making.{clone_of};
 ghost use Rattle.machine_model.specs.RouteOnAttribute.{routed_clone};
 ghost use Rattle.process_session.specs.Bench.{attributes_at, made_size};
 ghost use Rattle.process_session.specs.Refusals.{refusal_of_clone};
-ghost use Rattle.proc_attribute.specs.Cloning.{HasTaken, may_be_cloned, with_ended};
+ghost use Rattle.processor_api.specs.Sessions.{HasTaken};
+ghost use Rattle.proc_attribute.specs.Cloning.{may_be_cloned, with_ended};
 
 use crate::FILE;
 use flowfile_record::{ATTRIBUTES_MAX, Attributes};

@@ -42,9 +42,8 @@ impl Acts for CryptographicHashContent {
         session: &mut Session,
         _given: &mut Given,
     ) -> Result<(), AllocError> {
-        // No bytes are there of a content that has no room in memory.
         let Ok(content) = session.content(FILE) else {
-            return Err(AllocError);
+            unreachable!()
         };
         let digest = hex::encode(alloc, Sha256::digest(content))?;
         note(session, "content_SHA-256", digest.as_str())

@@ -3,8 +3,9 @@ ghost use Rattle.std.specs.Prelude.{◌≡◌, ◌<◌, ◌≤◌, replicate, tr
 ghost use Rattle.machine_model.specs.declared.limits.TheConstants.{COPIES_MAX};
 ghost use Rattle.machine_model.specs.Making.{clone_of};
 ghost use Rattle.process_session.specs.Bench.{attributes_at};
-ghost use Rattle.proc_attribute.specs.Cloning.{BeganWithOne, may_be_cloned, with_ended};
-ghost use Rattle.proc_attribute.specs.Duplicating.{is_duplicate_flow_file};
+ghost use Rattle.processor_api.specs.Sessions.{BeganWithOne};
+ghost use Rattle.proc_attribute.specs.Cloning.{may_be_cloned, with_ended};
+ghost use Rattle.proc_attribute.specs.Kinds.{is_duplicate_flow_file};
 
 use crate::cloning::{add_clone, may_be_cloned};
 use crate::{FILE, SUCCESS};

@@ -4,7 +4,8 @@ ghost use Rattle.flowfile_record.specs.Attributes.{has_key_length};
 ghost use Rattle.flowfile_record.specs.declared.worked.Origin.TheVariants.{Taken as FromQueue};
 ghost use Rattle.machine_model.specs.Making.{with_set};
 ghost use Rattle.process_session.specs.Bench.{attributes_at};
-ghost use Rattle.proc_attribute.specs.Passing.{TookOne, HasOneOpen, EndsWith, all_to, passed_with};
+ghost use Rattle.processor_api.specs.Sessions.{TookOne, HasOneOpen, EndsWith};
+ghost use Rattle.proc_attribute.specs.Passing.{all_to, passed_with};
 
 use crate::{FAILURE, FILE, SUCCESS};
 use process_session::{Session, SessionError};

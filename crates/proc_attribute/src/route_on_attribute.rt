@@ -6,9 +6,10 @@ ghost use Rattle.machine_model.specs.Making.{TakenFile};
 ghost use Rattle.machine_model.specs.RouteOnAttribute.{is_true_of, routed, routed_clone, true_places};
 ghost use Rattle.process_session.specs.Bench.{attributes_at};
 ghost use Rattle.process_session.specs.Changes.{with_end, with_route};
-ghost use Rattle.proc_attribute.specs.Cloning.{HasTaken, BeganWithOne, may_be_cloned, with_ended};
-ghost use Rattle.proc_attribute.specs.Passing.{EndsWith};
-ghost use Rattle.proc_attribute.specs.Routing.{found_of, is_route_on_attribute};
+ghost use Rattle.processor_api.specs.Sessions.{HasTaken, BeganWithOne, EndsWith};
+ghost use Rattle.proc_attribute.specs.Cloning.{may_be_cloned, with_ended};
+ghost use Rattle.proc_attribute.specs.Kinds.{is_route_on_attribute};
+ghost use Rattle.proc_attribute.specs.Routing.{found_of};
 
 use crate::FILE;
 use crate::cloning::{add_routed_clone, may_be_cloned};

@@ -2,7 +2,7 @@
 ghost use Rattle.std.specs.Prelude.{◌≡◌, slice_get, Some};
 ghost use Rattle.std.specs.Option.{option_map};
 ghost use Rattle.process_session.specs.Bench.{attributes_at};
-ghost use Rattle.proc_attribute.specs.Passing.{TookOne};
+ghost use Rattle.processor_api.specs.Sessions.{TookOne};
 
 use crate::FILE;
 use expr_lang::Subject;

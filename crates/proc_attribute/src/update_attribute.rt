@@ -8,8 +8,9 @@ ghost use Rattle.machine_model.specs.Making.{found_in, with_all_set};
 ghost use Rattle.machine_model.specs.UpdateAttribute.{own_texts, text_in};
 ghost use Rattle.process_session.specs.Bench.{attributes_at};
 ghost use Rattle.process_session.specs.Changes.{with_attributes};
+ghost use Rattle.processor_api.specs.Sessions.{TookOne, EndsWith};
 ghost use Rattle.proc_attribute.specs.Kinds.{is_update_attribute};
-ghost use Rattle.proc_attribute.specs.Passing.{TookOne, EndsWith, passed_with};
+ghost use Rattle.proc_attribute.specs.Passing.{passed_with};
 ghost use Rattle.proc_attribute.specs.Setting.{have_keys, set_by};
 
 use crate::passing::pass;

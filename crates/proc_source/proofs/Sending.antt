@@ -19,9 +19,10 @@ use Rattle.process_session.specs.declared.file.File.{File}
 use Rattle.process_session.specs.declared.file.Source.{Source}
 use Rattle.process_session.specs.declared.file.Taken.{Taken}
 use Rattle.processor_api.proofs.Alone.{alone, ended-alone, finish-free, outcome-alone, outcome-sent, penalised-alone, penalize-free, send-free, transfer-free}
-use Rattle.processor_api.specs.Acts.{Begins, EndsAs, IsTakenAs, KeepsTaken}
-use Rattle.processor_api.proofs.Began.{one-acts, one-begins}
-use Rattle.proc_source.specs.Putting.{HasOneTaken, EndsWith, passed_with}
+use Rattle.processor_api.specs.Acts.{Begins, EndsAs, KeepsTaken}
+use Rattle.processor_api.proofs.Began.{one-acts, one-begins, taken-attributes}
+use Rattle.processor_api.specs.Sessions.{EndsWith}
+use Rattle.proc_source.specs.Putting.{HasOneTaken, passed_and_put}
 
 -- a session that has one taken file and no other
 abbrev one_of : Bench → Taken → Bench
@@ -76,39 +77,39 @@ penalised-transfer bench relationship there one =
 -- ---- what it ends with
 
 -- the attributes that it took
-taken-attributes : (bench : Bench) (one : HasOneTaken bench) → attributes_at bench 0 ≡ one.taken.attributes
-taken-attributes bench one = ap (λ b. attributes_at b 0) (one-is bench one)
+attributes-of-one : (bench : Bench) (one : HasOneTaken bench) → attributes_at bench 0 ≡ one.taken.attributes
+attributes-of-one bench one = ap (λ b. attributes_at b 0) (one-is bench one)
 
 -- the taken file, once it has ended
 abbrev ended : Taken → (is_penalised : Bool) → (relationship : ℕ) → File
 ended taken is_penalised relationship = record (taken_file 0 taken) { penalised = is_penalised; «end» = Some (To relationship) }
 
 of_sent : (s : List Source) (taken : Taken) (is_penalised : Bool) (relationship : ℕ) (sent : Option Sent) (h : ℕ) → IfSome sent (λ sent. sent.place ≡ 0)
-    → outcome_of (alone 2 s (ended taken is_penalised relationship) sent h) ≡ passed_with sent taken.attributes is_penalised relationship
+    → outcome_of (alone 2 s (ended taken is_penalised relationship) sent h) ≡ passed_and_put sent taken.attributes is_penalised relationship
 of_sent s taken is_penalised relationship None h here = outcome-alone 2 s (ended taken is_penalised relationship) h refl (λ stand. refl)
 of_sent s taken is_penalised relationship (Some sent) h here =
     let at : ℕ → Sent = λ place. record { place = place; name = sent.name } in
-    let P : ℕ → Type 0 = λ place. outcome_of (alone 2 s (ended taken is_penalised relationship) (Some (at place)) h) ≡ passed_with (Some (at place)) taken.attributes is_penalised relationship in
+    let P : ℕ → Type 0 = λ place. outcome_of (alone 2 s (ended taken is_penalised relationship) (Some (at place)) h) ≡ passed_and_put (Some (at place)) taken.attributes is_penalised relationship in
     subst P (sym here) (outcome-sent 2 s (ended taken is_penalised relationship) sent.name h refl (λ stand. refl))
 
 ends_with : (bench after : Bench) (taken : Taken) (is_penalised : Bool) (relationship : ℕ) → (one : HasOneTaken bench) → one.taken ≡ taken → KeepsTaken bench after
-    → after ≡ alone 2 bench.sources (ended taken is_penalised relationship) bench.sent bench.handed → EndsWith bench after (passed_with bench.sent (attributes_at bench 0) is_penalised relationship)
+    → after ≡ alone 2 bench.sources (ended taken is_penalised relationship) bench.sent bench.handed → EndsWith bench after (passed_and_put bench.sent (attributes_at bench 0) is_penalised relationship)
 ends_with bench after taken is_penalised relationship one same kept is =
-    let attributes : taken.attributes ≡ attributes_at bench 0 = sym (taken-attributes bench one ∙ ap (λ (t : Taken). t.attributes) same) in
+    let attributes : taken.attributes ≡ attributes_at bench 0 = sym (attributes-of-one bench one ∙ ap (λ (t : Taken). t.attributes) same) in
     record {
       finished = ap refusal_of_finish is ∙ finish-free 2 bench.sources (ended taken is_penalised relationship) bench.sent bench.handed refl;
       kept = kept;
       outcome = ap outcome_of is ∙ of_sent bench.sources taken is_penalised relationship bench.sent bench.handed one.sent
-          ∙ ap (λ attributes. passed_with bench.sent attributes is_penalised relationship) attributes;
+          ∙ ap (λ attributes. passed_and_put bench.sent attributes is_penalised relationship) attributes;
     }
 
-pub one-ended : (bench : Bench) (relationship : ℕ) → HasOneTaken bench → EndsWith bench (with_end bench 0 (To relationship)) (passed_with bench.sent (attributes_at bench 0) false relationship)
+pub one-ended : (bench : Bench) (relationship : ℕ) → HasOneTaken bench → EndsWith bench (with_end bench 0 (To relationship)) (passed_and_put bench.sent (attributes_at bench 0) false relationship)
 one-ended bench relationship one =
     let after : with_end bench 0 (To relationship) ≡ alone 2 bench.sources (ended one.taken false relationship) bench.sent bench.handed =
     ap (λ b. with_end b 0 (To relationship)) (one-is bench one) ∙ ended-alone 2 bench.sources (taken_file 0 one.taken) bench.sent bench.handed (To relationship) in
     ends_with bench _ one.taken false relationship one refl (record { relationships = refl; sources = refl }) after
 
-pub penalised-ended : (bench : Bench) (relationship : ℕ) → HasOneTaken bench → EndsWith bench (with_end (with_penalty bench 0) 0 (To relationship)) (passed_with bench.sent (attributes_at bench 0) true relationship)
+pub penalised-ended : (bench : Bench) (relationship : ℕ) → HasOneTaken bench → EndsWith bench (with_end (with_penalty bench 0) 0 (To relationship)) (passed_and_put bench.sent (attributes_at bench 0) true relationship)
 penalised-ended bench relationship one =
     let after : with_end (with_penalty bench 0) 0 (To relationship) ≡ alone 2 bench.sources (ended one.taken true relationship) bench.sent bench.handed =
     ap (λ b. with_end b 0 (To relationship)) (penalty-is bench one) ∙ ended-alone 2 bench.sources (penalised one.taken) bench.sent bench.handed (To relationship) in
@@ -133,29 +134,26 @@ pub put-unsent : (conflict : Conflict) (before : Bench) (given : Given) → Begi
 put-unsent conflict before given begins = ap (λ (b : Bench). b.sent) begins.begun
 
 -- what the machine gives of the taken file, by its attributes
-same-attributes : (before : Bench) (taken : Taken) (file : TakenFile) → before ≡ bench_of before.relationships (taken ∷ []) → IsTakenAs file taken → file.attributes ≡ attributes_at before 0
-same-attributes before taken file is alike = alike.attributes ∙ sym (ap (λ b. attributes_at b 0) is)
-
 abbrev some_file : AttributeMap → TakenFile
 some_file attributes = record { attributes = attributes; uuid = []; bytes = [] }
 
 pub put-acts : (conflict : Conflict) (before : Bench) (given : Given) (after : Bench) (name : List ℕ) → Begins (PutFile conflict) before given → name_in (attributes_at before 0) ≡ Some name
     → ((file : TakenFile) → file.attributes ≡ attributes_at before 0 → EndsWith before after (put_unless_there conflict given.there file name)) → EndsAs (PutFile conflict) before given after
 put-acts conflict before given after name begins named ends =
-    one-acts (PutFile conflict) before given after refl begins (ends (some_file (attributes_at before 0)) refl).finished (ends (some_file (attributes_at before 0)) refl).kept (λ taken file is alike. of_file file (same-attributes before taken file is alike))
+    one-acts (PutFile conflict) before given after refl begins (ends (some_file (attributes_at before 0)) refl).finished (ends (some_file (attributes_at before 0)) refl).kept (λ taken file is alike. of_file file (taken-attributes before taken file is alike))
   where
     of_file : (file : TakenFile) → file.attributes ≡ attributes_at before 0 → act (PutFile conflict) (file ∷ []) given ≡ Some (outcome_of after)
     of_file file same =
         ap (λ o. Some (put conflict given.there file o)) (ap name_in same ∙ named) ∙ ap Some (sym (ends file same).outcome)
 
 pub fail-acts : (conflict : Conflict) (before : Bench) (given : Given) (after : Bench) → Begins (PutFile conflict) before given → name_in (attributes_at before 0) ≡ None
-    → EndsWith before after (passed_with before.sent (attributes_at before 0) true 1) → EndsAs (PutFile conflict) before given after
+    → EndsWith before after (passed_and_put before.sent (attributes_at before 0) true 1) → EndsAs (PutFile conflict) before given after
 fail-acts conflict before given after begins unnamed ends =
-    one-acts (PutFile conflict) before given after refl begins ends.finished ends.kept (λ taken file is alike. of_file file (same-attributes before taken file is alike))
+    one-acts (PutFile conflict) before given after refl begins ends.finished ends.kept (λ taken file is alike. of_file file (taken-attributes before taken file is alike))
   where
     of_file : (file : TakenFile) → file.attributes ≡ attributes_at before 0 → act (PutFile conflict) (file ∷ []) given ≡ Some (outcome_of after)
     of_file file same =
         ap (λ o. Some (put conflict given.there file o)) (ap name_in same ∙ unnamed)
-        ∙ ap (λ attributes. Some (passed_with None attributes true 1)) same
-        ∙ ap (λ sent. Some (passed_with sent (attributes_at before 0) true 1)) (sym (put-unsent conflict before given begins))
+        ∙ ap (λ attributes. Some (passed_and_put None attributes true 1)) same
+        ∙ ap (λ sent. Some (passed_and_put sent (attributes_at before 0) true 1)) (sym (put-unsent conflict before given begins))
         ∙ ap Some (sym ends.outcome)

@@ -5,10 +5,7 @@ use Rattle.flowfile_record.specs.declared.worked.Outcome.{Outcome}
 use Rattle.flowfile_record.specs.declared.worked.Sent.{Sent}
 use Rattle.machine_model.specs.Making.{passed_on}
 use Rattle.process_session.specs.Bench.{Bench, taken_file}
-use Rattle.process_session.specs.Finish.{outcome_of}
-use Rattle.process_session.specs.Refusals.{refusal_of_finish}
 use Rattle.process_session.specs.declared.file.Taken.{Taken}
-use Rattle.processor_api.specs.Acts.{KeepsTaken}
 
 -- a session of two relationships that took one file and did nothing with it, but for a put
 pub record HasOneTaken (bench : Bench) : Type 0 where
@@ -17,13 +14,7 @@ pub record HasOneTaken (bench : Bench) : Type 0 where
   pub only : bench.files ≡ taken_file 0 taken ∷ []
   pub sent : IfSome bench.sent (λ sent. sent.place ≡ 0)
 
--- the session can be finished with what it took, and has this outcome
-pub record EndsWith (before after : Bench) (wanted : Outcome) : Type 0 where
-  pub finished : refusal_of_finish after ≡ None
-  pub kept : KeepsTaken before after
-  pub outcome : outcome_of after ≡ wanted
-
 -- the taken file, passed on, and the put
-abbrev pub passed_with : Option Sent → AttributeMap → (penalised : Bool) → (relationship : ℕ) → Outcome
-passed_with sent attributes penalised relationship =
+abbrev pub passed_and_put : Option Sent → AttributeMap → (penalised : Bool) → (relationship : ℕ) → Outcome
+passed_and_put sent attributes penalised relationship =
     record { files = passed_on 0 attributes penalised relationship ∷ []; sent = sent }

@@ -3,8 +3,9 @@ ghost use Rattle.std.specs.Prelude.{◌≡◌, IfOk, IfSome, IsOk, OnOk, is_some
 ghost use Rattle.machine_model.specs.Acting.{name_in, put_unless_there};
 ghost use Rattle.machine_model.specs.Making.{TakenFile};
 ghost use Rattle.process_session.specs.Bench.{attributes_at};
+ghost use Rattle.processor_api.specs.Sessions.{EndsWith};
 ghost use Rattle.proc_source.specs.Kinds.{is_put_file};
-ghost use Rattle.proc_source.specs.Putting.{HasOneTaken, EndsWith, passed_with};
+ghost use Rattle.proc_source.specs.Putting.{HasOneTaken, passed_and_put};
 
 use crate::{FAILURE, SUCCESS};
 use flowfile_record::{Name, NameError};
@@ -98,7 +99,7 @@ fn outbox_name(alloc: Global, session: &Session) -> Result<Option<Name>, AllocEr
 fn send(session: &mut Session, name: Name)
     requires one { HasOneTaken session.old }
     requires unsent { session.old.sent ≡ None }
-    ensures { EndsWith session.old session.new (passed_with (Some (record { place = FILE; name = name }))
+    ensures { EndsWith session.old session.new (passed_and_put (Some (record { place = FILE; name = name }))
         (attributes_at session.old FILE) false SUCCESS) }
 {
     session.send(FILE, name).unwrap();
@@ -108,7 +109,7 @@ fn send(session: &mut Session, name: Name)
 fn pass(session: &mut Session)
     requires { HasOneTaken session.old }
     ensures { EndsWith session.old session.new
-        (passed_with session.old.sent (attributes_at session.old FILE) false SUCCESS) }
+        (passed_and_put session.old.sent (attributes_at session.old FILE) false SUCCESS) }
 {
     session.transfer(FILE, SUCCESS).unwrap();
 }
@@ -116,7 +117,7 @@ fn pass(session: &mut Session)
 fn fail(session: &mut Session)
     requires { HasOneTaken session.old }
     ensures { EndsWith session.old session.new
-        (passed_with session.old.sent (attributes_at session.old FILE) true FAILURE) }
+        (passed_and_put session.old.sent (attributes_at session.old FILE) true FAILURE) }
 {
     session.penalize(FILE).unwrap();
     session.transfer(FILE, FAILURE).unwrap();

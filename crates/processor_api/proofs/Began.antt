@@ -1,6 +1,11 @@
 -- What a processor knows of the session that it is handed, by how many files its rule takes, and how it shows what it owes.
-use Rattle.std.proofs.Common.{◌≡◌, ℕ, List, [], ◌∷◌, length, map, Some, None, refl, sym, ◌∙◌, ap, subst, arith}
+use Rattle.std.proofs.Common.{◌≡◌, ℕ, ◌≤◌, true, List, [], ◌∷◌, length, map, Option, Some, None, refl, sym, ◌∙◌, ap, subst, arith}
+use Rattle.std.specs.Prelude.{IfSome, is_some, option_map, slice_get}
+use Rattle.std.proofs.lemmas.Bool.{false≢true, le-leb}
 use Rattle.std.proofs.lemmas.List.{length-map}
+use Rattle.std.proofs.lemmas.List.Elements.{All-head}
+use Rattle.std.proofs.lemmas.List.Sums.{sum_by-cons}
+use Rattle.flowfile_record.specs.declared.TheConstants.{CONTENT_MAX}
 use Rattle.flowfile_record.specs.declared.worked.Outcome.{Outcome}
 use Rattle.machine_model.specs.Acting.{act}
 use Rattle.machine_model.specs.Making.{TakenFile}
@@ -10,11 +15,13 @@ use Rattle.machine_model.specs.declared.given.Given.{Given}
 use Rattle.machine_model.specs.declared.kind.Kind.{Kind}
 use Rattle.machine_model.specs.declared.kind.TakeRule.{TakeRule}
 use Rattle.machine_model.specs.declared.kind.TakeRule.TheVariants.{Source as MakesFiles, One}
-use Rattle.process_session.specs.Bench.{Bench, bench_of, source_of}
+use Rattle.process_session.specs.Bench.{Bench, attributes_at, bench_of, bytes_of, source_of}
 use Rattle.process_session.specs.Finish.{outcome_of}
-use Rattle.process_session.specs.Refusals.{refusal_of_finish}
+use Rattle.process_session.specs.Reasons.{first_refusal, no_bytes, unknown_file}
+use Rattle.process_session.specs.Refusals.{refusal_of_content, refusal_of_finish}
 use Rattle.process_session.specs.declared.file.Taken.{Taken}
-use Rattle.processor_api.specs.Acts.{Begins, EndsAs, KeepsTaken, MayBeHanded, AreTakenAs, IsOutcomeOf, IsTakenAs}
+use Rattle.processor_api.specs.Acts.{AreRead, Begins, EndsAs, KeepsTaken, MayBeHanded, AreTakenAs, IsOutcomeOf, IsTakenAs, fit_a_content}
+use Rattle.processor_api.specs.Sessions.{TookOne}
 
 -- ---- how many files it took
 
@@ -72,6 +79,52 @@ pub one-begins : (kind : Kind) (bench : Bench) (given : Given) → take_rule_of 
 one-begins kind bench given rule begins =
     let one = one_of begins.taken (may_take_one _ _ rule begins.handed.count) in
     (one.0, begins.begun ∙ ap (bench_of (length (relationships_of kind))) one.1)
+
+-- of a kind with two relationships
+pub kind-took : (kind : Kind) (before : Bench) (given : Given) → take_rule_of kind ≡ One → length (relationships_of kind) ≡ 2 → Begins kind before given → TookOne before
+kind-took kind before given rule two begins =
+    let one = one-begins kind before given rule begins in
+    record { taken = one.0; begun = one.1 ∙ ap (λ n. bench_of n (one.0 ∷ [])) two }
+
+-- its content was read, since one file's is never too long
+lone_fits : (taken : Taken) → taken.size ≤ CONTENT_MAX → fit_a_content (taken ∷ []) ≡ true
+lone_fits taken small = le-leb _ CONTENT_MAX (omega (arith, small, sum_by-cons (λ (file : Taken). file.size) taken []))
+
+lone_read : (taken : Taken) → AreRead (taken ∷ []) → is_some taken.bytes ≡ true
+lone_read taken read =
+    All-head (λ (file : Taken). is_some file.bytes ≡ fit_a_content (taken ∷ [])) taken [] read.filled
+    ∙ lone_fits taken (All-head (λ (file : Taken). file.size ≤ CONTENT_MAX) taken [] read.small)
+
+content_there : (relationships : ℕ) (taken : Taken) → is_some taken.bytes ≡ true → refusal_of_content (bench_of relationships (taken ∷ [])) 0 ≡ None
+unfolding unknown_file no_bytes first_refusal
+content_there relationships taken some = of_bytes taken.bytes refl some
+  where
+    of_bytes : (bytes : Option (List ℕ)) → taken.bytes ≡ bytes → is_some bytes ≡ true → refusal_of_content (bench_of relationships (taken ∷ [])) 0 ≡ None
+    of_bytes None is some = absurd (false≢true some)
+    of_bytes (Some bytes) is some = rw is refl
+
+pub content-free : (kind : Kind) (bench : Bench) (given : Given) → take_rule_of kind ≡ One → Begins kind bench given → refusal_of_content bench 0 ≡ None
+content-free kind bench given rule begins =
+    let one = one_of begins.taken (may_take_one _ _ rule begins.handed.count) in
+    ap (λ b. refusal_of_content b 0) (begins.begun ∙ ap (bench_of (length (relationships_of kind))) one.1)
+    ∙ content_there (length (relationships_of kind)) one.0 (lone_read one.0 (subst AreRead one.1 begins.handed.read))
+
+-- what a file of the machine is, by what the session shows of it
+pub taken-attributes : (before : Bench) (taken : Taken) (file : TakenFile) → before ≡ bench_of before.relationships (taken ∷ []) → IsTakenAs file taken → file.attributes ≡ attributes_at before 0
+taken-attributes before taken file is alike = alike.attributes ∙ sym (ap (λ b. attributes_at b 0) is)
+
+pub taken-uuid : (before : Bench) (taken : Taken) (file : TakenFile) (uuid : List ℕ) → before ≡ bench_of before.relationships (taken ∷ []) → IsTakenAs file taken
+    → option_map (λ source. source.uuid) (slice_get before.sources 0) ≡ Some uuid → file.uuid ≡ uuid
+taken-uuid before taken file uuid is alike shown =
+    let same : Some taken.uuid ≡ Some uuid = sym (ap (λ (b : Bench). option_map (λ source. source.uuid) (slice_get b.sources 0)) is) ∙ shown in
+    let uuid-is : taken.uuid ≡ uuid = cc in
+    alike.uuid ∙ uuid-is
+
+pub taken-content : (before : Bench) (taken : Taken) (file : TakenFile) (content : List ℕ) → before ≡ bench_of before.relationships (taken ∷ []) → IsTakenAs file taken → bytes_of before 0 ≡ Some content → file.bytes ≡ content
+taken-content before taken file content is alike shown =
+    let same : taken.bytes ≡ Some content = sym (ap (λ b. bytes_of b 0) is) ∙ shown in
+    let P : Option (List ℕ) → Type 0 = λ o. IfSome o (λ bytes. bytes ≡ file.bytes) in
+    sym (subst P same alike.bytes)
 
 -- What the machine gives of one file, whose attributes are those that the session took. More of it may be asked.
 pub one-acts : (kind : Kind) (before : Bench) (given : Given) (after : Bench) → take_rule_of kind ≡ One → Begins kind before given → refusal_of_finish after ≡ None → KeepsTaken before after

@@ -21,8 +21,9 @@ use Rattle.process_session.specs.declared.file.Taken.{Taken}
 abbrev pub fit_a_content : List Taken → Bool
 fit_a_content taken = nat_le (sum_by (λ file. file.size) taken) CONTENT_MAX
 
--- the contents were read, each whole, or none was, where together they are too long
+-- No content is longer than one may be. They were read, each whole, or none was, where together they are too long.
 pub record AreRead (taken : List Taken) : Type 0 where
+  pub small : All (λ file. file.size ≤ CONTENT_MAX) taken
   pub whole : All IsWhole taken
   pub filled : All (λ file. is_some file.bytes ≡ fit_a_content taken) taken
 

@@ -1,9 +1,9 @@
 -- Files of events are cut, one behind the other.
-use Rattle.std.proofs.Common.{◌≡◌, ◌≢◌, ◌⊎◌, inl, inr, ⊎_elim, ℕ, zero, suc, ◌+◌, ◌≤◌, ◌<◌, Bool, IsTrue, min, List, [], ◌∷◌, length, get_or, take, map, refl, sym, ap, subst, ◌∙◌, arith}
-use Rattle.std.specs.Prelude.{Ok, All, Contains}
+use Rattle.std.proofs.Common.{◌≡◌, ◌≢◌, ◌⊎◌, inl, inr, ⊎_elim, ℕ, zero, suc, ◌+◌, ◌≤◌, ◌<◌, Bool, IsTrue, List, [], length, get_or, take, refl, sym, ap, subst, ◌∙◌, arith}
+use Rattle.std.specs.Prelude.{All, Contains}
 use Rattle.std.proofs.lemmas.Bool.{cases_lt, cases_eq}
-use Rattle.std.proofs.lemmas.List.{length-take, take-take, take_all, get_or_default}
-use Rattle.disk_trait.specs.Files.{Files, At, Shortened, named}
+use Rattle.std.proofs.lemmas.List.{length-take, take-take, get_or_default}
+use Rattle.disk_trait.specs.Files.{Files, At, Shortened}
 use Rattle.disk_trait.specs.Images.{After, Since, next_moment}
 use Rattle.disk_trait.specs.declared.file_name.FileKind.TheVariants.{Events}
 use Rattle.disk_trait.specs.declared.file_name.FileName.{FileName}

@@ -1,7 +1,7 @@
 -- Events that were encoded, read back; and what is read has an encoding.
-use Rattle.std.proofs.Common.{◌≡◌, ℕ, zero, suc, ◌+◌, ◌-◌, ◌/◌, ◌≤◌, ◌<◌, inl, inr, lit<, List, [], ◌∷◌, ◌++◌, length, get_or, take, drop, map, refl, sym, ap, subst, ◌∙◌, append_assoc, arith}
-use Rattle.std.specs.Prelude.{Result, Ok, Err, All}
-use Rattle.std.specs.List.{flat_map, range_with_len}
+use Rattle.std.proofs.Common.{◌≡◌, ℕ, zero, suc, ◌+◌, ◌/◌, inl, inr, lit<, List, [], ◌∷◌, ◌++◌, length, get_or, take, drop, refl, sym, ap, subst, ◌∙◌, append_assoc, arith}
+use Rattle.std.specs.Prelude.{Result, Ok, All}
+use Rattle.std.specs.List.{flat_map}
 use Rattle.std.proofs.lemmas.Bool.{cases_lt}
 use Rattle.std.proofs.lemmas.List.{length-append, get_or-drop, get_or-take, get_or_past, length-take, drop_at}
 use Rattle.std.proofs.lemmas.List.Concat.{flat_map-cons}
@@ -19,10 +19,9 @@ use Rattle.prov_event.proofs.EventLaws.{event_is}
 use Rattle.prov_store.specs.Events.{◌>>=◌, events_file, first_in, count_in, events_from, events_of_files, events_in, blocks_size}
 use Rattle.prov_store.specs.State.{HasBlock, event_block, AreNumberedFrom}
 use Rattle.prov_store.specs.declared.TheConstants.{EVENTS_PER_FILE}
-use Rattle.prov_store.proofs.InFile.{IsRead, First, first_of, with_first, size_of_first}
-use Rattle.prov_store.proofs.InFiles.{FirstFile, first_file, in_files}
-use Rattle.record_codec.specs.Block.{reading_of, block}
-use Rattle.record_codec.specs.declared.block.TheConstants.{BLOCK_OVERHEAD}
+use Rattle.prov_store.proofs.InFile.{IsRead, first_of, with_first, size_of_first}
+use Rattle.prov_store.proofs.InFiles.{first_file, in_files}
+use Rattle.record_codec.specs.Block.{reading_of}
 use Rattle.record_codec.proofs.Blocks.{length-block, reading_of-block, whole_of-reading}
 
 -- ---- what is read

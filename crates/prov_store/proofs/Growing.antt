@@ -1,6 +1,6 @@
 -- Files of events grow behind the last event.
-use Rattle.std.proofs.Common.{◌≡◌, ◌≢◌, ◌⊎◌, inl, inr, ⊎_elim, ℕ, zero, suc, ◌+◌, ◌-◌, ◌*◌, ◌/◌, ◌%◌, ◌≤◌, ◌<◌, eqb, Bool, true, false, cond, List, [], ◌∷◌, ◌++◌, length, take, drop, refl, sym, ap, subst, ◌∙◌, append_assoc, arith}
-use Rattle.std.specs.Prelude.{Ok, Result, All, ◌==◌, min}
+use Rattle.std.proofs.Common.{◌≡◌, ◌≢◌, ◌⊎◌, inl, inr, ℕ, suc, ◌+◌, ◌*◌, ◌/◌, ◌%◌, ◌≤◌, ◌<◌, true, false, List, [], ◌++◌, length, take, drop, refl, sym, ap, subst, ◌∙◌, append_assoc, arith}
+use Rattle.std.specs.Prelude.{Ok, Result, All, ◌==◌}
 use Rattle.std.proofs.lemmas.Bool.{cases_lt, cases_eq}
 use Rattle.std.proofs.lemmas.Bool.Decides.{nat_tests}
 use Rattle.std.proofs.lemmas.List.{length-append, length-take, take_all, drop_all, append-nil, take-take, take_at, drop_at}
@@ -8,7 +8,6 @@ use Rattle.disk_trait.specs.Files.{Files, At, Overwritten, Torn}
 use Rattle.disk_trait.specs.Images.{After, Since}
 use Rattle.disk_trait.proofs.Moments.{step_after_step}
 use Rattle.disk_trait.specs.declared.damage.Damage.{Damage}
-use Rattle.disk_trait.specs.declared.file_name.FileKind.TheVariants.{Events}
 use Rattle.disk_trait.specs.declared.file_name.FileName.{FileName}
 use Rattle.flowfile_record.specs.declared.event.Event.{Event}
 use Rattle.prov_store.specs.Blocks.{blocks_of, next_offset}
@@ -16,7 +15,7 @@ use Rattle.prov_store.specs.Events.{◌>>=◌, events_file, count_in, first_in, 
 use Rattle.prov_store.specs.Growing.{Stands}
 use Rattle.prov_store.specs.State.{EventsState, HasBlock, AreNumberedFrom, IsTrimmed, GrowsBehind}
 use Rattle.prov_store.specs.declared.TheConstants.{EVENTS_PER_FILE}
-use Rattle.prov_store.proofs.Encoded.{ReadBack, events_read_back}
+use Rattle.prov_store.proofs.Encoded.{events_read_back}
 use Rattle.prov_store.proofs.InFile.{events_same, events_behind, sizes_behind}
 use Rattle.prov_store.proofs.InFiles.{covered_alike, in_files, file_of_events, covered_fits, no_bytes, no_size, split_files, files_same, files_behind, with_files, all_files, first_file}
 

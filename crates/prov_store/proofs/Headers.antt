@@ -1,6 +1,6 @@
 -- The header of a block that stands in a file.
-use Rattle.std.proofs.Common.{◌≡◌, ℕ, ◌+◌, ◌-◌, ◌≤◌, ◌<◌, ltb, Bool, true, false, IsTrue, List, length, take, drop, refl, sym, ap, subst, ◌∙◌, arith}
-use Rattle.std.specs.Prelude.{Result, Ok, Err}
+use Rattle.std.proofs.Common.{◌≡◌, ℕ, ◌+◌, ◌-◌, ◌≤◌, ltb, Bool, false, IsTrue, List, length, take, drop, sym, ap, ◌∙◌, arith}
+use Rattle.std.specs.Prelude.{Ok}
 use Rattle.std.specs.Int.{w32, from_be_bytes}
 use Rattle.std.proofs.lemmas.Bool.Decides.{nat_tests}
 use Rattle.std.proofs.lemmas.List.{take-take, length-drop}
@@ -11,7 +11,6 @@ use Rattle.prov_store.specs.Reading.{IsThere, event_there}
 use Rattle.prov_store.specs.declared.read.Cursor.{Cursor}
 use Rattle.prov_store.proofs.InFile.{read_of}
 use Rattle.record_codec.specs.Block.{reading_of, sized}
-use Rattle.record_codec.specs.declared.block.BlockEnd.{BlockEnd}
 use Rattle.record_codec.specs.declared.block.TheConstants.{PAYLOAD_MAX}
 use Rattle.record_codec.proofs.Blocks.{whole_of-reading}
 

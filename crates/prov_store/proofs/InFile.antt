@@ -1,17 +1,16 @@
 -- The events of a file, one block behind the other.
-use Rattle.std.proofs.Common.{◌≡◌, ℕ, zero, suc, ◌+◌, ◌-◌, ◌≤◌, ◌<◌, Bool, true, false, cond, eqb, List, [], ◌∷◌, ◌++◌, length, take, drop, map, refl, sym, ap, subst, ◌∙◌, append_assoc, arith}
-use Rattle.std.specs.Prelude.{Option, None, Some, Result, Ok, Err, ◌==◌, All}
-use Rattle.std.specs.List.{flat_map, range_with_len}
+use Rattle.std.proofs.Common.{◌≡◌, ℕ, zero, suc, ◌+◌, ◌≤◌, Bool, true, false, cond, List, [], ◌∷◌, ◌++◌, length, take, drop, map, refl, sym, ap, subst, ◌∙◌, arith}
+use Rattle.std.specs.Prelude.{None, Some, Result, Ok, Err, ◌==◌}
+use Rattle.std.specs.List.{range_with_len}
 use Rattle.std.proofs.lemmas.Bool.Decides.{nat_tests}
-use Rattle.std.proofs.lemmas.List.{length-append, length-drop, length-take-le, drop-drop, drop-take, take-take, take-append-drop, take_at, drop_at}
-use Rattle.std.proofs.lemmas.List.Concat.{flat_map-cons}
+use Rattle.std.proofs.lemmas.List.{length-drop, drop-drop, drop-take, take-take, take-append-drop}
 use Rattle.disk_trait.specs.declared.damage.Damage.{Damage}
 use Rattle.disk_trait.specs.declared.file_name.FileName.{FileName}
 use Rattle.flowfile_record.specs.Reading.{whole}
 use Rattle.flowfile_record.specs.declared.event.Event.{Event}
 use Rattle.prov_event.specs.EventReading.{event_at}
 use Rattle.prov_event.specs.declared.TheConstants.{EVENT_KIND}
-use Rattle.prov_store.specs.Events.{◌>>=◌, if_numbered, event_in, with_size, event_by, events_from, blocks_size}
+use Rattle.prov_store.specs.Events.{◌>>=◌, if_numbered, with_size, event_by, events_from, blocks_size}
 use Rattle.record_codec.specs.Block.{Reading, Whole, Cut, Long, Differs, reading_of}
 use Rattle.record_codec.specs.declared.block.TheConstants.{BLOCK_OVERHEAD}
 use Rattle.record_codec.proofs.Blocks.{whole_fits, reading_of-same}

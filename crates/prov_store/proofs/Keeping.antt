@@ -1,11 +1,11 @@
 -- What calls leave of the events that are known.
-use Rattle.std.proofs.Common.{◌≡◌, ◌⊎◌, inl, inr, ℕ, zero, suc, ◌+◌, ◌*◌, ◌/◌, ◌≤◌, ◌<◌, List, [], ◌∷◌, length, get_or, take, map, refl, sym, ap, subst, ◌∙◌, arith}
-use Rattle.std.specs.Prelude.{Ok, All, Contains}
+use Rattle.std.proofs.Common.{◌≡◌, ◌⊎◌, inl, inr, ℕ, ◌*◌, ◌/◌, ◌≤◌, ◌<◌, List, [], ◌∷◌, length, get_or, take, map, sym, ap, subst, ◌∙◌, arith}
+use Rattle.std.specs.Prelude.{All, Contains}
 use Rattle.std.proofs.lemmas.Bool.{cases_lt, cases_eq}
 use Rattle.std.proofs.lemmas.List.{get_or-map, length-map}
-use Rattle.disk_trait.specs.Files.{Files, Shortened}
+use Rattle.disk_trait.specs.Files.{Files}
 use Rattle.disk_trait.proofs.FileLists.{contains_here, contains_there, contains_cases}
-use Rattle.prov_store.specs.Events.{events_file, events_in, covered, covered_size}
+use Rattle.prov_store.specs.Events.{events_file, covered, covered_size}
 use Rattle.prov_store.specs.State.{EventsState, HasEvents, IsReady, SameEvents, KeepsEvents, GrowsBehind, CutsStale}
 use Rattle.prov_store.specs.declared.TheConstants.{EVENTS_PER_FILE}
 use Rattle.prov_store.specs.declared.events.Stale.{Stale}

@@ -6,8 +6,10 @@ pub mod Headers
 pub mod InFile
 pub mod InFiles
 pub mod Keeping
+pub mod Listing
 pub mod Loaded
 pub mod Loads
 pub mod Parting
 pub mod Scans
+pub mod Wholes
 pub mod Writing

@@ -1,6 +1,6 @@
 -- What is known once all files are read.
-use Rattle.std.proofs.Common.{◌≡◌, ℕ, suc, ◌+◌, ◌-◌, ◌*◌, ◌/◌, ◌≤◌, ◌<◌, Bool, IsTrue, inl, inr, List, [], ◌∷◌, length, refl, sym, ap, subst, ◌∙◌, arith}
-use Rattle.std.specs.Prelude.{Ok, Err, All, Contains}
+use Rattle.std.proofs.Common.{◌≡◌, ℕ, suc, ◌+◌, ◌-◌, ◌/◌, ◌≤◌, ◌<◌, Bool, IsTrue, inl, inr, List, [], ◌∷◌, length, refl, sym, ap, subst, ◌∙◌, arith}
+use Rattle.std.specs.Prelude.{Err, All, Contains}
 use Rattle.std.proofs.lemmas.Bool.{cases_lt}
 use Rattle.disk_trait.specs.Files.{Files}
 use Rattle.disk_trait.specs.declared.damage.Damage.{Damage}

@@ -1,6 +1,7 @@
 -- Files of events are read, event by event and file by file.
-use Rattle.std.proofs.Common.{◌≡◌, ℕ, zero, suc, ◌+◌, ◌-◌, ◌*◌, ◌/◌, ◌≤◌, ◌<◌, Bool, IsTrue, inl, inr, List, [], ◌∷◌, ◌++◌, length, get_or, take, drop, map, refl, sym, ap, subst, ◌∙◌, arith}
+use Rattle.std.proofs.Common.{◌≡◌, ℕ, suc, ◌+◌, ◌-◌, ◌*◌, ◌/◌, ◌≤◌, ◌<◌, Bool, IsTrue, inl, inr, List, [], ◌∷◌, ◌++◌, length, get_or, drop, sym, ap, subst, ◌∙◌, arith}
 use Rattle.std.specs.Prelude.{Result, Ok, Err, min, All, Contains}
+use Rattle.std.specs.List.{range_with_len}
 use Rattle.std.proofs.lemmas.Bool.{cases_lt}
 use Rattle.std.proofs.lemmas.List.{length-append, drop-drop, append-nil, take_all, map-append}
 use Rattle.std.proofs.lemmas.List.Elements.{All-push, All-append, Contains-append_left, Contains-append_right}
@@ -17,8 +18,8 @@ use Rattle.prov_store.specs.declared.events.Stale.{Stale}
 use Rattle.prov_store.specs.declared.load.Loading.{Loading}
 use Rattle.prov_store.specs.declared.read.Cursor.{Cursor}
 use Rattle.prov_store.specs.declared.TheConstants.{EVENTS_PER_FILE}
-use Rattle.prov_store.proofs.InFile.{IsRead, read_of, with_first, events_behind, sizes_behind, size_of_first}
-use Rattle.prov_store.proofs.InFiles.{files_behind, no_size}
+use Rattle.prov_store.proofs.InFile.{read_of, with_first, events_behind, sizes_behind, size_of_first}
+use Rattle.prov_store.proofs.InFiles.{files_behind, no_size, range_both}
 use Rattle.prov_store.proofs.Counting.{counts_are}
 use Rattle.prov_store.proofs.Keeping.{stale_files}
 use Rattle.record_codec.specs.Block.{reading_of}
@@ -69,12 +70,15 @@ first_damage count more file at number bytes events damage is here =
 
 -- the same where they were read from a place on
 pub read_more : (tells : Bool) (files : Files) (start : Cursor) (i : ℕ) (events : List Event) (cursor : Cursor) (e : Event) (size : ℕ)
-    → AreRead tells files start i events cursor.at → cursor ≡ record start { at = cursor.at; number = start.number + i } → cursor.at + size ≤ cursor.size
+    → AreRead tells files start i events cursor.at → cursor ≡ record start { at = cursor.at; number = start.number + i } → cursor.at + size ≤ cursor.size → e.number ≡ cursor.number
     → (IsTrue tells → event_there files cursor ≡ Ok (e, size)) → AreRead tells files start (i + 1) (events ++ e ∷ []) (cursor.at + size)
-read_more tells files start i events cursor e size read is within found =
+read_more tells files start i events cursor e size read is within same found =
     let same_size : cursor.size ≡ start.size = ap (λ (c : Cursor). c.size) is in
     record {
       count = omega (arith, length-append events (e ∷ []), read.count);
+      numbered =
+          map-append (λ (e : Event). e.number) events (e ∷ []) ∙ ap (λ (l : List ℕ). l ++ e.number ∷ []) read.numbered
+          ∙ ap (λ (n : ℕ). range_with_len start.number i ++ n ∷ []) (same ∙ ap (λ (c : Cursor). c.number) is) ∙ sym (range_both start.number i 1);
       within = omega (arith, within, same_size);
       says = λ told. (more told).says;
       reaches = λ told. omega (arith, (more told).size, read.reaches told);

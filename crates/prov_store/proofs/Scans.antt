@@ -1,24 +1,23 @@
 -- Some of the events of files are found.
-use Rattle.std.proofs.Common.{◌≡◌, ℕ, zero, ◌+◌, ◌-◌, ◌*◌, ◌/◌, ◌≤◌, ◌<◌, suc, Bool, IsTrue, true, false, cond, ◌⊎◌, inl, inr, List, [], ◌∷◌, ◌++◌, length, get_or, take, drop, map, refl, sym, ap, subst, ◌∙◌, append_assoc, arith}
-use Rattle.std.specs.Prelude.{Result, Ok, Err, min, max, filter, nat_le, ◌&&◌}
+use Rattle.std.proofs.Common.{◌≡◌, ℕ, ◌+◌, ◌-◌, ◌*◌, ◌/◌, ◌≤◌, ◌<◌, suc, Bool, IsTrue, true, false, ◌⊎◌, inl, inr, List, [], ◌∷◌, ◌++◌, length, get_or, take, drop, refl, sym, ap, subst, ◌∙◌, arith}
+use Rattle.std.specs.Prelude.{Ok, min, max, filter, nat_le, ◌&&◌}
 use Rattle.std.specs.List.{range_with_len}
 use Rattle.std.proofs.lemmas.Bool.{cases_lt}
 use Rattle.std.proofs.lemmas.Bool.Decides.{nat_tests}
-use Rattle.std.proofs.lemmas.List.{length-append, length-drop, length-take, length-take-le, take-append-drop, drop-drop, append-nil, take_all, drop_all, drop_at}
+use Rattle.std.proofs.lemmas.List.{length-drop, length-take-le, take-append-drop, append-nil, take_all, drop_all, drop_at}
 use Rattle.std.proofs.lemmas.List.Elements.{filter-append}
 use Rattle.disk_trait.specs.Files.{Files}
-use Rattle.disk_trait.specs.declared.damage.Damage.{Damage}
 use Rattle.disk_trait.specs.declared.file_name.FileName.{FileName}
 use Rattle.flowfile_record.specs.declared.event.Event.{Event}
 use Rattle.prov_store.specs.Events.{◌>>=◌, event_by, first_in, count_in, events_file, events_from, events_of_file, events_of_files, events_in, blocks_size}
 use Rattle.prov_store.specs.Loading.{bytes_there}
 use Rattle.prov_store.specs.Reading.{event_there}
-use Rattle.prov_store.specs.Scanning.{is_within, HasSkipped}
+use Rattle.prov_store.specs.Scanning.{is_within, HasSkipped, numbers_between}
 use Rattle.prov_store.specs.State.{AreNumberedFrom}
 use Rattle.prov_store.specs.declared.TheConstants.{EVENTS_PER_FILE}
 use Rattle.prov_store.proofs.InFile.{bind_ok, events_behind, fewer_events, events_numbered}
 use Rattle.prov_store.specs.declared.read.Cursor.{Cursor}
-use Rattle.prov_store.proofs.InFiles.{in_files, split_files, first_file, files_numbered}
+use Rattle.prov_store.proofs.InFiles.{in_files, split_files, first_file, files_numbered, range_both}
 use Rattle.prov_store.proofs.Loads.{one_more, there_is}
 use Rattle.prov_store.proofs.Parting.{numbered_part}
 use Rattle.record_codec.specs.Block.{reading_of}
@@ -307,3 +306,31 @@ pub found_alike : (end first last end_now first_now last_now k : ℕ) (read file
 found_alike end first last end_now first_now last_now k read files old new end_is first_is last_is held found here is =
     found here (ap (λ (n : ℕ). events_of_file n k read) end_is ∙ ap (λ (f : Files). events_of_file end k f) held ∙ is)
     ∙ ap (λ (n : ℕ). old ++ filter (is_within n last_now) here) first_is ∙ ap (λ (n : ℕ). old ++ filter (is_within first n) here) last_is
+
+-- ---- the numbers that are found
+
+-- none before the first file
+pub none_numbered : (first last : ℕ) → 1 ≤ first → numbers_between first (min last (first_in ((first - 1) / EVENTS_PER_FILE) - 1)) ≡ []
+none_numbered first last one =
+    let none : min last (first_in ((first - 1) / EVENTS_PER_FILE) - 1) + 1 - first ≡ 0 = omega (arith, one) in
+    ap (range_with_len first) none
+
+-- those of one file more
+pub file_numbered : (first last k : ℕ) → first ≤ last → k ≤ (last - 1) / EVENTS_PER_FILE
+    → numbers_between first (min last (first_in k - 1)) ++ numbers_between (max first (first_in k)) (min last (first_in (k + 1) - 1)) ≡ numbers_between first (min last (first_in (k + 1) - 1))
+file_numbered first last k some there =
+    let before = min last (first_in k - 1) + 1 - first in
+    let here = min last (first_in (k + 1) - 1) + 1 - max first (first_in k) in
+    let place : max first (first_in k) ≡ first + before = omega (arith, some, there) in
+    let both : before + here ≡ min last (first_in (k + 1) - 1) + 1 - first = omega (arith, some, there) in
+    ap (λ (n : ℕ). range_with_len first before ++ range_with_len n here) place ∙ sym (range_both first before here) ∙ ap (range_with_len first) both
+
+pub numbered_on : (first last other end k : ℕ) (old new : List ℕ) → other ≡ first → end ≡ last → first ≤ last → k ≤ (last - 1) / EVENTS_PER_FILE
+    → old ≡ numbers_between first (min last (first_in k - 1)) → new ≡ old ++ numbers_between (max other (first_in k)) (min end (first_in (k + 1) - 1))
+    → new ≡ numbers_between first (min last (first_in (k + 1) - 1))
+numbered_on first last other end k old new same_first same_last some there was is =
+    let before = numbers_between first (min last (first_in k - 1)) in
+    is ∙ ap (λ (l : List ℕ). l ++ numbers_between (max other (first_in k)) (min end (first_in (k + 1) - 1))) was
+    ∙ ap (λ (n : ℕ). before ++ numbers_between (max n (first_in k)) (min end (first_in (k + 1) - 1))) same_first
+    ∙ ap (λ (n : ℕ). before ++ numbers_between (max first (first_in k)) (min n (first_in (k + 1) - 1))) same_last
+    ∙ file_numbered first last k some there

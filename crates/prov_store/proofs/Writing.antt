@@ -1,22 +1,20 @@
 -- The blocks of events are written part by part.
-use Rattle.std.proofs.Common.{◌≡◌, ℕ, zero, suc, ◌+◌, ◌-◌, ◌*◌, ◌/◌, ◌%◌, ◌^◌, ◌≤◌, ◌<◌, inl, inr, List, [], ◌∷◌, ◌++◌, length, get_or, take, drop, map, refl, sym, ap, subst, ◌∙◌, append_assoc, arith}
-use Rattle.std.specs.Prelude.{All, ◌==◌}
-use Rattle.std.specs.List.{range_with_len}
+use Rattle.std.proofs.Common.{◌≡◌, ℕ, ◌+◌, ◌-◌, ◌/◌, ◌%◌, ◌^◌, ◌≤◌, ◌<◌, List, [], ◌∷◌, ◌++◌, length, get_or, take, drop, sym, ap, subst, ◌∙◌, append_assoc, arith}
+use Rattle.std.specs.Prelude.{All}
 use Rattle.std.proofs.Math.Seq.{take-add}
-use Rattle.std.proofs.lemmas.Bool.{cases_lt}
 use Rattle.std.proofs.lemmas.List.{length-drop, length-take-le, drop-drop, get_or-map}
 use Rattle.std.proofs.lemmas.List.Elements.{All-take, All-drop}
 use Rattle.std.proofs.lemmas.List.FromFn.{get_or-range_with_len}
-use Rattle.disk_trait.specs.Files.{Files, At, Overwritten, Torn}
+use Rattle.disk_trait.specs.Files.{Files, At, Overwritten}
 use Rattle.flowfile_record.specs.declared.event.Event.{Event}
-use Rattle.prov_store.specs.Blocks.{blocks_of, IsPart, AreParts, AreEncoded, next_offset}
+use Rattle.prov_store.specs.Blocks.{blocks_of, AreParts, AreEncoded, next_offset}
 use Rattle.prov_store.specs.Events.{events_file}
 use Rattle.prov_store.specs.Growing.{Stands}
-use Rattle.prov_store.specs.State.{HasBlock, AreNumberedFrom, EventsState}
+use Rattle.prov_store.specs.State.{HasBlock, AreNumberedFrom}
 use Rattle.prov_store.specs.declared.TheConstants.{EVENTS_PER_FILE}
 use Rattle.prov_store.specs.declared.blocks.Part.{Part}
 use Rattle.prov_store.proofs.Growing.{grown}
-use Rattle.prov_store.proofs.Parting.{numbered_part, part_is, PartOf, part_of}
+use Rattle.prov_store.proofs.Parting.{numbered_part, part_is, part_of}
 
 -- the number of an event that is in a row with others
 pub number_at : (first i : ℕ) (d : Event) (events : List Event) → AreNumberedFrom first events → i < length events → (get_or events i d).number ≡ first + i

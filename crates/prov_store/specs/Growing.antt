@@ -1,5 +1,5 @@
 -- What a write of some events' blocks needs and leaves.
-use Rattle.std.specs.Prelude.{◌≡◌, ℕ, ◌/◌, List, Ok}
+use Rattle.std.specs.Prelude.{◌≡◌, ℕ, List, Ok}
 use Rattle.disk_trait.specs.Files.{Files}
 use Rattle.flowfile_record.specs.declared.event.Event.{Event}
 use Rattle.prov_store.specs.Events.{events_in, covered_size}

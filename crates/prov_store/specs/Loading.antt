@@ -1,9 +1,10 @@
 -- Files of events that are read as far as some file.
-use Rattle.std.specs.Prelude.{◌≡◌, ℕ, suc, ◌+◌, ◌*◌, ◌/◌, ◌<◌, ◌≤◌, Bool, IsTrue, min, List, ◌++◌, length, drop, map, All, Contains, Ok}
+use Rattle.std.specs.Prelude.{◌≡◌, ℕ, ◌+◌, ◌*◌, ◌/◌, ◌<◌, ◌≤◌, Bool, IsTrue, min, List, ◌++◌, length, drop, map, All, Contains, Ok}
+use Rattle.std.specs.List.{range_with_len}
 use Rattle.disk_trait.specs.Files.{Files}
 use Rattle.flowfile_record.specs.declared.event.Event.{Event}
 use Rattle.prov_store.specs.Events.{events_file, events_from, events_of_files, blocks_size, covered, covered_size}
-use Rattle.prov_store.specs.State.{counts_of, AreCounted}
+use Rattle.prov_store.specs.State.{counts_of, AreCounted, AreLonger}
 use Rattle.prov_store.specs.declared.TheConstants.{EVENTS_PER_FILE}
 use Rattle.prov_store.specs.declared.events.Stale.{Stale}
 use Rattle.prov_store.specs.declared.load.Loading.{Loading}
@@ -17,6 +18,7 @@ bytes_there files cursor = drop cursor.at (files cursor.file)
 pub record AreRead (tells : Bool) (files : Files) (start : Cursor) (many : ℕ) (events : List Event)
     (end : ℕ) : Type 0 where
   pub count : length events ≡ many
+  pub numbered : map (λ e. e.number) events ≡ range_with_len start.number many
   pub within : end ≤ start.size
   pub says : IsTrue tells → events_from many start.file start.at start.number (bytes_there files start) ≡ Ok events
   pub reaches : IsTrue tells → end ≡ start.at + blocks_size many (bytes_there files start)
@@ -49,3 +51,8 @@ pub record AreLater (old new : Loading) : Type 0 where
   pub more : List Stale
   pub stale : new.stale.items ≡ old.stale.items ++ more
   pub sizes : All (λ s. (s.size ≡ 0) × (old.end / EVENTS_PER_FILE < s.file)) more
+
+-- files before this one are listed, which are longer than what is covered
+pub record AreListed (tells : Bool) (files : Files) (k : ℕ) (stale : List Stale) : Type 0 where
+  pub longer : AreLonger tells files stale
+  pub before : All (λ s. s.file < k) stale

@@ -1,15 +1,24 @@
 -- Some of the events of files are found.
-use Rattle.std.specs.Prelude.{◌≡◌, ℕ, ◌+◌, ◌<◌, ◌≤◌, ◌^◌, ◌&&◌, nat_le, Bool, IsTrue, List, ◌++◌, length, Ok}
+use Rattle.std.specs.Prelude.{◌≡◌, ℕ, ◌+◌, ◌-◌, ◌<◌, ◌≤◌, ◌^◌, ◌&&◌, nat_le, min, max, Bool, IsTrue, List, ◌++◌, map, Ok}
+use Rattle.std.specs.List.{range_with_len}
 use Rattle.disk_trait.specs.Files.{Files}
 use Rattle.flowfile_record.specs.declared.event.Event.{Event}
 use Rattle.prov_store.specs.Events.{events_from, blocks_size}
-use Rattle.prov_store.specs.Loading.{AreRead, bytes_there}
+use Rattle.prov_store.specs.Loading.{bytes_there}
 use Rattle.prov_store.specs.declared.read.Cursor.{Cursor}
 use Rattle.prov_store.specs.declared.scan.Scan.{Scan}
 
 -- its number lies between these
 abbrev pub is_within : (first last : ℕ) → Event → Bool
 is_within first last e = nat_le first e.number && nat_le e.number last
+
+-- some event up to a last one lies between the two numbers
+abbrev pub HasBetween : (from to last : ℕ) → Type 0
+HasBetween from to last = max from 1 ≤ min to last
+
+-- the numbers from one to another, both included
+abbrev pub numbers_between : (first last : ℕ) → List ℕ
+numbers_between first last = range_with_len first (last + 1 - first)
 
 -- there are events between the two numbers
 pub record MayScan (scan : Scan) : Type 0 where
@@ -28,6 +37,7 @@ pub record HasRead (tells : Bool) (files : Files) (start : Cursor) (many : ℕ) 
   pub events : List Event
   pub says : IsTrue tells → events_from many start.file start.at start.number (bytes_there files start) ≡ Ok events
   pub items : new ≡ old ++ events
+  pub numbered : map (λ e. e.number) events ≡ range_with_len start.number many
 
 -- so many events were skipped
 pub record HasSkipped (tells : Bool) (files : Files) (start : Cursor) (many : ℕ) (cursor : Cursor) : Type 0 where

@@ -1,6 +1,6 @@
 -- What is in memory of the files of events, and how it is tied to them.
-use Rattle.std.specs.Prelude.{◌≡◌, ◌≢◌, ℕ, zero, suc, ◌+◌, ◌-◌, ◌/◌, ◌<◌, ◌≤◌, ◌==◌, List, [], ◌∷◌, ◌++◌, length, map, filter, take, All, Contains, Ok, slice_index, if◌then◌else◌}
-use Rattle.std.specs.List.{range_with_len}
+use Rattle.std.specs.Prelude.{◌≡◌, ◌≢◌, ℕ, zero, suc, ◌+◌, ◌-◌, ◌/◌, ◌<◌, ◌≤◌, ◌==◌, Bool, IsTrue, List, length, map, filter, take, All, Contains, Ok, slice_index, if◌then◌else◌}
+use Rattle.std.specs.List.{range_with_len, AllPairs}
 use Rattle.disk_trait.specs.Files.{Files, Shortened}
 use Rattle.disk_trait.specs.declared.file_name.FileKind.TheVariants.{Events}
 use Rattle.disk_trait.specs.declared.file_name.FileName.{FileName}
@@ -70,6 +70,11 @@ pub record HasStale (state : EventsState) (files : Files) : Type 0 where
   pub others : (k : ℕ) → (Contains (map (λ s. s.file) state.stale) k → ⊥)
       → files (events_file k) ≡ covered state.end k files
 
+-- files are listed once each, ascending, and each is longer than its size in the list
+pub record AreLonger (tells : Bool) (files : Files) (stale : List Stale) : Type 0 where
+  pub ascending : AllPairs (λ s t. s.file < t.file) stale
+  pub longer : IsTrue tells → All (λ s. s.size < length (files (events_file s.file))) stale
+
 -- nothing stands behind the covered end
 abbrev pub IsTrimmed : (last : ℕ) → Files → Type 0
 IsTrimmed last files = (k : ℕ) → files (events_file k) ≡ covered last k files
@@ -125,3 +130,10 @@ files_for last count =
 abbrev pub calls_later : (calls moment : ℕ) → ℕ
 calls_later zero moment = moment
 calls_later (suc calls) moment = calls_later calls (next_moment moment)
+
+-- at least one of so many calls was made
+pub record HasCalled (limit before now : ℕ) : Type 0 where
+  pub calls : ℕ
+  pub some : 0 < calls
+  pub most : calls ≤ limit
+  pub moment : now ≡ calls_later calls before

@@ -7,7 +7,7 @@ ghost use Rattle.flowfile_record.specs.declared.event.Event.{Event as TheEvent};
 ghost use Rattle.prov_store.specs.Blocks.{next_offset};
 ghost use Rattle.prov_store.specs.Events.{events_file, events_in};
 ghost use Rattle.prov_store.specs.Growing.{Stands};
-ghost use Rattle.prov_store.specs.State.{IsReady, IsAppended, GrowsBehind, files_for, calls_later, next_file};
+ghost use Rattle.prov_store.specs.State.{IsReady, IsAppended, GrowsBehind, HasCalled, files_for, calls_later, next_file};
 
 use crate::blocks::Part;
 use crate::counts::count_all;
@@ -40,6 +40,8 @@ impl Events {
         ensures writes { OnOk result (D.moment disk.new
             ≡ calls_later (files_for self.old.end (length blocks.now.events)) (D.moment disk.old)) }
         ensures none { blocks.now.events ≡ [] → disk.new ≡ disk.old }
+        ensures refused { OnErr result (HasCalled (files_for self.old.end (length blocks.now.events))
+            (D.moment disk.old) (D.moment disk.new)) }
         ensures cause { CountsFaults (D.faults disk.old) (D.faults disk.new) (IsErr result) }
     {
         if blocks.events.is_empty() {
@@ -66,6 +68,8 @@ impl Events {
             (After (GrowsBehind self.now) (D.images disk.old (D.moment disk.old))) }
         ensures writes { OnOk result (D.moment disk.new
             ≡ calls_later (files_for self.now.end (length blocks.now.events)) (D.moment disk.old)) }
+        ensures refused { OnErr result (HasCalled (files_for self.now.end (length blocks.now.events))
+            (D.moment disk.old) (D.moment disk.new)) }
         ensures cause { CountsFaults (D.faults disk.old) (D.faults disk.new) (IsErr result) }
     {
         let mut place = Place {

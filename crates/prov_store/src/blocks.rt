@@ -1,5 +1,5 @@
 //! Events with their encoded blocks.
-ghost use Rattle.std.specs.Prelude.{◌≡◌, ◌≤◌, ◌<◌, ◌+◌, ◌%◌, ◌++◌, All, length, IfOk};
+ghost use Rattle.std.specs.Prelude.{◌≡◌, ◌≤◌, ◌<◌, ◌+◌, ◌-◌, ◌%◌, ◌^◌, ◌++◌, min, All, length, IfOk, IsErr};
 ghost use Rattle.prov_store.specs.Blocks.{blocks_of};
 ghost use Rattle.prov_store.specs.State.{HasBlock, AreNumberedFrom};
 
@@ -50,6 +50,7 @@ impl<'a> EventBlocks<'a> {
         requires blocks { All HasBlock events.now }
         ensures first { IfOk result (λ blocks. blocks.first ≡ first) }
         ensures events { IfOk result (λ blocks. blocks.events ≡ events.now) }
+        ensures refused { IsErr result → 0 < length events.now }
     {
         let mut bytes = Vec::new(alloc);
         bytes.reserve(size_of_all(events) as usize)?;
@@ -89,6 +90,7 @@ fn part_len(last: u64, len: usize) -> usize
 // How many bytes the blocks of these events have, up to 2^64 - 1.
 fn size_of_all(events: &[Event]) -> u64
     requires { All HasBlock events.now }
+    ensures { result ≡ min (length (blocks_of events.now)) (2 ^ 64 - 1) }
 {
     let mut size: u64 = 0;
     for event in events {

@@ -1,13 +1,14 @@
 //! The events up to a last one are read, block by block.
-ghost use Rattle.std.specs.Prelude.{◌≡◌, ℕ, suc, ◌+◌, ◌/◌, ◌<◌, ◌≤◌, ◌^◌, [], length, map, All, Contains, IsTrue, IfOk, OnOk, IsErrOf, Err};
+ghost use Rattle.std.specs.Prelude.{◌≡◌, ℕ, suc, ◌+◌, ◌/◌, ◌<◌, ◌≤◌, ◌^◌, [], ◌∷◌, ◌++◌, length, map, All, Contains, IsTrue, IfOk, OnOk, IsErrOf, Err};
 ghost use Rattle.disk_trait.specs.Images.{Stays};
 ghost use Rattle.disk_trait.specs.Faults.{CountsFaults};
 ghost use Rattle.disk_trait.specs.declared.damage.Damage.{Damage as TheDamage};
 ghost use Rattle.flowfile_record.specs.Encoding.{IsNumber};
 ghost use Rattle.prov_store.specs.Events.{events_file, events_from, events_of_files, events_in};
-ghost use Rattle.prov_store.specs.Loading.{bytes_there, AreLater, HaveCounted, IsLoaded};
-ghost use Rattle.prov_store.specs.Reading.{IsThere};
-ghost use Rattle.prov_store.specs.State.{HasEvents, HasStale};
+ghost use Rattle.prov_store.specs.Loading.{bytes_there, AreLater, AreListed, HaveCounted, IsLoaded};
+ghost use Rattle.prov_store.specs.Reading.{HasWhole, IsThere};
+ghost use Rattle.record_codec.specs.Block.{reading_of};
+ghost use Rattle.prov_store.specs.State.{AreLonger, HasEvents, HasStale};
 
 use crate::counts::count;
 use crate::events::file_named;
@@ -35,9 +36,13 @@ impl Events {
         ensures end { IfOk result (λ events. events.end ≡ end) }
         ensures found { IfOk result (λ events. IsTrue D.tells → HasEvents events (D.held disk.old)) }
         ensures stale { IfOk result (λ events. IsTrue D.tells → HasStale events (D.held disk.old)) }
+        ensures longer { IfOk result (λ events. AreLonger D.tells (D.held disk.old) events.stale) }
         // The first damage by the events' numbers is told, where there is one.
         ensures damaged { (damage : TheDamage) → IsErrOf result (EventsError.Damaged damage) → IsTrue D.tells
             → events_in (D.held disk.old) end ≡ Err damage }
+        // Memory is taken for whole blocks alone, so that where the first one is damaged that is told.
+        ensures memory { IsErrOf result EventsError.Memory → IsTrue D.tells → 0 < end
+            → HasWhole (reading_of (D.held disk.old (events_file 0))) }
         ensures stays { Stays D.held D.moment D.images disk.old disk.new }
         ensures cause { CountsFaults (D.faults disk.old) (D.faults disk.new) (IsErrOf result EventsError.Disk) }
     {
@@ -72,10 +77,14 @@ impl Loading {
         requires number { number ≤ self.old.end / EVENTS_PER_FILE }
         requires end { IsNumber self.old.end }
         requires loaded { IsLoaded D.tells (D.held disk.old) number self.old }
+        requires listed { AreListed D.tells (D.held disk.old) number self.old.stale.items }
+        ensures listed { OnOk result (AreListed D.tells (D.held disk.old) (number + 1) self.new.stale.items) }
         ensures loaded { OnOk result (IsLoaded D.tells (D.held disk.old) (number + 1) self.new) }
         ensures end { self.new.end ≡ self.old.end }
         ensures damaged { (damage : TheDamage) → IsErrOf result (EventsError.Damaged damage) → IsTrue D.tells
             → (more : ℕ) → events_of_files (number + suc more) self.old.end 0 (D.held disk.old) ≡ Err damage }
+        ensures memory { IsErrOf result EventsError.Memory → IsTrue D.tells → 0 < self.old.end
+            → HasWhole (reading_of (D.held disk.old (events_file 0))) }
         ensures stays { Stays D.held D.moment D.images disk.old disk.new }
         ensures cause { CountsFaults (D.faults disk.old) (D.faults disk.new) (IsErrOf result EventsError.Disk) }
     {
@@ -99,7 +108,10 @@ impl Loading {
 
     // Finds the files behind the one that the next event goes to.
     fn find_later<D: Disk>(&mut self, alloc: Global, disk: &mut D) -> Result<(), EventsError>
-        requires { IsLoaded D.tells (D.held disk.old) (self.old.end / EVENTS_PER_FILE + 1) self.old }
+        requires loaded { IsLoaded D.tells (D.held disk.old) (self.old.end / EVENTS_PER_FILE + 1) self.old }
+        requires listed { AreListed D.tells (D.held disk.old) (self.old.end / EVENTS_PER_FILE + 1)
+            self.old.stale.items }
+        ensures longer { OnOk result (AreLonger D.tells (D.held disk.old) self.new.stale.items) }
         ensures loaded { OnOk result
             (IsLoaded D.tells (D.held disk.old) (self.old.end / EVENTS_PER_FILE + 1) self.new) }
         ensures later { OnOk result (IsTrue D.tells → (j : ℕ) → self.old.end / EVENTS_PER_FILE < j
@@ -122,6 +134,10 @@ impl Loading {
         ensures listed { OnOk result (self.old.end / EVENTS_PER_FILE < number
             → Contains (map (λ s. s.file) self.new.stale.items) number) }
         ensures kept { OnOk result (AreLater self.old self.new) }
+        ensures behind { OnOk result (self.old.end / EVENTS_PER_FILE < number
+            → self.new.stale.items ≡ self.old.stale.items ++ record { file = number; size = 0 } ∷ []) }
+        ensures before { OnOk result (number ≤ self.old.end / EVENTS_PER_FILE
+            → self.new.stale.items ≡ self.old.stale.items) }
         ensures end { self.new.end ≡ self.old.end }
     {
         if number > self.end / EVENTS_PER_FILE {
@@ -152,6 +168,8 @@ fn count_events<D: Disk>(
         (HaveCounted D.tells (D.held disk.old) start many counts.old.counts counts.new.counts) }
     ensures damaged { (damage : TheDamage) → IsErrOf result (EventsError.Damaged damage) → IsTrue D.tells
         → events_from many start.file start.at start.number (bytes_there (D.held disk.old) start) ≡ Err damage }
+    ensures memory { IsErrOf result EventsError.Memory → IsTrue D.tells
+        → HasWhole (reading_of (bytes_there (D.held disk.old) start)) }
     ensures stays { Stays D.held D.moment D.images disk.old disk.new }
     ensures cause { CountsFaults (D.faults disk.old) (D.faults disk.new) (IsErrOf result EventsError.Disk) }
 {

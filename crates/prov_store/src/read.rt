@@ -6,7 +6,7 @@ ghost use Rattle.disk_trait.specs.declared.damage.Damage.{Damage as TheDamage};
 ghost use Rattle.flowfile_record.specs.declared.event.Event.{Event as TheEvent};
 ghost use Rattle.record_codec.specs.Block.{reading_of};
 ghost use Rattle.prov_store.specs.Events.{events_file, event_in, event_by};
-ghost use Rattle.prov_store.specs.Reading.{event_there, IsThere};
+ghost use Rattle.prov_store.specs.Reading.{event_there, HasWhole, IsThere};
 
 use crate::EventsError;
 use block_file::{BlockAddress, read_block_at};
@@ -49,9 +49,12 @@ pub fn read_event_at<D: Disk>(
 ) -> Result<(Event, u64), EventsError>
     requires { IsThere D.tells (D.held disk.old) cursor }
     ensures found { IfOk result (λ found. IsTrue D.tells → event_there (D.held disk.old) cursor ≡ Ok found) }
+    ensures number { IfOk result (λ found. found.0.number ≡ cursor.number) }
     ensures within { IfOk result (λ found. cursor.at + found.1 ≤ cursor.size) }
     ensures damaged { (damage : TheDamage) → IsErrOf result (EventsError.Damaged damage) → IsTrue D.tells
         → event_there (D.held disk.old) cursor ≡ Err damage }
+    ensures memory { IsErrOf result EventsError.Memory → IsTrue D.tells
+        → HasWhole (reading_of (drop cursor.at (D.held disk.old cursor.file))) }
     ensures stays { Stays D.held D.moment D.images disk.old disk.new }
     ensures cause { CountsFaults (D.faults disk.old) (D.faults disk.new) (IsErrOf result EventsError.Disk) }
 {
@@ -70,6 +73,7 @@ pub fn read_event_at<D: Disk>(
 // The event of a block.
 fn event_of(alloc: Global, cursor: Cursor, kind: u8, payload: &[u8]) -> Result<Event, EventsError>
     ensures event { IfOk result (λ event. event_in cursor.number kind payload.now ≡ Some event) }
+    ensures number { IfOk result (λ event. event.number ≡ cursor.number) }
     ensures damaged { (damage : TheDamage) → IsErrOf result (EventsError.Damaged damage)
         → (damage ≡ TheDamage.Form cursor.file cursor.at) × (event_in cursor.number kind payload.now ≡ None) }
     ensures kinds { IsErrOf result EventsError.Disk → ⊥ }

@@ -1,13 +1,13 @@
 //! Some events are read back.
-ghost use Rattle.std.specs.Prelude.{◌≡◌, ◌+◌, ◌-◌, ◌/◌, ◌<◌, ◌≤◌, ◌^◌, ◌&&◌, ◌++◌, nat_le, List, [], filter, IsTrue, IfOk, OnOk, IsErrOf, Ok, Err};
+ghost use Rattle.std.specs.Prelude.{◌≡◌, ◌+◌, ◌-◌, ◌/◌, ◌<◌, ◌≤◌, ◌^◌, ◌&&◌, ◌++◌, nat_le, max, min, map, List, [], filter, IsTrue, IfOk, OnOk, IsErr, IsErrOf, Ok, Err};
 ghost use Rattle.disk_trait.specs.Images.{Stays};
 ghost use Rattle.disk_trait.specs.Faults.{CountsFaults};
 ghost use Rattle.disk_trait.specs.declared.damage.Damage.{Damage as TheDamage};
 ghost use Rattle.flowfile_record.specs.declared.event.Event.{Event as TheEvent};
-ghost use Rattle.prov_store.specs.Events.{events_from, events_of_file, events_in};
+ghost use Rattle.prov_store.specs.Events.{events_from, events_of_file, events_in, first_in};
 ghost use Rattle.prov_store.specs.Loading.{bytes_there};
 ghost use Rattle.prov_store.specs.Reading.{IsThere};
-ghost use Rattle.prov_store.specs.Scanning.{is_within, HasRead, HasSkipped, MayScan, SameScan};
+ghost use Rattle.prov_store.specs.Scanning.{is_within, HasBetween, HasRead, HasSkipped, MayScan, SameScan, numbers_between};
 ghost use Rattle.prov_store.specs.State.{HasEvents};
 
 use crate::events::file_named;
@@ -41,6 +41,12 @@ impl Events {
         ensures found { IfOk result (λ found. IsTrue D.tells → (events : List TheEvent)
             → events_in (D.held disk.old) self.now.end ≡ Ok events
             → found.items ≡ filter (λ e. nat_le from e.number && nat_le e.number to) events) }
+        // Whatever the disk is, each event between the two is there, once and in its place.
+        ensures numbered { IfOk result (λ found. map (λ e. e.number) found.items
+            ≡ numbers_between (max from 1) (min to self.now.end)) }
+        // Where no event lies between the two, nothing is asked of the disk, and no memory is taken.
+        ensures refused { IsErr result → HasBetween from to self.now.end }
+        ensures none { (HasBetween from to self.now.end → ⊥) → disk.new ≡ disk.old }
         // Only a disk that doesn't tell may hold other events than it was loaded with.
         ensures undamaged { (damage : TheDamage) → IsErrOf result (EventsError.Damaged damage) → IsTrue D.tells → ⊥ }
         ensures stays { Stays D.held D.moment D.images disk.old disk.new }
@@ -67,6 +73,8 @@ impl Scan {
         requires none { self.old.found.items ≡ [] }
         requires has { IsTrue D.tells
             → (events : List TheEvent) × (events_in (D.held disk.old) self.old.end ≡ Ok events) }
+        ensures numbered { OnOk result
+            (map (λ e. e.number) self.new.found.items ≡ numbers_between self.old.first self.old.last) }
         ensures found { OnOk result (IsTrue D.tells → (events : List TheEvent)
             → events_in (D.held disk.old) self.old.end ≡ Ok events
             → self.new.found.items ≡ filter (is_within self.old.first self.old.last) events) }
@@ -97,6 +105,9 @@ impl Scan {
         ensures found { OnOk result (IsTrue D.tells → (here : List TheEvent)
             → events_of_file self.old.end number (D.held disk.old) ≡ Ok here
             → self.new.found.items ≡ self.old.found.items ++ filter (is_within self.old.first self.old.last) here) }
+        ensures numbered { OnOk result (map (λ e. e.number) self.new.found.items
+            ≡ map (λ e. e.number) self.old.found.items
+            ++ numbers_between (max self.old.first (first_in number)) (min self.old.last (first_in (number + 1) - 1))) }
         ensures same { SameScan self.old self.new }
         ensures undamaged { (damage : TheDamage) → IsErrOf result (EventsError.Damaged damage) → IsTrue D.tells → ⊥ }
         ensures stays { Stays D.held D.moment D.images disk.old disk.new }

@@ -2,7 +2,7 @@
 ghost use Rattle.std.specs.Prelude.{◌≡◌, [], length, IsTrue, OnOk, OnErr, IsErr};
 ghost use Rattle.disk_trait.specs.Images.{After, Since};
 ghost use Rattle.disk_trait.specs.Faults.{CountsFaults};
-ghost use Rattle.prov_store.specs.State.{HasEvents, HasStale, IsReady, CutsStale, calls_later};
+ghost use Rattle.prov_store.specs.State.{HasEvents, HasStale, IsReady, CutsStale, HasCalled, calls_later};
 
 use crate::Events;
 use crate::events::file_named;
@@ -21,6 +21,8 @@ impl Events {
         ensures images { Since D.moment D.images disk.old disk.new
             (After (CutsStale self.old.stale) (D.images disk.old (D.moment disk.old))) }
         ensures cuts { OnOk result (D.moment disk.new ≡ calls_later (length self.old.stale) (D.moment disk.old)) }
+        ensures refused { OnErr result
+            (HasCalled (length self.old.stale) (D.moment disk.old) (D.moment disk.new)) }
         ensures cause { CountsFaults (D.faults disk.old) (D.faults disk.new) (IsErr result) }
     {
         for stale in &self.stale {

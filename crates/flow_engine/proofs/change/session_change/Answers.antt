@@ -7,7 +7,7 @@ use Rattle.flow_engine.proofs.change.session_change.Goals as goal
 pub work-requires : goal.work-requires
 work-requires c =
     let k : Kept = kept_by c.args.store.now in
-    may_work_on c.taken_files_are_handed.ensures.may c.args.flow.now k c.args.job c.in_ok-taken.taken c.requires.sound c.requires.job
+    may_work_on c.taken_files_are_handed.ensures.may c.args.flow.now k c.args.job c.in_ok-taken.taken c.requires.sound c.state-stored.ensures.consistent c.requires.job
     (taken_as_of k c.args.job c.state-stored.result.now.store c.as_slice.result.now c.in_ok-taken.taken c.in_ok-taken.ensures c.as_slice.ensures
     (ap (λ (kept : Kept). kept.store) c.state-stored.ensures.kept))
 

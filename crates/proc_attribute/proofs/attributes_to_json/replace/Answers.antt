@@ -2,7 +2,7 @@ use Rattle.std.proofs.Common.{◌≤◌, sym, ap, subst, arith}
 use Rattle.flowfile_record.specs.Attributes.{encoded_size}
 use Rattle.flowfile_record.specs.declared.attributes.TheConstants.{ATTRIBUTES_MAX}
 use Rattle.process_session.specs.Bench.{attributes_at}
-use Rattle.proc_attribute.specs.Passing.{HasOneOpen}
+use Rattle.processor_api.specs.Sessions.{HasOneOpen}
 use Rattle.proc_attribute.proofs.Json.{replace-made, replace-open, replace-refused}
 use Rattle.proc_attribute.proofs.Passed.{took-open}
 use Rattle.proc_attribute.proofs.attributes_to_json.replace.Goals as goal

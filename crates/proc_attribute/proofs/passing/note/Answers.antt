@@ -1,5 +1,5 @@
 use Rattle.std.proofs.Common.{sym, subst, arith}
-use Rattle.proc_attribute.specs.Passing.{HasOneOpen}
+use Rattle.processor_api.specs.Sessions.{HasOneOpen}
 use Rattle.proc_attribute.proofs.Passed.{note-made, note-open, note-refused, took-open}
 use Rattle.proc_attribute.proofs.passing.note.Goals as goal
 

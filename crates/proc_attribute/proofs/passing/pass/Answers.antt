@@ -1,7 +1,8 @@
 use Rattle.std.proofs.Common.{sym, subst}
 use Rattle.process_session.specs.Bench.{Bench}
 use Rattle.processor_api.proofs.Answered.{changed_so, never_refused}
-use Rattle.proc_attribute.specs.Passing.{EndsWith, all_to}
+use Rattle.processor_api.specs.Sessions.{EndsWith}
+use Rattle.proc_attribute.specs.Passing.{all_to}
 use Rattle.proc_attribute.proofs.Passed.{open-ended, open-transfer}
 use Rattle.proc_attribute.proofs.passing.pass.Goals as goal
 

@@ -3,7 +3,7 @@ use Rattle.std.proofs.lemmas.List.{length-map}
 use Rattle.machine_model.specs.RouteOnAttribute.{routed_clone}
 use Rattle.process_session.specs.Bench.{attributes_at}
 use Rattle.process_session.specs.Refusals.{refusal_of_clone}
-use Rattle.proc_attribute.specs.Cloning.{HasTaken}
+use Rattle.processor_api.specs.Sessions.{HasTaken}
 use Rattle.proc_attribute.proofs.Clones.{cloned-has, took-free}
 use Rattle.proc_attribute.proofs.Routing.{are-clones, routed_clones}
 use Rattle.proc_attribute.proofs.route_on_attribute.add_routed_clones.Goals as goal

@@ -5,7 +5,7 @@ use Rattle.flowfile_record.specs.declared.worked.End.TheVariants.{To}
 use Rattle.process_session.specs.Bench.{attributes_at}
 use Rattle.process_session.specs.Changes.{with_end, with_route}
 use Rattle.processor_api.proofs.Answered.{changed_so, never_refused}
-use Rattle.proc_attribute.specs.Cloning.{HasTaken}
+use Rattle.processor_api.specs.Sessions.{HasTaken}
 use Rattle.proc_attribute.proofs.Clones.{cloned-has, first-transfer, took-has}
 use Rattle.proc_attribute.proofs.Routing.{no_places, none-routed, routed_clones, some-routed, up-routed}
 use Rattle.proc_attribute.proofs.route_on_attribute.route.Goals as goal

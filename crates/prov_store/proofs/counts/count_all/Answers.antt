@@ -1,8 +1,8 @@
-use Rattle.std.proofs.Common.{◌≡◌, ℕ, ◌+◌, ◌-◌, ◌<◌, ◌≤◌, length, get_or, slice_index, take, sym, ap, subst, ◌^◌, ◌∙◌, arith}
+use Rattle.std.proofs.Common.{◌+◌, ◌-◌, ◌<◌, ◌≤◌, length, slice_index, ap, ◌^◌, ◌∙◌, arith}
 use Rattle.std.specs.Prelude.{All}
-use Rattle.std.proofs.lemmas.List.{take_all, length-set, get_or_default}
+use Rattle.std.proofs.lemmas.List.{take_all, length-set}
 use Rattle.flowfile_record.specs.Events.{code_of}
-use Rattle.prov_store.specs.State.{AreCounted, of_code}
+use Rattle.prov_store.specs.State.{of_code}
 use Rattle.prov_store.proofs.Counting.{code_within, counted_more, most_more}
 use Rattle.prov_store.proofs.counts.count_all.Goals as goal
 

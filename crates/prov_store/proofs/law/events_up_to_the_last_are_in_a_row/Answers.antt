@@ -1,5 +1,4 @@
-use Rattle.std.proofs.Common.{◌∙◌, ap, sym, arith}
-use Rattle.std.specs.List.{range_with_len}
+use Rattle.std.proofs.Common.{arith}
 use Rattle.prov_store.proofs.Encoded.{last_encoded}
 use Rattle.prov_store.proofs.InFiles.{last_numbered, no_more, all_files, fewer_in}
 use Rattle.prov_store.proofs.law.events_up_to_the_last_are_in_a_row.Goals as goal

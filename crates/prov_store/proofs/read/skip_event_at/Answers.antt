@@ -1,4 +1,4 @@
-use Rattle.std.proofs.Common.{◌≡◌, ℕ, ◌+◌, ◌-◌, ◌≤◌, ◌<◌, List, length, take, drop, refl, sym, ap, ◌∙◌, arith, rules}
+use Rattle.std.proofs.Common.{◌-◌, refl, arith, rules}
 use Rattle.prov_store.proofs.Headers.{header_of, no_header}
 use Rattle.prov_store.proofs.read.skip_event_at.Goals as goal
 

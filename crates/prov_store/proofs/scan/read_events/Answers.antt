@@ -1,5 +1,6 @@
-use Rattle.std.proofs.Common.{◌≡◌, ℕ, ◌+◌, ◌-◌, ◌≤◌, ◌<◌, List, [], ◌∷◌, ◌++◌, IsTrue, length, refl, sym, ap, subst, ◌∙◌, append_assoc, arith, rules}
+use Rattle.std.proofs.Common.{◌≡◌, ℕ, ◌+◌, List, [], ◌∷◌, ◌++◌, refl, sym, ap, subst, ◌∙◌, append_assoc, arith, rules}
 use Rattle.std.specs.Prelude.{Ok, Err}
+use Rattle.std.specs.List.{range_with_len}
 use Rattle.std.proofs.lemmas.List.{append-nil}
 use Rattle.std.proofs.lemmas.Result.{err_from_is_err_and}
 use Rattle.disk_trait.specs.Files.{Files}
@@ -15,7 +16,7 @@ use Rattle.prov_store.proofs.scan.read_events.Goals as goal
 pub loop-init : goal.loop-init
 loop-init g c = record {
   events = [];
-  read = record { count = refl; within = c.requires.there.within; says = λ told. refl; reaches = λ told. omega arith };
+  read = record { count = refl; numbered = refl; within = c.requires.there.within; says = λ told. refl; reaches = λ told. omega arith };
   cursor = search rules;
   items = sym (append-nil c.args.found.now.items);
   stays = search rules;
@@ -31,7 +32,7 @@ loop-preserved g c =
     record {
       events = inv.events ++ e ∷ [];
       read = subst (AreRead g.D.Disk.tells (g.D.Disk.held c.args.disk.now) c.args.start (c.loop.counter + 1) (inv.events ++ e ∷ [])) (sym at)
-          (read_more g.D.Disk.tells (g.D.Disk.held c.args.disk.now) c.args.start c.loop.counter inv.events c.loop.cursor e c.in_ok-event.size inv.read inv.cursor c.in_ok-event.ensures.within
+          (read_more g.D.Disk.tells (g.D.Disk.held c.args.disk.now) c.args.start c.loop.counter inv.events c.loop.cursor e c.in_ok-event.size inv.read inv.cursor c.in_ok-event.ensures.within c.in_ok-event.ensures.number
           (λ told. subst (λ (f : Files). event_there f c.loop.cursor ≡ Ok (e, c.in_ok-event.size)) inv.stays.files (c.in_ok-event.ensures.found told)));
       cursor = cursor_on c.args.start c.loop.cursor c.behind-cursor.result c.loop.counter c.in_ok-event.size inv.cursor next;
       items = c.push_reserved.ensures.items ∙ ap (λ (l : List Event). l ++ e ∷ []) (c.in_ok-reserve.ensures.items ∙ inv.items) ∙ append_assoc c.args.found.now.items inv.events (e ∷ []);
@@ -55,4 +56,5 @@ returns-clause-read g c =
       events = inv.events;
       says = λ told. subst (λ (n : ℕ). events_from n c.args.start.file c.args.start.at c.args.start.number (bytes_there (g.D.Disk.held c.args.disk.now) c.args.start) ≡ Ok inv.events) all (inv.read.says told);
       items = inv.items;
+      numbered = inv.read.numbered ∙ ap (range_with_len c.args.start.number) all;
     }

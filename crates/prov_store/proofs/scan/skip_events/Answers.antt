@@ -1,15 +1,14 @@
-use Rattle.std.proofs.Common.{◌≡◌, ℕ, ◌+◌, ◌-◌, ◌≤◌, ◌<◌, List, IsTrue, sym, ap, subst, ◌∙◌, arith, rules}
+use Rattle.std.proofs.Common.{◌≡◌, ℕ, ◌+◌, sym, ap, subst, ◌∙◌, arith, rules}
 use Rattle.std.specs.Prelude.{Ok, Err}
 use Rattle.std.proofs.lemmas.Result.{err_from_is_err_and}
 use Rattle.disk_trait.specs.Files.{Files}
-use Rattle.flowfile_record.specs.declared.event.Event.{Event}
-use Rattle.prov_store.specs.Events.{events_from, blocks_size}
+use Rattle.prov_store.specs.Events.{blocks_size}
 use Rattle.prov_store.specs.Loading.{bytes_there}
 use Rattle.prov_store.specs.Reading.{event_there}
 use Rattle.prov_store.specs.declared.error.EventsError.TheVariants.{Damaged}
 use Rattle.prov_store.specs.declared.read.Cursor.{Cursor}
 use Rattle.prov_store.proofs.Loads.{cursor_on}
-use Rattle.prov_store.proofs.Scans.{Skip, skip_one}
+use Rattle.prov_store.proofs.Scans.{skip_one}
 use Rattle.prov_store.proofs.scan.skip_events.Goals as goal
 
 pub loop-init : goal.loop-init

@@ -4,9 +4,9 @@ use Rattle.machine_model.specs.AttributesToJson.{json_of}
 use Rattle.machine_model.specs.declared.kind.Destination.{Destination}
 use Rattle.machine_model.specs.declared.kind.Kind.TheVariants.{AttributesToJson}
 use Rattle.process_session.specs.Bench.{attributes_at}
-use Rattle.proc_attribute.specs.Passing.{EndsWith}
+use Rattle.processor_api.specs.Sessions.{EndsWith}
+use Rattle.processor_api.proofs.Began.{kind-took}
 use Rattle.proc_attribute.proofs.Json.{given_file, json-acts, outcome_in}
-use Rattle.proc_attribute.proofs.Passed.{kind-took}
 use Rattle.proc_attribute.proofs.attributes_to_json.AttributesToJsonActs.act.Goals as goal
 
 pub file_of-file-requires : goal.file_of-file-requires

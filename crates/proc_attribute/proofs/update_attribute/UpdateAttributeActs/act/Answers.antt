@@ -5,8 +5,9 @@ use Rattle.expr_lang.specs.Meaning.{Attributes}
 use Rattle.machine_model.specs.Making.{found_in}
 use Rattle.machine_model.specs.UpdateAttribute.{own_texts}
 use Rattle.machine_model.specs.declared.kind.Kind.TheVariants.{UpdateAttribute}
+use Rattle.processor_api.proofs.Began.{kind-took}
 use Rattle.proc_attribute.specs.Setting.{have_keys, set_by}
-use Rattle.proc_attribute.proofs.Passed.{kind-took, took-open}
+use Rattle.proc_attribute.proofs.Passed.{took-open}
 use Rattle.proc_attribute.proofs.Updating.{Pair, none-ends, update-acts, update-keys}
 use Rattle.proc_attribute.proofs.update_attribute.UpdateAttributeActs.act.Goals as goal
 

@@ -1,7 +1,7 @@
-use Rattle.std.proofs.Common.{◌≡◌, ℕ, ◌+◌, ◌-◌, ◌<◌, ◌^◌, ◌++◌, ◌≤◌, inl, inr, List, length, sym, ap, subst, ◌∙◌, arith}
+use Rattle.std.proofs.Common.{◌≡◌, ◌+◌, ◌<◌, ◌^◌, ◌++◌, inl, inr, List, length, ap, subst, ◌∙◌, arith}
 use Rattle.std.proofs.lemmas.Bool.{cases_lt}
 use Rattle.flowfile_record.specs.declared.event.Event.{Event}
-use Rattle.prov_store.specs.State.{AreCounted, counts_of}
+use Rattle.prov_store.specs.State.{AreCounted}
 use Rattle.prov_store.proofs.Counting.{counts_are}
 use Rattle.prov_store.proofs.Writing.{last_number}
 use Rattle.prov_store.proofs.events.Events.append.Goals as goal

@@ -1,19 +1,24 @@
-use Rattle.std.proofs.Common.{◌≡◌, ℕ, suc, ◌+◌, ◌/◌, ◌≤◌, ◌<◌, IsTrue, refl, sym, ap, subst, ◌∙◌, arith, rules}
+use Rattle.std.proofs.Common.{◌≡◌, ℕ, suc, ◌+◌, ◌/◌, ◌<◌, refl, sym, ap, subst, ◌∙◌, arith, rules}
 use Rattle.std.specs.Prelude.{Err}
 use Rattle.std.proofs.lemmas.Result.{err_from_is_err_and}
 use Rattle.disk_trait.specs.Files.{Files}
-use Rattle.prov_store.specs.Events.{events_of_files}
+use Rattle.prov_store.specs.Events.{events_file, events_of_files}
 use Rattle.prov_store.specs.Loading.{IsLoaded}
-use Rattle.prov_store.specs.State.{EventsState, HasEvents, HasStale}
+use Rattle.prov_store.specs.State.{AreLonger, EventsState, HasEvents, HasStale}
 use Rattle.prov_store.specs.declared.TheConstants.{EVENTS_PER_FILE}
-use Rattle.prov_store.specs.declared.error.EventsError.TheVariants.{Damaged}
+use Rattle.prov_store.specs.declared.error.EventsError.TheVariants.{Damaged, Memory}
+use Rattle.prov_store.proofs.Listing.{none_longer}
 use Rattle.prov_store.proofs.Loaded.{none_loaded, all_damaged, few_counted, has_events, has_stale}
+use Rattle.prov_store.proofs.Wholes.{first_file_whole}
+use Rattle.prov_store.specs.Reading.{HasWhole}
+use Rattle.record_codec.specs.Block.{reading_of}
 use Rattle.prov_store.proofs.events.Events.load.Goals as goal
 
 pub loop-number-init : goal.loop-number-init
 loop-number-init g c = record {
   end = refl;
   loaded = none_loaded g.D.Disk.tells (g.D.Disk.held c.args.disk.now) _ refl (search rules);
+  listed = none_longer g.D.Disk.tells (g.D.Disk.held c.args.disk.now) _ (search rules);
   stays = search rules;
   faults = omega arith;
 }
@@ -54,3 +59,21 @@ returns-clause-stale g c told =
     (has_stale g.D.Disk.tells (g.D.Disk.held c.loop-number.disk) c.find_later.new.self loaded told
     state (sym end) refl
     (λ j past not. c.in_ok-find_later.ensures.later told j (subst (λ (n : ℕ). n / EVENTS_PER_FILE < j) c.find_later.ensures.end past) not))
+
+pub returns-in_err-read_file-clause-memory : goal.returns-in_err-read_file-clause-memory
+returns-in_err-read_file-clause-memory g c is told some =
+    let inv = c.loop-number.invariant in
+    let p = err_from_is_err_and c.from_residual.result c.from_residual.ensures.1 in
+    let same : c.in_err-read_file.field-0.0 ≡ Memory = cc (p.1, p.2, is) in
+    subst (λ (f : Files). HasWhole (reading_of (f (events_file 0)))) inv.stays.files
+    (c.in_err-read_file.ensures.memory (ap Err same) told (omega (arith, some, inv.end)))
+
+pub returns-in_err-find_later-clause-memory : goal.returns-in_err-find_later-clause-memory
+returns-in_err-find_later-clause-memory g c is told some =
+    let inv = c.loop-number.invariant in
+    first_file_whole c.loop-number.number c.loop-number.loading.end (g.D.Disk.held c.args.disk.now) inv.loaded.events (inv.loaded.says told)
+    (omega (arith, c.loop-number-test.false)) (omega (arith, some, inv.end))
+
+pub returns-clause-longer : goal.returns-clause-longer
+returns-clause-longer g c =
+    subst (λ (f : Files). AreLonger g.D.Disk.tells f c.find_later.new.self.stale.items) c.loop-number.invariant.stays.files c.in_ok-find_later.ensures.longer

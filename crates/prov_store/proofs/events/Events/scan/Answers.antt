@@ -1,8 +1,9 @@
-use Rattle.std.proofs.Common.{◌≡◌, ℕ, ◌+◌, ◌≤◌, ◌<◌, List, length, sym, ap, ◌∙◌, arith}
-use Rattle.std.specs.Prelude.{filter, nat_le, ◌&&◌, min, max}
+use Rattle.std.proofs.Common.{◌≡◌, ℕ, ◌+◌, ◌-◌, sym, ap, ◌∙◌, arith}
+use Rattle.std.specs.Prelude.{filter, map, nat_le, ◌&&◌, min, max}
+use Rattle.std.specs.List.{range_with_len}
 use Rattle.flowfile_record.specs.declared.event.Event.{Event}
 use Rattle.prov_store.specs.Events.{events_in}
-use Rattle.prov_store.specs.Scanning.{is_within}
+use Rattle.prov_store.specs.Scanning.{is_within, numbers_between}
 use Rattle.prov_store.proofs.InFiles.{last_numbered}
 use Rattle.prov_store.proofs.Scans.{none_between, same_found}
 use Rattle.prov_store.proofs.events.Events.scan.Goals.{then-scan+in_ok-scan_files, else-scan}
@@ -25,4 +26,18 @@ returns-clause-found g c told events is =
           ap (λ s. s.found.items) w.scan-is ∙ w.in_ok-scan_files.ensures.found told events (ap (events_in files) end ∙ is) ∙ exact
       | else-scan w ↦
           ap (λ s. s.found.items) w.scan-is ∙ c.new-2.ensures.items ∙ sym (none_between c.max.result c.min.result events w.if-scan.false) ∙ exact
+    ]
+
+pub returns-clause-numbered : goal.returns-clause-numbered
+returns-clause-numbered g c =
+    let end : c.self.inside.end ≡ c.args.self.now.end = ap (λ s. s.end) c.self.view_is in
+    let low : c.max.result ≡ max c.args.from 1 = omega (arith, c.max.ensures) in
+    let high : c.min.result ≡ min c.args.to c.args.self.now.end = omega (arith, c.min.ensures, end) in
+    elim c.if-scan.branch [
+      | then-scan+in_ok-scan_files w ↦
+          ap (λ s. map (λ (e : Event). e.number) s.found.items) w.scan-is ∙ w.in_ok-scan_files.ensures.numbered
+          ∙ ap (λ (n : ℕ). numbers_between n c.min.result) low ∙ ap (numbers_between (max c.args.from 1)) high
+      | else-scan w ↦
+          let none : min c.args.to c.args.self.now.end + 1 - max c.args.from 1 ≡ 0 = omega (arith, low, high, w.if-scan.false) in
+          ap (λ s. map (λ (e : Event). e.number) s.found.items) w.scan-is ∙ ap (map (λ (e : Event). e.number)) c.new-2.ensures.items ∙ sym (ap (range_with_len (max c.args.from 1)) none)
     ]

@@ -1,11 +1,11 @@
-use Rattle.std.proofs.Common.{◌≡◌, ℕ, ◌+◌, ◌<◌, ◌≤◌, IsTrue, List, length, get_or, slice_index_or, take, refl, sym, ap, subst, ◌∙◌, arith, rules}
+use Rattle.std.proofs.Common.{◌≡◌, ℕ, ◌+◌, ◌<◌, ◌≤◌, List, length, get_or, take, refl, sym, ap, subst, ◌∙◌, arith, rules}
 use Rattle.std.proofs.lemmas.List.{get_or_default}
 use Rattle.disk_trait.specs.Files.{At, Shortened}
 use Rattle.disk_trait.specs.Images.{After, Since, next_moment}
 use Rattle.disk_trait.specs.declared.file_name.FileName.{FileName}
+use Rattle.disk_trait.proofs.FileTables.{on_err}
 use Rattle.disk_trait.proofs.Moments.{wider, nothing}
-use Rattle.prov_store.specs.Events.{events_file}
-use Rattle.prov_store.specs.State.{CutsStale, calls_later}
+use Rattle.prov_store.specs.State.{CutsStale, HasCalled, calls_later}
 use Rattle.prov_store.specs.declared.events.Stale.{Stale}
 use Rattle.prov_store.proofs.Cutting.{CutSoFar, cuts_nothing, none_cut, cuts_left, cut_more, cut_shortens, cuts_on, same_sizes, long_enough, all_cut, one_call_more}
 use Rattle.prov_store.proofs.Keeping.{is_listed}
@@ -129,3 +129,15 @@ returns-clause-cause g c = record {
   never_falls = c.loop-stale.invariant.faults;
   rose = λ failed. cc failed;
 }
+
+pub returns-in_err-cut-clause-refused : goal.returns-in_err-cut-clause-refused
+returns-in_err-cut-clause-refused g c =
+    let inv = c.loop-stale.invariant in
+    let i = c.loop-stale.stale-index in
+    let called : HasCalled (length c.args.self.now.stale) (g.D.Disk.moment c.args.disk.now) (g.D.Disk.moment c.cut.new.self) = record {
+      calls = i + 1;
+      some = omega arith;
+      most = omega (arith, c.loop-stale-test.true, ap length inv.list);
+      moment = c.cut.ensures.moment ∙ ap next_moment inv.calls ∙ one_call_more i (g.D.Disk.moment c.args.disk.now);
+    } in
+    on_err c.from_residual.result called

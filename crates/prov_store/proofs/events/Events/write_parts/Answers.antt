@@ -1,20 +1,19 @@
-use Rattle.std.proofs.Common.{◌≡◌, ℕ, ◌+◌, ◌-◌, ◌/◌, ◌^◌, ◌<◌, ◌≤◌, ◌++◌, ◌%◌, List, [], false, IsTrue, length, get_or, take, drop, refl, sym, ap, subst, ◌∙◌, arith, rules}
+use Rattle.std.proofs.Common.{◌≡◌, ℕ, ◌+◌, ◌-◌, ◌/◌, ◌<◌, ◌≤◌, ◌++◌, ◌%◌, List, [], false, length, get_or, take, drop, refl, sym, ap, subst, ◌∙◌, arith}
 use Rattle.std.specs.Prelude.{◌==◌}
 use Rattle.std.proofs.lemmas.Bool.Decides.{nat_tests}
 use Rattle.std.proofs.lemmas.List.{length-drop, take_all}
-use Rattle.disk_trait.specs.Files.{At, Overwritten, Torn}
-use Rattle.disk_trait.specs.Images.{After, Since, next_moment}
+use Rattle.disk_trait.proofs.FileTables.{on_err}
+use Rattle.disk_trait.specs.Images.{next_moment}
 use Rattle.flowfile_record.specs.declared.event.Event.{Event}
 use Rattle.prov_store.specs.Blocks.{blocks_of, AreParts, AreEncoded, next_offset}
-use Rattle.prov_store.specs.Events.{events_file}
 use Rattle.prov_store.specs.Growing.{Stands}
-use Rattle.prov_store.specs.State.{GrowsBehind, calls_later, files_for}
+use Rattle.prov_store.specs.State.{HasCalled, calls_later, files_for}
 use Rattle.prov_store.specs.declared.TheConstants.{EVENTS_PER_FILE}
 use Rattle.prov_store.specs.declared.blocks.Part.{Part}
 use Rattle.prov_store.proofs.Cutting.{one_call_more}
 use Rattle.prov_store.proofs.Growing.{ends_there, grows_on, grows_left}
 use Rattle.prov_store.proofs.Parting.{no_part_is, as_many_files}
-use Rattle.prov_store.proofs.Writing.{AtPart, at_part, part_stands}
+use Rattle.prov_store.proofs.Writing.{at_part, part_stands}
 use Rattle.prov_store.proofs.events.Events.write_parts.Goals as goal
 
 abbrev zero_part : Part
@@ -173,3 +172,21 @@ returns-clause-writes g c =
 
 pub returns-clause-cause : goal.returns-clause-cause
 returns-clause-cause g c = record { never_falls = c.loop-part.invariant.faults; rose = λ failed. cc failed }
+
+pub returns-in_err-place-clause-refused : goal.returns-in_err-place-clause-refused
+returns-in_err-place-clause-refused g c =
+    let inv = c.loop-part.invariant in
+    let inside = c.blocks-2.inside in
+    let same : inside.events.now ≡ c.args.blocks.now.events = ap (λ b. b.events) c.blocks-2.view_is in
+    let first : inside.first ≡ c.args.self.now.end + 1 = ap (λ b. b.first) c.blocks-2.view_is ∙ c.requires.next in
+    let begins : inside.first - 1 ≡ c.args.self.now.end = omega (arith, first) in
+    let many : length inside.parts.items ≡ files_for c.args.self.now.end (length c.args.blocks.now.events) =
+    as_many_files (inside.first - 1) inside.parts.items inside.events.now c.blocks-2.invariant.parted ∙ ap (λ (n : ℕ). files_for n (length inside.events.now)) begins
+    ∙ ap (λ (l : List Event). files_for c.args.self.now.end (length l)) same in
+    let called : HasCalled (files_for c.args.self.now.end (length c.args.blocks.now.events)) (g.D.Disk.moment c.args.disk.now) (g.D.Disk.moment c.write_part.new.disk) = record {
+      calls = c.loop-part.part-index + 1;
+      some = omega arith;
+      most = omega (arith, many, c.loop-part-test.true, ap length c.deref-part-items.ensures.value);
+      moment = c.write_part.ensures.moment ∙ ap next_moment inv.calls ∙ one_call_more c.loop-part.part-index (g.D.Disk.moment c.args.disk.now);
+    } in
+    on_err c.from_residual.result called

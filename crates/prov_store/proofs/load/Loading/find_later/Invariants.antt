@@ -1,6 +1,7 @@
-use Rattle.std.proofs.Common.{◌≡◌, ℕ, ◌+◌, ◌/◌, ◌<◌, map, slice_index}
-use Rattle.std.specs.Prelude.{Contains}
+use Rattle.std.proofs.Common.{◌≡◌, ℕ, ◌+◌, ◌/◌, ◌≤◌, ◌<◌, length, map, slice_index}
+use Rattle.std.specs.Prelude.{All, Contains}
 use Rattle.prov_store.specs.Loading.{IsLoaded}
+use Rattle.prov_store.specs.State.{AreLonger}
 use Rattle.prov_store.specs.declared.TheConstants.{EVENTS_PER_FILE}
 use Rattle.prov_store.proofs.load.Loading.find_later.Given as goal
 
@@ -10,4 +11,7 @@ invariant-loop-number g l = record {
   loaded : IsLoaded g.D.Disk.tells (g.D.Disk.held l.fn.disk) (l.fn.self.end / EVENTS_PER_FILE + 1) l.self;
   listed : (i : ℕ) → i < l.number-index → l.fn.self.end / EVENTS_PER_FILE < slice_index l.number-items i
       → Contains (map (λ s. s.file) l.self.stale.items) (slice_index l.number-items i);
+  longer : AreLonger g.D.Disk.tells (g.D.Disk.held l.fn.disk) l.self.stale.items;
+  before : (i : ℕ) → l.number-index ≤ i → i < length l.number-items → l.fn.self.end / EVENTS_PER_FILE < slice_index l.number-items i
+      → All (λ s. s.file < slice_index l.number-items i) l.self.stale.items;
 }

@@ -1,13 +1,15 @@
-use Rattle.std.proofs.Common.{◌≡◌, ℕ, suc, ◌+◌, ◌-◌, ◌*◌, ◌≤◌, ◌<◌, ◌++◌, ◌∷◌, [], IsTrue, List, length, refl, sym, ap, subst, ◌∙◌, arith, rules}
+use Rattle.std.proofs.Common.{◌≡◌, ◌+◌, ◌*◌, ◌++◌, ◌∷◌, [], IsTrue, List, length, drop, refl, ap, ◌∙◌, arith}
 use Rattle.std.specs.Prelude.{Ok, Err}
 use Rattle.std.proofs.lemmas.Result.{err_from_is_err_and}
-use Rattle.prov_store.specs.Events.{events_file, count_in, first_in, events_of_file, covered_size}
-use Rattle.prov_store.specs.declared.error.EventsError.TheVariants.{Damaged}
+use Rattle.prov_store.specs.Events.{count_in, first_in, covered_size}
+use Rattle.prov_store.specs.declared.error.EventsError.TheVariants.{Damaged, Memory}
 use Rattle.prov_store.specs.declared.events.Stale.{Stale}
 use Rattle.prov_store.specs.declared.load.Loading.{Loading}
 use Rattle.prov_store.specs.declared.TheConstants.{EVENTS_PER_FILE}
 use Rattle.prov_store.proofs.Counting.{count_most}
+use Rattle.prov_store.proofs.Listing.{one_listed, still_listed}
 use Rattle.prov_store.proofs.Loads.{first_damaged, file_read, size_read, stale_same, stale_one, more_loaded}
+use Rattle.prov_store.proofs.Wholes.{first_whole, whole_at_first}
 use Rattle.prov_store.proofs.load.Loading.read_file.Goals as goal
 
 pub count_events-requires-clause-room : goal.count_events-requires-clause-room
@@ -65,3 +67,38 @@ returns-else-size-start-clause-loaded g c =
     let named = ap (λ f. length (files f)) c.file_named-file.ensures in
     let covered = offset told in
     omega (arith, long, named, covered, c.if-size-start.false)))
+
+pub returns-in_err-size-2-clause-memory : goal.returns-in_err-size-2-clause-memory
+returns-in_err-size-2-clause-memory g c is told some =
+    let p = err_from_is_err_and c.from_residual-in_err-size-2.result c.from_residual-in_err-size-2.ensures.1 in
+    let same : c.in_err-size-2.field-0.0 ≡ Memory = cc (p.1, p.2, is) in
+    whole_at_first c.args.number c.args.self.now.end c.file_named-file.result (g.D.Disk.held c.size.new.self) (g.D.Disk.held c.args.disk.now) c.requires.loaded.events
+    (c.requires.loaded.says told) c.size.ensures.stays.files c.file_named-file.ensures some (λ zero. c.in_err-size-2.ensures.memory (ap Err same) told)
+
+pub returns-in_err-reserve-clause-memory : goal.returns-in_err-reserve-clause-memory
+returns-in_err-reserve-clause-memory g c is told some =
+    let counted = c.in_ok-size-2.ensures.counted in
+    let k = c.args.number in
+    let file = c.file_named-file.result in
+    let read = g.D.Disk.held c.size.new.self in
+    whole_at_first k c.args.self.now.end file read (g.D.Disk.held c.args.disk.now) c.requires.loaded.events
+    (c.requires.loaded.says told) c.size.ensures.stays.files c.file_named-file.ensures some
+    (λ zero. first_whole c.min-many.result file 0 (k * EVENTS_PER_FILE + 1) (drop 0 (read file)) counted.events (counted.read.says told) (omega (arith, some, zero, c.min-many.ensures)))
+
+pub returns-in_ok-reserve-clause-listed : goal.returns-in_ok-reserve-clause-listed
+returns-in_ok-reserve-clause-listed g c =
+    let files = g.D.Disk.held c.args.disk.now in
+    let k = c.args.number in
+    let size = c.in_ok-size-2.size in
+    let stale = c.args.self.now.stale.items in
+    one_listed g.D.Disk.tells files stale c.push_reserved.new.self.items (record { file = k; size = size })
+    (c.push_reserved.ensures.items ∙ ap (λ (l : List Stale). l ++ record { file = k; size = size } ∷ []) c.in_ok-reserve.ensures.items) c.requires.listed
+    (λ told.
+    let long = c.in_ok-size.ensures.size told in
+    let named = ap (λ f. length (files f)) c.file_named-file.ensures in
+    omega (arith, long, named, c.if-size-start.true))
+
+pub returns-else-size-start-clause-listed : goal.returns-else-size-start-clause-listed
+returns-else-size-start-clause-listed g c =
+    let stale = c.args.self.now.stale.items in
+    still_listed g.D.Disk.tells (g.D.Disk.held c.args.disk.now) c.args.number (c.args.number + 1) stale stale refl (omega arith) c.requires.listed

@@ -1,14 +1,14 @@
-use Rattle.std.proofs.Common.{◌≡◌, ℕ, suc, ◌+◌, ◌-◌, ◌*◌, ◌/◌, ◌≤◌, ◌<◌, ◌++◌, List, [], IsTrue, length, take, drop, refl, sym, ap, subst, ◌∙◌, arith, rules}
-use Rattle.std.specs.Prelude.{Ok, Err, filter, min}
+use Rattle.std.proofs.Common.{◌≡◌, ℕ, ◌+◌, ◌-◌, ◌*◌, ◌++◌, List, take, drop, refl, sym, ap, ◌∙◌, arith}
+use Rattle.std.specs.Prelude.{Err, map, min, max}
+use Rattle.std.specs.List.{range_with_len}
+use Rattle.std.proofs.lemmas.List.{map-append}
 use Rattle.std.proofs.lemmas.Result.{err_from_is_err_and}
-use Rattle.disk_trait.specs.Files.{Files}
 use Rattle.flowfile_record.specs.declared.event.Event.{Event}
-use Rattle.prov_store.specs.Events.{events_file, first_in, blocks_size}
-use Rattle.prov_store.specs.Scanning.{is_within}
+use Rattle.prov_store.specs.Events.{first_in}
 use Rattle.prov_store.specs.declared.TheConstants.{EVENTS_PER_FILE}
 use Rattle.prov_store.specs.declared.error.EventsError.TheVariants.{Damaged}
 use Rattle.prov_store.specs.declared.read.Cursor.{Cursor}
-use Rattle.prov_store.proofs.Scans.{FoundIn, found_in, from_start, there_in_file}
+use Rattle.prov_store.proofs.Scans.{found_in, from_start, there_in_file}
 use Rattle.prov_store.proofs.scan.Scan.scan_file.Goals as goal
 
 pub returns-in_err-cursor-clause-undamaged : goal.returns-in_err-cursor-clause-undamaged
@@ -63,3 +63,17 @@ returns-clause-found g c told here is =
     let read = c.in_ok-read_events.ensures.read in
     let same : read.events ≡ take m (drop n here) = cc (read.says told, all) in
     read.items ∙ ap (λ (l : List Event). self.found.items ++ l) (same ∙ sym fi.found)
+
+pub returns-clause-numbered : goal.returns-clause-numbered
+returns-clause-numbered g c =
+    let self = c.args.self.now in
+    let k = c.args.number in
+    let n = c.saturating_sub.result in
+    let m = c.min-last.result + 1 - c.in_ok-cursor.cursor.number in
+    let number : c.in_ok-cursor.cursor.number ≡ k * EVENTS_PER_FILE + 1 + n = ap (λ (c : Cursor). c.number) c.in_ok-cursor.ensures.skipped.behind in
+    let first : c.in_ok-cursor.cursor.number ≡ max self.first (first_in k) = omega (arith, number, c.saturating_sub.ensures) in
+    let many : m ≡ min self.last (first_in (k + 1) - 1) + 1 - max self.first (first_in k) = omega (arith, c.min-last.ensures, first) in
+    let read = c.in_ok-read_events.ensures.read in
+    ap (map (λ (e : Event). e.number)) read.items ∙ map-append (λ (e : Event). e.number) self.found.items read.events
+    ∙ ap (λ (l : List ℕ). map (λ (e : Event). e.number) self.found.items ++ l)
+    (read.numbered ∙ ap (λ (i : ℕ). range_with_len i m) first ∙ ap (range_with_len (max self.first (first_in k))) many)

@@ -1,18 +1,19 @@
-use Rattle.std.proofs.Common.{◌≡◌, ℕ, suc, ◌+◌, ◌-◌, ◌*◌, ◌/◌, ◌≤◌, ◌<◌, ◌++◌, List, [], IsTrue, length, refl, sym, ap, subst, ◌∙◌, arith, rules}
-use Rattle.std.specs.Prelude.{Ok, filter}
+use Rattle.std.proofs.Common.{◌≡◌, ℕ, ◌+◌, ◌-◌, ◌/◌, refl, sym, ap, ◌∙◌, arith, rules}
+use Rattle.std.specs.Prelude.{map, min}
 use Rattle.flowfile_record.specs.declared.event.Event.{Event}
 use Rattle.disk_trait.specs.Files.{Files}
-use Rattle.prov_store.specs.Events.{events_of_file}
-use Rattle.prov_store.specs.Scanning.{is_within, SameScan}
+use Rattle.prov_store.specs.Events.{events_of_file, first_in}
+use Rattle.prov_store.specs.Scanning.{numbers_between}
 use Rattle.prov_store.specs.declared.TheConstants.{EVENTS_PER_FILE}
 use Rattle.prov_store.proofs.InFiles.{file_of_events}
-use Rattle.prov_store.proofs.Scans.{none_yet, one_file_found, all_found, found_alike}
+use Rattle.prov_store.proofs.Scans.{none_numbered, numbered_on, none_yet, one_file_found, all_found, found_alike}
 use Rattle.prov_store.proofs.scan.Scan.scan_files.Goals as goal
 
 pub loop-number-init : goal.loop-number-init
 loop-number-init g c = record {
   same = record { end = refl; first = refl; last = refl };
   found = λ told events is. c.requires.none ∙ sym (none_yet c.args.self.now.end c.args.self.now.first c.args.self.now.last (g.D.Disk.held c.args.disk.now) events is);
+  numbered = ap (map (λ (e : Event). e.number)) c.requires.none ∙ sym (none_numbered c.args.self.now.first c.args.self.now.last c.requires.may.counted);
   stays = search rules;
   faults = omega arith;
 }
@@ -46,6 +47,10 @@ loop-number-preserved g c =
           one_file_found self.end self.first self.last c.loop-number.number files old.found.items new.found.items events is (inv.found told)
           (found_alike self.end self.first self.last old.end old.first old.last c.loop-number.number (g.D.Disk.held c.loop-number.disk) files old.found.items new.found.items
           inv.same.end inv.same.first inv.same.last inv.stays.files (c.in_ok-scan_file.ensures.found told));
+      numbered =
+          numbered_on self.first self.last old.first old.last c.loop-number.number (map (λ (e : Event). e.number) old.found.items) (map (λ (e : Event). e.number) new.found.items)
+          inv.same.first inv.same.last c.requires.may.some (omega (arith, c.loop-number-test.true, c.requires.may.counted, c.requires.may.some)) inv.numbered
+          c.in_ok-scan_file.ensures.numbered;
       stays = search rules;
       faults = omega (arith, inv.faults, c.scan_file.ensures.cause.never_falls);
     }
@@ -58,3 +63,11 @@ returns-clause-found g c told events is =
     let behind : c.loop-number.number ≡ (self.last - 1) / EVENTS_PER_FILE + 1 = omega (arith, c.loop-number-test.false, reach) in
     all_found self.end self.first self.last c.loop-number.number (g.D.Disk.held c.args.disk.now) c.loop-number.self.found.items events is behind (omega (arith, c.requires.may.counted, c.requires.may.some)) c.requires.may.there
     (inv.found told)
+
+pub returns-clause-numbered : goal.returns-clause-numbered
+returns-clause-numbered g c =
+    let inv = c.loop-number.invariant in
+    let self = c.args.self.now in
+    let reach = c.loop-number.auto.number-end (omega (arith, c.requires.may.some)) in
+    let end : min self.last (first_in c.loop-number.number - 1) ≡ self.last = omega (arith, c.loop-number-test.false, reach, c.requires.may.counted, c.requires.may.some) in
+    inv.numbered ∙ ap (numbers_between self.first) end
