@@ -1,5 +1,5 @@
 -- What parts of a content are, a content without its ends, and a file that joins others.
-use Rattle.std.proofs.Common.{◌≡◌, ℕ, ◌+◌, ◌≤◌, Bool, true, false, cond, List, suc, zero, [], ◌∷◌, ◌++◌, length, refl, ap, ◌∙◌, arith}
+use Rattle.std.proofs.Common.{◌≡◌, ℕ, ◌+◌, ◌≤◌, Bool, true, false, List, suc, zero, [], ◌∷◌, ◌++◌, length, refl, ap, ◌∙◌, arith}
 use Rattle.std.specs.Prelude.{Option, Some, None, codes, decimal, fold, option_and_then, map, nat_lt, option_map, sum_by, unwrap_or, if◌then◌else◌}
 use Rattle.std.specs.FinMap.{empty, get, get-empty, get-insert, insert, remove}
 use Rattle.std.specs.Ordering.{nat_cmp}
