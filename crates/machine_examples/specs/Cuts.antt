@@ -94,12 +94,15 @@ unmarked attributes =
 abbrev pub joined : AttributeMap → AttributeMap
 joined attributes = insert (remove attributes (codes "segment.original.filename")) (codes "merge.count") (decimal 2)
 
+abbrev pub joined_abc : AttributeMap → Worked
+joined_abc common = made_file (Joined (0 ∷ 1 ∷ [])) (joined common) (codes "abc") true 0
+
 abbrev pub TwoAreJoined : Type 0
 TwoAreJoined =
     act (MergeContent BinPacking 1 2) (holding [] (codes "ab") ∷ holding [] (codes "c") ∷ []) (at_moment 1000)
     ≡ Some (record {
       files = passed_on 0 named false 1 ∷ passed_on 1 named false 1
-          ∷ made_file (Joined (0 ∷ 1 ∷ [])) (joined (unmarked (shared named named))) (codes "abc") true 0 ∷ [];
+          ∷ joined_abc (unmarked (shared named named)) ∷ [];
       sent = None;
     })
 
@@ -131,7 +134,7 @@ FragmentsMake taken files = (first second : AttributeMap) → AreFragments first
 abbrev pub WholeIsJoined : Type 0
 WholeIsJoined = FragmentsMake (λ first second. fragment_of_ab first ∷ fragment_of_c second ∷ [])
     (λ first second. passed_on 0 first false 1 ∷ passed_on 1 second false 1
-    ∷ made_file (Joined (0 ∷ 1 ∷ [])) (joined (insert (unmarked (shared first second)) (codes "filename") a_txt)) (codes "abc") true 0 ∷ [])
+    ∷ joined_abc (insert (unmarked (shared first second)) (codes "filename") a_txt) ∷ [])
 
 abbrev pub TurnedIsGivenUp : Type 0
 TurnedIsGivenUp = FragmentsMake (λ first second. fragment_of_c second ∷ fragment_of_ab first ∷ [])
