@@ -1,29 +1,33 @@
 -- What parts of a content are, a content without its ends, and a file that joins others.
-use Rattle.std.proofs.Common.{◌≡◌, ℕ, ◌+◌, ◌≤◌, Bool, true, false, cond, List, suc, zero, [], ◌∷◌, ◌++◌, length, refl, ap, ◌∙◌, arith}
+use Rattle.std.proofs.Common.{◌≡◌, ℕ, ◌+◌, ◌≤◌, Bool, true, false, List, suc, zero, [], ◌∷◌, ◌++◌, length, refl, ap, ◌∙◌, arith, sym, cond}
 use Rattle.std.specs.Prelude.{Option, Some, None, codes, decimal, fold, option_and_then, map, nat_lt, option_map, sum_by, unwrap_or, if◌then◌else◌}
-use Rattle.std.specs.FinMap.{empty, get, get-empty, get-insert, insert, remove}
+use Rattle.std.specs.FinMap.{empty, get, get-empty, get-insert, insert, remove, IsAntisymmetric, get-remove, get-retain_keys, slice_cmp-IsAntisymmetric, nat_cmp-IsAntisymmetric}
+use Rattle.std.specs.Option.{option_map_or}
 use Rattle.std.specs.Ordering.{nat_cmp}
 use Rattle.std.specs.Cmp.Lexicographic.{slice_cmp, nat_list_cmp_total}
 use Rattle.std.proofs.lemmas.Bool.{le-leb}
 use Rattle.std.proofs.lemmas.Fmt.{length-decimal-le}
 use Rattle.std.proofs.lemmas.List.{length-map}
 use Rattle.flowfile_record.specs.Attributes.{AttributeMap, encoded_size, pair_size, shared}
+use Rattle.flowfile_record.specs.OptionalText.{same_text}
 use Rattle.flowfile_record.specs.Outcome.{filename_to_come}
 use Rattle.flowfile_record.specs.declared.attributes.TheConstants.{ATTRIBUTES_MAX}
 use Rattle.flowfile_record.specs.declared.worked.Origin.TheVariants.{Joined}
 use Rattle.flowfile_record.specs.declared.worked.Outcome.{Outcome}
 use Rattle.flowfile_record.specs.declared.worked.Worked.{Worked}
 use Rattle.machine_model.specs.declared.kind.MergeStrategy.TheVariants.{BinPacking, Defragment}
-use Rattle.machine_model.specs.Making.{TakenFile, clone_of, made_file, may_have, or_given_up, passed_on}
-use Rattle.machine_model.specs.MergeContent.{are_fragments_of, counted, joined as merged, joined_attributes, without_fragment}
+use Rattle.machine_model.specs.declared.kind.Kind.TheVariants.{MergeContent}
+use Rattle.machine_model.specs.Acting.{act}
+use Rattle.machine_model.specs.Making.{TakenFile, clone_of, made_file, may_have, or_given_up, passed_on, with_set}
+use Rattle.machine_model.specs.MergeContent.{are_fragments_of, counted, joined as merged, joined_attributes, may_join, named_as_whole}
 use Rattle.machine_model.specs.Parts.{Piece, all_set_beside, fragment_pairs, groups_of, groups_within, part_of, parts_from}
 use Rattle.machine_model.specs.SegmentContent.{bytes_together}
 use Rattle.machine_model.specs.Taking.{Fragment, fragment_of}
 use Rattle.machine_model.proofs.Cuts.{parts-step, set-size, small-set}
 use Rattle.machine_model.proofs.Lessened.{removed-size, shared-size}
 use Rattle.machine_model.proofs.OneOutcome.{insert-size, to-come-most, two_sized}
-use Rattle.machine_examples.specs.Small.{a_txt}
-use Rattle.machine_examples.specs.Cuts.{LinesAre, NoFragmentIsGivenUp, TooManyAreGivenUp, OneSegmentIsAClone, SegmentsAre, TwoAreJoined, holding, joined, lines, named, segment, told}
+use Rattle.machine_examples.specs.Small.{a_txt, at_moment}
+use Rattle.machine_examples.specs.Cuts.{LinesAre, NoFragmentIsGivenUp, TooManyAreGivenUp, OneSegmentIsAClone, SegmentsAre, TwoAreJoined, holding, joined, lines, named, segment, told, AreFragments, DoubledIsGivenUp, MissingIsGivenUp, TurnedIsGivenUp, WholeIsJoined, fragment_of_ab, fragment_of_c, unmarked}
 use Rattle.machine_examples.proofs.TriedNames.{received-filename}
 
 abbrev Pairs : Type 0
@@ -159,28 +163,27 @@ allowed attributes small =
     le-leb (encoded_size attributes + filename_to_come (Joined (0 ∷ 1 ∷ [])) attributes) ATTRIBUTES_MAX
     (omega (arith, to-come-most (Joined (0 ∷ 1 ∷ [])) attributes, small))
 
-abbrev left_of : AttributeMap → AttributeMap
-left_of attributes = remove (without_fragment attributes) (codes "segment.original.filename")
-
-left-small : (attributes : AttributeMap) → encoded_size (left_of attributes) ≤ encoded_size attributes
-left-small attributes =
+unmarked-small : (attributes : AttributeMap) → encoded_size (unmarked attributes) ≤ encoded_size attributes
+unmarked-small attributes =
     let one = remove attributes (codes "fragment.identifier") in
     let two = remove one (codes "fragment.index") in
-    let three = remove two (codes "fragment.count") in
-    omega (arith, removed-size attributes (codes "fragment.identifier"), removed-size one (codes "fragment.index"), removed-size two (codes "fragment.count"), removed-size three (codes "segment.original.filename"))
+    omega (arith, removed-size attributes (codes "fragment.identifier"), removed-size one (codes "fragment.index"), removed-size two (codes "fragment.count"))
 
-joined-small : (attributes : AttributeMap) → encoded_size attributes ≤ 100 → encoded_size (joined attributes) ≤ 1_000
+joined-small : (attributes : AttributeMap) → encoded_size attributes ≤ 200 → encoded_size (joined attributes) ≤ 1_000
 joined-small attributes small =
     let most : 11 + length (decimal 2) + 6 ≤ 40 = omega (arith, few-digits 2 (omega arith)) in
-    omega (arith, small, most, left-small attributes, insert-size (left_of attributes) (codes "merge.count") (decimal 2))
+    let left = remove attributes (codes "segment.original.filename") in
+    omega (arith, small, most, removed-size attributes (codes "segment.original.filename"), insert-size left (codes "merge.count") (decimal 2))
 
-joined-attributes : joined_attributes BinPacking (Joined (0 ∷ 1 ∷ [])) (holding [] (codes "ab") ∷ holding [] (codes "c") ∷ []) ≡ Some (joined (shared named named))
+joined-attributes : joined_attributes BinPacking (Joined (0 ∷ 1 ∷ [])) (holding [] (codes "ab") ∷ holding [] (codes "c") ∷ []) ≡ Some (joined (unmarked (shared named named)))
 joined-attributes =
     let from = Joined (0 ∷ 1 ∷ []) in
     let common = shared named named in
     let small : encoded_size common ≤ 100 = omega (arith, named-small, shared-size named named) in
-    ap (λ (may : Bool). if may then option_and_then (counted 2 from) (Some (without_fragment common)) else None) (allowed common (omega (arith, small)))
-    ∙ ap (λ (may : Bool). if may then Some (joined common) else None) (allowed (joined common) (joined-small common small))
+    let own = unmarked common in
+    let own_small : encoded_size own ≤ 200 = omega (arith, small, unmarked-small common) in
+    ap (λ (may : Bool). if may then option_and_then (counted 2 from) (Some own) else None) (allowed common (omega (arith, small)))
+    ∙ ap (λ (may : Bool). if may then Some (joined own) else None) (allowed (joined own) (joined-small own own_small))
 
 pub two-joined : TwoAreJoined
 two-joined =
@@ -203,3 +206,63 @@ stranger-given-up uuid short =
   where
     fragment-none : get named (codes "fragment.identifier") ≡ None → fragment_of named ≡ None
     fragment-none none = rw none refl
+
+-- ---- fragments of one whole
+
+same_key : IsAntisymmetric (slice_cmp nat_cmp)
+same_key = slice_cmp-IsAntisymmetric nat_cmp-IsAntisymmetric
+
+shared-name : (first second : AttributeMap) → AreFragments first second → get (shared first second) (codes "segment.original.filename") ≡ Some a_txt
+unfolding shared
+shared-name first second are =
+    let key = codes "segment.original.filename" in
+    let same : List ℕ → Bool = λ key. same_text (get first key) (get second key) in
+    get-retain_keys first same key (λ other tied. ap same (sym (same_key key other tied)))
+    ∙ ap (λ (found : Option (List ℕ)). cond (same_text found (get second key)) found None) are.first_name
+    ∙ ap (λ (found : Option (List ℕ)). cond (same_text (Some a_txt) found) (Some a_txt) None) are.second_name
+
+left-name : (first second : AttributeMap) → AreFragments first second → get (unmarked (shared first second)) (codes "segment.original.filename") ≡ Some a_txt
+left-name first second are =
+    let key = codes "segment.original.filename" in
+    let common = shared first second in
+    let one = remove common (codes "fragment.identifier") in
+    let two = remove one (codes "fragment.index") in
+    get-remove nat_list_cmp_total two (codes "fragment.count") key ∙ get-remove nat_list_cmp_total one (codes "fragment.index") key
+    ∙ get-remove nat_list_cmp_total common (codes "fragment.identifier") key ∙ shared-name first second are
+
+whole-attributes : (first second : AttributeMap) → AreFragments first second
+    → joined_attributes Defragment (Joined (0 ∷ 1 ∷ [])) (fragment_of_ab first ∷ fragment_of_c second ∷ []) ≡ Some (joined (insert (unmarked (shared first second)) (codes "filename") a_txt))
+whole-attributes first second are =
+    let from = Joined (0 ∷ 1 ∷ []) in
+    let common = shared first second in
+    let own = unmarked common in
+    let name = insert own (codes "filename") a_txt in
+    let small : encoded_size common ≤ 100 = omega (arith, are.small, shared-size first second) in
+    let name_small : encoded_size name ≤ 200 = omega (arith, small, unmarked-small common, insert-size own (codes "filename") a_txt) in
+    ap (λ (may : Bool). if may then option_and_then (counted 2 from) (named_as_whole Defragment from own) else None) (allowed common (omega (arith, small)))
+    ∙ ap (λ (found : Option (List ℕ)). option_and_then (counted 2 from) (option_map_or (λ name. with_set from own (codes "filename", name)) found (Some own))) (left-name first second are)
+    ∙ ap (λ (may : Bool). option_and_then (counted 2 from) (if may then Some name else None)) (allowed name (omega (arith, name_small)))
+    ∙ ap (λ (may : Bool). if may then Some (joined name) else None) (allowed (joined name) (joined-small name name_small))
+
+-- what is made where the files may be joined, and where they may not
+made-so : (taken : List TakenFile) (may : Bool) → may_join Defragment taken ≡ may
+    → act (MergeContent Defragment 1 1) taken (at_moment 1000) ≡ Some (or_given_up 2 taken (if may then merged Defragment taken else None))
+made-so taken may is = ap (λ (may : Bool). Some (or_given_up 2 taken (if may then merged Defragment taken else None))) is
+
+pub whole-joined : WholeIsJoined
+whole-joined first second are =
+    let taken = fragment_of_ab first ∷ fragment_of_c second ∷ [] in
+    made-so taken true (simp (are.one, are.two))
+    ∙ ap (λ (set : Option AttributeMap). Some (or_given_up 2 taken (option_map (λ attributes. record {
+      files = passed_on 0 first false 1 ∷ passed_on 1 second false 1 ∷ made_file (Joined (0 ∷ 1 ∷ [])) attributes (codes "abc") true 0 ∷ [];
+      sent = None;
+    }) set))) (whole-attributes first second are)
+
+pub turned-given-up : TurnedIsGivenUp
+turned-given-up first second are = made-so (fragment_of_c second ∷ fragment_of_ab first ∷ []) false (simp (are.one, are.two))
+
+pub missing-given-up : MissingIsGivenUp
+missing-given-up first second are = made-so (fragment_of_ab first ∷ []) false (simp (are.one))
+
+pub doubled-given-up : DoubledIsGivenUp
+doubled-given-up first second are = made-so (fragment_of_ab first ∷ fragment_of_ab first ∷ []) false (simp (are.one))

@@ -1,7 +1,7 @@
 -- Tried: what parts of a content are, a content without its ends, and a file that joins others.
 use Rattle.std.specs.Prelude.{◌≡◌, ℕ, ◌≤◌, true, false, List, [], ◌∷◌, length, Some, None, codes, decimal}
-use Rattle.std.specs.FinMap.{insert, remove}
-use Rattle.flowfile_record.specs.Attributes.{AttributeMap, shared}
+use Rattle.std.specs.FinMap.{get, insert, remove}
+use Rattle.flowfile_record.specs.Attributes.{AttributeMap, encoded_size, shared}
 use Rattle.flowfile_record.specs.declared.worked.Body.TheVariants.{New, Part}
 use Rattle.flowfile_record.specs.declared.worked.End.TheVariants.{To}
 use Rattle.flowfile_record.specs.declared.worked.Origin.TheVariants.{Joined, Part as PartOf}
@@ -11,6 +11,7 @@ use Rattle.machine_model.specs.declared.kind.Kind.TheVariants.{MergeContent, Mod
 use Rattle.machine_model.specs.declared.kind.MergeStrategy.TheVariants.{BinPacking, Defragment}
 use Rattle.machine_model.specs.Acting.{act, received_attributes}
 use Rattle.machine_model.specs.Making.{TakenFile, clone_of, made_file, passed_on}
+use Rattle.machine_model.specs.Taking.{fragment_of}
 use Rattle.machine_examples.specs.Small.{a_txt, at_moment}
 
 -- a file of the inbox that holds these bytes
@@ -85,20 +86,64 @@ Leaves start end bytes left = Makes (ModifyBytes start end) bytes
 
 -- ---- joined
 
--- what a file that joins two has of the attributes that they share
+-- of the attributes that two files share those that the joined one has, and what it is told
+abbrev pub unmarked : AttributeMap → AttributeMap
+unmarked attributes =
+    remove (remove (remove attributes (codes "fragment.identifier")) (codes "fragment.index")) (codes "fragment.count")
+
 abbrev pub joined : AttributeMap → AttributeMap
-joined attributes =
-    insert (remove (remove (remove (remove attributes (codes "fragment.identifier")) (codes "fragment.index"))
-    (codes "fragment.count")) (codes "segment.original.filename")) (codes "merge.count") (decimal 2)
+joined attributes = insert (remove attributes (codes "segment.original.filename")) (codes "merge.count") (decimal 2)
+
+abbrev pub joined_abc : AttributeMap → Worked
+joined_abc common = made_file (Joined (0 ∷ 1 ∷ [])) (joined common) (codes "abc") true 0
 
 abbrev pub TwoAreJoined : Type 0
 TwoAreJoined =
     act (MergeContent BinPacking 1 2) (holding [] (codes "ab") ∷ holding [] (codes "c") ∷ []) (at_moment 1000)
     ≡ Some (record {
       files = passed_on 0 named false 1 ∷ passed_on 1 named false 1
-          ∷ made_file (Joined (0 ∷ 1 ∷ [])) (joined (shared named named)) (codes "abc") true 0 ∷ [];
+          ∷ joined_abc (unmarked (shared named named)) ∷ [];
       sent = None;
     })
 
 abbrev pub NoFragmentIsGivenUp : Type 0
 NoFragmentIsGivenUp = Makes (MergeContent Defragment 1 1) (codes "ab") (λ uuid. passed_on 0 named false 2 ∷ [])
+
+-- attributes of the two fragments of one whole, which is named
+pub record AreFragments (first second : AttributeMap) : Type 0 where
+  pub one : fragment_of first ≡ Some (record { identifier = codes "w"; index = 1; count = 2 })
+  pub two : fragment_of second ≡ Some (record { identifier = codes "w"; index = 2; count = 2 })
+  pub first_name : get first (codes "segment.original.filename") ≡ Some a_txt
+  pub second_name : get second (codes "segment.original.filename") ≡ Some a_txt
+  pub small : encoded_size first ≤ 100
+
+abbrev pub fragment_of_ab : AttributeMap → TakenFile
+fragment_of_ab attributes = record { attributes = attributes; uuid = []; bytes = codes "ab" }
+
+abbrev pub fragment_of_c : AttributeMap → TakenFile
+fragment_of_c attributes = record { attributes = attributes; uuid = []; bytes = codes "c" }
+
+-- what becomes of the fragments, in an order or others
+abbrev pub FragmentsMake : (taken : AttributeMap → AttributeMap → List TakenFile)
+    → (files : AttributeMap → AttributeMap → List Worked) → Type 0
+FragmentsMake taken files = (first second : AttributeMap) → AreFragments first second →
+    act (MergeContent Defragment 1 1) (taken first second) (at_moment 1000)
+    ≡ Some (record { files = files first second; sent = None })
+
+-- named as the whole was
+abbrev pub WholeIsJoined : Type 0
+WholeIsJoined = FragmentsMake (λ first second. fragment_of_ab first ∷ fragment_of_c second ∷ [])
+    (λ first second. passed_on 0 first false 1 ∷ passed_on 1 second false 1
+    ∷ joined_abc (insert (unmarked (shared first second)) (codes "filename") a_txt) ∷ [])
+
+abbrev pub TurnedIsGivenUp : Type 0
+TurnedIsGivenUp = FragmentsMake (λ first second. fragment_of_c second ∷ fragment_of_ab first ∷ [])
+    (λ first second. passed_on 0 second false 2 ∷ passed_on 1 first false 2 ∷ [])
+
+abbrev pub MissingIsGivenUp : Type 0
+MissingIsGivenUp = FragmentsMake (λ first second. fragment_of_ab first ∷ [])
+    (λ first second. passed_on 0 first false 2 ∷ [])
+
+abbrev pub DoubledIsGivenUp : Type 0
+DoubledIsGivenUp = FragmentsMake (λ first second. fragment_of_ab first ∷ fragment_of_ab first ∷ [])
+    (λ first second. passed_on 0 first false 2 ∷ passed_on 1 first false 2 ∷ [])

@@ -8,7 +8,7 @@ ghost use Rattle.machine_model.specs.Sound.{IsSound};
 ghost use Rattle.machine_examples.specs.Small.{hi, nothing, with_a, a_file, get_to_put, wide};
 ghost use Rattle.machine_examples.specs.Acks.{AcknowledgedIs};
 ghost use Rattle.machine_examples.specs.Batches.{LastOf, OddGoes, six, nth, StepGives, queued, two_gone, two_batches, lower_back, BatchesAre, batch, FullWith, EligibleOf, ExpiredOf, GoesOf, ComesOf, FullOf, flying, still, waiting_penalised};
-ghost use Rattle.machine_examples.specs.Cuts.{SegmentsAre, OneSegmentIsAClone, LinesAre, NothingHasNoLine, NothingHasNoSegment, TooManyAreGivenUp, Leaves, TwoAreJoined, NoFragmentIsGivenUp};
+ghost use Rattle.machine_examples.specs.Cuts.{SegmentsAre, OneSegmentIsAClone, LinesAre, NothingHasNoLine, NothingHasNoSegment, TooManyAreGivenUp, Leaves, TwoAreJoined, NoFragmentIsGivenUp, WholeIsJoined, TurnedIsGivenUp, MissingIsGivenUp, DoubledIsGivenUp};
 ghost use Rattle.machine_examples.specs.Elsewhere.{WantsIs, HeldBackIs, SecondExpires, NotOfTheFirst, SecondSwapsOut, SecondSwapsIn, FirstsBatchIsNotSeconds, TakesOf, ExpiryIs, SwapOutIs, SwapInIs, CheckpointIs, ReclaimIs, chained, fresh, both_wait, both_swapped, three as first_three, three_more, in_batch, last_log};
 ghost use Rattle.machine_model.specs.Files.{view_of};
 ghost use Rattle.machine_model.specs.declared.journal.Step.TheVariants.{SwapOut, SwapIn};
@@ -153,7 +153,7 @@ pub fn puts_are_told()
 {}
 
 /// A content in parts by bytes and by lines, of which one that is the whole is a clone, and of which nothing has any;
-/// without its ends; and two contents as one. A file that is no fragment isn't joined as one.
+/// without its ends; and two contents as one. What isn't all fragments of a whole, in turn, isn't joined as one.
 pub fn contents_are_cut()
     ensures segments { SegmentsAre }
     ensures whole { OneSegmentIsAClone 5 }
@@ -167,6 +167,10 @@ pub fn contents_are_cut()
     ensures no_end { Leaves 0 0 (codes "ab") (codes "ab") }
     ensures joined { TwoAreJoined }
     ensures no_fragment { NoFragmentIsGivenUp }
+    ensures in_turn { WholeIsJoined }
+    ensures turned { TurnedIsGivenUp }
+    ensures missing { MissingIsGivenUp }
+    ensures doubled { DoubledIsGivenUp }
 {}
 
 /// The best file, or none. A bin has at least its least number of files unless the next would not fit, and at most

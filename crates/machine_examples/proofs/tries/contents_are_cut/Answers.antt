@@ -1,4 +1,4 @@
-use Rattle.machine_examples.proofs.TriedCuts.{exactly-cloned, lines-are, segments-are, shorter-cloned, stranger-given-up, too-many-given-up, two-joined}
+use Rattle.machine_examples.proofs.TriedCuts.{doubled-given-up, exactly-cloned, lines-are, missing-given-up, segments-are, shorter-cloned, stranger-given-up, too-many-given-up, turned-given-up, two-joined, whole-joined}
 use Rattle.std.proofs.Common.{refl}
 use Rattle.machine_examples.proofs.tries.contents_are_cut.Goals as goal
 
@@ -16,4 +16,8 @@ returns c = record {
   no_end = λ uuid short. refl;
   joined = two-joined;
   no_fragment = stranger-given-up;
+  in_turn = whole-joined;
+  turned = turned-given-up;
+  missing = missing-given-up;
+  doubled = doubled-given-up;
 }
