@@ -1,3 +1,4 @@
+pub mod TriedCuts
 pub mod TriedFamilies
 pub mod TriedFlows
 pub mod TriedNames

@@ -1,6 +1,7 @@
 pub mod Acks
 pub mod Batches
 pub mod Clones
+pub mod Cuts
 pub mod Elsewhere
 pub mod Ends
 pub mod Expiries

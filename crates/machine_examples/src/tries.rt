@@ -8,6 +8,7 @@ ghost use Rattle.machine_model.specs.Sound.{IsSound};
 ghost use Rattle.machine_examples.specs.Small.{hi, nothing, with_a, a_file, get_to_put, wide};
 ghost use Rattle.machine_examples.specs.Acks.{AcknowledgedIs};
 ghost use Rattle.machine_examples.specs.Batches.{LastOf, OddGoes, six, nth, StepGives, queued, two_gone, two_batches, lower_back, BatchesAre, batch, FullWith, EligibleOf, ExpiredOf, GoesOf, ComesOf, FullOf, flying, still, waiting_penalised};
+ghost use Rattle.machine_examples.specs.Cuts.{SegmentsAre, OneSegmentIsAClone, LinesAre, NothingHasNoLine, NothingHasNoSegment, TooManyAreGivenUp, Leaves, TwoAreJoined, NoFragmentIsGivenUp};
 ghost use Rattle.machine_examples.specs.Elsewhere.{WantsIs, HeldBackIs, SecondExpires, NotOfTheFirst, SecondSwapsOut, SecondSwapsIn, FirstsBatchIsNotSeconds, TakesOf, ExpiryIs, SwapOutIs, SwapInIs, CheckpointIs, ReclaimIs, chained, fresh, both_wait, both_swapped, three as first_three, three_more, in_batch, last_log};
 ghost use Rattle.machine_model.specs.Files.{view_of};
 ghost use Rattle.machine_model.specs.declared.journal.Step.TheVariants.{SwapOut, SwapIn};
@@ -149,6 +150,23 @@ pub fn puts_are_told()
     ensures back_free { ReturnsUntil 2000 false 0 }
     ensures back_penalised { ReturnsUntil 2000 true 32000 }
     ensures back_saturated { ReturnsUntil latest true latest }
+{}
+
+/// A content in parts by bytes and by lines, of which one that is the whole is a clone, and of which nothing has any;
+/// without its ends; and two contents as one. A file that is no fragment isn't joined as one.
+pub fn contents_are_cut()
+    ensures segments { SegmentsAre }
+    ensures whole { OneSegmentIsAClone 5 }
+    ensures shorter { OneSegmentIsAClone 9 }
+    ensures no_segment { NothingHasNoSegment }
+    ensures too_many { TooManyAreGivenUp }
+    ensures lines { LinesAre }
+    ensures no_line { NothingHasNoLine }
+    ensures both_ends { Leaves 1 1 (codes "abc") (codes "b") }
+    ensures covered { Leaves 1 1 (codes "a") [] }
+    ensures no_end { Leaves 0 0 (codes "ab") (codes "ab") }
+    ensures joined { TwoAreJoined }
+    ensures no_fragment { NoFragmentIsGivenUp }
 {}
 
 /// The best file, or none. A bin has at least its least number of files unless the next would not fit, and at most
