@@ -1,8 +1,8 @@
 -- What the processors make that read a content as text, with patterns as they are read.
-use Rattle.std.proofs.Common.{◌≡◌, ℕ, zero, suc, ◌+◌, ◌*◌, ◌<◌, ◌≤◌, ◌==◌, ◌&&◌, ◌||◌, Bool, true, false, cond, List, [], ◌∷◌, ◌++◌, map, drop, take, length, get_or, refl, sym, ap, ap₂, ◌∙◌, subst, arith, le-leb, append-nil}
+use Rattle.std.proofs.Common.{◌≡◌, ℕ, zero, suc, ◌+◌, ◌*◌, ◌<◌, ◌≤◌, ◌==◌, ◌&&◌, ◌||◌, Bool, true, false, List, [], ◌∷◌, ◌++◌, map, drop, length, get_or, refl, sym, ap, ap₂, ◌∙◌, arith, le-leb, append-nil}
 use Rattle.std.specs.Prelude.{Option, Some, None, codes, filter, is_some, nat_lt, option_map, option_and_then, replicate, slice_range, string_bytes, unwrap_or, if◌then◌else◌}
 use Rattle.std.specs.Coded.{coded_ℕ, coded_list, coded×, coded_bool}
-use Rattle.std.specs.FinMap.{empty, insert}
+use Rattle.std.specs.FinMap.{insert}
 use Rattle.std.specs.Fmt.{digits}
 use Rattle.std.specs.Fmt.Cut.{floor_char_boundary}
 use Rattle.std.specs.List.{enumerate_from, filter_map, list_all, range_with_len}
@@ -10,19 +10,20 @@ use Rattle.std.specs.Option.{option_map_or}
 use Rattle.std.specs.Str.{chars, is_utf8}
 use Rattle.std.proofs.Math.Logic.{∥∥₁_elim}
 use Rattle.std.proofs.lemmas.Bool.{and_parts, ltb-true}
-use Rattle.std.proofs.lemmas.Bool.Decides.{nat_tests}
 use Rattle.std.proofs.lemmas.List.{length-map}
 use base.Stored.{Coded-set}
 use Rattle.flowfile_record.specs.Attributes.{AttributeMap, encoded_size}
 use Rattle.flowfile_record.specs.declared.worked.Origin.TheVariants.{Taken}
 use Rattle.flowfile_record.specs.declared.worked.Outcome.{Outcome}
-use Rattle.regex.specs.Patterns.{Re, Match, SameCaptures, cat, char_in, default_config, find_str, find_all_str, Range, group, literal, optional, slot_of}
+use Rattle.regex.specs.Patterns.{Re, Match, SameCaptures, cat, char_in, default_config, find_str, find_all_str, group, in_ranges, is_digit_char, literal, members, optional, slot_of}
 use Rattle.regex.specs.Replace.{bytes_of, group_bytes, replaced_by}
 use Rattle.regex.specs.Strings.{group_count, regex_names, regex_pattern, IsReadFromSource}
 use Rattle.regex.specs.Templates.{written_after}
 use Rattle.regex.specs.Writes.{both}
 use Rattle.regex.proofs.ForCallers.{IsNamedAs, alike_as_written, find_all_alike, names_as_written, spans}
-use Rattle.regex.proofs.OnLiterals.{IsReadAs, regex_on_literals, same_refl, alone as only, class_is, alt-fail, alt_cong, cat-empty, cat_cong, same_group, ◌then◌}
+use Rattle.regex.proofs.OnLiterals.{IsReadAs, regex_on_literals, same_refl, alone as only, alt-fail, alt_cong, cat-empty, cat_cong, same_group, ◌then◌}
+use Rattle.regex_syntax.proofs.SetLemmas.{in_ranges-members}
+use Rattle.ucd_perl.proofs.Computing.{ucd_perl}
 use Rattle.regex_hir.specs.Find.{matches_from, first_from}
 use Rattle.regex_hir.specs.Re.{attempt}
 use Rattle.regex_hir.specs.Text.{char_at, has_bytes_at, is_boundary}
@@ -36,7 +37,7 @@ use Rattle.machine_model.specs.ReplaceText.{text_replaced}
 use Rattle.machine_model.specs.RouteOnAttribute.{routed}
 use Rattle.machine_model.specs.RouteOnContent.{is_found_in}
 use Rattle.machine_model.proofs.OneOutcome.{insert-size, no-size}
-use Rattle.machine_examples.specs.Texts.{ReadFrom, digit, own_of, no_attributes, no_text, passed_to, with_digit, DigitIsExtracted, NoDigitIsUnmatched, LongNameIsUnmatched, NoTextIsUnmatched, ValueIs, NoTextIsRoutedToUnmatched, SecondFinds, LiteralReplaces, NoTextFails, TemplateReplaces}
+use Rattle.machine_examples.specs.Texts.{ReadFrom, digit, own_of, no_attributes, no_text, passed_to, with_digit, DigitIsExtracted, XIsSecond, NoDigitIsUnmatched, LongNameIsUnmatched, NoTextIsUnmatched, ValueIs, NoTextIsRoutedToUnmatched, SecondFinds, LiteralReplaces, NoTextFails, TemplateReplaces}
 
 -- ---- what a caller sees of a match: its start, its end and its slots
 
@@ -116,16 +117,26 @@ replaced-seen names template text at (m ∷ ms) =
 
 -- ---- a digit, and maybe an x
 
-abbrev digits_from_to : List Range
-digits_from_to = (48, 57) ∷ []
-
 abbrev digit_tree : Re
-digit_tree = cat (group 1 (char_in digits_from_to)) (optional true (group 2 (literal (codes "x"))))
+digit_tree = cat (group 1 (char_in (members is_digit_char))) (optional true (group 2 (literal (codes "x"))))
+
+-- the class at the characters of the tries
+a-is-none : in_ranges (members is_digit_char) 97 ≡ false
+unfolding ucd_perl
+a-is-none = in_ranges-members is_digit_char 97 ∙ refl
+
+b-is-none : in_ranges (members is_digit_char) 98 ≡ false
+unfolding ucd_perl
+b-is-none = in_ranges-members is_digit_char 98 ∙ refl
+
+seven-is-one : in_ranges (members is_digit_char) 55 ≡ true
+unfolding ucd_perl
+seven-is-one = in_ranges-members is_digit_char 55 ∙ refl
 
 digit-read : IsReadAs default_config digit digit_tree
 unfolding regex_on_literals
 digit-read =
-    alt-fail _ then cat_cong (same_group 1 (only (class_is _ digits_from_to (λ c le. grind (arith, nat_tests))))) (cat-empty _ then alt_cong (cat-empty _ then same_group 2 (only (same_refl _))) (same_refl _))
+    alt-fail _ then cat_cong (same_group 1 (only (same_refl _))) (cat-empty _ then alt_cong (cat-empty _ then same_group 2 (only (same_refl _))) (same_refl _))
 
 abbrev letter_tree : Re
 letter_tree = literal (codes "y")
@@ -142,11 +153,16 @@ digit-named : IsNamedAs default_config digit (None ∷ None ∷ None ∷ [])
 unfolding regex_on_literals
 digit-named = refl
 
--- in `a7`
-pairs-computed : (name : List ℕ) → option_map_or (pairs_seen name 3 (codes "a7")) (option_map spans (find_str digit_tree (codes "a7") 0)) []
-    ≡ (numbered name 0, codes "7") ∷ (numbered name 1, codes "7") ∷ (name, codes "7") ∷ []
+abbrev pairs_in : (name text : List ℕ) → List (List ℕ × List ℕ)
+pairs_in name text = option_map_or (pairs_seen name 3 text) (option_map spans (find_str digit_tree text 0)) []
+
+no-x-computed : (name : List ℕ) → pairs_in name (codes "a7") ≡ (numbered name 0, codes "7") ∷ (numbered name 1, codes "7") ∷ (name, codes "7") ∷ []
 unfolding regex_on_literals find_str first_from attempt slot_of has_bytes_at char_at is_boundary floor_char_boundary chars
-pairs-computed name = refl
+no-x-computed name = rw (a-is-none, seven-is-one) refl
+
+with-x-computed : (name : List ℕ) → pairs_in name (codes "a7x") ≡ (numbered name 0, codes "7x") ∷ (numbered name 1, codes "7") ∷ (numbered name 2, codes "x") ∷ (name, codes "7") ∷ []
+unfolding regex_on_literals find_str first_from attempt slot_of has_bytes_at char_at is_boundary floor_char_boundary chars
+with-x-computed name = rw (a-is-none, seven-is-one) refl
 
 abbrev unnamed : List (Option (List ℕ))
 unnamed = None ∷ None ∷ None ∷ []
@@ -154,15 +170,15 @@ unnamed = None ∷ None ∷ None ∷ []
 -- in `a7b`
 template-computed : replaced_seen unnamed (codes "<$1$2$$>") (codes "a7b") 0 (map spans (find_all_str digit_tree (codes "a7b"))) ≡ codes "a<7$>b"
 unfolding regex_on_literals find_str first_from matches_from attempt slot_of has_bytes_at char_at is_boundary chars
-template-computed = refl
+template-computed = rw (a-is-none, seven-is-one, b-is-none) refl
 
 digit-there : is_some (find_str digit_tree (codes "a7") 0) ≡ true
 unfolding regex_on_literals find_str first_from attempt has_bytes_at char_at is_boundary chars
-digit-there = refl
+digit-there = rw (a-is-none, seven-is-one) refl
 
 digit-missing : is_some (find_str digit_tree (codes "ab") 0) ≡ false
 unfolding regex_on_literals find_str first_from attempt has_bytes_at char_at is_boundary chars
-digit-missing = refl
+digit-missing = rw (a-is-none, b-is-none) refl
 
 module _ (pattern : Pattern) (read : ReadFrom digit pattern) where
   names : IsReadFromSource pattern.regex.value → regex_names pattern.regex.value ≡ unnamed
@@ -173,14 +189,14 @@ module _ (pattern : Pattern) (read : ReadFrom digit pattern) where
       let held = pattern.regex.value.pattern.names in
       held.ok.0 ∙ sym (length-map held.items (option_map string_bytes)) ∙ ap length (names from_source)
 
-  pub pairs-found : (name : List ℕ) → found_pairs (codes "a7") (own_of name pattern) ≡ (numbered name 0, codes "7") ∷ (numbered name 1, codes "7") ∷ (name, codes "7") ∷ []
-  pairs-found name =
+  pairs-found : (name text : List ℕ) → list_all (λ b. nat_lt b 256) text ≡ true → found_pairs text (own_of name pattern) ≡ pairs_in name text
+  pairs-found name text bytes =
       let regex = pattern.regex.value in
       ∥∥₁_elim pattern.read (Coded-set (coded_list (coded× (coded_list coded_ℕ) (coded_list coded_ℕ))) _ _)
-      (λ from_source. append-nil (pairs_of name (regex_pattern regex) (group_count regex) (codes "a7"))
-      ∙ found-seen name (group_count regex) (codes "a7") (find_str (regex_pattern regex) (codes "a7") 0)
-      ∙ ap₂ (λ (n : ℕ) (o : Option Seen). option_map_or (pairs_seen name n (codes "a7")) o []) (counted from_source) (one-seen pattern digit digit_tree read digit-read from_source (codes "a7") refl)
-      ∙ pairs-computed name)
+      (λ from_source. append-nil (pairs_of name (regex_pattern regex) (group_count regex) text)
+      ∙ found-seen name (group_count regex) text (find_str (regex_pattern regex) text 0)
+      ∙ ap₂ (λ (n : ℕ) (o : Option Seen). option_map_or (pairs_seen name n text) o []) (counted from_source)
+      (one-seen pattern digit digit_tree read digit-read from_source text bytes))
 
   pub template-written : text_replaced (Regex pattern (codes "<$1$2$$>")) (codes "a7b") ≡ codes "a<7$>b"
   template-written =
@@ -261,8 +277,12 @@ name-computed = refl
 pub digit-extracted : DigitIsExtracted
 digit-extracted pattern read uuid =
     ap₂ (extracted_of uuid (codes "a7")) (any-one (codes "k") (codes "a7") pattern true (found-as pattern digit digit_tree read digit-read (codes "a7") refl ∙ digit-there))
-    (pairs-found pattern read (codes "k") ∙ ap₂ (λ (zeroth first : List ℕ). (zeroth, codes "7") ∷ (first, codes "7") ∷ (codes "k", codes "7") ∷ []) names-computed name-computed)
+    (pairs-found pattern read (codes "k") (codes "a7") refl ∙ no-x-computed (codes "k") ∙ ap₂ (λ (zeroth first : List ℕ). (zeroth, codes "7") ∷ (first, codes "7") ∷ (codes "k", codes "7") ∷ []) names-computed name-computed)
     ∙ set-computed uuid
+
+pub x-is-second : XIsSecond
+unfolding digits
+x-is-second pattern read = pairs-found pattern read (codes "k") (codes "a7x") refl ∙ with-x-computed (codes "k")
 
 unmatched-computed : (uuid : List ℕ) (pairs : List (List ℕ × List ℕ)) → extracted_of uuid (codes "ab") false pairs ≡ Some (passed_to 1)
 unfolding regex_on_literals
@@ -282,7 +302,7 @@ pub long-name-unmatched : LongNameIsUnmatched
 long-name-unmatched pattern read uuid =
     ap₂ (extracted_of uuid (codes "a7"))
     (any-one (replicate 254 107) (codes "a7") pattern true (found-as pattern digit digit_tree read digit-read (codes "a7") refl ∙ digit-there))
-    (pairs-found pattern read (replicate 254 107))
+    (pairs-found pattern read (replicate 254 107) (codes "a7") refl ∙ no-x-computed (replicate 254 107))
     ∙ long-computed uuid
 
 pub no-text-unmatched : NoTextIsUnmatched

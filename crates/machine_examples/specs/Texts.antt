@@ -1,5 +1,5 @@
 -- Tried: what the processors make that read a content as text.
-use Rattle.std.specs.Prelude.{◌≡◌, ℕ, ◌+◌, false, List, [], ◌∷◌, length, replicate, ◌++◌, Option, Some, None, codes}
+use Rattle.std.specs.Prelude.{◌≡◌, ℕ, ◌+◌, false, List, [], ◌∷◌, length, replicate, ◌++◌, Some, codes}
 use Rattle.std.specs.FinMap.{empty, insert}
 use Rattle.flowfile_record.specs.Attributes.{AttributeMap}
 use Rattle.flowfile_record.specs.declared.worked.Outcome.{Outcome}
@@ -12,7 +12,7 @@ use Rattle.machine_model.specs.declared.kind.Replacement.TheVariants.{Literal, R
 use Rattle.machine_model.specs.declared.pattern.Pattern.{Pattern}
 use Rattle.machine_model.specs.Acting.{act}
 use Rattle.machine_model.specs.AttributesToJson.{written_on}
-use Rattle.machine_model.specs.ExtractText.{value_between}
+use Rattle.machine_model.specs.ExtractText.{found_pairs, value_between}
 use Rattle.machine_model.specs.Making.{alone, passed_on}
 use Rattle.machine_model.specs.RouteOnAttribute.{routed_file}
 use Rattle.machine_examples.specs.Small.{at_moment}
@@ -44,7 +44,7 @@ own_of name pattern = record { name = name; pattern = pattern } ∷ []
 
 -- a digit in group 1, and behind it maybe an x in group 2
 abbrev pub digit : List ℕ
-digit = codes "([0-9])(x)?"
+digit = codes "(\\d)(x)?"
 
 -- group 2 takes no part
 abbrev pub with_digit : AttributeMap
@@ -54,6 +54,12 @@ with_digit =
 abbrev pub DigitIsExtracted : Type 0
 DigitIsExtracted = (pattern : Pattern) → ReadFrom digit pattern →
     MakesOf (ExtractText (own_of (codes "k") pattern)) (codes "a7") (alone (passed_on 0 with_digit false 0))
+
+-- group 2 takes part, and the property's own name has what group 1 matched
+abbrev pub XIsSecond : Type 0
+XIsSecond = (pattern : Pattern) → ReadFrom digit pattern →
+    found_pairs (codes "a7x") (own_of (codes "k") pattern)
+    ≡ (codes "k.0", codes "7x") ∷ (codes "k.1", codes "7") ∷ (codes "k.2", codes "x") ∷ (codes "k", codes "7") ∷ []
 
 abbrev pub NoDigitIsUnmatched : Type 0
 NoDigitIsUnmatched = (pattern : Pattern) → ReadFrom digit pattern →

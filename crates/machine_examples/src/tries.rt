@@ -18,7 +18,7 @@ ghost use Rattle.machine_examples.specs.Families.{IsAncestorOf, IsNoAncestorOf, 
 ghost use Rattle.machine_examples.specs.Flows.{GeneratingIsSound, RingIsSound, IsUnsound, MarkedIsSound, ContainedIsNot, ListIs, AloneIsNotJoined, UnmarkedIsUnsound, ExactIsMarked, unconnected, terminated, into_source, doubled, tight, turned, blank, nowhere};
 ghost use Rattle.machine_examples.specs.Orders.{PrioritiesTell, EligibleAre, FullIs, first, second, third, penalised as under_penalty, swapped, since};
 ghost use Rattle.machine_examples.specs.Sizes.{FullIsReceived, TooLongIsNotReceived, TooLongIsLeft};
-ghost use Rattle.machine_examples.specs.Texts.{DigitIsExtracted, NoDigitIsUnmatched, LongNameIsUnmatched, NoTextIsUnmatched, ValueIs, NoTextIsRoutedToUnmatched, SecondFinds, LiteralReplaces, NoTextFails, TemplateReplaces};
+ghost use Rattle.machine_examples.specs.Texts.{DigitIsExtracted, XIsSecond, NoDigitIsUnmatched, LongNameIsUnmatched, NoTextIsUnmatched, ValueIs, NoTextIsRoutedToUnmatched, SecondFinds, LiteralReplaces, NoTextFails, TemplateReplaces};
 ghost use Rattle.machine_examples.specs.Told.{SplitTells, JoinTells, WritingTells, SettingTells, BothTellOne, RemovedTellsNone, UnchangedTellsNone, RoutedTells, through, split, merge};
 ghost use Rattle.prioritizer.specs.declared.prioritizer.Prioritizer.TheVariants.{FirstInFirstOut, NewestFlowFileFirst, OldestFlowFileFirst};
 ghost use Rattle.machine_examples.specs.Picks.{WholeGoesBesideAPart, EarlierOfTwoWholes, FirstOfDoubled, TwiceIsNoWhole, CountsTellWholes, NoCountIsNone, NoIdentifierIsNone, PicksOf, FullPicks, no_bytes, part, FragmentIs, TwoAreNoWhole, ThreeAreAWhole, LoneGoesBesideTwo, EarlierWholeGoes, EarlierLoneGoes, one, two, three};
@@ -244,11 +244,12 @@ pub fn events_are_told()
     ensures change_routed { RoutedTells }
 {}
 
-/// What is made of a content that is read as text: `([0-9])(x)?` finds in `a7` a digit and no x, and nothing in `ab`; of a
+/// What is made of a content that is read as text: `(\d)(x)?` finds in `a7` a digit and no x, and nothing in `ab`; of a
 /// value that ends in a character of two bytes, 1,024 bytes stay whole, and of 1,025 that character is left out; a
 /// content that isn't UTF-8 matches nothing and is replaced by nothing.
 pub fn texts_are_told()
     ensures extracted { DigitIsExtracted }
+    ensures extracted_x { XIsSecond }
     ensures not_found { NoDigitIsUnmatched }
     ensures long_name { LongNameIsUnmatched }
     ensures no_text { NoTextIsUnmatched }
