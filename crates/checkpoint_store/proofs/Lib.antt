@@ -1,6 +1,9 @@
 pub mod Beginnings
+pub mod Bytes
 pub mod Consistency
 pub mod Numbering
 pub mod Parts
 pub mod Puts
 pub mod ReadBack
+pub mod Takes
+pub mod Untaken

@@ -12,7 +12,7 @@ use Rattle.flowfile_record.specs.declared.error.CodecError.{CodecError}
 use Rattle.record_codec.specs.Snapshot.{kind_code}
 use Rattle.record_codec.specs.declared.snapshot.SnapshotKind.{SnapshotKind}
 use Rattle.record_codec.specs.declared.snapshot.SnapshotKind.TheVariants as kinds
-use Rattle.checkpoint_store.specs.Reading.{Next, More, said, behind_block, blocks_from, may_join, may_follow, first_in, next_in, file_next, batch_next, end_next, snapshot_of}
+use Rattle.checkpoint_store.specs.Reading.{More, said, behind_block, blocks_from, may_join, may_follow, first_in, next_in, file_next, batch_next, end_next, snapshot_of}
 use Rattle.checkpoint_store.specs.Snapshot.{blocks_in}
 
 abbrev done : {A : Type 0} → A → Result A CodecError
@@ -47,11 +47,11 @@ module _ (kind : ℕ) (none : (holds : SnapshotKind) → kind_code holds ≡ kin
 
 -- ---- a part that is wanted joins
 
-pub batch_follows : (k : Kept) (b : SwapBatch) (size : ℕ) (read : Result SwapBatch ℕ) → done b ≡ answer size read → may_follow k b ≡ true → (x : Next) × (batch_next k read ≡ Some x)
-batch_follows k b size read e follows = (More (record k { batches = k.batches ++ b ∷ [] }), ap (batch_next k) (read_ok size b read e) ∙ rw follows refl)
+pub batch_follows : (k : Kept) (b : SwapBatch) (size : ℕ) (read : Result SwapBatch ℕ) → done b ≡ answer size read → may_follow k b ≡ true → (now : Kept) × (batch_next k read ≡ Some (More now))
+batch_follows k b size read e follows = (record k { batches = k.batches ++ b ∷ [] }, ap (batch_next k) (read_ok size b read e) ∙ rw follows refl)
 
-pub file_follows : (k : Kept) (a : ActiveFile) (size : ℕ) (read : Result ActiveFile ℕ) → done a ≡ answer size read → may_join k a ≡ true → (x : Next) × (file_next k read ≡ Some x)
-file_follows k a size read e joins = (More (record k { files = k.files ++ a ∷ [] }), ap (file_next k) (read_ok size a read e) ∙ rw joins refl)
+pub file_follows : (k : Kept) (a : ActiveFile) (size : ℕ) (read : Result ActiveFile ℕ) → done a ≡ answer size read → may_join k a ≡ true → (now : Kept) × (file_next k read ≡ Some (More now))
+file_follows k a size read e joins = (record k { files = k.files ++ a ∷ [] }, ap (file_next k) (read_ok size a read e) ∙ rw joins refl)
 
 -- ---- the first block
 

@@ -1,5 +1,6 @@
 pub mod Begun
 pub mod Consistent
+pub mod Memory
 pub mod Output
 pub mod Put
 pub mod Reading

@@ -1,5 +1,5 @@
 -- What the bytes of a snapshot say: what is kept, or the first damage.
-use Rattle.std.specs.Prelude.{◌≡◌, ◌⊎◌, ◌<◌, ℕ, zero, suc, ◌+◌, ◌==◌, ◌&&◌, nat_lt, nat_le, not, is_ok, IsTrue, Bool, true, List, [], ◌∷◌, ◌++◌, length, map, drop, Option, None, Some, Result, Ok, Err, bytes_eq, if◌then◌else◌}
+use Rattle.std.specs.Prelude.{ℕ, zero, suc, ◌+◌, ◌==◌, ◌&&◌, nat_lt, nat_le, not, Bool, true, List, [], ◌∷◌, ◌++◌, length, map, drop, Option, None, Some, Result, Ok, Err, bytes_eq, if◌then◌else◌}
 use Rattle.std.specs.List.{sum, list_any}
 use Rattle.disk_trait.specs.Files.{Files}
 use Rattle.disk_trait.specs.declared.damage.Damage.{Damage}
@@ -10,7 +10,7 @@ use Rattle.flowfile_record.specs.Reading.{whole}
 use Rattle.flowfile_record.specs.declared.stored.ActiveFile.{ActiveFile}
 use Rattle.flowfile_record.specs.declared.stored.SwapBatch.{SwapBatch}
 use Rattle.block_file.specs.declared.read.BlockAddress.{BlockAddress}
-use Rattle.record_codec.specs.ActiveFile.{active_file_at, active_front_at}
+use Rattle.record_codec.specs.ActiveFile.{active_file_at}
 use Rattle.record_codec.specs.Block.{Reading, Whole, Cut, Long, Differs, reading_of}
 use Rattle.record_codec.specs.Snapshot.{kind_code}
 use Rattle.record_codec.specs.SnapshotReading.{batch_at, ending_at}
@@ -155,25 +155,3 @@ snapshot_of file bytes =
 -- what this file says
 abbrev pub snapshot_in : Files → FileName → Result Kept Damage
 snapshot_in files file = snapshot_of file (files file)
-
--- its first block stands there whole
-pub record HasFirstBlock (files : Files) (file : FileName) : Type 0 where
-  pub kind : ℕ
-  pub payload : List ℕ
-  pub whole : reading_of (files file) ≡ Whole kind payload
-
--- ---- where memory is taken
-
--- a part that takes memory: a file may already for its attributes
-abbrev pub PartTakes : Kept → ℕ → List ℕ → Type 0
-PartTakes k kind payload =
-    ((kind ≡ kind_code kinds.File) × IsTrue (is_ok (active_front_at payload)))
-    ⊎ ((next : Next) × (next_in k kind payload ≡ Some next))
-
--- a block that takes memory where the buffer has this capacity: it is whole, and the buffer too small or the part takes
--- it
-abbrev pub BlockTakes : ℕ → Kept → Reading → Type 0
-BlockTakes capacity k (Whole kind payload) = (capacity < length payload + BLOCK_OVERHEAD) ⊎ PartTakes k kind payload
-BlockTakes capacity k (Cut need have) = ⊥
-BlockTakes capacity k (Long size) = ⊥
-BlockTakes capacity k (Differs stored found) = ⊥

@@ -7,6 +7,7 @@ mod output;
 mod part;
 mod reading;
 mod so_far;
+mod unread;
 mod writing;
 
 pub use beginning::begin;

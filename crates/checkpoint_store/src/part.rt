@@ -1,13 +1,14 @@
 //! What a block of a snapshot says.
 ghost use Rattle.std.specs.Prelude.{◌≡◌, ◌≤◌, ◌⊎◌, true, false, length, is_ok, IsTrue, IfOk, OnOk, IsErrOf, Some, None};
 ghost use Rattle.flowfile_record.specs.Reading.{whole};
-ghost use Rattle.flowfile_record.specs.Stored.{kept_of};
+ghost use Rattle.flowfile_record.specs.Stored.{Kept, kept_of};
 ghost use Rattle.record_codec.specs.ActiveFile.{active_file_at, active_front_at};
 ghost use Rattle.record_codec.specs.Snapshot.{kind_code};
 ghost use Rattle.record_codec.specs.declared.snapshot.SnapshotKind.TheVariants as kinds;
 ghost use Rattle.record_codec.specs.SnapshotReading.{batch_at, ending_at};
-ghost use Rattle.record_codec.specs.StoreHeadReading.{head_at, head_takes_memory};
-ghost use Rattle.checkpoint_store.specs.Reading.{Next, More, Last, PartTakes, are_distinct, has_counters, head_next, file_next, batch_next, end_next, first_in, next_in};
+ghost use Rattle.record_codec.specs.StoreHeadReading.{head_at};
+ghost use Rattle.checkpoint_store.specs.Memory.{PartTakes, head_front_at};
+ghost use Rattle.checkpoint_store.specs.Reading.{More, Last, are_distinct, has_counters, head_next, file_next, batch_next, end_next, first_in, next_in};
 ghost use Rattle.checkpoint_store.specs.SoFar.{IsSoFar, next_is};
 
 use crate::so_far::{SoFar, Unfit};
@@ -25,7 +26,7 @@ pub fn first_part(alloc: Global, kind: u8, payload: &[u8]) -> Result<SoFar, Unfi
     ensures so_far { IfOk result IsSoFar }
     ensures unfit { IsErrOf result Unfit.Form → first_in kind payload.now ≡ None }
     ensures memory { IsErrOf result Unfit.Memory
-        → (kind ≡ kind_code kinds.Head) × IsTrue (head_takes_memory payload.now) }
+        → (kind ≡ kind_code kinds.Head) × IsTrue (is_ok (head_front_at payload.now)) }
 {
     match SnapshotKind::from_code(kind) {
         Some(SnapshotKind::Head) => take_head(alloc, payload),
@@ -36,12 +37,13 @@ pub fn first_part(alloc: Global, kind: u8, payload: &[u8]) -> Result<SoFar, Unfi
     }
 }
 
+#[tactic(auto, using(crate::proofs::Untaken::lists_take))]
 fn take_head(alloc: Global, payload: &[u8]) -> Result<SoFar, Unfit>
     requires size { length payload.now ≤ PAYLOAD_MAX }
     ensures found { IfOk result (λ so_far. head_next (whole head_at payload.now) ≡ Some (kept_of so_far.state)) }
     ensures so_far { IfOk result IsSoFar }
     ensures unfit { IsErrOf result Unfit.Form → head_next (whole head_at payload.now) ≡ None }
-    ensures memory { IsErrOf result Unfit.Memory → IsTrue (head_takes_memory payload.now) }
+    ensures memory { IsErrOf result Unfit.Memory → IsTrue (is_ok (head_front_at payload.now)) }
 {
     let head = read_head(alloc, payload)?;
     if !are_distinct(head.connections.as_slice()) || !has_counters(&head) {
@@ -100,7 +102,8 @@ impl SoFar {
         ensures unfit { IsErrOf result Unfit.Form
             → file_next (kept_of self.old.state) (whole active_file_at payload.now) ≡ None }
         ensures memory { IsErrOf result Unfit.Memory → IsTrue (is_ok (active_front_at payload.now))
-            ⊎ ((next : Next) × (file_next (kept_of self.old.state) (whole active_file_at payload.now) ≡ Some next)) }
+            ⊎ ((now : Kept)
+            × (file_next (kept_of self.old.state) (whole active_file_at payload.now) ≡ Some (More now))) }
     {
         let active = read_active_file(alloc, payload)?;
         self.add_file(active)?;
@@ -116,7 +119,7 @@ impl SoFar {
         ensures unfit { IsErrOf result Unfit.Form
             → batch_next (kept_of self.old.state) (whole batch_at payload.now) ≡ None }
         ensures memory { IsErrOf result Unfit.Memory
-            → (next : Next) × (batch_next (kept_of self.old.state) (whole batch_at payload.now) ≡ Some next) }
+            → (now : Kept) × (batch_next (kept_of self.old.state) (whole batch_at payload.now) ≡ Some (More now)) }
     {
         let batch = read_swap_batch(payload)?;
         self.add_batch(batch)?;

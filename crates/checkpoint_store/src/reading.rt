@@ -1,5 +1,5 @@
 //! Reading a snapshot.
-ghost use Rattle.std.specs.Prelude.{◌≡◌, ℕ, suc, ◌<◌, ◌≤◌, List, [], ◌++◌, length, vec_capacity, IsTrue, IfOk, OnOk, IsErrOf, Ok, Err, Some, MatchOption};
+ghost use Rattle.std.specs.Prelude.{◌≡◌, ℕ, suc, ◌+◌, ◌<◌, ◌≤◌, List, [], ◌++◌, length, vec_capacity, IsTrue, IfOk, OnOk, IfSome, IsErrOf, Ok, Err, Some, MatchOption};
 ghost use Rattle.disk_trait.specs.Images.{Stays};
 ghost use Rattle.disk_trait.specs.Faults.{CountsFaults};
 ghost use Rattle.disk_trait.specs.declared.damage.Damage.{Damage as TheDamage};
@@ -7,7 +7,8 @@ ghost use Rattle.disk_trait.specs.declared.file_name.FileName.{FileName as TheNa
 ghost use Rattle.flowfile_record.specs.Stored.{Kept, kept_of};
 ghost use Rattle.block_file.specs.Address.{reading_at, HasBlockPast, IsAddress, IsBlockAt};
 ghost use Rattle.block_file.specs.Damage.{damage_in};
-ghost use Rattle.checkpoint_store.specs.Reading.{BlockTakes, HasFirstBlock, address_of, blocks_in_file, snapshot_of, snapshot_in};
+ghost use Rattle.checkpoint_store.specs.Memory.{BlockTakes, FirstTakes, IsReadTo, Joins, MayWantMemory};
+ghost use Rattle.checkpoint_store.specs.Reading.{address_of, blocks_in_file, snapshot_of, snapshot_in};
 ghost use Rattle.checkpoint_store.specs.Snapshot.{snapshot, snapshot_file};
 ghost use Rattle.checkpoint_store.specs.Consistent.{IsConsistent};
 ghost use Rattle.checkpoint_store.specs.SoFar.{IsSoFar};
@@ -15,6 +16,7 @@ ghost use Rattle.checkpoint_store.specs.SoFar.{IsSoFar};
 use crate::CheckError;
 use crate::part::first_part;
 use crate::so_far::{SoFar, Unfit};
+use crate::unread::{SMALL_BLOCK_SIZE, check_head, check_is_file};
 use block_file::{BlockAddress, BlockError, read_block_at};
 use disk_trait::{Damage, Disk, FileKind, FileName};
 use flowfile_record::Stored;
@@ -23,9 +25,9 @@ use std::alloc::Global;
 
 // A file that is read, of this size.
 #[derive(Clone, Copy)]
-struct Source {
-    file: FileName,
-    size: u64,
+pub struct Source {
+    pub file: FileName,
+    pub size: u64,
 }
 
 /// What the snapshot of this number says. It is read block by block, with memory for one block beside the state.
@@ -37,9 +39,9 @@ pub fn read<D: Disk>(alloc: Global, disk: &mut D, number: u64) -> Result<Stored,
     // The first damage is told, where there is one.
     ensures damaged { (damage : TheDamage) → IsErrOf result (CheckError.Damaged damage) → IsTrue D.tells
         → snapshot_in (D.held disk.old) (snapshot_file number) ≡ Err damage }
-    // Memory is taken only behind the first block, whose damage is told without.
+    // What is damaged before the block that memory is wanted for is told, and of that block what can be told without.
     ensures memory { IsErrOf result CheckError.Memory → IsTrue D.tells
-        → HasFirstBlock (D.held disk.old) (snapshot_file number) }
+        → MayWantMemory (D.held disk.old (snapshot_file number)) }
     ensures stays { Stays D.held D.moment D.images disk.old disk.new }
     ensures cause { CountsFaults (D.faults disk.old) (D.faults disk.new) (IsErrOf result CheckError.Disk) }
 {
@@ -72,13 +74,14 @@ fn read_first<D: Disk>(
     ensures within { IfOk result (λ first. first.1 ≤ source.size) }
     ensures damaged { (damage : TheDamage) → IsErrOf result (CheckError.Damaged damage) → IsTrue D.tells
         → snapshot_in (D.held disk.old) source.file ≡ Err damage }
-    ensures whole { OnOk result (IsTrue D.tells → HasFirstBlock (D.held disk.old) source.file) }
-    ensures memory { IsErrOf result CheckError.Memory → IsTrue D.tells
-        → HasFirstBlock (D.held disk.old) source.file }
+    ensures read_to { IfOk result (λ first. IsTrue D.tells
+        → IsReadTo (D.held disk.old source.file) first.1 (kept_of first.0.state) (vec_capacity buffer.new)) }
+    ensures room { OnOk result (SMALL_BLOCK_SIZE ≤ vec_capacity buffer.new) }
+    ensures memory { IsErrOf result CheckError.Memory → IsTrue D.tells → FirstTakes (D.held disk.old source.file) }
     ensures stays { Stays D.held D.moment D.images disk.old disk.new }
     ensures cause { CountsFaults (D.faults disk.old) (D.faults disk.new) (IsErrOf result CheckError.Disk) }
 {
-    let block = read_block(disk, source, 0, buffer)?;
+    let block = read_head_block(disk, source, buffer)?;
     match first_part(
         alloc,
         block.kind,
@@ -91,6 +94,7 @@ fn read_first<D: Disk>(
 
 // Reads the block at an offset, which joins those before it. Answers where the next one begins, and nothing behind the
 // End.
+#[tactic(auto, using(crate::proofs::Takes::part_takes))]
 fn read_next<D: Disk>(
     alloc: Global,
     disk: &mut D,
@@ -102,11 +106,15 @@ fn read_next<D: Disk>(
     requires size { IsTrue D.tells → source.size ≡ length (D.held disk.old source.file) }
     requires within { at ≤ source.size }
     requires so_far { IsSoFar so_far.old }
+    requires room { SMALL_BLOCK_SIZE ≤ vec_capacity buffer.old }
     ensures next { IfOk result (λ next. IsTrue D.tells → (most : ℕ) → MatchOption next
         (blocks_in_file (suc most) (D.held disk.old) source.file at (kept_of so_far.old.state)
         ≡ Ok (kept_of so_far.new.state))
         (λ n. blocks_in_file (suc most) (D.held disk.old) source.file at (kept_of so_far.old.state)
         ≡ blocks_in_file most (D.held disk.old) source.file n (kept_of so_far.new.state))) }
+    ensures joins { IfOk result (λ next. IsTrue D.tells → IfSome next (λ n. Joins (D.held disk.old source.file)
+        (vec_capacity buffer.new) at n (kept_of so_far.old.state) (kept_of so_far.new.state))) }
+    ensures capacity { vec_capacity buffer.old ≤ vec_capacity buffer.new }
     ensures so_far { OnOk result (IsSoFar so_far.new) }
     ensures within { IfOk result (λ next. MatchOption next (Unit {0}) (λ n. (at < n) × (n ≤ source.size))) }
     ensures damaged { (damage : TheDamage) → IsErrOf result (CheckError.Damaged damage) → IsTrue D.tells
@@ -118,7 +126,7 @@ fn read_next<D: Disk>(
     ensures stays { Stays D.held D.moment D.images disk.old disk.new }
     ensures cause { CountsFaults (D.faults disk.old) (D.faults disk.new) (IsErrOf result CheckError.Disk) }
 {
-    let block = read_block(disk, source, at, buffer)?;
+    let block = read_part_block(disk, source, at, buffer)?;
     match so_far.take_part(
         alloc,
         block.kind,
@@ -127,6 +135,60 @@ fn read_next<D: Disk>(
         Ok(true) => Ok(None),
         Ok(false) => Ok(Some(at + block.next)),
         Err(unfit) => Err(refused(source, at, unfit)),
+    }
+}
+
+// The first block. Where there is no memory for it, it is told all the same if it can't be a Head.
+fn read_head_block<D: Disk>(
+    disk: &mut D,
+    source: Source,
+    buffer: &mut Vec<u8>,
+) -> Result<Block, CheckError>
+    requires size { IsTrue D.tells → source.size ≡ length (D.held disk.old source.file) }
+    ensures found { IfOk result
+        (IsBlockAt D.tells (D.held disk.old) (address_of source.file source.size 0) buffer.new.items) }
+    ensures damaged { (damage : TheDamage) → IsErrOf result (CheckError.Damaged damage) → IsTrue D.tells
+        → snapshot_in (D.held disk.old) source.file ≡ Err damage }
+    ensures memory { IsErrOf result CheckError.Memory → IsTrue D.tells → FirstTakes (D.held disk.old source.file) }
+    ensures capacity { vec_capacity buffer.old ≤ vec_capacity buffer.new }
+    ensures stays { Stays D.held D.moment D.images disk.old disk.new }
+    ensures cause { CountsFaults (D.faults disk.old) (D.faults disk.new) (IsErrOf result CheckError.Disk) }
+{
+    match read_block(disk, source, 0, buffer) {
+        Err(CheckError::Memory) => {
+            check_head(disk, source)?;
+            Err(CheckError::Memory)
+        }
+        read => read,
+    }
+}
+
+// A later block. Where there is no memory for it, it is told all the same if it can't be a file's.
+fn read_part_block<D: Disk>(
+    disk: &mut D,
+    source: Source,
+    at: u64,
+    buffer: &mut Vec<u8>,
+) -> Result<Block, CheckError>
+    requires address { IsAddress D.tells (D.held disk.old) (address_of source.file source.size at) }
+    requires room { SMALL_BLOCK_SIZE ≤ vec_capacity buffer.old }
+    ensures found { IfOk result
+        (IsBlockAt D.tells (D.held disk.old) (address_of source.file source.size at) buffer.new.items) }
+    ensures damaged { (damage : TheDamage) → IsErrOf result (CheckError.Damaged damage) → IsTrue D.tells
+        → (k : Kept) (most : ℕ) → blocks_in_file (suc most) (D.held disk.old) source.file at k ≡ Err damage }
+    ensures memory { IsErrOf result CheckError.Memory → IsTrue D.tells
+        → (k : Kept) → BlockTakes (vec_capacity buffer.old) k
+        (reading_at (D.held disk.old) (address_of source.file source.size at)) }
+    ensures capacity { vec_capacity buffer.old ≤ vec_capacity buffer.new }
+    ensures stays { Stays D.held D.moment D.images disk.old disk.new }
+    ensures cause { CountsFaults (D.faults disk.old) (D.faults disk.new) (IsErrOf result CheckError.Disk) }
+{
+    match read_block(disk, source, at, buffer) {
+        Err(CheckError::Memory) => {
+            check_is_file(disk, source, at)?;
+            Err(CheckError::Memory)
+        }
+        read => read,
     }
 }
 
@@ -145,6 +207,8 @@ fn read_block<D: Disk>(
         ≡ Some damage }
     ensures memory { IsErrOf result CheckError.Memory → IsTrue D.tells
         → HasBlockPast (D.held disk.old) (address_of source.file source.size at) (vec_capacity buffer.old) }
+    ensures room { IsErrOf result CheckError.Memory → at + vec_capacity buffer.old < source.size }
+    ensures capacity { vec_capacity buffer.old ≤ vec_capacity buffer.new }
     ensures stays { Stays D.held D.moment D.images disk.old disk.new }
     ensures cause { CountsFaults (D.faults disk.old) (D.faults disk.new) (IsErrOf result CheckError.Disk) }
 {

@@ -8,4 +8,5 @@ pub mod TriedPicks
 pub mod TriedPuts
 pub mod TriedRun
 pub mod TriedSizes
+pub mod TriedTexts
 pub mod TriedWorlds

@@ -16,4 +16,5 @@ pub mod Returns
 pub mod Run
 pub mod Sizes
 pub mod Small
+pub mod Texts
 pub mod Told

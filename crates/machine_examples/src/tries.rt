@@ -19,6 +19,7 @@ ghost use Rattle.machine_examples.specs.Families.{IsAncestorOf, IsNoAncestorOf, 
 ghost use Rattle.machine_examples.specs.Flows.{GeneratingIsSound, RingIsSound, IsUnsound, MarkedIsSound, ContainedIsNot, ListIs, AloneIsNotJoined, UnmarkedIsUnsound, ExactIsMarked, unconnected, terminated, into_source, doubled, tight, turned, blank, nowhere};
 ghost use Rattle.machine_examples.specs.Orders.{PrioritiesTell, EligibleAre, FullIs, first, second, third, penalised as under_penalty, swapped, since};
 ghost use Rattle.machine_examples.specs.Sizes.{FullIsReceived, TooLongIsNotReceived, TooLongIsLeft};
+ghost use Rattle.machine_examples.specs.Texts.{DigitIsExtracted, XIsSecond, NoDigitIsUnmatched, LongNameIsUnmatched, NoTextIsUnmatched, ValueIs, NoTextIsRoutedToUnmatched, SecondFinds, LiteralReplaces, NoTextFails, TemplateReplaces};
 ghost use Rattle.machine_examples.specs.Told.{SplitTells, JoinTells, WritingTells, SettingTells, BothTellOne, RemovedTellsNone, UnchangedTellsNone, RoutedTells, through, split, merge};
 ghost use Rattle.prioritizer.specs.declared.prioritizer.Prioritizer.TheVariants.{FirstInFirstOut, NewestFlowFileFirst, OldestFlowFileFirst};
 ghost use Rattle.machine_examples.specs.Picks.{WholeGoesBesideAPart, EarlierOfTwoWholes, FirstOfDoubled, TwiceIsNoWhole, CountsTellWholes, NoCountIsNone, NoIdentifierIsNone, PicksOf, FullPicks, no_bytes, part, FragmentIs, TwoAreNoWhole, ThreeAreAWhole, LoneGoesBesideTwo, EarlierWholeGoes, EarlierLoneGoes, one, two, three};
@@ -263,6 +264,24 @@ pub fn events_are_told()
     ensures change_removed { RemovedTellsNone }
     ensures change_unchanged { UnchangedTellsNone }
     ensures change_routed { RoutedTells }
+{}
+
+/// What is made of a content that is read as text: `(\d)(x)?` finds in `a7` a digit and no x, and nothing in `ab`; of a
+/// value that ends in a character of two bytes, 1,024 bytes stay whole, and of 1,025 that character is left out; a
+/// content that isn't UTF-8 matches nothing and is replaced by nothing.
+pub fn texts_are_told()
+    ensures extracted { DigitIsExtracted }
+    ensures extracted_x { XIsSecond }
+    ensures not_found { NoDigitIsUnmatched }
+    ensures long_name { LongNameIsUnmatched }
+    ensures no_text { NoTextIsUnmatched }
+    ensures value_cut { ValueIs 1023 [] }
+    ensures value_whole { ValueIs 1022 (195 ∷ 169 ∷ []) }
+    ensures routed_no_text { NoTextIsRoutedToUnmatched }
+    ensures routed_second { SecondFinds }
+    ensures replaced_literal { LiteralReplaces }
+    ensures replaced_no_text { NoTextFails }
+    ensures replaced_template { TemplateReplaces }
 {}
 
 /// Who came from whom, over a clone and a join; and of entries acknowledged at 3 and at 5 and one that never was,

@@ -26,7 +26,7 @@ fn main(rt: HostRuntime) -> Result<()> {
 // What came out of a case, by the one member that says what it tries.
 fn answer_of(alloc: Global, case: &Value) -> Result<String> {
     if let Some(bytes) = case.get("snapshot") {
-        return snapshots::snapshot(alloc, bytes);
+        return snapshots::snapshot(alloc, bytes, case);
     }
     if let Some(batch) = case.get("log") {
         return logs::log(alloc, batch, case);

@@ -1,15 +1,15 @@
 //! Cases of snapshots: what their bytes say.
-use crate::disks::{bytes, damage_in_words};
+use crate::disks::{bytes, damage_in_words, failing_calls};
 use anyhow::Result;
 use checkpoint_store::{CheckError, read};
 use disk_trait::{Disk, FileKind, FileName, MemoryDisk};
 use serde_json::Value;
 use std::alloc::Global;
 
-/// What the snapshot of these bytes says, in counts, or what is damaged.
-pub fn snapshot(alloc: Global, value: &Value) -> Result<String> {
+/// What the snapshot of these bytes says, in counts, or why nothing was read.
+pub fn snapshot(alloc: Global, value: &Value, case: &Value) -> Result<String> {
     let bytes = bytes(alloc, value)?;
-    let mut disk = MemoryDisk::new(Vec::new(alloc));
+    let mut disk = MemoryDisk::new(failing_calls(alloc, case)?);
     let file = FileName {
         kind: FileKind::Snapshot,
         number: 1,

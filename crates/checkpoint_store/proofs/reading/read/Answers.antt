@@ -1,11 +1,13 @@
-use Rattle.std.proofs.Common.{◌≡◌, ◌-◌, ℕ, suc, length, drop, ap, ◌∙◌, subst, arith, rules}
+use Rattle.std.proofs.Common.{◌≡◌, ◌-◌, ℕ, suc, length, drop, vec_capacity, ap, ◌∙◌, subst, inr, arith, rules}
 use Rattle.std.proofs.lemmas.Result.{err_from_is_err_and}
 use Rattle.std.specs.Prelude.{Ok, Err}
 use Rattle.disk_trait.specs.Files.{Files}
 use Rattle.flowfile_record.specs.Stored.{kept_of}
+use Rattle.record_codec.specs.Block.{reading_of}
+use Rattle.checkpoint_store.specs.Memory.{BlockTakes, IsReadTo, Joins, more}
 use Rattle.checkpoint_store.specs.Reading.{blocks_from, snapshot_of}
 use Rattle.checkpoint_store.specs.Snapshot.{snapshot_file}
-use Rattle.checkpoint_store.specs.declared.error.CheckError.TheVariants.{Damaged}
+use Rattle.checkpoint_store.specs.declared.error.CheckError.TheVariants.{Damaged, Memory}
 use Rattle.checkpoint_store.proofs.reading.read.Goals as goal
 
 pub loop-so_far-init : goal.loop-so_far-init
@@ -17,6 +19,10 @@ loop-so_far-init g c =
       faults = omega arith;
       size = c.in_ok-size.ensures.size;
       so_far = c.in_ok-so_far.ensures.so_far;
+      room = c.in_ok-so_far.ensures.room;
+      read_to = λ told.
+          subst (λ (f : Files). IsReadTo (f file) c.in_ok-so_far.at (kept_of c.in_ok-so_far.so_far.state) (vec_capacity c.read_first.new.buffer))
+          c.size.ensures.stays.files (c.in_ok-so_far.ensures.read_to told);
       most = suc (length (g.D.Disk.held c.args.disk.now file));
       enough = λ told. omega (arith, c.in_ok-size.ensures.size told);
       read = λ told.
@@ -35,6 +41,12 @@ loop-so_far-preserved g c =
       faults = omega arith;
       size = inv.size;
       so_far = c.in_ok-next.ensures.so_far;
+      room = omega (arith, inv.room, c.in_ok-next.ensures.capacity);
+      read_to = λ told.
+          let joins = rw c.in-Some.is at (c.in_ok-next.ensures.joins told) in
+          more c.loop-so_far.at c.in-Some.next (vec_capacity c.loop-so_far.buffer) (vec_capacity c.read_next.new.buffer) (kept_of c.loop-so_far.so_far.state) (kept_of c.read_next.new.so_far.state)
+          (inv.read_to told) c.in_ok-next.ensures.capacity
+          (subst (λ (f : Files). Joins (f file) (vec_capacity c.read_next.new.buffer) c.loop-so_far.at c.in-Some.next (kept_of c.loop-so_far.so_far.state) (kept_of c.read_next.new.so_far.state)) inv.stays.files joins);
       most = inv.most - 1;
       enough = λ told. omega (arith, inv.enough told, within.0, inv.within);
       read = λ told.
@@ -65,3 +77,19 @@ returns-in_err-next-clause-damaged g c damage is told =
     inv.read told ∙ ap (λ (m : ℕ). blocks_from m file c.loop-so_far.at (kept_of c.loop-so_far.so_far.state) (drop c.loop-so_far.at (g.D.Disk.held c.args.disk.now file))) some
     ∙ subst (λ (f : Files). blocks_from (suc (inv.most - 1)) file c.loop-so_far.at (kept_of c.loop-so_far.so_far.state) (drop c.loop-so_far.at (f file)) ≡ Err damage) inv.stays.files
     (c.in_err-next.ensures.damaged damage (ap Err same) told (inv.most - 1))
+
+pub returns-in_err-next-clause-memory : goal.returns-in_err-next-clause-memory
+returns-in_err-next-clause-memory g c is told =
+    let file = snapshot_file c.args.number in
+    let inv = c.loop-so_far.invariant in
+    let buffer = c.loop-so_far.buffer in
+    let k = kept_of c.loop-so_far.so_far.state in
+    let p = err_from_is_err_and c.from_residual-in_err-next.result c.from_residual-in_err-next.ensures.1 in
+    let same : c.in_err-next.field-0.0 ≡ Memory = cc (p.1, p.2, is) in
+    inr (record {
+      at = c.loop-so_far.at;
+      longest = vec_capacity buffer;
+      kept = k;
+      before = inv.read_to told;
+      takes = subst (λ (f : Files). BlockTakes (vec_capacity buffer) k (reading_of (drop c.loop-so_far.at (f file)))) inv.stays.files (c.in_err-next.ensures.memory (ap Err same) told);
+    })
