@@ -25,11 +25,10 @@ use Rattle.machine_model.specs.declared.kind.MergeStrategy.{MergeStrategy}
 use Rattle.machine_model.specs.declared.kind.MergeStrategy.TheVariants.{BinPacking, Defragment}
 use Rattle.machine_model.specs.declared.kind.OwnExpression.{OwnExpression}
 use Rattle.flowfile_record.specs.declared.limits.TheConstants.{TAKEN_MAX}
-use Rattle.machine_model.specs.declared.limits.TheConstants.{OWN_NAME_MAX, OWN_PROPERTIES_MAX}
 use Rattle.machine_model.specs.Acting.{act, received, received_attributes, generated, generated_text, generated_attributes, put, put_unless_there, name_in}
 use Rattle.machine_model.specs.Making.{TakenFile, made_file, passed_on}
 use Rattle.machine_model.specs.Kinds.{relationships_of, is_among}
-use Rattle.machine_model.specs.Sound.{within, are_ascending, are_entries_sound, are_own_names, are_own_relationships}
+use Rattle.machine_model.specs.Sound.{within, are_entries_sound, are_own_names, are_own_relationships}
 use Rattle.machine_model.specs.UpdateAttribute.{update}
 use Rattle.machine_model.specs.RouteOnAttribute.{route}
 use Rattle.machine_model.specs.AttributesToJson.{attributes_to_json}
