@@ -1,20 +1,18 @@
 -- What an answer owes: its cause, and that the builder's count rose where a pattern is too big.
-use Rattle.std.proofs.Common.{◌≡◌, ◌≢◌, ℕ, Bool, true, false, cond, nat_lt, List, [], ◌∷◌, length, Option, Some, None, option_map, option_and_then, map, Result, Ok, Err, MatchBool, MatchOption, refl, sym, ap, ◌∙◌, subst, rules, arith}
+use Rattle.std.proofs.Common.{◌≡◌, ◌≢◌, ℕ, Bool, true, false, cond, List, [], ◌∷◌, Option, Some, None, option_map, option_and_then, map, Ok, Err, MatchOption, refl, sym, ap, ◌∙◌, subst, rules}
 use Rattle.std.specs.Option.{option_or}
 use Rattle.std.specs.List.{filter_map}
 use Rattle.std.specs.Str.{IsUtf8, is_utf8}
 use Rattle.std.proofs.lemmas.Option.{none-some, same_Some}
 use Rattle.std.proofs.lemmas.Str.{IsUtf8-from_is_utf8, is_utf8-from_IsUtf8}
-use Rattle.disk_trait.specs.Faults.{CountsFaults}
 use Rattle.serde_json.specs.Data.{Data}
 use Rattle.serde_json.specs.Read.{read}
 use Rattle.flow_definition.specs.declared.error.FlowError.{FlowError}
 use Rattle.flow_definition.specs.declared.error.FlowError.TheVariants as error
 use Rattle.flow_definition.specs.declared.field.Field.TheVariants.{Processors, Connections}
-use Rattle.flow_definition.specs.declared.limits.TheConstants.{TEXT_MAX}
 use Rattle.flow_definition.specs.declared.made.Made.{Made}
 use Rattle.flow_definition.specs.declared.rule.Rule.{Rule}
-use Rattle.flow_definition.specs.declared.rule.Rule.TheVariants.{UnknownType, BadPattern, BadExpression, TooMany, PatternTooBig}
+use Rattle.flow_definition.specs.declared.rule.Rule.TheVariants.{UnknownType, BadPattern, BadExpression, PatternTooBig}
 use Rattle.machine_model.specs.declared.flow.Flow.{Flow}
 use Rattle.flow_definition.specs.Made.{AreMade, AreAllMade, count_all, first_refused, processor_in}
 use Rattle.flow_definition.specs.Patterns.{HasRisen}
@@ -22,8 +20,8 @@ use Rattle.flow_definition.specs.Looks.{items_at}
 use Rattle.flow_definition.specs.Reading.{AreProcessorsOf, IsFlowOf, connection_of}
 use Rattle.sha2.specs.Sha256.{sha256}
 use Rattle.flow_definition.specs.Rules.{Path}
-use Rattle.flow_definition.specs.Verdict.{object_only, object_in, broken_in, broken_before, refused, first_behind, IsError, Refuses, Accepts, IsAnswerBehind, IsPatternTooBig, IsCounted, IsCountedIn}
-use Rattle.flow_definition.specs.Walk.{first_place, first_of, first_rules, last_rules}
+use Rattle.flow_definition.specs.Verdict.{object_only, object_in, refused, first_behind, IsError, Refuses, Accepts, IsAnswerBehind, IsPatternTooBig, IsCountedIn}
+use Rattle.flow_definition.specs.Walk.{first_place, first_of, last_rules}
 use Rattle.flow_definition.proofs.Passed.{none_or, none_map}
 use Rattle.flow_definition.proofs.Verdicts.{all_made, count_none, processors_made, risen}
 
@@ -151,4 +149,3 @@ flow_made R bytes top ms flow each found processors connections digest = record 
   connections = connections;
   digest = digest;
 }
-

@@ -1,15 +1,13 @@
 -- A walk through a list: what a loop has seen of it, and the first that is refused.
-use Rattle.std.proofs.Common.{◌≡◌, ℕ, suc, ◌+◌, ◌<◌, ◌≤◌, true, false, cond, Option, Some, None, option_map, List, [], ◌∷◌, ◌++◌, length, get_or, take, drop, map, sym, ap, ◌∙◌, add-one, drop-cons}
-use Rattle.std.proofs.lemmas.List.{take_more, map-append, length-map, length-take-le}
+use Rattle.std.proofs.Common.{◌≡◌, ℕ, suc, ◌+◌, ◌<◌, Some, option_map, List, [], ◌∷◌, ◌++◌, length, get_or, take, map, sym, ap, ◌∙◌}
+use Rattle.std.proofs.lemmas.List.{take_more, map-append}
 use Rattle.std.specs.Option.{option_or}
-use Rattle.serde_json.specs.Data.{Data}
-use Rattle.flow_definition.specs.declared.field.Field.{Field}
 use Rattle.flow_definition.specs.declared.field.Field.TheVariants.{Processors}
 use Rattle.flow_definition.specs.declared.made.Made.{Made}
 use Rattle.flow_definition.specs.declared.rule.Rule.{Rule}
 use Rattle.flow_definition.specs.Made.{refused_by, first_refused}
-use Rattle.flow_definition.specs.Rules.{Path, is_wrong, wrong_name}
-use Rattle.flow_definition.specs.Walk.{in_list_item, in_object, first_in, first_place, first_of}
+use Rattle.flow_definition.specs.Rules.{Path}
+use Rattle.flow_definition.specs.Walk.{in_list_item}
 
 pub front_at : {A B : Type 0} (v : A → B) (xs : List A) (k : ℕ) (x : A) → k < length xs → x ≡ get_or xs k x
     → map v (take (k + 1) xs) ≡ map v (take k xs) ++ v x ∷ []
@@ -22,4 +20,3 @@ pub refusal_found : (rule : Rule) (k : ℕ) (m : Made) (ms : List Made) (path : 
     → first_refused rule k (m ∷ ms) ≡ Some (in_list_item Processors k path)
 refusal_found rule k m ms path wrong =
     ap (λ o. option_or (option_map (in_list_item Processors k) o) (first_refused rule (suc k) ms)) wrong
-

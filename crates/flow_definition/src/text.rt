@@ -28,8 +28,8 @@ use sha2::{Digest, Sha256};
 use std::alloc::{AllocError, Global};
 
 /// The flow that a text stands for, which is sound, or the lowest rule that it breaks and its first place. A pattern is
-/// too big exactly where the builder refused it so, which its count tells. The builder isn't called where one of the
-/// rules is broken that come before patterns.
+/// too big only where the builder refused it so, as its count tells. Where a rule is broken that comes before patterns,
+/// the builder isn't called.
 pub fn read_flow<P: Patterns>(
     alloc: Global,
     bytes: &[u8],
