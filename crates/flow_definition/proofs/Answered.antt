@@ -1,30 +1,29 @@
 -- What an answer owes: its cause, and that the builder's count rose where a pattern is too big.
-use Rattle.std.proofs.Common.{◌≡◌, ◌≢◌, ℕ, Bool, true, false, cond, nat_lt, List, [], ◌∷◌, length, Option, Some, None, option_map, option_and_then, map, Result, Ok, Err, MatchBool, MatchOption, refl, sym, ap, ◌∙◌, subst, rules, arith}
+use Rattle.std.proofs.Common.{◌≡◌, ◌≢◌, ℕ, Bool, true, false, cond, List, [], ◌∷◌, Option, Some, None, option_map, option_and_then, map, Ok, Err, MatchOption, refl, sym, ap, ◌∙◌, subst, rules}
 use Rattle.std.specs.Option.{option_or}
 use Rattle.std.specs.List.{filter_map}
 use Rattle.std.specs.Str.{IsUtf8, is_utf8}
 use Rattle.std.proofs.lemmas.Option.{none-some, same_Some}
 use Rattle.std.proofs.lemmas.Str.{IsUtf8-from_is_utf8, is_utf8-from_IsUtf8}
-use Rattle.disk_trait.specs.Faults.{CountsFaults}
 use Rattle.serde_json.specs.Data.{Data}
 use Rattle.serde_json.specs.Read.{read}
 use Rattle.flow_definition.specs.declared.error.FlowError.{FlowError}
 use Rattle.flow_definition.specs.declared.error.FlowError.TheVariants as error
 use Rattle.flow_definition.specs.declared.field.Field.TheVariants.{Processors, Connections}
-use Rattle.flow_definition.specs.declared.limits.TheConstants.{TEXT_MAX}
 use Rattle.flow_definition.specs.declared.made.Made.{Made}
 use Rattle.flow_definition.specs.declared.rule.Rule.{Rule}
-use Rattle.flow_definition.specs.declared.rule.Rule.TheVariants.{UnknownType, BadPattern, BadExpression, TooMany, PatternTooBig}
+use Rattle.flow_definition.specs.declared.rule.Rule.TheVariants.{UnknownType, BadPattern, BadExpression, PatternTooBig}
 use Rattle.machine_model.specs.declared.flow.Flow.{Flow}
-use Rattle.flow_definition.specs.Made.{AreMade, AreAllMade, first_refused, processor_in}
+use Rattle.flow_definition.specs.Made.{AreMade, AreAllMade, count_all, first_refused, processor_in}
+use Rattle.flow_definition.specs.Patterns.{HasRisen}
 use Rattle.flow_definition.specs.Looks.{items_at}
 use Rattle.flow_definition.specs.Reading.{AreProcessorsOf, IsFlowOf, connection_of}
 use Rattle.sha2.specs.Sha256.{sha256}
 use Rattle.flow_definition.specs.Rules.{Path}
-use Rattle.flow_definition.specs.Verdict.{object_only, object_in, refused, first_behind, IsError, Refuses, Accepts, IsAnswerBehind, IsAnswerOf, IsAnswerTo, IsAnswer, IsPatternTooBig}
-use Rattle.flow_definition.specs.Walk.{first_place, first_of, first_rules, last_rules}
+use Rattle.flow_definition.specs.Verdict.{object_only, object_in, refused, first_behind, IsError, Refuses, Accepts, IsAnswerBehind, IsPatternTooBig, IsCountedIn}
+use Rattle.flow_definition.specs.Walk.{first_place, first_of, last_rules}
 use Rattle.flow_definition.proofs.Passed.{none_or, none_map}
-use Rattle.flow_definition.proofs.Verdicts.{all_made, processors_made, risen}
+use Rattle.flow_definition.proofs.Verdicts.{all_made, count_none, processors_made, risen}
 
 -- ---- the text
 
@@ -41,42 +40,12 @@ unread_at bytes false e h = refl
 pub object_unread : (bytes : List ℕ) → (IsUtf8 bytes → read bytes ≡ None) → object_in bytes ≡ None
 object_unread bytes h = unread_at bytes (is_utf8 bytes) refl h
 
--- ---- an answer to the whole text
-
-pub too_long : (R : Type 0) (bytes : List ℕ) (answer : Result Flow FlowError) → nat_lt TEXT_MAX (length bytes) ≡ true
-    → Refuses (TooMany, []) answer → IsAnswer R bytes answer
-too_long R bytes answer long refuses =
-    subst (λ b. MatchBool b (Refuses (TooMany, []) answer) (IsAnswerTo R bytes (object_in bytes) answer)) (sym long) refuses
-
-pub not_too_long : (R : Type 0) (bytes : List ℕ) (answer : Result Flow FlowError) (o : Option Data) → nat_lt TEXT_MAX (length bytes) ≡ false
-    → o ≡ object_in bytes → IsAnswerTo R bytes o answer → IsAnswer R bytes answer
-not_too_long R bytes answer o short is answers =
-    subst (λ b. MatchBool b (Refuses (TooMany, []) answer) (IsAnswerTo R bytes (object_in bytes) answer)) (sym short)
-    (subst (λ top. IsAnswerTo R bytes top answer) is answers)
-
-memory_at : (R : Type 0) (bytes : List ℕ) (b : Bool) (o : Option Data)
-    → MatchBool b (Refuses (TooMany, []) (Err error.Memory)) (IsAnswerTo R bytes o (Err error.Memory))
-memory_at R bytes true o = tt
-memory_at R bytes false None = tt
-memory_at R bytes false (Some top) = tt
-
-pub memory_answers : (R : Type 0) (bytes : List ℕ) → IsAnswer R bytes (Err error.Memory)
-memory_answers R bytes = memory_at R bytes (nat_lt TEXT_MAX (length bytes)) (object_in bytes)
-
 -- ---- the count
-
-pub counts_nothing : (n : ℕ) (failed : Type 0) → (failed → ⊥) → CountsFaults n n failed
-counts_nothing n failed no_fault = record { never_falls = omega arith; rose = λ f small. absurd (no_fault f) }
 
 -- the rule that an error names
 pub named_big : (broken : Rule × Path) (e : FlowError) → IsError broken e → IsPatternTooBig (Err e) → broken.0 ≡ PatternTooBig
 named_big broken error.Memory is big = absurd big
 named_big broken (error.Rule rule place) is big = sym is.0 ∙ big
-
--- an error by another rule
-pub is_small : (broken : Rule × Path) (e : FlowError) → broken.0 ≢ PatternTooBig → IsError broken e → IsPatternTooBig (Err e) → ⊥
-is_small broken error.Memory other is big = big
-is_small broken (error.Rule rule place) other is big = other (sym is.0 ∙ big)
 
 AreSmall : List Rule → Type 0
 AreSmall [] = Unit {0}
@@ -93,16 +62,9 @@ small_first [] top b small e = absurd (none-some _ e)
 small_first (rule ∷ rules) top b small e =
     small_or rule (first_place rule top) (first_of rules top) b small.0 (small_first rules top b small.1) e
 
-first_small : AreSmall first_rules
-unfolding AreSmall
-first_small = ((λ e. cc), ((λ e. cc), ((λ e. cc), ((λ e. cc), ((λ e. cc), ((λ e. cc), tt))))))
-
 last_small : AreSmall last_rules
 unfolding AreSmall
 last_small = ((λ e. cc), ((λ e. cc), ((λ e. cc), tt)))
-
-pub first_rules_small : (top : Data) (b : Rule × Path) → first_of first_rules top ≡ Some b → b.0 ≢ PatternTooBig
-first_rules_small top b e = small_first first_rules top b first_small e
 
 passes_small : (C : Type 0) (rule : Rule) (o : Option Path) (rest : Option (Rule × Path)) (b : Rule × Path) → rule ≢ PatternTooBig
     → (rest ≡ Some b → b.0 ≡ PatternTooBig → C) → option_or (option_map (λ path. (rule, path)) o) rest ≡ Some b → b.0 ≡ PatternTooBig → C
@@ -115,25 +77,45 @@ passes_last : (C : Type 0) (o rest : Option (Rule × Path)) (b : Rule × Path) �
 passes_last C None rest b small more e big = more e big
 passes_last C (Some x) rest b small more e big = absurd (small x refl (ap (λ y. y.0) (same_Some x b e) ∙ big))
 
-some_path : (C : Type 0) (o : Option Path) (b : Rule × Path) → ((path : Path) → o ≡ Some path → C)
-    → option_map (λ path. (PatternTooBig, path)) o ≡ Some b → C
-some_path C None b found e = absurd (none-some _ e)
-some_path C (Some path) b found e = found path refl
+some_named : (o : Option Path) (b : Rule × Path) → option_map (λ path. (PatternTooBig, path)) o ≡ Some b → o ≡ Some b.1
+some_named None b e = absurd (none-some _ e)
+some_named (Some path) b e = ap (λ x. Some x.1) (same_Some (PatternTooBig, path) b e)
 
--- a pattern is too big only where the count rose
-pub big_rises : (R : Type 0) (top : Data) (ds : List Data) (ms : List Made) (b : Rule × Path) → AreMade R ds ms
-    → first_behind top ms ≡ Some b → b.0 ≡ PatternTooBig → R
-big_rises R top ds ms b each e big =
+-- what is named as too big is the first that was refused so
+pub big_first : (top : Data) (ms : List Made) (b : Rule × Path) → first_behind top ms ≡ Some b → b.0 ≡ PatternTooBig
+    → first_refused PatternTooBig 0 ms ≡ Some b.1
+big_first top ms b e big =
+    let C : Type 0 = first_refused PatternTooBig 0 ms ≡ Some b.1 in
     let small : Option (Rule × Path) = refused PatternTooBig ms in
     let last : Option (Rule × Path) = option_or (first_of last_rules top) small in
     let expressed : Option (Rule × Path) = option_or (refused BadExpression ms) last in
     let read : Option (Rule × Path) = option_or (refused BadPattern ms) expressed in
-    passes_small R UnknownType (first_refused UnknownType 0 ms) read b (λ h. cc) (λ e1 big1.
-    passes_small R BadPattern (first_refused BadPattern 0 ms) expressed b (λ h. cc) (λ e2 big2.
-    passes_small R BadExpression (first_refused BadExpression 0 ms) last b (λ h. cc) (λ e3 big3.
-    passes_last R (first_of last_rules top) small b (λ x h. small_first last_rules top x last_small h) (λ e4 big4.
-    some_path R (first_refused PatternTooBig 0 ms) b (λ path found. risen R ds ms 0 path each found) e4)
+    passes_small C UnknownType (first_refused UnknownType 0 ms) read b (λ h. cc) (λ e1 big1.
+    passes_small C BadPattern (first_refused BadPattern 0 ms) expressed b (λ h. cc) (λ e2 big2.
+    passes_small C BadExpression (first_refused BadExpression 0 ms) last b (λ h. cc) (λ e3 big3.
+    passes_last C (first_of last_rules top) small b (λ x h. small_first last_rules top x last_small h) (λ e4 big4.
+    some_named (first_refused PatternTooBig 0 ms) b e4)
     e3 big3) e2 big2) e1 big1) e big
+
+-- a pattern is too big only where the count rose
+pub big_rises : (R : Type 0) (top : Data) (ds : List Data) (ms : List Made) (b : Rule × Path) → AreMade R ds ms
+    → first_behind top ms ≡ Some b → b.0 ≡ PatternTooBig → R
+big_rises R top ds ms b each e big = risen R ds ms 0 b.1 each (big_first top ms b e big)
+
+-- ---- what the count says of an answer
+
+pub behind_counted : (before now : ℕ) (top : Data) (ms : List Made) (b : Rule × Path) (e : FlowError)
+    → AreMade (HasRisen before now) (items_at Processors top) ms → now ≡ count_all before ms → first_behind top ms ≡ Some b → IsError b e
+    → IsCountedIn before now top (Err e)
+behind_counted before now top ms b error.Memory each count found is = tt
+behind_counted before now top ms b (error.Rule rule place) each count found is = λ big. record {
+  made = ms;
+  each = each;
+  count = count;
+  path = b.1;
+  first = big_first top ms b found (sym is.0 ∙ big);
+  stands = is.1;
+}
 
 -- ---- no rule is broken
 
@@ -147,15 +129,10 @@ none_behind top ms e =
     λ rule. none_map {Y = Rule × Path} (λ path. (rule, path)) (first_refused rule 0 ms) in
     all_made ms 0 (none UnknownType typed.0) (none BadPattern read.0) (none BadExpression expressed.0) (none PatternTooBig last.1)
 
--- ---- answers
+pub accepted_counted : (before now : ℕ) (top : Data) (ms : List Made) → now ≡ count_all before ms → first_behind top ms ≡ None → now ≡ before
+accepted_counted before now top ms count found = count ∙ count_none before ms (none_behind top ms found)
 
-pub behind_refused : (R : Type 0) (bytes : List ℕ) (top : Data) (ms : List Made) (b : Rule × Path) (e : FlowError)
-    → AreMade R (items_at Processors top) ms → first_behind top ms ≡ Some b → IsError b e → IsAnswerBehind R bytes top (Err e)
-behind_refused R bytes top ms b error.Memory each found is = tt
-behind_refused R bytes top ms b (error.Rule rule place) each found is =
-    let Settles : Option (Rule × Path) → Type 0 =
-    λ o. MatchOption o (Accepts bytes top (Err (error.Rule rule place))) (λ x. Refuses x (Err (error.Rule rule place))) in
-    (ms, each, subst Settles (sym found) is)
+-- ---- answers
 
 pub behind_accepted : (R : Type 0) (bytes : List ℕ) (top : Data) (ms : List Made) (flow : Flow)
     → AreMade R (items_at Processors top) ms → first_behind top ms ≡ None → IsFlowOf bytes top flow → IsAnswerBehind R bytes top (Ok flow)
@@ -172,21 +149,3 @@ flow_made R bytes top ms flow each found processors connections digest = record 
   connections = connections;
   digest = digest;
 }
-
-pub first_refused_of : (R : Type 0) (bytes : List ℕ) (top : Data) (b : Rule × Path) (e : FlowError)
-    → first_of first_rules top ≡ Some b → IsError b e → IsAnswerOf R bytes top (Err e)
-first_refused_of R bytes top b e found is =
-    let Settles : Option (Rule × Path) → Type 0 = λ o. MatchOption o (IsAnswerBehind R bytes top (Err e)) (λ x. Refuses x (Err e)) in
-    subst Settles (sym found) is
-
-pub behind_first : (R : Type 0) (bytes : List ℕ) (top : Data) (answer : Result Flow FlowError)
-    → first_of first_rules top ≡ None → IsAnswerBehind R bytes top answer → IsAnswerOf R bytes top answer
-behind_first R bytes top answer found is =
-    let Settles : Option (Rule × Path) → Type 0 = λ o. MatchOption o (IsAnswerBehind R bytes top answer) (λ x. Refuses x answer) in
-    subst Settles (sym found) is
-
-pub answers_to : (R : Type 0) (bytes : List ℕ) (top : Data) (answer : Result Flow FlowError)
-    → IsAnswerOf R bytes top answer → IsAnswerTo R bytes (Some top) answer
-answers_to R bytes top (Ok flow) is = is
-answers_to R bytes top (Err error.Memory) is = tt
-answers_to R bytes top (Err (error.Rule rule place)) is = is

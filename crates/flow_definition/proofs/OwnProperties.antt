@@ -1,5 +1,5 @@
 -- The properties of a processor's own.
-use Rattle.std.proofs.Common.{◌≡◌, ℕ, ◌≤◌, Bool, true, false, not, ◌&&◌, ◌||◌, List, [], ◌∷◌, ◌++◌, length, map, nat_le, nat_lt, is_some, find, bytes_eq, codes, All, Option, Some, None, option_and_then, Ordering, Less, Equal, Greater, nat_cmp, is_eq, refl, sym, ap, ◌∙◌, subst}
+use Rattle.std.proofs.Common.{◌≡◌, ℕ, ◌≤◌, Bool, true, false, ◌&&◌, ◌||◌, List, [], ◌∷◌, ◌++◌, length, map, nat_lt, is_some, find, bytes_eq, codes, All, Option, Some, None, option_and_then, Ordering, Less, Equal, Greater, nat_cmp, is_eq, refl, sym, ap, ◌∙◌, subst}
 use Rattle.std.specs.Cmp.Lexicographic.{slice_cmp}
 use Rattle.std.specs.List.{list_all}
 use Rattle.std.specs.Option.{option_map_or}
@@ -18,7 +18,6 @@ use Rattle.machine_model.specs.Kinds.{is_among}
 use Rattle.machine_model.specs.Sound.{within, HasText, are_own_names, are_own_relationships, are_ascending}
 use Rattle.machine_model.specs.declared.kind.OwnExpression.{OwnExpression}
 use Rattle.machine_model.specs.declared.limits.TheConstants.{OWN_NAME_MAX, OWN_PROPERTIES_MAX}
-use Rattle.flow_definition.specs.declared.processor_type.Own.{Own}
 use Rattle.flow_definition.specs.declared.processor_type.Own.TheVariants as own
 use Rattle.flow_definition.specs.declared.processor_type.ProcessorType.TheVariants.{UpdateAttribute, RouteOnAttribute}
 use Rattle.flow_definition.specs.Looks.{is_text, member_list, members_of, names_of, texts_of, type_of, properties_in, own_in, own_given, own_properties_in, own_texts_in, given_in, given_at, fixed_relationships_in}

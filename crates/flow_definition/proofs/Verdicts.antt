@@ -13,7 +13,7 @@ use Rattle.flow_definition.specs.declared.processor_type.ProcessorType.TheVarian
 use Rattle.flow_definition.specs.declared.processor_type.Property.TheVariants.{FileFilter, CustomText}
 use Rattle.flow_definition.specs.Looks.{type_of, properties_in}
 use Rattle.flow_definition.specs.Types.{properties_of}
-use Rattle.flow_definition.specs.Made.{IsRefusal, IsMade, AreMade, AreAllMade, first_refused, processor_in}
+use Rattle.flow_definition.specs.Made.{IsRefusal, IsMade, AreMade, AreAllMade, count_all, count_made, first_refused, processor_in}
 use Rattle.flow_definition.specs.Patterns.{HasRisen}
 use Rattle.flow_definition.specs.Reading.{AreProcessorsOf}
 use Rattle.flow_definition.specs.Rules.{Path}
@@ -47,7 +47,17 @@ risen R (d ∷ ds) (made.Refused (TooBig p) ∷ ms) k path each found = each.0.1
 risen R (d ∷ ds) (made.Refused (NoExpression p) ∷ ms) k path each found = risen R ds ms (suc k) path each.1 found
 risen R (d ∷ ds) (made.Refused (NoOwnExpression n) ∷ ms) k path each found = risen R ds ms (suc k) path each.1 found
 
+-- where each was made, the count stays
+pub count_none : (n : ℕ) (ms : List Made) → AreAllMade ms → count_all n ms ≡ n
+count_none n [] all = refl
+count_none n (made.Processor p ∷ ms) all = count_none n ms all.1
+count_none n (made.Refused r ∷ ms) all = absurd all.0
+
 -- ---- one more processor
+
+pub count_push : (n : ℕ) (ms : List Made) (m : Made) → count_all n (ms ++ m ∷ []) ≡ count_made (count_all n ms) m
+count_push n [] m = refl
+count_push n (x ∷ ms) m = count_push (count_made n x) ms m
 
 pub made_push : (R : Type 0) (ds : List Data) (ms : List Made) (d : Data) (m : Made) → AreMade R ds ms → IsMade R d m → AreMade R (ds ++ d ∷ []) (ms ++ m ∷ [])
 made_push R [] [] d m each last = (last, tt)

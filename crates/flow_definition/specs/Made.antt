@@ -1,6 +1,7 @@
 -- What becomes of a processor of the text: it is made, or why it isn't, and where.
 use Rattle.std.specs.Prelude.{◌≡◌, ℕ, suc, ◌==◌, List, [], ◌∷◌, ◌++◌, All, Option, Some, None, option_map, Contains, if◌then◌else◌}
 use Rattle.std.specs.Option.{option_or}
+use Rattle.disk_trait.specs.Count.{one_more}
 use Rattle.expr_lang.specs.Grammar.{IsText}
 use Rattle.expr_lang.specs.Tree.{Tree}
 use Rattle.serde_json.specs.Data.{Data}
@@ -109,3 +110,24 @@ AreAllMade (made ∷ more) = IsProcessorMade made × AreAllMade more
 abbrev pub processor_in : Made → Option Processor
 processor_in (made.Processor processor) = Some processor
 processor_in (made.Refused refusal) = None
+
+-- ---- a builder's count behind what it was before: one more for each pattern that was refused for its size
+
+abbrev pub count_refused : ℕ → Refusal → ℕ
+count_refused count (TooBig property) = one_more count
+count_refused count NoType = count
+count_refused count (Unread property) = count
+count_refused count (NoExpression property) = count
+count_refused count (NoOwnExpression name) = count
+
+abbrev pub count_made : ℕ → Made → ℕ
+count_made count (made.Processor processor) = count
+count_made count (made.Refused refusal) = count_refused count refusal
+
+abbrev pub count_kind : ℕ → MadeKind → ℕ
+count_kind count (kind.Kind kind) = count
+count_kind count (kind.Refused refusal) = count_refused count refusal
+
+abbrev pub count_all : ℕ → List Made → ℕ
+count_all count [] = count
+count_all count (made ∷ more) = count_all (count_made count made) more

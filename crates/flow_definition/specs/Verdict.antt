@@ -13,7 +13,8 @@ use Rattle.flow_definition.specs.declared.made.Made.{Made}
 use Rattle.flow_definition.specs.declared.rule.Rule.{Rule}
 use Rattle.flow_definition.specs.declared.rule.Rule.TheVariants.{NotJson, UnknownType, BadPattern, BadExpression, TooMany, PatternTooBig}
 use Rattle.flow_definition.specs.Looks.{items_at, is_object}
-use Rattle.flow_definition.specs.Made.{AreMade, first_refused}
+use Rattle.flow_definition.specs.Made.{AreMade, first_refused, count_all}
+use Rattle.flow_definition.specs.Patterns.{HasRisen}
 use Rattle.flow_definition.specs.Pointers.{pointer_of}
 use Rattle.flow_definition.specs.Reading.{IsFlowOf}
 use Rattle.flow_definition.specs.Rules.{Path}
@@ -87,3 +88,31 @@ abbrev pub IsPatternTooBig : Result Flow FlowError → Type 0
 IsPatternTooBig (Err (error.Rule rule place)) = rule ≡ PatternTooBig
 IsPatternTooBig (Err error.Memory) = ⊥
 IsPatternTooBig (Ok flow) = ⊥
+
+-- ---- what the builder's count says
+
+-- the rule that a text breaks before any pattern is built, and where
+abbrev pub broken_in : Option Data → Option (Rule × Path)
+broken_in None = Some (NotJson, [])
+broken_in (Some top) = first_of first_rules top
+
+abbrev pub broken_before : List ℕ → Option (Rule × Path)
+broken_before bytes = if nat_lt TEXT_MAX (length bytes) then Some (TooMany, []) else broken_in (object_in bytes)
+
+-- of the patterns of a text as many were refused for their size as the count rose, and the first of these stands here
+pub record IsFirstTooBig (before now : ℕ) (top : Data) (place : List ℕ) : Type 0 where
+  pub made : List Made
+  pub each : AreMade (HasRisen before now) (items_at Processors top) made
+  pub count : now ≡ count_all before made
+  pub path : Path
+  pub first : first_refused PatternTooBig 0 made ≡ Some path
+  pub stands : place ≡ pointer_of path
+
+-- where a text is accepted, none of its patterns was refused for its size
+abbrev pub IsCountedIn : (before now : ℕ) → Data → Result Flow FlowError → Type 0
+IsCountedIn before now top (Ok flow) = now ≡ before
+IsCountedIn before now top (Err (error.Rule rule place)) = rule ≡ PatternTooBig → IsFirstTooBig before now top place
+IsCountedIn before now top (Err error.Memory) = Unit {0}
+
+abbrev pub IsCounted : (before now : ℕ) → List ℕ → Result Flow FlowError → Type 0
+IsCounted before now bytes answer = (top : Data) → object_in bytes ≡ Some top → IsCountedIn before now top answer

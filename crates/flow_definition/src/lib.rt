@@ -21,7 +21,7 @@ mod walk;
 
 pub use error::FlowError;
 pub use field::{Field, Level, Shape};
-pub use limits::TEXT_MAX;
+pub use limits::{TEXT_MAX, limit_of_a_text};
 pub use patterns::{Builder, PatternError, Patterns};
 pub use processor_type::{Form, Own, ProcessorType, Property};
 pub use rule::Rule;

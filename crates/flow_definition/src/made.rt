@@ -3,7 +3,7 @@ ghost use Rattle.std.specs.Prelude.{◌≡◌, ◌==◌, ◌≤◌, map, option_
 ghost use Rattle.machine_model.specs.Sound.{to_match_whole};
 ghost use Rattle.serde_json.specs.View.{view};
 ghost use Rattle.flow_definition.specs.Looks.{type_of};
-ghost use Rattle.flow_definition.specs.Made.{IsMade, AreMade, IsMadeKind, rule_of, part_of, refused_by, first_refused, processor_in};
+ghost use Rattle.flow_definition.specs.Made.{IsMade, AreMade, IsMadeKind, count_all, count_kind, count_made, rule_of, part_of, refused_by, first_refused, processor_in};
 ghost use Rattle.std.specs.List.{filter_map};
 ghost use Rattle.flow_definition.specs.Reading.{IsKindOf, IsProcessorOf};
 ghost use Rattle.flow_definition.specs.Patterns.{HasRisen, IsUnread};
@@ -91,6 +91,7 @@ pub(crate) fn make_all<P: Patterns>(
     ensures made { IfOk result (λ list.
         AreMade (HasRisen (P.faults patterns.old) (P.faults patterns.new)) (map view items.now) list.items) }
     ensures count { P.faults patterns.old ≤ P.faults patterns.new }
+    ensures each { IfOk result (λ list. P.faults patterns.new ≡ count_all (P.faults patterns.old) list.items) }
 {
     let mut list = Vec::new(alloc);
     'items: for item in items {
@@ -103,6 +104,7 @@ fn make<P: Patterns>(alloc: Global, processor: &Value, patterns: &mut P) -> Resu
     ensures made { IfOk result
         (IsMade (HasRisen (P.faults patterns.old) (P.faults patterns.new)) (view processor.now)) }
     ensures count { P.faults patterns.old ≤ P.faults patterns.new }
+    ensures each { IfOk result (λ made. P.faults patterns.new ≡ count_made (P.faults patterns.old) made) }
 {
     match make_kind(alloc, processor, patterns)? {
         MadeKind::Kind(kind) => Ok(Made::Processor(with_kind(alloc, processor, kind)?)),
@@ -133,6 +135,7 @@ fn make_kind<P: Patterns>(
     ensures made { IfOk result
         (IsMadeKind (HasRisen (P.faults patterns.old) (P.faults patterns.new)) (view processor.now)) }
     ensures count { P.faults patterns.old ≤ P.faults patterns.new }
+    ensures each { IfOk result (λ made. P.faults patterns.new ≡ count_kind (P.faults patterns.old) made) }
 {
     match type_of(processor) {
         Some(ProcessorType::GetFile) => make_get_file(alloc, processor, patterns),
@@ -209,6 +212,7 @@ fn make_get_file<P: Patterns>(
     ensures made { IfOk result
         (IsMadeKind (HasRisen (P.faults patterns.old) (P.faults patterns.new)) (view processor.now)) }
     ensures count { P.faults patterns.old ≤ P.faults patterns.new }
+    ensures each { IfOk result (λ made. P.faults patterns.new ≡ count_kind (P.faults patterns.old) made) }
 {
     let text = whole(alloc, property_text(Property::FileFilter, processor))?;
     match patterns.build(alloc, text.as_str()) {

@@ -3,8 +3,9 @@ ghost use Rattle.std.specs.Prelude.{◌≡◌, ◌≢◌, ◌^◌, ◌<◌, ◌�
 ghost use Rattle.disk_trait.specs.Count.{one_more};
 ghost use Rattle.disk_trait.specs.Faults.{CountsFaults};
 ghost use Rattle.regex.specs.Patterns.{default_config};
+ghost use Rattle.regex.specs.Failures.{IsPattern};
 ghost use Rattle.regex.specs.Strings.{regex_source, regex_config, IsReadFromSource};
-ghost use Rattle.flow_definition.specs.Patterns.{IsUnread};
+ghost use Rattle.flow_definition.specs.Patterns.{CountsEach, IsUnread};
 
 use disk_trait::Calls;
 use regex::{Regex, RegexBuilder};
@@ -26,7 +27,7 @@ pub enum PatternError {
 
 /// A builder of patterns.
 pub trait Patterns {
-    /// How often it refused a pattern for its size, up to 2^64 - 1. It never falls.
+    /// How often it refused a pattern for its size, up to 2^64 - 1. It never falls, and rises at nothing else.
     ghost faults: { Self → ℕ };
 
     /// The pattern that `regex` reads from the text, under the syntax's usual options.
@@ -35,7 +36,8 @@ pub trait Patterns {
         ensures options { IfOk result (λ regex. regex_config regex ≡ default_config) }
         ensures read { IfOk result IsReadFromSource }
         ensures syntax { IsErrOf result PatternError.Syntax → IsUnread text.now }
-        ensures cause { CountsFaults (faults self.old) (faults self.new) (IsErrOf result PatternError.TooBig) };
+        ensures cause { CountsFaults (faults self.old) (faults self.new) (IsErrOf result PatternError.TooBig) }
+        ensures each { CountsEach (faults self.old) (faults self.new) (IsErrOf result PatternError.TooBig) };
 }
 
 /// Builds patterns with `regex`, under its usual limit of size.
@@ -58,6 +60,7 @@ impl Builder {
 }
 
 impl Patterns for Builder {
+    ghost use Rattle.std.specs.Prelude.{◌⊎◌};
     ghost use Rattle.disk_trait.specs.Called.{Called, FailsNext};
 
     ghost faults = { λ builder. builder.calls.faults };
@@ -68,6 +71,8 @@ impl Patterns for Builder {
         ensures read { IfOk result IsReadFromSource }
         ensures syntax { IsErrOf result PatternError.Syntax → IsUnread text.now }
         ensures listed { FailsNext self.old.calls → IsErrOf result PatternError.TooBig }
+        ensures big { IsErrOf result PatternError.TooBig
+            → FailsNext self.old.calls ⊎ IsPattern default_config text.now }
         ensures called { Called self.old.calls self.new.calls (IsErrOf result PatternError.TooBig) }
     {
         if self.calls.begin().is_err() {
@@ -88,6 +93,7 @@ fn built(alloc: Global, text: &str) -> Result<Regex, PatternError>
     ensures options { IfOk result (λ regex. regex_config regex ≡ default_config) }
     ensures read { IfOk result IsReadFromSource }
     ensures syntax { IsErrOf result PatternError.Syntax → IsUnread text.now }
+    ensures big { IsErrOf result PatternError.TooBig → IsPattern default_config text.now }
 {
     match RegexBuilder::new(text).build(alloc) {
         Ok(regex) => Ok(regex),

@@ -16,8 +16,8 @@ pub enum Rule {
     UnknownEnd,
     /// A relationship is neither terminated nor connected, or both; or a name is none of its processor's.
     RelationshipUnconnected,
-    /// A value is of another kind than it has to be, or outside its set; a property isn't one of the type; or one of the
-    /// processor's own may not have its name.
+    /// A value is of another kind than it has to be, or outside its set; a property isn't one of the type; or one of
+    /// the processor's own may not have its name.
     BadProperty,
     /// A pattern can't be read, or nests too deep.
     BadPattern,

@@ -1,5 +1,5 @@
 //! Reading a flow's text.
-ghost use Rattle.std.specs.Prelude.{◌≡◌, [], IfOk, option_map};
+ghost use Rattle.std.specs.Prelude.{◌≡◌, [], IfOk, IsSome, option_map};
 ghost use Rattle.std.specs.Option.{option_or};
 ghost use Rattle.disk_trait.specs.Faults.{CountsFaults};
 ghost use Rattle.machine_model.specs.Sound.{IsSound};
@@ -7,8 +7,8 @@ ghost use Rattle.serde_json.specs.View.{view};
 ghost use Rattle.sha2.specs.Sha256.{sha256};
 ghost use Rattle.flow_definition.specs.Patterns.{HasRisen};
 ghost use Rattle.flow_definition.specs.Places.{broken_path};
-ghost use Rattle.flow_definition.specs.Verdict.{IsAnswer, IsAnswerOf, IsAnswerBehind, IsPatternTooBig, IsError, object_in, refused, first_behind};
-ghost use Rattle.flow_definition.specs.Walk.{first_rules, last_rules};
+ghost use Rattle.flow_definition.specs.Verdict.{IsAnswer, IsAnswerOf, IsAnswerBehind, IsPatternTooBig, IsCounted, IsCountedIn, IsError, broken_before, object_in, refused, first_behind};
+ghost use Rattle.flow_definition.specs.Walk.{first_of, first_rules, last_rules};
 
 use crate::error::FlowError;
 use crate::field::Field;
@@ -28,7 +28,8 @@ use sha2::{Digest, Sha256};
 use std::alloc::{AllocError, Global};
 
 /// The flow that a text stands for, which is sound, or the lowest rule that it breaks and its first place. A pattern is
-/// too big only where the builder's count of such refusals rose.
+/// too big only where the builder refused it so, as its count tells. Where a rule is broken that comes before patterns,
+/// the builder isn't called.
 pub fn read_flow<P: Patterns>(
     alloc: Global,
     bytes: &[u8],
@@ -37,6 +38,8 @@ pub fn read_flow<P: Patterns>(
     ensures answer { IsAnswer (HasRisen (P.faults patterns.old) (P.faults patterns.new)) bytes.now result }
     ensures sound { IfOk result IsSound }
     ensures count { CountsFaults (P.faults patterns.old) (P.faults patterns.new) (IsPatternTooBig result) }
+    ensures counted { IsCounted (P.faults patterns.old) (P.faults patterns.new) bytes.now result }
+    ensures uncalled { IsSome (broken_before bytes.now) → patterns.new ≡ patterns.old }
 {
     if bytes.len() as u64 > TEXT_MAX {
         return Err(error_of(alloc, whole(Rule::TooMany)));
@@ -103,6 +106,8 @@ fn read_top<P: Patterns>(
     ensures answer { IsAnswerOf (HasRisen (P.faults patterns.old) (P.faults patterns.new)) bytes.now
         (view top.now) result }
     ensures count { CountsFaults (P.faults patterns.old) (P.faults patterns.new) (IsPatternTooBig result) }
+    ensures counted { IsCountedIn (P.faults patterns.old) (P.faults patterns.new) (view top.now) result }
+    ensures uncalled { IsSome (first_of first_rules (view top.now)) → patterns.new ≡ patterns.old }
 {
     match first_of(first_rules(), top) {
         Some(broken) => Err(error_of(alloc, broken)),
@@ -120,6 +125,7 @@ fn read_behind<P: Patterns>(
     ensures answer { IsAnswerBehind (HasRisen (P.faults patterns.old) (P.faults patterns.new)) bytes.now
         (view top.now) result }
     ensures count { CountsFaults (P.faults patterns.old) (P.faults patterns.new) (IsPatternTooBig result) }
+    ensures counted { IsCountedIn (P.faults patterns.old) (P.faults patterns.new) (view top.now) result }
 {
     let made = make_all(alloc, items_at(top, Field::Processors), patterns)?;
     match first_behind(top, made.as_slice()) {

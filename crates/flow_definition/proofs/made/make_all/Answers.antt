@@ -1,8 +1,8 @@
-use Rattle.std.proofs.Common.{[], ◌∷◌, ◌++◌, map, take, sym, subst, arith}
+use Rattle.std.proofs.Common.{[], ◌∷◌, ◌++◌, map, take, sym, ap, ◌∙◌, subst, arith}
 use Rattle.serde_json.specs.View.{view}
-use Rattle.flow_definition.specs.Made.{AreMade}
+use Rattle.flow_definition.specs.Made.{AreMade, count_all, count_made}
 use Rattle.flow_definition.specs.Patterns.{HasRisen}
-use Rattle.flow_definition.proofs.Verdicts.{made_push, made_later, one_later, risen_before, risen_after}
+use Rattle.flow_definition.proofs.Verdicts.{count_push, made_push, made_later, one_later, risen_before, risen_after}
 use Rattle.flow_definition.proofs.Walks.{front_at}
 use Rattle.flow_definition.proofs.made.make_all.Goals as goal
 
@@ -28,4 +28,6 @@ items-preserved g c =
           (sym (front_at view items c.items.item-index item c.items-test.true c.item-item.is))
           (subst (λ ms. AreMade (HasRisen first last) (front ++ view item ∷ []) ms) (sym c.in_ok-push.ensures.items) more);
       count = omega (arith, c.items.invariant.count, c.make.ensures.count);
+      each = c.in_ok-make.ensures.each ∙ ap (λ n. count_made n made) c.items.invariant.each
+          ∙ sym (count_push first c.items.list.items made) ∙ ap (count_all first) (sym c.in_ok-push.ensures.items);
     }

@@ -1,6 +1,6 @@
-use Rattle.std.proofs.Common.{◌≤◌, map, take}
+use Rattle.std.proofs.Common.{◌≡◌, ◌≤◌, map, take}
 use Rattle.serde_json.specs.View.{view}
-use Rattle.flow_definition.specs.Made.{AreMade}
+use Rattle.flow_definition.specs.Made.{AreMade, count_all}
 use Rattle.flow_definition.specs.Patterns.{HasRisen}
 use Rattle.flow_definition.proofs.made.make_all.Given as goal
 
@@ -9,4 +9,5 @@ invariant-items g l = record {
   made : AreMade (HasRisen (g.P.Patterns.faults l.fn.patterns) (g.P.Patterns.faults l.patterns))
       (map view (take l.item-index l.items)) l.list.items;
   count : g.P.Patterns.faults l.fn.patterns ≤ g.P.Patterns.faults l.patterns;
+  each : g.P.Patterns.faults l.patterns ≡ count_all (g.P.Patterns.faults l.fn.patterns) l.list.items;
 }

@@ -7,7 +7,7 @@ use Rattle.flow_definition.specs.Made.{AreMade}
 use Rattle.flow_definition.specs.Patterns.{HasRisen}
 use Rattle.flow_definition.specs.Places.{broken_path}
 use Rattle.flow_definition.specs.Verdict.{first_behind}
-use Rattle.flow_definition.proofs.Answered.{big_rises, named_big, behind_accepted, flow_made}
+use Rattle.flow_definition.proofs.Answered.{accepted_counted, behind_counted, big_rises, named_big, behind_accepted, flow_made}
 use Rattle.flow_definition.proofs.text.read_behind.Goals as goal
 
 pub returns-in-Some-clause-count : goal.returns-in-Some-clause-count
@@ -37,3 +37,19 @@ returns-in_ok-connections-in-None-clause-answer g c =
     (flow_made risen bytes top made flow each found
     (c.from.ensures ∙ c.in_ok-processors-in-None.ensures)
     (c.from-in-None.ensures ∙ c.in_ok-connections-in-None.ensures) c.digest_of.ensures)
+
+pub returns-in-Some-clause-counted : goal.returns-in-Some-clause-counted
+returns-in-Some-clause-counted g c =
+    let before = g.P.Patterns.faults c.args.patterns.now in
+    let now = g.P.Patterns.faults c.make_all.new.patterns in
+    let top = view c.args.top.now in
+    let made = c.in_ok-made.made.items in
+    let each = subst (λ ds. AreMade (HasRisen before now) ds made) c.items_at.ensures c.in_ok-made.ensures.made in
+    let found = sym (c.in-Some.ensures ∙ ap (first_behind top) c.as_slice.ensures.value) in
+    behind_counted before now top made (broken_path c.in-Some.broken) c.error_of.result each c.in_ok-made.ensures.each found c.error_of.ensures
+
+pub returns-in_ok-connections-in-None-clause-counted : goal.returns-in_ok-connections-in-None-clause-counted
+returns-in_ok-connections-in-None-clause-counted g c =
+    let found = sym (c.in-None.ensures ∙ ap (first_behind (view c.args.top.now)) c.as_slice.ensures.value) in
+    accepted_counted (g.P.Patterns.faults c.args.patterns.now) (g.P.Patterns.faults c.make_all.new.patterns) (view c.args.top.now)
+    c.in_ok-made.made.items c.in_ok-made.ensures.each found
