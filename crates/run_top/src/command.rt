@@ -150,8 +150,8 @@ pub fn are_run(words: &[String]) -> bool
     }
 }
 
-// Opens the store of a flow, and runs the flow over it, with a checkpoint where the log has `checkpoint` entries.
-fn run_over<D: Disk, I: Inbox, O: Outbox, C: Clock>(
+/// Opens the store of a flow, and runs the flow over it, with a checkpoint where the log has `checkpoint` entries.
+pub fn run_over<D: Disk, I: Inbox, O: Outbox, C: Clock>(
     alloc: Global,
     flow: &Flow,
     lot: u64,
