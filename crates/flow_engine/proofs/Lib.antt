@@ -13,6 +13,7 @@ pub mod Outbox
 pub mod RunsOn
 pub mod Sends
 pub mod SessionSteps
+mod Short
 mod Stands
 mod Steps
 pub mod Tended
