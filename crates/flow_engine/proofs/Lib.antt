@@ -5,6 +5,7 @@ mod Committed
 pub mod Ending
 pub mod Expired
 mod Files
+mod FirstNames
 pub mod Fitting
 mod Goes
 mod Left

@@ -1,7 +1,6 @@
 -- A store at work for a flow, and what its calls leave on any disk.
-use Rattle.std.specs.Prelude.{◌≡◌, ◌⊎◌, ℕ, ◌≤◌, ◌<◌, Bool, false, IsTrue, Contains, List, [], length, Option, Some, Ok}
+use Rattle.std.specs.Prelude.{◌≡◌, ◌⊎◌, ℕ, ◌≤◌, ◌<◌, Bool, false, IsTrue, Contains, [], length, Option, Some, Ok}
 use Rattle.disk_trait.specs.Files.{Files}
-use Rattle.disk_trait.specs.Faults.{CountsFaults}
 use Rattle.disk_trait.specs.Images.{After, Since, Stays}
 use Rattle.disk_trait.specs.declared.file_name.FileKind.TheVariants.{Claim, Events, Log, Snapshot}
 use Rattle.disk_trait.specs.declared.file_name.FileName.{FileName}
