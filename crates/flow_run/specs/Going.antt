@@ -12,8 +12,8 @@ use Rattle.machine_model.specs.Acknowledged.{steps}
 use Rattle.flow_run.specs.Journal.{files_left, EachTakesFirst, IsAcknowledged}
 use Rattle.flow_run.specs.Run.{IsGoneByEntry, Replays, StandsFor}
 
--- Each entry of the journal is acknowledged, each GetFile took the first file that it might, and store, inbox and outbox are those of the whole journal, which leads to
--- this machine.
+-- Each entry of the journal is acknowledged, each GetFile took the first file that it might, and store, inbox and
+-- outbox are those of the whole journal, which leads to this machine.
 pub record IsRunningAt {D : Type 0} (flow : Flow) (moment : D → ℕ) (images : D → ℕ → Files → Type 0) (lot : ℕ)
     (opened : Machine) (old now : D) (journal : List Entry) (reached : Machine) (left : List NamedFile)
     (standing : List ℕ → Option (List ℕ)) : Type 0 where

@@ -94,8 +94,8 @@ MayWrite files f = IsOfLog (current_number files) f ⊎ MayWriteFrom (Some (log_
 abbrev pub WritesAlone : {D : Type 0} → (D → ℕ) → (D → ℕ → Files → Type 0) → Files → (old new : D) → Type 0
 WritesAlone moment images files old new = SinceSync moment images old new (OnlyShortens (MayWrite files) files)
 
--- where nothing was left to do, or all of it was held back, checkpoints were made: whatever a stop may leave has a short
--- log
+-- where nothing was left to do, or all of it was held back, checkpoints were made: whatever a stop may leave has a
+-- short log
 abbrev pub EndsShort : {D : Type 0} → (status : ℕ) → (D → ℕ) → (D → ℕ → Files → Type 0) → (checkpoint : ℕ) → (new : D)
     → Type 0
 EndsShort status moment images checkpoint new =
