@@ -96,7 +96,7 @@ module _ (tells : Bool) {D : Type 0} (held : D → Files) (moment : D → ℕ) (
     stops_within law contents job changed s between now_standing sent time =
         subst (λ (fl : Flow). HasRun fl (ending.Fault fault.Disk) time tells held moment images f.store.lot opened first new left now_standing) (sym flow_is)
         (subst (λ (lot : ℕ). HasRun e.flow (ending.Fault fault.Disk) time tells held moment images lot opened first new left now_standing) (sym lot_is)
-        (law e.flow e.store.lot time opened run.reached s.after first old new run.journal (step_of job) left standing now_standing run.to.run s.goes between
+        (law e.flow e.store.lot time opened run.reached s.after first old new run.journal (step_of job) left standing now_standing run.to.run s.goes s.first between
         (sent ∙ ap (with_sending changed.sending) run.to.run.stands ∙ sym s.outbox)))
 
     -- the outbox's at the put
@@ -122,7 +122,7 @@ module _ (tells : Bool) {D : Type 0} (held : D → Files) (moment : D → ℕ) (
     stops_behind law contents job changed s stepped name takes now_left either now_standing sent time =
         subst (λ (fl : Flow). HasRun fl (ending.Fault fault.Inbox) time tells held moment images f.store.lot opened first new now_left now_standing) (sym flow_is)
         (subst (λ (lot : ℕ). HasRun e.flow (ending.Fault fault.Inbox) time tells held moment images lot opened first new now_left now_standing) (sym lot_is)
-        (law e.flow e.store.lot time opened run.reached s.after first old new run.journal (step_of job) name left now_left standing now_standing run.to.run s.goes stepped takes either
+        (law e.flow e.store.lot time opened run.reached s.after first old new run.journal (step_of job) name left now_left standing now_standing run.to.run s.goes s.first stepped takes either
         (sent ∙ ap (with_sending changed.sending) run.to.run.stands ∙ sym s.outbox)))
 
     -- a limit, before the put
@@ -177,7 +177,7 @@ module _ (tells : Bool) {D : Type 0} (held : D → Files) (moment : D → ℕ) (
           to = record {
             run = subst (λ (fl : Flow). IsRunningAt fl moment images f.store.lot opened first new (run.journal ++ entry ∷ []) s.after now_left now_standing) (sym flow_is)
                 (subst (λ (lot : ℕ). IsRunningAt e.flow moment images lot opened first new (run.journal ++ entry ∷ []) s.after now_left now_standing) (sym lot_is)
-                (law e.flow e.store.lot opened run.reached s.after first old new run.journal (step_of job) left now_left standing now_standing run.to.run s.goes stepped
+                (law e.flow e.store.lot opened run.reached s.after first old new run.journal (step_of job) left now_left standing now_standing run.to.run s.goes s.first stepped
                 (lies ∙ ap (without_received job.given.file) run.to.run.lies ∙ sym s.inbox)
                 (stands ∙ ap (with_sending changed.sending) run.to.run.stands ∙ sym s.outbox)));
             count = length-append run.journal (entry ∷ []) ∙ ap (λ n. n + 1) run.to.count ∙ sym entries;

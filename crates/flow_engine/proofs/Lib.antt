@@ -5,6 +5,7 @@ mod Committed
 pub mod Ending
 pub mod Expired
 mod Files
+mod FirstNames
 pub mod Fitting
 mod Goes
 mod Left
@@ -13,6 +14,7 @@ pub mod Outbox
 pub mod RunsOn
 pub mod Sends
 pub mod SessionSteps
+mod Short
 mod Stands
 mod Steps
 pub mod Tended

@@ -9,12 +9,13 @@ use Rattle.kept_state.specs.declared.limit.Limit.{Limit}
 use Rattle.machine_model.specs.declared.flow.Flow.{Flow}
 use Rattle.machine_model.specs.declared.journal.Entry.{Entry}
 use Rattle.machine_model.specs.declared.journal.Step.{Step}
+use Rattle.machine_model.specs.declared.journal.Step.TheVariants.{Expire, Session, SwapIn, SwapOut}
 use Rattle.machine_model.specs.State.{Machine, World}
 use Rattle.machine_model.specs.Stepping.{step}
 use Rattle.engine_choice.specs.Choice.{coming_of}
 use Rattle.flow_run.specs.Ending.{journal_full}
 use Rattle.flow_run.specs.Going.{IsRunningAt, IsSpared}
-use Rattle.flow_run.specs.Journal.{files_left}
+use Rattle.flow_run.specs.Journal.{files_left, TakesFirst}
 use Rattle.flow_run.specs.Laws.{DiskFaultsEnd, FaultsEnd, IsOfQueue, QueuesLeaveTheWorld, SparedRunsGoOn, SteppedRunsGoOn}
 use Rattle.flow_run.specs.Run.{HasRun, IsAtLimit, StandsFor}
 use Rattle.flow_run.specs.declared.ended.Ended.{Ended}
@@ -26,6 +27,13 @@ use Rattle.flow_engine.specs.Errors.{ended_by}
 use Rattle.flow_engine.specs.Running.{IsLimited, IsRunning, Stops}
 use Rattle.flow_engine.specs.Tending.{IsCutOff, IsDone}
 use Rattle.flow_engine.specs.declared.error.EngineError.{EngineError}
+
+-- a step of a queue takes no file of the inbox
+queues_take_none : (flow : Flow) (before : Machine) (one : Step) → IsOfQueue one → TakesFirst flow before one
+queues_take_none flow before (Session processor numbers moment given) queue = absurd queue
+queues_take_none flow before (Expire connection numbers moment) queue = tt
+queues_take_none flow before (SwapOut connection numbers batch) queue = tt
+queues_take_none flow before (SwapIn connection batch) queue = tt
 
 module _ {D : Type 0} (tells : Bool) (held : D → Files) (moment : D → ℕ) (images : D → ℕ → Files → Type 0) where
   -- nothing was called
@@ -89,7 +97,7 @@ module _ {D : Type 0} (tells : Bool) (held : D → Files) (moment : D → ℕ) (
             reached = it.after;
             to = record {
               run = runs_at (run.journal ++ last ∷ []) it.after
-                  (law e.flow e.store.lot opened run.reached it.after first old new run.journal one left left standing standing run.to.run it.goes it.is_so
+                  (law e.flow e.store.lot opened run.reached it.after first old new run.journal one left left standing standing run.to.run it.goes (queues_take_none e.flow run.reached one queue) it.is_so
                   (run.to.run.lies ∙ ap files_left (sym world)) (run.to.run.stands ∙ ap (λ (w : World). w.outbox) (sym world)));
               count = length-append run.journal (last ∷ []) ∙ ap (λ n. n + 1) run.to.count ∙ sym entries;
               coming = ap coming_of world ∙ run.to.coming ∙ sym (ap (λ l. l.names) names);
@@ -102,7 +110,7 @@ module _ {D : Type 0} (tells : Bool) (held : D → Files) (moment : D → ℕ) (
           let it = cut run.reached run.to.run.holds in
           let world : it.after.world ≡ run.reached.world = leaves e.flow run.reached it.after one it.goes queue in
           has_run (ended_by EngineError.Disk) time
-          (law e.flow e.store.lot time opened run.reached it.after first old new run.journal one left standing standing run.to.run it.goes it.is_so
+          (law e.flow e.store.lot time opened run.reached it.after first old new run.journal one left standing standing run.to.run it.goes (queues_take_none e.flow run.reached one queue) it.is_so
           (run.to.run.stands ∙ ap (λ (w : World). w.outbox) (sym world)))
 
   -- a limit, before anything was called

@@ -206,6 +206,7 @@ module _ (laws : Laws) (flow : Flow) (k : Kept) (job : Job) (outcome : Outcome) 
       record {
         after = behind before.state;
         goes = goes;
+        first = stands.first;
         state = ap (state_after contents before.state) same;
         inbox = inbox_behind laws.received laws.kept before (session before.state) outcome receives;
         coming = coming_behind stands.processor.kind before.world (session before.state) outcome receives;

@@ -41,6 +41,7 @@ use Rattle.flow_engine.specs.Handing.{HasBytes, HasBytesOf, IsHanded, IsHandedAs
 use Rattle.flow_engine.specs.Job.{StandsIn}
 use Rattle.flow_engine.specs.declared.job.Job.{Job}
 use Rattle.flow_engine.proofs.Chosen.{IsNext, TakesSo}
+use Rattle.flow_engine.proofs.FirstNames.{takes_first}
 
 -- ---- a file that is left
 
@@ -149,5 +150,6 @@ module _ (sessions : ChoicesAreSessions) (seen : QueuesAreSeen) (live : Machines
         found = ap (slice_get flow.processors) handed.processor ∙ at.found;
         read = told.read;
         taken = (λ i. taken_files flow m.state (handed.processor i) rule (handed.numbers i) (time i)) ∙ at.taken ∙ ap Some files;
+        first = λ processor filter found is. takes_first flow k names moment choice job m.world next handed coming processor filter found is;
         given = (λ i. given_in at.processor.kind (handed.processor i) m.state m.world (sym files i) (record job.given { bytes = None })) ∙ gives ∙ ap Some back;
       }

@@ -26,12 +26,13 @@ use Rattle.flow_engine.proofs.Choosing.{HasStep}
 -- ---- the same run
 
 pub same_run : (e : EngineState) → IsOfSameRun e e
-same_run e = record { flow = refl; most = refl; lot = refl }
+same_run e = record { flow = refl; most = refl; checkpoint = refl; lot = refl }
 
 pub same_run_on : (old mid new : EngineState) → IsOfSameRun old mid → IsOfSameRun mid new → IsOfSameRun old new
 same_run_on old mid new first second = record {
   flow = second.flow ∙ first.flow;
   most = second.most ∙ first.most;
+  checkpoint = second.checkpoint ∙ first.checkpoint;
   lot = second.lot ∙ first.lot;
 }
 

@@ -14,7 +14,7 @@ use Rattle.machine_model.specs.State.{Machine, QueuedFile}
 use Rattle.machine_model.specs.Stepping.{step, without_name}
 use Rattle.machine_model.specs.Valid.{IsValid}
 use Rattle.engine_choice.specs.Choice.{coming_of}
-use Rattle.flow_run.specs.Journal.{files_left}
+use Rattle.flow_run.specs.Journal.{files_left, TakesFirst}
 use Rattle.flow_run.specs.Run.{IsStateOf}
 use Rattle.flow_engine.specs.Job.{StandsIn}
 use Rattle.flow_engine.specs.declared.change.Changed.{Changed}
@@ -51,11 +51,12 @@ IsSentFrom before (Some sending) =
     × (name_in file.attributes ≡ Some sending.name)
 
 -- There is such a step. Behind it the state is that behind the change; the inbox has lost the file that the session
--- was given, if one, and the outbox has what it sends.
+-- was given, if one, which a GetFile might get first, and the outbox has what it sends.
 pub record IsStepOf (flow : Flow) (contents : ContentRef → List ℕ) (before : Machine) (job : Job) (changed : Changed)
     : Type 0 where
   pub after : Machine
   pub goes : step flow before (step_of job) ≡ Some after
+  pub first : TakesFirst flow before (step_of job)
   pub state : state_after contents before.state changed.settled ≡ after.state
   pub inbox : files_left after.world ≡ without_received job.given.file (files_left before.world)
   pub coming : coming_of after.world ≡ names_without job.given.file (coming_of before.world)

@@ -6,6 +6,7 @@ use Rattle.flowfile_record.specs.declared.content.ContentRef.{ContentRef}
 use Rattle.flowfile_record.specs.declared.limits.TheConstants.{NUMBER_LIMIT}
 use Rattle.machine_model.specs.declared.flow.Flow.{Flow}
 use Rattle.machine_model.specs.declared.flow.Processor.{Processor}
+use Rattle.machine_model.specs.declared.journal.Step.TheVariants.{Session}
 use Rattle.machine_model.specs.Changing.{queued_file}
 use Rattle.machine_model.specs.Kinds.{take_rule_of}
 use Rattle.machine_model.specs.Laws.{MayTake, received_name}
@@ -14,6 +15,7 @@ use Rattle.machine_model.specs.Stepping.{given_in, taken_files}
 use Rattle.processor_api.specs.Acts.{IsGivenTo}
 use Rattle.engine_session.specs.Handing.{AreTaken}
 use Rattle.engine_session.specs.Working.{is_built}
+use Rattle.flow_run.specs.Journal.{TakesFirst}
 use Rattle.flow_engine.specs.declared.job.Job.{Job}
 
 -- The processor at its place may be handed this: as many files as its rule takes, live ones of one connection, read
@@ -30,7 +32,7 @@ pub record MayHand (flow : Flow) (k : Kept) (job : Job) : Type 0 where
   pub index : job.given.index < NUMBER_LIMIT
 
 -- Where references stand for these bytes, it stands so in the machine's state and world: its rules let the session take
--- these files, and what it is given is what stands.
+-- these files, what it is given is what stands, and a file of the inbox is the first that it may get.
 pub record StandsIn (flow : Flow) (k : Kept) (contents : ContentRef → List ℕ) (before : Machine) (job : Job) : Type 0
   where
     pub processor : Processor
@@ -40,3 +42,5 @@ pub record StandsIn (flow : Flow) (k : Kept) (contents : ContentRef → List ℕ
         ≡ Some (map (queued_file contents) job.files)
     pub given : given_in processor.kind job.processor before.state before.world (map (queued_file contents) job.files)
         (record job.given { bytes = None }) ≡ Some job.given
+    pub first : TakesFirst flow before
+        (Session job.processor job.numbers job.given.moment (record job.given { bytes = None }))

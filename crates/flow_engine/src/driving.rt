@@ -4,6 +4,7 @@ ghost use Rattle.disk_trait.specs.declared.damage.Damage.{Damage as TheDamage};
 ghost use Rattle.kept_state.specs.declared.limit.Limit.{Limit as TheLimit};
 ghost use Rattle.machine_model.specs.State.{Machine};
 ghost use Rattle.engine_choice.specs.Choice.{MayChoose};
+ghost use Rattle.engine_choice.specs.declared.choice.Ending.{Ending as TheEnding};
 ghost use Rattle.store_core.specs.Store.{kept_by};
 ghost use Rattle.flow_engine.specs.Driving.{choice_in, ending_in, GoesOn, IsEnded, IsNoneExpired, IsTurned, ShowsState};
 ghost use Rattle.flow_run.specs.Run.{StandsFor};
@@ -12,7 +13,7 @@ ghost use Rattle.flow_run.specs.Ending.{journal_full};
 ghost use Rattle.flow_engine.specs.Engine.{AreTakeable, IsOfSameRun, IsReady};
 ghost use Rattle.flow_engine.specs.Errors.{CountsEachFault};
 ghost use Rattle.flow_engine.specs.Running.{IsRunning, Stops};
-ghost use Rattle.flow_run.specs.Work.{IsAtWork, IsNoEarlier, IsReadDamaged, IsRefused, WritesLog};
+ghost use Rattle.flow_run.specs.Work.{IsAtWork, IsNoEarlier, IsReadDamaged, IsRefused, IsShortOn, WritesLog};
 ghost use Rattle.flow_engine.specs.declared.error.EngineError.{EngineError as TheError};
 
 use crate::EngineError;
@@ -54,6 +55,7 @@ impl Engine<'_> {
             → Stops error D.tells D.held D.moment D.images self.new opened first disk.new (I.left inbox.new)
             (O.standing outbox.new) }
         ensures no_rest { IfOk result (λ ending. (until : ℕ) → ending ≡ Ending.Rest until → ⊥) }
+        ensures short { OnOk result (IsShortOn D.moment D.images self.new.checkpoint disk.new) }
         // On any devices.
         ensures work { OnOk result (IsAtWork self.old.flow D.tells D.held D.moment D.images self.new.store disk.new) }
         ensures same { IsOfSameRun self.old self.new }
@@ -96,6 +98,8 @@ impl Engine<'_> {
             → IsTurned D.moment D.images self.new opened first disk.new (I.left inbox.new) (O.standing outbox.new)
             moment ending) }
         ensures goes_on { IfOk result (GoesOn self.old self.new moment) }
+        ensures short { IfOk result (λ ending. (end : TheEnding) → ending ≡ Some end
+            → IsShortOn D.moment D.images self.new.checkpoint disk.new) }
         ensures stopped { (error : TheError) → IsErrOf result error → IsTrue D.tells → IsTrue I.tells → IsTrue O.tells
             → (opened : Machine) (first : D)
             → IsRunning D.moment D.images self.old opened first disk.old (I.left inbox.old) (O.standing outbox.old)
@@ -133,6 +137,7 @@ impl Engine<'_> {
         requires ready { IsReady D.tells D.held D.moment D.images self.old disk.old }
         requires left { IsTrue I.tells → AreTakeable (I.left inbox.old) self.old.listing.names }
         requires none_expired { IsNoneExpired self.old moment }
+        requires short { IsShortOn D.moment D.images self.old.checkpoint disk.old }
         requires most { self.old.most < 2 ^ 64 - 1 }
         ensures turned { IfOk result (λ ending. IsTrue D.tells → IsTrue I.tells → IsTrue O.tells
             → (opened : Machine) (first : D)
@@ -140,6 +145,8 @@ impl Engine<'_> {
             → IsTurned D.moment D.images self.new opened first disk.new (I.left inbox.new) (O.standing outbox.new)
             moment ending) }
         ensures goes_on { IfOk result (GoesOn self.old self.new moment) }
+        ensures short { IfOk result (λ ending. (end : TheEnding) → ending ≡ Some end
+            → IsShortOn D.moment D.images self.new.checkpoint disk.new) }
         ensures stopped { (error : TheError) → IsErrOf result error → IsTrue D.tells → IsTrue I.tells → IsTrue O.tells
             → (opened : Machine) (first : D)
             → IsRunning D.moment D.images self.old opened first disk.old (I.left inbox.old) (O.standing outbox.old)
@@ -183,6 +190,7 @@ impl Engine<'_> {
     ) -> Result<(), EngineError>
         requires ready { IsReady D.tells D.held D.moment D.images self.old disk.old }
         requires chosen { choice_in self.old moment ≡ Some choice }
+        requires short { IsShortOn D.moment D.images self.old.checkpoint disk.old }
         requires left { IsTrue I.tells → AreTakeable (I.left inbox.old) self.old.listing.names }
         requires most { self.old.most < 2 ^ 64 - 1 }
         ensures goes_on { OnOk result (IsTrue D.tells → IsTrue I.tells → IsTrue O.tells

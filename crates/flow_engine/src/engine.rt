@@ -76,6 +76,7 @@ impl<'f> Engine<'f> {
         requires sound { IsSound flow.now }
         requires flow { flow_in (kept_by store) ≡ identity_of flow.now }
         ensures opened { IfOk result (IsOpened flow.now store most) }
+        ensures checkpoint { IfOk result (λ engine. engine.checkpoint ≡ checkpoint) }
         // All that the machine may take is to come.
         ensures coming { IfOk result (λ engine. IsTrue I.tells → (state : State)
             (standing : List ℕ → Option (List ℕ))

@@ -15,9 +15,9 @@ ghost use Rattle.engine_core.specs.Committing.{identity_of};
 ghost use Rattle.flow_run.specs.Going.{IsRunningAt};
 ghost use Rattle.flow_run.specs.Run.{HasRun, IsTidied, machine_at};
 ghost use Rattle.flow_run.specs.declared.ended.Fault.TheVariants.{Damaged, Disk};
-ghost use Rattle.flow_run.specs.Ending.{EndsOnFaults, IsLimitMet};
+ghost use Rattle.flow_run.specs.Ending.{EndsOnFaults, EndsShort, IsLimitMet};
 ghost use Rattle.flow_engine.specs.Engine.{AreBuilt};
-ghost use Rattle.flow_run.specs.Work.{IsAtWork, IsReadDamaged, WritesLog};
+ghost use Rattle.flow_run.specs.Work.{IsAtWork, IsReadDamaged, IsShortOn, WritesLog};
 
 use crate::EngineError;
 use crate::engine::Engine;
@@ -57,6 +57,7 @@ pub fn run_flow<D: Disk, I: Inbox, O: Outbox, C: Clock>(
         (machine_at state (I.left inbox.old) (O.standing outbox.old)) first disk.new (I.left inbox.new)
         (O.standing outbox.new) }
     // On any devices.
+    ensures checkpointed { EndsShort D.moment D.images checkpoint result disk.new }
     ensures alone { WritesLog D.moment D.images store.log.number disk.old disk.new }
     ensures limited { (limit : TheLimit) → result ≡ Ended.Limit limit
         → IsLimitMet flow.now D.tells D.held D.moment D.images store.lot (D.moment disk.old) most limit disk.new }
@@ -98,6 +99,8 @@ fn close<D: Disk>(store: &mut Store, disk: &mut D, ended: Ended) -> Ended
         (λ c. stands_for (flow_in (kept_by store.old)) store.old.lot c ≡ Ok state) }
     ensures tidied { result ≡ ended → (flow : TheFlow) → flow_in (kept_by store.old) ≡ identity_of flow
         → IsTrue D.tells → IsTidied flow store.old.lot (D.held disk.new) }
+    ensures short { (checkpoint : ℕ) → IsShortOn D.moment D.images checkpoint disk.old
+        → IsShortOn D.moment D.images checkpoint disk.new }
     ensures alone { Since D.moment D.images disk.old disk.new
         (After (Frees (live_in store.old)) (D.images disk.old (D.moment disk.old))) }
     ensures cause { CountsFaults (D.faults disk.old) (D.faults disk.new) (result ≡ Ended.Fault Disk) }

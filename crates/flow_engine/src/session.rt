@@ -24,7 +24,7 @@ ghost use Rattle.flow_engine.specs.Handing.{received_in};
 ghost use Rattle.flow_engine.specs.Running.{IsRunning, Stops};
 ghost use Rattle.flow_run.specs.Going.{IsBetween, IsStepped};
 ghost use Rattle.flow_run.specs.Run.{StandsFor};
-ghost use Rattle.flow_run.specs.Work.{IsAtWork, IsReadDamaged, IsRefused, WritesLog};
+ghost use Rattle.flow_run.specs.Work.{IsAtWork, IsReadDamaged, IsRefused, IsShortOn, WritesLog};
 ghost use Rattle.flow_engine.specs.declared.error.EngineError.{EngineError as TheError};
 
 use crate::EngineError;
@@ -57,6 +57,8 @@ impl Engine<'_> {
         requires room { self.old.entries < self.old.most }
         requires chosen { next_choice self.old.flow (queue_seen self.old.queues) (kept_by self.old.store).counts
             self.old.listing.names moment self.old.last ≡ Some choice }
+        // No session comes where a checkpoint is due.
+        requires short { IsShortOn D.moment D.images self.old.checkpoint disk.old }
         requires left { IsTrue I.tells → AreTakeable (I.left inbox.old) self.old.listing.names }
         // The run goes on by one step, or it is stopped.
         ensures goes_on { OnOk result (IsTrue D.tells → IsTrue I.tells → IsTrue O.tells

@@ -25,7 +25,7 @@ ghost use Rattle.flow_run.specs.Run.{IsAtLimit, StandsFor};
 ghost use Rattle.flow_engine.specs.Engine.{IsOfSameRun, IsReady};
 ghost use Rattle.flow_engine.specs.Running.{IsRunning, Stops};
 ghost use Rattle.flow_engine.specs.Tending.{IsCheckpointed, IsCutOff, IsDone, MakesExpiry};
-ghost use Rattle.flow_run.specs.Work.{IsAtWork, IsNoEarlier, IsRefused, WritesLog};
+ghost use Rattle.flow_run.specs.Work.{IsAtWork, IsNoEarlier, IsRefused, IsShortOn, WritesLog};
 ghost use Rattle.flow_engine.specs.declared.error.EngineError.{EngineError as TheError};
 ghost use Rattle.flow_engine.specs.declared.tending.Tended.TheVariants.{Expired, Nothing};
 
@@ -73,6 +73,7 @@ impl Engine<'_> {
         ensures none { result ≡ Ok Nothing
             → IsNoneExpired self.new moment × (self.new.entries ≡ self.old.entries) }
         ensures checkpointed { result ≡ Ok Nothing → IsCheckpointed self.old self.new }
+        ensures short { result ≡ Ok Nothing → IsShortOn D.moment D.images self.new.checkpoint disk.new }
         // On any devices.
         ensures ready { OnOk result (IsReady D.tells D.held D.moment D.images self.new disk.new) }
         ensures names { self.new.listing ≡ self.old.listing }
@@ -109,6 +110,7 @@ impl Engine<'_> {
             → IsRunning D.moment D.images self.old opened first disk.old left standing
             → Stops error D.tells D.held D.moment D.images self.new opened first disk.new left standing }
         ensures made { OnOk result (IsCheckpointed self.old self.new) }
+        ensures short { OnOk result (IsShortOn D.moment D.images self.old.checkpoint disk.new) }
         ensures ready { OnOk result (IsReady D.tells D.held D.moment D.images self.new disk.new) }
         ensures rest { self.new ≡ record self.old { store = self.new.store } }
         ensures same { IsOfSameRun self.old self.new }
@@ -138,6 +140,8 @@ impl Engine<'_> {
             (standing : List ℕ → Option (List ℕ))
             → IsRunning D.moment D.images self.old opened first disk.old left standing
             → Stops EngineError.Disk D.tells D.held D.moment D.images self.new opened first disk.new left standing }
+        ensures short { (checkpoint : ℕ) → IsShortOn D.moment D.images checkpoint disk.old
+            → IsShortOn D.moment D.images checkpoint disk.new }
         ensures ready { OnOk result (IsReady D.tells D.held D.moment D.images self.new disk.new) }
         ensures rest { self.new ≡ record self.old { store = self.new.store } }
         ensures same { IsOfSameRun self.old self.new }
@@ -221,8 +225,9 @@ impl Engine<'_> {
 
 // Whether the log has so many entries, and another one can follow it.
 fn wants_checkpoint(store: &Store, checkpoint: u64) -> bool
-    ensures { (number : ℕ) → store.now.log.number ≡ Some number
+    ensures due { (number : ℕ) → store.now.log.number ≡ Some number
         → result ≡ is_checkpoint_due checkpoint store.now.entries number }
+    ensures counted { checkpoint < 2 ^ 64 }
 {
     store.log_entries() >= checkpoint && store.log_number() < NUMBER_LIMIT - 1
 }
@@ -241,6 +246,7 @@ fn checkpoint<D: Disk>(store: &mut Store, disk: &mut D) -> Result<(), EngineErro
     ensures same { (kept_by store.new ≡ kept_by store.old) × (store.new.lot ≡ store.old.lot) }
     ensures next { OnOk result ((number : ℕ) → store.old.log.number ≡ Some number
         → store.new.log.number ≡ Some (number + 1)) }
+    ensures short { OnOk result ((checkpoint : ℕ) → IsShortOn D.moment D.images checkpoint disk.new) }
     ensures log { OnOk result (IsNoEarlier store.old.log.number store.new.log.number) }
     ensures unwritten { IsErrOf result EngineError.Memory → disk.new ≡ disk.old }
     ensures alone { WritesLog D.moment D.images store.old.log.number disk.old disk.new }
@@ -264,6 +270,8 @@ fn reclaim<D: Disk>(store: &mut Store, disk: &mut D) -> Result<(), EngineError>
         → IsAtWork flow D.tells D.held D.moment D.images store.new disk.new) }
     ensures same { (kept_by store.new ≡ kept_by store.old) × (store.new.lot ≡ store.old.lot)
         × (store.new.log.number ≡ store.old.log.number) }
+    ensures short { (checkpoint : ℕ) → IsShortOn D.moment D.images checkpoint disk.old
+        → IsShortOn D.moment D.images checkpoint disk.new }
     ensures alone { WritesLog D.moment D.images store.old.log.number disk.old disk.new }
     ensures kinds { IfErr result (λ error. error ≡ EngineError.Disk) }
     ensures cause { CountsFaults (D.faults disk.old) (D.faults disk.new) (IsErrOf result EngineError.Disk) }

@@ -29,6 +29,7 @@ module _ {D : Type 0} (moment : D → ℕ) (images : D → ℕ → Files → Typ
   begins flow lot old now state left standing valid since = record {
     ran = begun flow lot old now (machine_at state left standing) since;
     all = tt;
+    first = tt;
     gone = none_gone flow left;
     valid = valid;
     holds = λ c there. since.each (moment now) c since.begun (omega arith) there;
@@ -53,6 +54,7 @@ module _ {D : Type 0} (moment : D → ℕ) (images : D → ℕ → Files → Typ
     reached = machine_at state left standing;
     ran = begun flow lot old now (machine_at state left standing) (stands_same flow lot files old now state left standing stands since);
     acked = inl refl;
+    first = tt;
     gone = none_gone flow left;
     inbox = inl (sym (all_left left));
     outbox = inl refl;

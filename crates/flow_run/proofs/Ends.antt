@@ -15,6 +15,7 @@ module _ (law : ReplayOfOneMore) (stays : StepsStayValid) (loses : StepsLoseName
         reached = reached;
         ran = on.ran;
         acked = inl (acknowledged-all journal (moment first + 1) (moment new) (moment new) on.all on.ran.in_order (omega arith));
+        first = on.first;
         gone = on.gone;
         inbox = inl on.lies;
         outbox = inl on.stands;
@@ -29,6 +30,7 @@ module _ (law : ReplayOfOneMore) (stays : StepsStayValid) (loses : StepsLoseName
         reached = reached;
         ran = on.ran;
         acked = inl (acknowledged-all journal (moment first + 1) (moment new) (moment new) on.all on.ran.in_order (omega arith));
+        first = on.first;
         gone = on.gone;
         inbox = inl on.lies;
         outbox = inl on.stands;
@@ -43,6 +45,7 @@ module _ (law : ReplayOfOneMore) (stays : StepsStayValid) (loses : StepsLoseName
         reached = reached;
         ran = on.ran;
         acked = inl (acknowledged-all journal (moment first + 1) (moment new) (moment new) on.all on.ran.in_order (omega arith));
+        first = on.first;
         gone = on.gone;
         inbox = inl on.lies;
         outbox = inl on.stands;

@@ -11,13 +11,14 @@ use Rattle.machine_model.specs.State.{Machine}
 use Rattle.machine_model.specs.Stepping.{step}
 use Rattle.machine_model.specs.Valid.{IsValid}
 use Rattle.flow_run.specs.Going.{IsBetween, IsRunningAt, IsStepped}
-use Rattle.flow_run.specs.Journal.{files_left}
+use Rattle.machine_model.specs.Acknowledged.{steps}
+use Rattle.flow_run.specs.Journal.{EachTakesFirst, files_left, TakesFirst}
 use Rattle.flow_run.specs.Laws.{DiskFaultsEnd, FaultsEnd, InboxFaultsEnd, OutboxFaultsEnd, SparedRunsGoOn, SteppedRunsGoOn}
 use Rattle.flow_run.specs.Run.{HasRun, IsGoneByEntry, IsLeftOver, Replays}
 use Rattle.flow_run.specs.declared.ended.Ended.TheVariants as ending
 use Rattle.flow_run.specs.declared.ended.Fault.TheVariants as fault
 use Rattle.flow_run.proofs.Gone.{gone_without, still_gone}
-use Rattle.flow_run.proofs.Journals.{acknowledged-all, acknowledged-open, all-append, step_acked, step_none, step_open}
+use Rattle.flow_run.proofs.Journals.{acknowledged-all, acknowledged-open, all-append, step_acked, one_more_first, step_none, step_open}
 use Rattle.flow_run.proofs.Left.{one_taken, other_steps, step_takes, takes_cases, takes_one}
 
 next_valid : StepsStayValid → (flow : Flow) (m after : Machine) (one : Step) → IsValid flow m.state → step flow m one ≡ Some after → IsValid flow after.state
@@ -30,6 +31,7 @@ module _ (law : ReplayOfOneMore) (stays : StepsStayValid) (loses : StepsLoseName
   spared flow lot opened reached first old new journal left standing run since = record {
     ran = step_none law flow moment images lot first old new opened reached reached journal run.ran run.all since;
     all = run.all;
+    first = run.first;
     gone = run.gone;
     valid = run.valid;
     holds = λ c there. since.each (moment new) c since.later (omega arith) there;
@@ -38,7 +40,10 @@ module _ (law : ReplayOfOneMore) (stays : StepsStayValid) (loses : StepsLoseName
   }
 
   module _ (flow : Flow) (lot : ℕ) (opened reached after : Machine) (first old new : D) (journal : List Entry) (one : Step) (left : List NamedFile) (standing : List ℕ → Option (List ℕ))
-      (run : IsRunningAt flow moment images lot opened first old journal reached left standing) (goes : step flow reached one ≡ Some after) where
+      (run : IsRunningAt flow moment images lot opened first old journal reached left standing) (goes : step flow reached one ≡ Some after) (takes_first : TakesFirst flow reached one) where
+    all_first : (entry : Entry) → entry.step ≡ one → EachTakesFirst flow opened (steps (journal ++ entry ∷ []))
+    all_first entry is = one_more_first flow opened reached journal entry run.first run.ran.replays (subst (λ (s : Step). TakesFirst flow reached s) (sym is) takes_first)
+
     -- ---- a step that is acknowledged
 
     module _ (stepped : IsStepped flow moment images lot reached after old new) where
@@ -65,6 +70,7 @@ module _ (law : ReplayOfOneMore) (stays : StepsStayValid) (loses : StepsLoseName
       stepped_on now_left now_standing lies stands = record {
         ran = acked_ran;
         all = all-append journal entry_acked run.all refl;
+        first = all_first entry_acked refl;
         gone = acked_gone now_left lies;
         valid = next_valid stays flow reached after one run.valid goes;
         holds = stepped.done;
@@ -98,6 +104,7 @@ module _ (law : ReplayOfOneMore) (stays : StepsStayValid) (loses : StepsLoseName
           reached = after;
           ran = acked_ran;
           acked = inl (acknowledged-all (journal ++ entry_acked ∷ []) (moment first + 1) (moment new) (moment new) (all-append journal entry_acked run.all refl) acked_ran.in_order (omega arith));
+          first = all_first entry_acked refl;
           gone = ⊎_elim
               (λ (same : now_left ≡ left). subst (λ (l : List NamedFile). IsGoneByEntry flow opened.world.inbox l (journal ++ entry_acked ∷ [])) (sym same) (still_gone flow opened.world.inbox left journal entry_acked run.gone))
               (λ (removed : now_left ≡ without name left). acked_gone now_left (removed_is now_left removed))
@@ -143,6 +150,7 @@ module _ (law : ReplayOfOneMore) (stays : StepsStayValid) (loses : StepsLoseName
         reached = after;
         ran = open_ran;
         acked = inr (refl, acknowledged-open journal one (moment first + 1) (moment old) (moment new) run.all run.ran.in_order since.later);
+        first = all_first entry_open refl;
         gone = still_gone flow opened.world.inbox left journal entry_open run.gone;
         inbox = open_inbox;
         outbox = inl stands;
@@ -150,17 +158,17 @@ module _ (law : ReplayOfOneMore) (stays : StepsStayValid) (loses : StepsLoseName
       }
 
   pub steps_go_on : SteppedRunsGoOn moment images
-  steps_go_on flow lot opened reached after first old new journal one left now_left standing now_standing run goes stepped lies stands =
-      stepped_on flow lot opened reached after first old new journal one left standing run goes stepped now_left now_standing lies stands
+  steps_go_on flow lot opened reached after first old new journal one left now_left standing now_standing run goes is_first stepped lies stands =
+      stepped_on flow lot opened reached after first old new journal one left standing run goes is_first stepped now_left now_standing lies stands
 
   module _ (tells : Bool) (held : D → Files) where
     pub disk_faults : DiskFaultsEnd tells held moment images
-    disk_faults flow lot time opened reached after first old new journal one left standing now_standing run goes since stands =
-        stopped_within flow lot opened reached after first old new journal one left standing run goes since tells held time now_standing stands
+    disk_faults flow lot time opened reached after first old new journal one left standing now_standing run goes is_first since stands =
+        stopped_within flow lot opened reached after first old new journal one left standing run goes is_first since tells held time now_standing stands
 
     pub inbox_faults : InboxFaultsEnd tells held moment images
-    inbox_faults flow lot time opened reached after first old new journal one name left now_left standing now_standing run goes stepped takes either stands =
-        unremoved flow lot opened reached after first old new journal one left standing run goes stepped tells held time name (one_taken flow one name takes) now_left now_standing either stands
+    inbox_faults flow lot time opened reached after first old new journal one name left now_left standing now_standing run goes is_first stepped takes either stands =
+        unremoved flow lot opened reached after first old new journal one left standing run goes is_first stepped tells held time name (one_taken flow one name takes) now_left now_standing either stands
 
     pub faults : FaultsEnd tells held moment images
     faults flow lot time opened reached first old new journal left standing cause run since =
@@ -170,6 +178,7 @@ module _ (law : ReplayOfOneMore) (stays : StepsStayValid) (loses : StepsLoseName
           reached = reached;
           ran = on.ran;
           acked = inl (acknowledged-all journal (moment first + 1) (moment new) (moment new) on.all on.ran.in_order (omega arith));
+          first = on.first;
           gone = on.gone;
           inbox = inl on.lies;
           outbox = inl on.stands;
@@ -184,6 +193,7 @@ module _ (law : ReplayOfOneMore) (stays : StepsStayValid) (loses : StepsLoseName
           reached = reached;
           ran = on.ran;
           acked = inl (acknowledged-all journal (moment first + 1) (moment new) (moment new) on.all on.ran.in_order (omega arith));
+          first = on.first;
           gone = on.gone;
           inbox = inl on.lies;
           outbox = inr (record {

@@ -8,7 +8,7 @@ use Rattle.machine_model.specs.declared.flow.Flow.{Flow}
 use Rattle.flow_run.specs.declared.ended.Ended.{Ended}
 use Rattle.flow_run.specs.declared.ended.Ended.TheVariants as ending
 use Rattle.flow_run.specs.declared.ended.Fault.TheVariants as fault
-use Rattle.flow_run.specs.Work.{IsEndedByLimit}
+use Rattle.flow_run.specs.Work.{IsEndedByLimit, IsShortOn}
 
 -- the journal has as many entries as it may
 abbrev pub journal_full : (most : ℕ) → Limit
@@ -19,6 +19,12 @@ abbrev pub IsLimitMet : {D : Type 0} → Flow → (tells : Bool) → (D → File
     → (lot start most : ℕ) → Limit → (new : D) → Type 0
 IsLimitMet flow tells held moment images lot start most limit new =
     IsEndedByLimit flow tells held moment images lot start limit new ⊎ (limit ≡ journal_full most)
+
+-- Where nothing was left to do, or all of it was held back, the log is short: checkpoints were made.
+abbrev pub EndsShort : {D : Type 0} → (D → ℕ) → (D → ℕ → Files → Type 0) → (checkpoint : ℕ) → Ended → (new : D)
+    → Type 0
+EndsShort moment images checkpoint ended new =
+    (ended ≡ ending.Quiet) ⊎ ((place : ℕ) × (ended ≡ ending.Blocked place)) → IsShortOn moment images checkpoint new
 
 -- A device's fault count never falls, and its fault ends a run only where the count rose, or stands at its type's end.
 pub record EndsOnFaults (ended : Ended) (disk_old disk_new inbox_old inbox_new outbox_old outbox_new : ℕ) : Type 0 where

@@ -8,16 +8,18 @@ use Rattle.machine_model.specs.declared.flow.Flow.{Flow}
 use Rattle.machine_model.specs.declared.journal.Entry.{Entry}
 use Rattle.machine_model.specs.State.{Machine}
 use Rattle.machine_model.specs.Valid.{IsValid}
-use Rattle.flow_run.specs.Journal.{files_left, IsAcknowledged}
+use Rattle.machine_model.specs.Acknowledged.{steps}
+use Rattle.flow_run.specs.Journal.{files_left, EachTakesFirst, IsAcknowledged}
 use Rattle.flow_run.specs.Run.{IsGoneByEntry, Replays, StandsFor}
 
--- Each entry of the journal is acknowledged, and store, inbox and outbox are those of the whole journal, which leads to
--- this machine.
+-- Each entry of the journal is acknowledged, each GetFile took the first file that it might, and store, inbox and
+-- outbox are those of the whole journal, which leads to this machine.
 pub record IsRunningAt {D : Type 0} (flow : Flow) (moment : D → ℕ) (images : D → ℕ → Files → Type 0) (lot : ℕ)
     (opened : Machine) (old now : D) (journal : List Entry) (reached : Machine) (left : List NamedFile)
     (standing : List ℕ → Option (List ℕ)) : Type 0 where
   pub ran : Replays flow moment images lot opened journal reached old now
   pub all : IsAcknowledged journal
+  pub first : EachTakesFirst flow opened (steps journal)
   pub gone : IsGoneByEntry flow opened.world.inbox left journal
   pub valid : IsValid flow reached.state
   pub holds : InEach (images now (moment now)) (StandsFor flow lot reached)

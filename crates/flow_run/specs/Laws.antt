@@ -27,7 +27,7 @@ use Rattle.store_core.specs.State.{stands_for}
 use Rattle.store_core.specs.Store.{Holds, StoreState, kept_by}
 use Rattle.engine_core.specs.Committing.{identity_of}
 use Rattle.flow_run.specs.Going.{IsBetween, IsRunningAt, IsSpared, IsStepped}
-use Rattle.flow_run.specs.Journal.{files_left, Takes}
+use Rattle.flow_run.specs.Journal.{files_left, Takes, TakesFirst}
 use Rattle.flow_run.specs.Run.{HasRun, IsAtLimit, IsStateOf, IsTidied, StandsFor, machine_at}
 use Rattle.flow_run.specs.declared.ended.Ended.TheVariants as ending
 use Rattle.flow_run.specs.declared.ended.Fault.{Fault}
@@ -71,7 +71,8 @@ SteppedRunsGoOn {D} moment images = (flow : Flow) (lot : ℕ) (opened reached af
     (journal : List Entry) (one : Step) (left now_left : List NamedFile)
     (standing now_standing : List ℕ → Option (List ℕ))
     → IsRunningAt flow moment images lot opened first old journal reached left standing
-    → step flow reached one ≡ Some after → IsStepped flow moment images lot reached after old new
+    → step flow reached one ≡ Some after → TakesFirst flow reached one
+    → IsStepped flow moment images lot reached after old new
     → now_left ≡ files_left after.world → now_standing ≡ after.world.outbox
     → IsRunningAt flow moment images lot opened first new
     (journal ++ record { step = one; acked = Some (moment new) } ∷ [])
@@ -101,7 +102,8 @@ DiskFaultsEnd {D} tells held moment images = (flow : Flow) (lot time : ℕ) (ope
     (first old new : D) (journal : List Entry) (one : Step) (left : List NamedFile)
     (standing now_standing : List ℕ → Option (List ℕ))
     → IsRunningAt flow moment images lot opened first old journal reached left standing
-    → step flow reached one ≡ Some after → IsBetween flow moment images lot reached after old new
+    → step flow reached one ≡ Some after → TakesFirst flow reached one
+    → IsBetween flow moment images lot reached after old new
     → now_standing ≡ after.world.outbox
     → HasRun flow (ending.Fault fault.Disk) time tells held moment images lot opened first new left now_standing
 
@@ -124,8 +126,9 @@ InboxFaultsEnd {D} tells held moment images = (flow : Flow) (lot time : ℕ) (op
     (first old new : D) (journal : List Entry) (one : Step) (name : List ℕ) (left now_left : List NamedFile)
     (standing now_standing : List ℕ → Option (List ℕ))
     → IsRunningAt flow moment images lot opened first old journal reached left standing
-    → step flow reached one ≡ Some after → IsStepped flow moment images lot reached after old new
-    → Takes flow one name → (now_left ≡ left) ⊎ (now_left ≡ without name left)
+    → step flow reached one ≡ Some after → TakesFirst flow reached one
+    → IsStepped flow moment images lot reached after old new → Takes flow one name
+    → (now_left ≡ left) ⊎ (now_left ≡ without name left)
     → now_standing ≡ after.world.outbox
     → HasRun flow (ending.Fault fault.Inbox) time tells held moment images lot opened first new now_left now_standing
 

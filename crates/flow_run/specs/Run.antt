@@ -25,7 +25,7 @@ use Rattle.store_core.specs.Kept.{kept_in}
 use Rattle.store_core.specs.State.{stands_for, state_with}
 use Rattle.store_core.specs.Store.{StoreState, kept_by, IsKeptOn, IsTidy}
 use Rattle.engine_core.specs.Committing.{AreEventsUpTo, identity_of}
-use Rattle.flow_run.specs.Journal.{files_left, Takes, WasGot}
+use Rattle.flow_run.specs.Journal.{EachTakesFirst, files_left, Takes, WasGot}
 use Rattle.flow_run.specs.declared.ended.Ended.{Ended}
 use Rattle.flow_run.specs.declared.ended.Ended.TheVariants as ending
 use Rattle.flow_run.specs.declared.ended.Fault.TheVariants as fault
@@ -180,7 +180,8 @@ EndsSo flow (ending.Limit limit) time tells held moment images lot journal reach
 EndsSo flow (ending.Fault cause) time tells held moment images lot journal reached new = ⊤
 
 -- However it ended, and at whatever time of the clock: a journal tells what the run did to disk, inbox and outbox.
--- Inbox and outbox are those of the whole journal, but for the one file at which a device failed.
+-- Each GetFile took the first file that it might. Inbox and outbox are those of the whole journal, but for the one file
+-- at which a device failed.
 pub record HasRun {D : Type 0} (flow : Flow) (ended : Ended) (time : ℕ) (tells : Bool) (held : D → Files)
     (moment : D → ℕ) (images : D → ℕ → Files → Type 0) (lot : ℕ) (opened : Machine) (old new : D)
     (left : List NamedFile) (standing : List ℕ → Option (List ℕ)) : Type 0 where
@@ -188,6 +189,7 @@ pub record HasRun {D : Type 0} (flow : Flow) (ended : Ended) (time : ℕ) (tells
   pub reached : Machine
   pub ran : Replays flow moment images lot opened journal reached old new
   pub acked : IsAckedBy (moment new) ended journal
+  pub first : EachTakesFirst flow opened (steps journal)
   pub gone : IsGoneByEntry flow opened.world.inbox left journal
   pub inbox : (left ≡ files_left reached.world) ⊎ IsLeftOver flow ended opened journal left
   pub outbox : (standing ≡ reached.world.outbox) ⊎ IsStoppedAtPut ended reached standing

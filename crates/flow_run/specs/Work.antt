@@ -1,14 +1,16 @@
 -- A store at work for a flow, and what its calls leave on any disk.
-use Rattle.std.specs.Prelude.{◌≡◌, ◌⊎◌, ℕ, ◌≤◌, ◌<◌, Bool, false, IsTrue, Contains, Option, Some}
+use Rattle.std.specs.Prelude.{◌≡◌, ◌⊎◌, ℕ, ◌≤◌, ◌<◌, Bool, false, IsTrue, Contains, [], length, Option, Some, Ok}
 use Rattle.disk_trait.specs.Files.{Files}
-use Rattle.disk_trait.specs.Faults.{CountsFaults}
 use Rattle.disk_trait.specs.Images.{After, Since, Stays}
 use Rattle.disk_trait.specs.declared.file_name.FileKind.TheVariants.{Claim, Events, Log, Snapshot}
 use Rattle.disk_trait.specs.declared.file_name.FileName.{FileName}
 use Rattle.flowfile_record.specs.declared.change.Settled.{Settled}
 use Rattle.flowfile_record.specs.declared.content.ContentRef.{ContentRef}
+use Rattle.flowfile_wal.specs.Calls.{InEach}
+use Rattle.flowfile_wal.specs.Current.{CurrentLog, current_log}
 use Rattle.kept_state.specs.declared.limit.Limit.{Limit}
 use Rattle.machine_model.specs.declared.flow.Flow.{Flow}
+use Rattle.machine_model.specs.Due.{is_checkpoint_due}
 use Rattle.store_core.specs.Change.{MayChange, IsLimitOf}
 use Rattle.store_core.specs.Flow.{flow_in}
 use Rattle.store_core.specs.Store.{StoreState, kept_by, live_in, IsKeptOn}
@@ -51,6 +53,19 @@ pub record WritesFrom (log : Option ℕ) (old new : Files) : Type 0 where
 abbrev pub WritesLog : {D : Type 0} → (D → ℕ) → (D → ℕ → Files → Type 0) → (log : Option ℕ) → (old new : D) → Type 0
 WritesLog moment images log old new =
     Since moment images old new (After (WritesFrom log) (images old (moment old)))
+
+-- ---- how long the log is
+
+-- No checkpoint is due of the current log, or it has just begun: it has fewer entries than `checkpoint`, or none, or no
+-- other log can follow it.
+pub record HasShortLog (checkpoint : ℕ) (files : Files) : Type 0 where
+  pub log : CurrentLog
+  pub current : current_log files ≡ Ok (Some log)
+  pub short : (log.entries ≡ []) ⊎ (is_checkpoint_due checkpoint (length log.entries) log.number ≡ false)
+
+-- so of whatever a stop leaves now
+abbrev pub IsShortOn : {D : Type 0} → (D → ℕ) → (D → ℕ → Files → Type 0) → (checkpoint : ℕ) → (disk : D) → Type 0
+IsShortOn moment images checkpoint disk = InEach (images disk (moment disk)) (HasShortLog checkpoint)
 
 -- ---- why a run ends
 

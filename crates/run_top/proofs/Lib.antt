@@ -4,6 +4,7 @@ pub mod Built
 pub mod Opened
 pub mod Over
 pub mod Reading
+pub mod Short
 pub mod Started
 pub mod Statuses
 pub mod Texts

@@ -15,12 +15,12 @@ use Rattle.store_core.specs.Opened.{SameMeaning}
 use Rattle.store_core.specs.Touched.{IsOfLog, OnlyShortens, log_opened}
 use Rattle.flow_run.specs.Ending.{IsLimitMet}
 use Rattle.flow_run.specs.Run.{HasRun}
-use Rattle.flow_run.specs.Work.{IsReadDamaged, MayWriteFrom}
+use Rattle.flow_run.specs.Work.{IsReadDamaged, IsShortOn, MayWriteFrom}
 use Rattle.flow_run.specs.declared.ended.Ended.{Ended}
 use Rattle.run_top.specs.Opening.{IsShutStatus, IsToldBy}
 use Rattle.run_top.specs.Status.{status_of_end}
 use Rattle.run_top.specs.Text.{IsFlowIn, IsRead, IsRefused}
-use Rattle.run_top.specs.declared.status.TheConstants.{FLOW_REFUSED, DISK_FAULT, INBOX_FAULT, OUTBOX_FAULT, SOURCE_FAULT, OUT_OF_MEMORY}
+use Rattle.run_top.specs.declared.status.TheConstants.{BLOCKED, DONE, FLOW_REFUSED, DISK_FAULT, INBOX_FAULT, OUTBOX_FAULT, SOURCE_FAULT, OUT_OF_MEMORY}
 
 -- ---- a flow has run
 
@@ -93,6 +93,13 @@ MayWrite files f = IsOfLog (current_number files) f ⊎ MayWriteFrom (Some (log_
 -- shorter
 abbrev pub WritesAlone : {D : Type 0} → (D → ℕ) → (D → ℕ → Files → Type 0) → Files → (old new : D) → Type 0
 WritesAlone moment images files old new = SinceSync moment images old new (OnlyShortens (MayWrite files) files)
+
+-- where nothing was left to do, or all of it was held back, checkpoints were made: whatever a stop may leave has a
+-- short log
+abbrev pub EndsShort : {D : Type 0} → (status : ℕ) → (D → ℕ) → (D → ℕ → Files → Type 0) → (checkpoint : ℕ) → (new : D)
+    → Type 0
+EndsShort status moment images checkpoint new =
+    (status ≡ DONE) ⊎ (status ≡ BLOCKED) → IsShortOn moment images checkpoint new
 
 -- a live content was read behind the opening's first sync, and that told damage
 pub record IsToldByRead {D : Type 0} (flow : Flow) (tells : Bool) (held : D → Files) (moment : D → ℕ)

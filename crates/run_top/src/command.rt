@@ -11,7 +11,7 @@ ghost use Rattle.flow_definition.specs.Patterns.{HasRisen};
 ghost use Rattle.flow_run.specs.Run.{machine_at};
 ghost use Rattle.flow_engine.specs.Engine.{AreBuilt};
 ghost use Rattle.run_top.specs.Opening.{IsOfFlow};
-ghost use Rattle.run_top.specs.Run.{CountsEachFault, EndsWith, HasRunText, IsLeftShut, IsLimited, IsNotOpened, IsNotRead, IsToldByRead, IsToldShut, IsUntouched, WritesAlone};
+ghost use Rattle.run_top.specs.Run.{CountsEachFault, EndsShort, EndsWith, HasRunText, IsLeftShut, IsLimited, IsNotOpened, IsNotRead, IsToldByRead, IsToldShut, IsUntouched, WritesAlone};
 ghost use Rattle.run_top.specs.Status.{status_at};
 ghost use Rattle.run_top.specs.Text.{IsBroken, IsFlowIn, IsRead, IsRefused};
 ghost use Rattle.run_top.specs.Words.{is_run};
@@ -93,6 +93,9 @@ pub fn run<R, D: Disk, I: Inbox, O: Outbox, F: Source, P: Patterns, S: Sink, C: 
         ⊎ IsNotRead result (HasRisen (P.faults patterns.old) (P.faults patterns.new)) F.tells (F.rest flow.old)
         disk.old disk.new inbox.old inbox.new outbox.old outbox.new }
 
+    // With 0 and 10 the log has fewer entries than it takes to make a checkpoint, or no other log can follow it.
+    ensures checkpointed { EndsShort result D.moment D.images CHECKPOINT_ENTRIES disk.new }
+
     // Each status has its cause.
     ensures usage { result ≡ USAGE ↔ (is_run words.now ≡ false) }
     ensures usage_untouched { result ≡ USAGE
@@ -150,8 +153,8 @@ pub fn are_run(words: &[String]) -> bool
     }
 }
 
-// Opens the store of a flow, and runs the flow over it, with a checkpoint where the log has `checkpoint` entries.
-fn run_over<D: Disk, I: Inbox, O: Outbox, C: Clock>(
+/// Opens the store of a flow, and runs the flow over it, with a checkpoint where the log has `checkpoint` entries.
+pub fn run_over<D: Disk, I: Inbox, O: Outbox, C: Clock>(
     alloc: Global,
     flow: &Flow,
     lot: u64,
@@ -177,6 +180,7 @@ fn run_over<D: Disk, I: Inbox, O: Outbox, C: Clock>(
     ensures alone { WritesAlone D.moment D.images (D.held disk.old) disk.old disk.new
         ⊎ IsNotOpened (status_at result) D.moment D.images disk.old disk.new
         inbox.old inbox.new outbox.old outbox.new }
+    ensures checkpointed { EndsShort (status_at result) D.moment D.images checkpoint disk.new }
     ensures refused { status_at result ≡ FLOW_REFUSED
         → IsToldShut (identity_of flow.now) (status_at result) D.tells D.held D.moment lot
         disk.old disk.new inbox.old inbox.new outbox.old outbox.new }

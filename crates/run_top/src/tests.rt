@@ -1,8 +1,16 @@
 //! A run over devices in memory, stopped at every moment and begun anew.
+ghost use Rattle.flowfile_record.specs.Encoding.{IsDigest};
+ghost use Rattle.machine_model.specs.Sound.{IsSound};
+
 use super::*;
+use crate::command::run_over;
+use crate::opening::open;
+use crate::text::read;
 use disk_trait::{Disk, MemoryDisk, Pick};
 use flow_definition::Builder;
+use flow_run::Ended;
 use flowfile_record::{Event, EventKind};
+use machine_model::Flow;
 use prov_store::Events;
 use sha2::{Digest, Sha256};
 use std::alloc::Global;
@@ -26,6 +34,9 @@ const FLOW: &str = r#"{
     { "id": "arrived", "from": "get", "to": "put", "relationships": ["success"] }
   ]
 }"#;
+
+// What a stop leaves of what wasn't synced.
+const PICKS: [Pick; 4] = [Pick::Old, Pick::New, Pick::Torn(1), Pick::Torn(0x5a5a)];
 
 // Where the file `a.txt` stands when a run begins.
 #[derive(Clone, Copy)]
@@ -145,6 +156,136 @@ fn runs_again(alloc: Global, disk: &MemoryDisk, pick: Pick) -> Result<u32, Fail>
     Ok(runs)
 }
 
+// A flow that makes some files, which go through one after the other, by two entries each. In front of and behind how
+// many it makes:
+const BEAT: [&str; 2] = [
+    r#"{"processors": [
+        {"id": "beat", "type": "GenerateFlowFile", "properties": {"Custom Text": "x", "Count": ""#,
+    r#""}},
+        {"id": "put", "type": "PutFile", "terminated": ["success", "failure"]}
+    ], "connections": [{"id": "made", "from": "beat", "to": "put", "relationships": ["success"]}]}"#,
+];
+
+// A run that makes a checkpoint wherever its log has so many entries: how many files its flow makes, two checkpoints in
+// a row, each by the moment in front of it and how many files went through by then, and the last log.
+#[derive(Clone, Copy)]
+struct LoggedRun {
+    entries: u64,
+    files: u64,
+    checkpoints: [(u64, u64); 2],
+    last_log: u64,
+}
+
+// 10 calls make the store, 2 open it anew, and the two sessions of a file make 11.
+const LOGGED_RUNS: [LoggedRun; 2] = [
+    LoggedRun {
+        entries: 2,
+        files: 4,
+        checkpoints: [(44, 2), (65, 3)],
+        last_log: 5,
+    },
+    LoggedRun {
+        entries: 20,
+        files: 20,
+        checkpoints: [(122, 10), (242, 20)],
+        last_log: 3,
+    },
+];
+
+// The calls of a checkpoint: two write the snapshot, six begin the log, and two cut those of before.
+const CHECKPOINT_CALLS: u64 = 10;
+
+// Opens the store, which so many files went through: none waits, and each event of theirs is told once. The number of
+// its log, and how many entries that has.
+fn log_behind(
+    alloc: Global,
+    disk: &mut MemoryDisk,
+    flow: &Flow,
+    files: u64,
+) -> Result<(u64, u64), Fail>
+    requires sound { IsSound flow.now }
+    requires digest { IsDigest flow.now.digest }
+{
+    let Ok(store) = open(alloc, 0, disk, flow) else {
+        return Err("a store that can't be opened")?;
+    };
+    let kept = store.state();
+    let counts = [files, 0];
+    if !kept.files.is_empty() || kept.counts.as_slice() != counts.as_slice() {
+        return Err("a store of another state")?;
+    }
+    if store.event_counts().counts != [files, 0, 0, 0, 0, 0, 0, 0, files, files, 0, 0] {
+        return Err("events that aren't those of the files")?;
+    }
+    Ok((store.log_number(), store.log_entries()))
+}
+
+// Opens the store of a run, which so many files went through, and has the flow run on to its end. The last log has no
+// entries then.
+fn runs_on(alloc: Global, disk: &mut MemoryDisk, run: LoggedRun, gone: u64) -> Result<(), Fail> {
+    let [head, tail] = BEAT;
+    let text = format!(in alloc; "{head}{}{tail}", run.files)?;
+    let mut source = MemorySource::new(text.into_bytes(), Vec::new(alloc));
+    let mut patterns = Builder::new(Vec::new(alloc));
+    let Ok(flow) = read(alloc, &mut source, &mut patterns) else {
+        return Err("a text that is no flow")?;
+    };
+    log_behind(alloc, disk, &flow, gone)?;
+    let mut inbox = MemoryInbox::new(Vec::new(alloc), Vec::new(alloc));
+    let mut outbox = MemoryOutbox::new(Vec::new(alloc), Vec::new(alloc));
+    let mut clock = MemoryClock::new(1000, 0);
+    let ended = run_over(
+        alloc,
+        &flow,
+        0,
+        run.entries,
+        disk,
+        &mut inbox,
+        &mut outbox,
+        &mut clock,
+    );
+    let delivered = outbox.count() as u64;
+    if !matches!(ended, Ok(Ended::Quiet)) || delivered != run.files.saturating_sub(gone) {
+        return Err("a run that doesn't deliver the rest")?;
+    }
+    if log_behind(alloc, disk, &flow, run.files)? != (run.last_log, 0) {
+        return Err("a run with another last log")?;
+    }
+    Ok(())
+}
+
+// Stops a run at each moment from in front of a checkpoint to behind it, and runs on.
+fn stops_within(
+    alloc: Global,
+    disk: &MemoryDisk,
+    pick: Pick,
+    run: LoggedRun,
+    checkpoint: (u64, u64),
+) -> Result<(), Fail> {
+    let (first, gone) = checkpoint;
+    let last = first.saturating_add(CHECKPOINT_CALLS);
+    if last > disk.moment() {
+        return Err("a run without the checkpoint")?;
+    }
+    for moment in first..=last {
+        let mut left = disk.stopped(moment, pick)?;
+        runs_on(alloc, &mut left, run, gone)?;
+    }
+    Ok(())
+}
+
+// Makes a run, and stops it within each of its checkpoints.
+fn goes_by_logs(alloc: Global, run: LoggedRun) -> Result<(), Fail> {
+    let mut disk = MemoryDisk::new(Vec::new(alloc));
+    runs_on(alloc, &mut disk, run, 0)?;
+    for pick in PICKS {
+        for checkpoint in run.checkpoints {
+            stops_within(alloc, &disk, pick, run, checkpoint)?;
+        }
+    }
+    Ok(())
+}
+
 #[test]
 fn wherever_a_run_stops_the_next_one_delivers_the_file(rt: HostRuntime) -> Result<(), Fail> {
     let alloc = rt.alloc();
@@ -156,8 +297,11 @@ fn wherever_a_run_stops_the_next_one_delivers_the_file(rt: HostRuntime) -> Resul
     assert!(rt; tells(&events[0], EventKind::Receive, "get", "a.txt"));
     assert!(rt; tells(&events[1], EventKind::Send, "put", "a.txt"));
     assert!(rt; tells(&events[2], EventKind::Drop, "put", "success"));
-    for pick in [Pick::Old, Pick::New, Pick::Torn(1), Pick::Torn(0x5a5a)] {
+    for pick in PICKS {
         assert_eq!(rt; runs_again(alloc, &disk, pick)?, 26);
+    }
+    for run in LOGGED_RUNS {
+        goes_by_logs(alloc, run)?;
     }
     Ok(())
 }

@@ -14,6 +14,7 @@ use Rattle.flow_engine.specs.declared.error.EngineError.{EngineError}
 use Rattle.flow_engine.specs.declared.error.EngineError.TheVariants.{Damaged, Limit}
 use Rattle.flow_engine.proofs.Closing.{begun, by_damage, closes_blocked, closes_limited, closes_quiet, ends_on_faults, limit_met, limit_of, no_limit_faults, not_opened, run_of, works_on}
 use Rattle.flow_engine.proofs.Turning.{IsNoLimit, damaged_by, each_counts_after, has_run}
+use Rattle.flow_engine.proofs.Short.{ends_by_error, ends_by_limit, ends_short}
 use Rattle.flow_run.proofs.Writing.{same_log, writes_in_turn, writes_none, writes_on}
 use Rattle.flow_engine.proofs.Writes.{writes_by_close}
 use Rattle.flow_engine.proofs.run.run_flow.Goals as goal
@@ -25,6 +26,10 @@ returns-in-Err-clause-headline g c telling in_telling out_telling state first ru
     let standing = g.O.Outbox.standing c.args.outbox.now in
     not_opened D.tells D.held D.moment D.images c.faults_end_a_run.ensures.between c.args.flow.now c.args.store.lot (g.C.Clock.time c.args.clock.now) (machine_at state left standing) first c.args.disk.now left (g.I.Inbox.left c.open.new.inbox) standing
     c.in-Err.error c.ended.result c.in-Err.ensures.kinds c.ended.ensures c.open.ensures.left run
+
+pub returns-in-Err-clause-checkpointed : goal.returns-in-Err-clause-checkpointed
+returns-in-Err-clause-checkpointed g c =
+    ends_by_error g.D.Disk.moment g.D.Disk.images c.args.checkpoint c.in-Err.error c.ended.result c.args.disk.now c.ended.ensures
 
 pub returns-in-Ok-Blocked-clause-headline : goal.returns-in-Ok-Blocked-clause-headline
 returns-in-Ok-Blocked-clause-headline g c telling in_telling out_telling state first run =
@@ -44,6 +49,11 @@ returns-in-Ok-Blocked-clause-headline g c telling in_telling out_telling state f
     c.engine.inside.store (ap (λ (t : EngineState). t.store) c.engine.view_is) (c.in-Ok-Blocked.ensures.work.flow_is ∙ ap identity_of (sym c.drive.ensures.same.flow)) opened first c.drive.new.disk c.close.new.disk
     (g.I.Inbox.left c.drive.new.inbox) (g.O.Outbox.standing c.drive.new.outbox) (g.C.Clock.time c.drive.new.clock) c.close.result c.close.ensures.states (laws.held_is_left c.close.new.disk telling)
     c.run_ends.ensures.blocked c.in-Ok-Blocked.connection end c.close.ensures.told c.close.ensures.tidied telling
+
+pub returns-in-Ok-Blocked-clause-checkpointed : goal.returns-in-Ok-Blocked-clause-checkpointed
+returns-in-Ok-Blocked-clause-checkpointed g c =
+    ends_short g.D.Disk.moment g.D.Disk.images c.args.checkpoint c.drive.new.self.checkpoint c.close.result c.drive.new.disk c.close.new.disk (c.drive.ensures.same.checkpoint ∙ c.in-Ok.ensures.checkpoint)
+    c.in-Ok-Blocked.ensures.short c.close.ensures.short
 
 pub returns-in-Ok-Blocked-clause-alone : goal.returns-in-Ok-Blocked-clause-alone
 returns-in-Ok-Blocked-clause-alone g c =
@@ -70,6 +80,11 @@ returns-in-Ok-Quiet-clause-headline g c telling in_telling out_telling state fir
     c.engine.inside.store (ap (λ (t : EngineState). t.store) c.engine.view_is) (c.in-Ok-Quiet.ensures.work.flow_is ∙ ap identity_of (sym c.drive.ensures.same.flow)) opened first c.drive.new.disk c.close-in-Ok-Quiet.new.disk
     (g.I.Inbox.left c.drive.new.inbox) (g.O.Outbox.standing c.drive.new.outbox) (g.C.Clock.time c.drive.new.clock) c.close-in-Ok-Quiet.result c.close-in-Ok-Quiet.ensures.states (laws.held_is_left c.close-in-Ok-Quiet.new.disk telling)
     c.run_ends.ensures.quiet end c.close-in-Ok-Quiet.ensures.told c.close-in-Ok-Quiet.ensures.tidied telling
+
+pub returns-in-Ok-Quiet-clause-checkpointed : goal.returns-in-Ok-Quiet-clause-checkpointed
+returns-in-Ok-Quiet-clause-checkpointed g c =
+    ends_short g.D.Disk.moment g.D.Disk.images c.args.checkpoint c.drive.new.self.checkpoint c.close-in-Ok-Quiet.result c.drive.new.disk c.close-in-Ok-Quiet.new.disk (c.drive.ensures.same.checkpoint ∙ c.in-Ok.ensures.checkpoint)
+    c.in-Ok-Quiet.ensures.short c.close-in-Ok-Quiet.ensures.short
 
 pub returns-in-Ok-Quiet-clause-alone : goal.returns-in-Ok-Quiet-clause-alone
 returns-in-Ok-Quiet-clause-alone g c =
@@ -116,6 +131,10 @@ returns-clause-headline g c telling in_telling out_telling state first run =
     (g.I.Inbox.left c.drive.new.inbox) (g.O.Outbox.standing c.drive.new.outbox) (g.C.Clock.time c.drive.new.clock) c.close-in-Err-drive.result c.close-in-Err-drive.ensures.states (laws.held_is_left c.close-in-Err-drive.new.disk telling)
     c.run_ends.ensures.limited limit stop c.close-in-Err-drive.ensures.told c.close-in-Err-drive.ensures.tidied telling
 
+pub returns-clause-checkpointed : goal.returns-clause-checkpointed
+returns-clause-checkpointed g c =
+    ends_by_limit g.D.Disk.moment g.D.Disk.images c.args.checkpoint c.in-Limit.limit c.close-in-Err-drive.result c.close-in-Err-drive.new.disk c.close-in-Err-drive.ensures.told
+
 pub returns-clause-alone : goal.returns-clause-alone
 returns-clause-alone g c =
     let D = g.D.Disk in
@@ -158,6 +177,7 @@ returns-in_default g c =
           (run_of c.args.flow.now e.flow (ended_by error) time D.tells D.held D.moment D.images c.args.store.lot e.store.lot opened first c.drive.new.disk now_left now_standing
           (c.drive.ensures.same.flow ∙ is.flow_is) (c.drive.ensures.same.lot ∙ ap (λ (t : StoreState). t.lot) is.store_is)
           (has_run D.tells D.held D.moment D.images e opened first c.drive.new.disk now_left now_standing error none stop time));
+      checkpointed = ends_by_error D.moment D.images c.args.checkpoint error end c.drive.new.disk so;
       alone =
           writes_on D.moment D.images c.args.store.log.number e0.store.log.number c.args.disk.now c.args.disk.now c.drive.new.disk (same_log c.args.store.log.number e0.store.log.number (ap (λ (t : StoreState). t.log.number) is.store_is))
           (writes_none D.moment D.images c.args.store.log.number c.args.disk.now) c.drive.ensures.alone;

@@ -4,7 +4,8 @@ use Rattle.std.proofs.lemmas.Result.{err_from_is_err_and}
 use Rattle.store_core.specs.declared.error.StoreError.{StoreError}
 use Rattle.flow_run.proofs.Writing.{next_log}
 use Rattle.flow_engine.specs.declared.error.EngineError.{EngineError}
-use Rattle.flow_engine.proofs.Tended.{memory_of, spares, writes_by_checkpoint}
+use Rattle.flow_engine.proofs.Short.{just_begun}
+use Rattle.flow_engine.proofs.Tended.{memory_of, spares, still_works, writes_by_checkpoint}
 use Rattle.flow_engine.proofs.tending.checkpoint.Goals as goal
 
 pub returns-in_err-checkpoint-clause-spared : goal.returns-in_err-checkpoint-clause-spared
@@ -33,3 +34,8 @@ returns-clause-log g c =
 pub returns-clause-alone : goal.returns-clause-alone
 returns-clause-alone g c =
     writes_by_checkpoint g.D.Disk.moment g.D.Disk.images c.args.store.now.log.number c.log_number-number.result c.args.disk.now c.checkpoint.new.disk c.log_number-number.ensures c.checkpoint.ensures.alone
+
+pub returns-clause-short : goal.returns-clause-short
+returns-clause-short g c checkpoint image left =
+    let works = still_works c.checkpoint.result c.args.store.now c.checkpoint.new.self (g.D.Disk.faults c.args.disk.now) (g.D.Disk.faults c.checkpoint.new.disk) _ c.in_ok-checkpoint.was c.requires.work.1.works c.checkpoint.ensures.refusal in
+    just_begun checkpoint c.checkpoint.new.self image ((c.in_ok-checkpoint.ensures.log c.log_number-number.result c.log_number-number.ensures).1) (c.checkpoint.ensures.kept.log works image left)

@@ -7,6 +7,7 @@ use Rattle.flow_run.specs.Run.{machine_at}
 use Rattle.run_top.specs.Run.{CountsEachFault, IsToldShut}
 use Rattle.run_top.specs.Text.{IsRefused}
 use Rattle.run_top.proofs.Built.{are_built, has_digest}
+use Rattle.run_top.proofs.Short.{is_status as short_at, not_begun}
 use Rattle.run_top.proofs.Statuses.{source_error}
 use Rattle.run_top.proofs.Whole.{IsOfText, alone_or, error_is_status, has_run, is_shut, is_status, isnt_usage, not_read, nothing_counts, of_one, of_text, shut_one}
 use Rattle.run_top.proofs.command.run.Goals as goal
@@ -30,6 +31,9 @@ returns-in-Ok-clause-broken g c told run broken = let fails = c.in-Ok.ensures.br
 
 pub returns-in-Ok-clause-alone : goal.returns-in-Ok-clause-alone
 returns-in-Ok-clause-alone g c run = alone_or g.D.Disk.moment g.D.Disk.images c.args.disk.now c.run_over.new.disk c.args.inbox.now c.run_over.new.inbox c.args.outbox.now c.run_over.new.outbox _ c.status_of_run.result c.status_of_run.ensures c.run_over.ensures.alone
+
+pub returns-in-Ok-clause-checkpointed : goal.returns-in-Ok-clause-checkpointed
+returns-in-Ok-clause-checkpointed g c = short_at g.D.Disk.moment g.D.Disk.images _ c.run_over.new.disk c.status_of_run.result _ c.status_of_run.ensures c.run_over.ensures.checkpointed
 
 pub returns-in-Ok-clause-usage_untouched : goal.returns-in-Ok-clause-usage_untouched
 returns-in-Ok-clause-usage_untouched g c is = absurd (isnt_usage c.run_over.result c.status_of_run.result c.status_of_run.ensures is)
@@ -92,6 +96,9 @@ pub returns-in-Err-clause-alone : goal.returns-in-Err-clause-alone
 returns-in-Err-clause-alone g c run =
     inr (inr (not_read (HasRisen (g.P.Patterns.faults c.args.patterns.now) (g.P.Patterns.faults c.read.new.patterns)) g.F.Source.tells (g.F.Source.rest c.args.flow.now) c.args.disk.now c.args.inbox.now c.args.outbox.now c.status.result
     (of_text c.in-Err.error c.status.result c.status.ensures c.in-Err.ensures.kinds (λ rule is. c.read.ensures.refused rule (c.in-Err.is ∙ ap Err is)))))
+
+pub returns-in-Err-clause-checkpointed : goal.returns-in-Err-clause-checkpointed
+returns-in-Err-clause-checkpointed g c = not_begun g.D.Disk.moment g.D.Disk.images _ c.args.disk.now c.status.result c.in-Err.error c.status.ensures
 
 pub returns-in-Err-clause-usage_untouched : goal.returns-in-Err-clause-usage_untouched
 returns-in-Err-clause-usage_untouched g c is =

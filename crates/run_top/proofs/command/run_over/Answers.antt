@@ -6,11 +6,12 @@ use Rattle.engine_core.specs.Committing.{identity_of}
 use Rattle.flow_run.specs.Run.{machine_at}
 use Rattle.flow_run.specs.declared.ended.Ended.{Ended}
 use Rattle.run_top.specs.Run.{CountsEachFault, EndsWith, IsLeftShut, IsLimited, IsNotOpened, IsToldByRead, IsToldShut}
-use Rattle.run_top.specs.Status.{status_at, status_of}
+use Rattle.run_top.specs.Status.{status_at, status_of, status_of_end}
 use Rattle.run_top.specs.declared.status.RunError.{RunError}
 use Rattle.run_top.specs.declared.status.TheConstants.{DAMAGED, FLOW_REFUSED}
 use Rattle.run_top.proofs.Opened.{not_opened}
 use Rattle.run_top.proofs.Over.{left_shut, limit_tells, ran_ends, read_tells, refused_counts, refused_ends, run_counts, told_by}
+use Rattle.run_top.proofs.Short.{has_ended, not_begun}
 use Rattle.run_top.proofs.Started.{starts}
 use Rattle.run_top.proofs.Statuses.{IsOfStore, damaged_error, no_end, of_end, refused_error, source_error}
 use Rattle.run_top.proofs.Writing.{opens_alone, runs_alone}
@@ -50,6 +51,13 @@ returns-in_err-store-clause-alone g c =
     (λ failed. inr (subst (λ (r : Result Ended RunError). IsNotOpened (status_at r) g.D.Disk.moment g.D.Disk.images c.args.disk.now c.open.new.disk c.args.inbox.now c.args.inbox.now c.args.outbox.now c.args.outbox.now) (sym fails)
     (not_opened g.D.Disk.moment g.D.Disk.images c.args.disk.now c.open.new.disk c.args.inbox.now c.args.outbox.now c.open.result error c.in_err-store.was failed)))
     c.open.ensures.alone
+
+pub returns-in_err-store-clause-checkpointed : goal.returns-in_err-store-clause-checkpointed
+returns-in_err-store-clause-checkpointed g c =
+    let error = c.in_err-store.field-0.0 in
+    let p = err_from_is_err_and c.from_residual.result c.from_residual.ensures.1 in
+    let fails : c.from_residual.result ≡ Err error = cc (p.1, p.2) in
+    not_begun g.D.Disk.moment g.D.Disk.images c.args.checkpoint c.open.new.disk (status_at c.from_residual.result) error (ap status_at fails)
 
 pub returns-in_err-store-clause-refused : goal.returns-in_err-store-clause-refused
 returns-in_err-store-clause-refused g c is =
@@ -124,6 +132,10 @@ returns-clause-alone g c =
     (λ disk k e left. disk_laws.left_is_told disk k e left) c.in_ok-store.ensures.log since c.run_flow.ensures.alone))
     (λ failed. absurd (⊎_elim (λ disk. cc (disk, c.in_ok-store.was)) (λ memory. cc (memory.0, c.in_ok-store.was)) failed.told))
     c.open.ensures.alone
+
+pub returns-clause-checkpointed : goal.returns-clause-checkpointed
+returns-clause-checkpointed g c =
+    has_ended g.D.Disk.moment g.D.Disk.images c.args.checkpoint c.run_flow.new.disk (status_of_end c.run_flow.result) c.run_flow.result refl c.run_flow.ensures.checkpointed
 
 pub returns-clause-refused : goal.returns-clause-refused
 returns-clause-refused g c is = absurd ((of_end c.run_flow.result).refused is)

@@ -1,16 +1,17 @@
 use Rattle.std.proofs.Common.{◌≡◌, ◌⊎◌, ◌∙◌, refl, sym, subst}
 use Rattle.std.proofs.lemmas.Result.{err_from_is_err_and}
-use Rattle.flow_run.specs.Work.{IsAtWork, IsNoEarlier, WritesLog}
+use Rattle.flow_run.specs.Work.{IsAtWork, IsNoEarlier, IsShortOn, HasShortLog, WritesLog}
 use Rattle.flow_engine.specs.Engine.{EngineState, IsOfSameRun}
 use Rattle.flow_engine.specs.Running.{IsRunning}
 use Rattle.flow_engine.specs.declared.error.EngineError.{EngineError}
 use Rattle.flow_engine.proofs.RunsOn.{runs_spared, stops_by}
+use Rattle.flow_engine.proofs.Short.{not_due}
 use Rattle.flow_engine.proofs.Tended.{can_follow}
 use Rattle.flow_engine.proofs.engine.Engine.checkpoint_due.Goals as goal
 
 pub checkpoint-requires-clause-number : goal.checkpoint-requires-clause-number
 checkpoint-requires-clause-number g c κs within number is =
-    can_follow c.self.inside.checkpoint c.self.inside.store.entries number (sym (c.wants_checkpoint.ensures number is) ∙ c.if-not-wants_checkpoint.false)
+    can_follow c.self.inside.checkpoint c.self.inside.store.entries number (sym (c.wants_checkpoint.ensures.due number is) ∙ c.if-not-wants_checkpoint.false)
 
 pub returns-in_err-checkpoint-clause-stopped : goal.returns-in_err-checkpoint-clause-stopped
 returns-in_err-checkpoint-clause-stopped g c error is opened first left standing run =
@@ -23,7 +24,7 @@ returns-in_err-checkpoint-clause-stopped g c error is opened first left standing
     let i = c.self.inside in
     let e : EngineState = record { flow = i.flow.now; store = i.store; queues = i.queues; listing = i.listing; last = i.last; entries = i.entries; most = i.most; checkpoint = i.checkpoint } in
     let f : EngineState = record e { store = c.checkpoint.new.store } in
-    let same : IsOfSameRun e f = record { flow = refl; most = refl; lot = c.checkpoint.ensures.same.1 } in
+    let same : IsOfSameRun e f = record { flow = refl; most = refl; checkpoint = refl; lot = c.checkpoint.ensures.same.1 } in
     let work = subst (λ (u : EngineState). IsAtWork u.flow tells held moment images u.store old) (sym c.self.view_is) c.requires.work in
     let p = err_from_is_err_and c.from_residual.result c.from_residual.ensures.1 in
     let told : c.in_err-checkpoint.field-0.0 ≡ error = cc (p.1, p.2, is) in
@@ -47,7 +48,7 @@ returns-clause-goes_on g c opened first left standing run =
     let i = c.self.inside in
     let e : EngineState = record { flow = i.flow.now; store = i.store; queues = i.queues; listing = i.listing; last = i.last; entries = i.entries; most = i.most; checkpoint = i.checkpoint } in
     let f : EngineState = record e { store = c.checkpoint.new.store } in
-    let same : IsOfSameRun e f = record { flow = refl; most = refl; lot = c.checkpoint.ensures.same.1 } in
+    let same : IsOfSameRun e f = record { flow = refl; most = refl; checkpoint = refl; lot = c.checkpoint.ensures.same.1 } in
     let work = subst (λ (u : EngineState). IsAtWork u.flow tells held moment images u.store old) (sym c.self.view_is) c.requires.work in
     runs_spared tells held moment images e f same opened first old new left standing c.run_goes_on.ensures.spared refl refl
     (λ m stands. c.checkpoint.ensures.spared i.flow.now m work stands)
@@ -60,3 +61,14 @@ returns-clause-log g c =
 pub returns-clause-alone : goal.returns-clause-alone
 returns-clause-alone g c =
     subst (λ (u : EngineState). WritesLog g.D.Disk.moment g.D.Disk.images u.store.log.number c.args.disk.now c.checkpoint.new.disk) c.self.view_is c.checkpoint.ensures.alone
+
+pub returns-clause-short : goal.returns-clause-short
+returns-clause-short g c =
+    subst (λ (u : EngineState). IsShortOn g.D.Disk.moment g.D.Disk.images u.checkpoint c.checkpoint.new.disk) c.self.view_is (c.in_ok-checkpoint.ensures.short c.self.inside.checkpoint)
+
+pub returns-then-not-wants_checkpoint-clause-short : goal.returns-then-not-wants_checkpoint-clause-short
+returns-then-not-wants_checkpoint-clause-short g c image left =
+    let i = c.self.inside in
+    let work = subst (λ (u : EngineState). IsAtWork u.flow g.D.Disk.tells g.D.Disk.held g.D.Disk.moment g.D.Disk.images u.store c.args.disk.now) (sym c.self.view_is) c.requires.work in
+    subst (λ (u : EngineState). HasShortLog u.checkpoint image) c.self.view_is
+    (not_due i.checkpoint i.store image c.wants_checkpoint.ensures.counted (λ number is. sym c.if-not-wants_checkpoint.true ∙ c.wants_checkpoint.ensures.due number is) (work.kept.log work.works image left))

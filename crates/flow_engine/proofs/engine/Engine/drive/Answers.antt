@@ -60,6 +60,7 @@ returns-in-Some-Blocked g c =
           (c.in_ok-turn.ensures.turned telling in_telling out_telling opened first (inv.runs telling in_telling out_telling opened first run)) c.in-Some-Blocked.connection (g.C.Clock.time c.now-moment.new.self) is c.now-moment.ensures.moment;
       stopped = λ error is telling in_telling out_telling opened first run. absurd cc;
       no_rest = λ until is. cc;
+      short = c.in_ok-turn.ensures.short _ is;
       work = works_for D.tells D.held D.moment D.images c.args.self.now.flow c.turn.new.self.flow c.turn.new.self c.turn.new.disk (c.turn.ensures.same.flow ∙ inv.same.flow) c.in_ok-turn.ensures.ready.work;
       same = same_run_on c.args.self.now c.loop-until.self c.turn.new.self inv.same c.turn.ensures.same;
       alone = writes_on D.moment D.images c.args.self.now.store.log.number c.loop-until.self.store.log.number c.args.disk.now c.loop-until.disk c.turn.new.disk inv.log inv.alone c.turn.ensures.alone;
@@ -82,6 +83,7 @@ returns-in-Some-Quiet g c =
           (c.in_ok-turn.ensures.turned telling in_telling out_telling opened first (inv.runs telling in_telling out_telling opened first run)) (g.C.Clock.time c.now-moment.new.self) is c.now-moment.ensures.moment;
       stopped = λ error is telling in_telling out_telling opened first run. absurd cc;
       no_rest = λ until is. cc;
+      short = c.in_ok-turn.ensures.short _ is;
       work = works_for D.tells D.held D.moment D.images c.args.self.now.flow c.turn.new.self.flow c.turn.new.self c.turn.new.disk (c.turn.ensures.same.flow ∙ inv.same.flow) c.in_ok-turn.ensures.ready.work;
       same = same_run_on c.args.self.now c.loop-until.self c.turn.new.self inv.same c.turn.ensures.same;
       alone = writes_on D.moment D.images c.args.self.now.store.log.number c.loop-until.self.store.log.number c.args.disk.now c.loop-until.disk c.turn.new.disk inv.log inv.alone c.turn.ensures.alone;

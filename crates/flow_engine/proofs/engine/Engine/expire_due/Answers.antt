@@ -54,7 +54,7 @@ returns-in_err-expire-clause-stopped g c error is telling opened first left stan
     let i = c.self.inside in
     let e : EngineState = record { flow = i.flow.now; store = i.store; queues = i.queues; listing = i.listing; last = i.last; entries = i.entries; most = i.most; checkpoint = i.checkpoint } in
     let f : EngineState = record e { store = c.expire.new.store; queues = c.expire.new.queues } in
-    let same : IsOfSameRun e f = record { flow = refl; most = refl; lot = c.expire.ensures.same.0 } in
+    let same : IsOfSameRun e f = record { flow = refl; most = refl; checkpoint = refl; lot = c.expire.ensures.same.0 } in
     let p = err_from_is_err_and c.from_residual-in_err-expire.result c.from_residual-in_err-expire.ensures.1 in
     let told : c.in_err-expire.field-0.0 ≡ error = cc (p.1, p.2, is) in
     let was = c.in_err-expire.was ∙ ap Err told in
@@ -89,7 +89,7 @@ returns-clause-goes_on g c telling opened first left standing run =
     let i = c.self.inside in
     let e : EngineState = record { flow = i.flow.now; store = i.store; queues = i.queues; listing = i.listing; last = i.last; entries = i.entries; most = i.most; checkpoint = i.checkpoint } in
     let f : EngineState = record e { store = c.expire.new.store; queues = c.expire.new.queues; entries = i.entries + 1 } in
-    let same : IsOfSameRun e f = record { flow = refl; most = refl; lot = c.expire.ensures.same.0 } in
+    let same : IsOfSameRun e f = record { flow = refl; most = refl; checkpoint = refl; lot = c.expire.ensures.same.0 } in
     let expiry = c.in-Some.expiry in
     runs_stepped tells held moment images e f same opened first old new left standing c.worlds_follow_steps.ensures.queues (Expire expiry.connection expiry.numbers c.args.moment) tt
     c.run_goes_on.ensures.step refl refl (λ m stands. c.in_ok-expire.ensures.done telling m stands)

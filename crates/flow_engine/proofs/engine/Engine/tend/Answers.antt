@@ -1,7 +1,9 @@
-use Rattle.std.proofs.Common.{◌≡◌, ◌∙◌, ap, subst}
+use Rattle.std.proofs.Common.{◌≡◌, ◌∙◌, ℕ, sym, ap, subst}
 use Rattle.std.specs.Prelude.{Err}
 use Rattle.std.proofs.lemmas.Result.{err_from_is_err_and}
 use Rattle.flow_run.proofs.Writing.{later_log, same_log, writes_on}
+use Rattle.flow_run.specs.Work.{IsShortOn}
+use Rattle.flow_engine.specs.Engine.{EngineState}
 use Rattle.flow_engine.specs.Running.{Stops}
 use Rattle.flow_engine.specs.declared.error.EngineError.{EngineError}
 use Rattle.flow_engine.proofs.engine.Engine.tend.Goals as goal
@@ -42,3 +44,10 @@ returns-in_ok-reclaim_due-in-Nothing-clause-alone g c =
     let same = same_log log mid c.expire_due.ensures.log in
     writes_on D.moment D.images log next c.args.disk.now c.checkpoint_due.new.disk c.reclaim_due.new.disk (later_log log mid next same c.in_ok-checkpoint_due-in-Nothing.ensures.log)
     (writes_on D.moment D.images log mid c.args.disk.now c.expire_due.new.disk c.checkpoint_due.new.disk same c.expire_due.ensures.alone c.checkpoint_due.ensures.alone) c.reclaim_due.ensures.alone
+
+pub returns-in_ok-reclaim_due-in-Nothing-clause-short : goal.returns-in_ok-reclaim_due-in-Nothing-clause-short
+returns-in_ok-reclaim_due-in-Nothing-clause-short g c is =
+    let now : EngineState = c.reclaim_due.new.self in
+    let same : now.checkpoint ≡ c.expire_due.new.self.checkpoint = ap (λ (e : EngineState). e.checkpoint) c.reclaim_due.ensures.rest ∙ ap (λ (e : EngineState). e.checkpoint) c.checkpoint_due.ensures.rest in
+    subst (λ (n : ℕ). IsShortOn g.D.Disk.moment g.D.Disk.images n c.reclaim_due.new.disk) (sym same)
+    (c.reclaim_due.ensures.short c.expire_due.new.self.checkpoint c.in_ok-checkpoint_due-in-Nothing.ensures.short)
