@@ -107,7 +107,10 @@ parted_sends original parts file pieces =
 
 joined_sends : (strategy : MergeStrategy) (taken : List TakenFile) → SendsNothing (joined strategy taken)
 joined_sends strategy taken =
-    if_and_then _ _ (λ outcome. outcome.sent ≡ None) (λ attributes is. if_map _ _ (λ outcome. outcome.sent ≡ None) (λ bytes has. refl))
+    let origin = Joined (range_with_len 0 (length taken)) in
+    let whole : AttributeMap → List ℕ → Outcome = λ attributes bytes. record { files = passed_from 0 1 taken ++ made_file origin attributes bytes true 0 ∷ []; sent = None } in
+    if_and_then (λ attributes. option_map (whole attributes) (joined_content taken)) (joined_attributes strategy origin taken) (λ (outcome : Outcome). outcome.sent ≡ None)
+    (λ attributes is. if_map (whole attributes) (joined_content taken) (λ (outcome : Outcome). outcome.sent ≡ None) (λ bytes has. refl))
 
 merged_sends : (strategy : MergeStrategy) (taken : List TakenFile) → SendsNothing (cond (may_join strategy taken) (joined strategy taken) None)
 merged_sends strategy taken = if_where (may_join strategy taken) _ (λ outcome. outcome.sent ≡ None) (λ may. joined_sends strategy taken)
