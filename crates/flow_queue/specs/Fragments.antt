@@ -57,7 +57,8 @@ added _ _ = None
 abbrev pub numbers_from : BTreeMap Part ℕ → Whole → (place left : ℕ) → Option (List ℕ)
 numbers_from numbers whole place zero = Some []
 numbers_from numbers whole place (suc left) =
-    added (number_at (record { whole = whole; index = place + 1 }) numbers) (numbers_from numbers whole (place + 1) left)
+    added (number_at (record { whole = whole; index = place + 1 }) numbers)
+    (numbers_from numbers whole (place + 1) left)
 
 -- the files of a whole
 abbrev pub files_of_whole : Whole → List FileView → Option (List FileView)
@@ -71,11 +72,12 @@ whole_at candidate files =
 
 -- none of these is all there
 abbrev pub AreMissing : BTreeSet Whole → List FileView → Type 0
-AreMissing wholes files = (whole : Whole) → contains whole_cmp wholes whole ≡ true → files_of_whole whole files ≡ None
+AreMissing wholes files = (whole : Whole) → contains whole_cmp wholes whole ≡ true →
+    files_of_whole whole files ≡ None
 
 -- what a file gives, among any files of which these are the numbers
-abbrev pub IsTry : {E : Type 0} → Candidate → BTreeMap Part ℕ → (before after : BTreeSet Whole) → Result Bool E → List ℕ →
-    Type 0
+abbrev pub IsTry : {E : Type 0} → Candidate → BTreeMap Part ℕ → (before after : BTreeSet Whole) →
+    Result Bool E → List ℕ → Type 0
 IsTry candidate numbers before after result list = (files : List FileView) → AreFirst numbers files →
     AreMissing before files
     → Picks (option_map numbers_of (whole_at candidate files)) result list
