@@ -109,13 +109,6 @@ picked rule moment queue = picks rule (eligible_in moment queue)
 abbrev pub picked_numbers : Option (List FileView) → List ℕ
 picked_numbers files = option_map_or numbers_of files []
 
--- a rule by which a session takes no file, or one
-abbrev pub TakesAtMostOne : TakeRule → Type 0
-TakesAtMostOne Source = Unit {0}
-TakesAtMostOne One = Unit {0}
-TakesAtMostOne (Bin min max) = ⊥
-TakesAtMostOne Defragment = ⊥
-
 -- ---- what is due
 
 -- when the first penalty of some files ends that hasn't ended by a moment
