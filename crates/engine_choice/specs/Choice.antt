@@ -10,11 +10,10 @@ use Rattle.machine_model.specs.declared.flow.Processor.{Processor}
 use Rattle.machine_model.specs.declared.kind.Kind.{Kind}
 use Rattle.machine_model.specs.declared.kind.Kind.TheVariants.{GetFile, GenerateFlowFile}
 use Rattle.machine_model.specs.Acting.{passes}
-use Rattle.machine_model.specs.Kinds.{take_rule_of}
 use Rattle.machine_model.specs.Quiet.{is_held_back, holds_back_any}
 use Rattle.machine_model.specs.State.{World}
 use Rattle.machine_model.specs.View.{QueueView}
-use Rattle.flow_queue.specs.Queue.{QueueState, next_penalty_end, TakesAtMostOne}
+use Rattle.flow_queue.specs.Queue.{QueueState, next_penalty_end}
 use Rattle.engine_queues.specs.Choosing.{AreOf, first_pick}
 use Rattle.engine_choice.specs.Listing.{Left}
 use Rattle.engine_choice.specs.declared.choice.Choice.{Choice}
@@ -84,16 +83,14 @@ next_choice flow queues counts coming moment last =
     option_and_then (choice_of flow queues counts coming moment)
     (find (is_ready flow queues counts coming moment) (in_turn last (enumerate_from 0 flow.processors)))
 
--- What is asked of what is in memory: a queue for each connection and a count for each processor, names for the
--- processors of the flow, and rules that take one file at most.
+-- What is asked of what is in memory: a queue for each connection and a count for each processor, and names for the
+-- processors of the flow.
 pub record MayChoose (flow : Flow) (held : List QueueState) (made : List ℕ) (left : Left) : Type 0 where
   pub queues : AreOf flow held
   pub connections : length flow.connections ≤ CONNECTIONS_MAX
   pub processors : length flow.processors ≤ PROCESSORS_MAX
   pub counts : length made ≡ length flow.processors
   pub listing : left.flow ≡ flow
-  pub rules : (place : ℕ) (processor : Processor) → slice_get flow.processors place ≡ Some processor
-      → TakesAtMostOne (take_rule_of processor.kind)
 
 -- ---- where no session comes
 

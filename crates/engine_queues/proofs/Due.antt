@@ -12,13 +12,13 @@ use Rattle.machine_model.specs.declared.kind.TakeRule.{TakeRule}
 use Rattle.machine_model.specs.Due.{numbers_of, expired_numbers, at_place, first_due, some_numbers, due_expiry}
 use Rattle.machine_model.specs.Kinds.{take_rule_of}
 use Rattle.machine_model.specs.Order.{eligible_files}
-use Rattle.machine_model.specs.Quiet.{gives_a_pick, is_nothing_due_in, nothing_due, holds_back, holds_back_any, is_held_back, is_full}
+use Rattle.machine_model.specs.Quiet.{gives_a_pick, holds_back, holds_back_any, is_held_back, is_full}
 use Rattle.machine_model.specs.Taking.{picks}
-use Rattle.machine_model.specs.View.{QueueView, FileView, is_penalised}
-use Rattle.flow_queue.specs.Queue.{QueueState, seen, picked, picked_numbers, is_nothing_due}
+use Rattle.machine_model.specs.View.{QueueView, FileView}
+use Rattle.flow_queue.specs.Queue.{QueueState, seen, picked, picked_numbers}
 use Rattle.engine_queues.specs.Queues.{queue_seen}
 use Rattle.engine_queues.specs.Choosing.{IsOf, AreOf, picked_from, first_pick}
-use Rattle.engine_queues.proofs.First.{none-owes, first-owes, none-found, first-found, any-found, any-same, any-some, all-places}
+use Rattle.engine_queues.proofs.First.{none-owes, first-owes, none-found, first-found, any-found, any-same, any-some}
 
 pub seen-at : (queues : List QueueState) (place : ℕ) (queue : QueueState) → slice_get queues place ≡ Some queue → queue_seen queues place ≡ seen queue
 seen-at queues place queue at = ap (λ q. option_map_or seen q (record { active = []; batches = [] })) at
@@ -136,21 +136,6 @@ pub pick-given : (flow : Flow) (queues : ℕ → QueueView) (moment place : ℕ)
     → is_some (first_pick flow queues moment (place, processor)) ≡ list_any (gives_a_pick queues moment place processor) (enumerate_from 0 flow.connections)
 pick-given flow queues moment place processor =
     any-some (at_place (picked_from (take_rule_of processor.kind) place moment) queues) (gives_a_pick queues moment place processor) (gives queues moment place processor) (enumerate_from 0 flow.connections)
-
--- ---- nothing is due
-
-is_due-here : (moment place : ℕ) (queues : List QueueState) (connection : Connection) (queue : QueueState) → IsOf connection queue → slice_get queues place ≡ Some queue
-    → is_nothing_due moment queue ≡ is_nothing_due_in (queue_seen queues) moment (place, connection)
-is_due-here moment place queues connection queue of there =
-    let files = (seen queue).active in
-    let waits = list_all (λ file. not (is_penalised moment file)) files in
-    ap (λ limits. (length (expired_numbers limits moment files) == 0) && waits) of.limits
-    ∙ ap (λ view. is_nothing_due_in (λ _. view) moment (place, connection)) (sym (seen-at queues place queue there))
-
-pub nothing-due : (moment : ℕ) (queues : List QueueState) (flow : Flow) → AreOf flow queues → list_all (is_nothing_due moment) queues ≡ nothing_due flow (queue_seen queues) moment
-nothing-due moment queues flow are =
-    all-places (is_nothing_due moment) (is_nothing_due_in (queue_seen queues) moment) 0 queues flow.connections are.count
-    (λ k queue connection there at. is_due-here moment k queues connection queue (are.each k connection queue at there) there ∙ ap (λ n. is_nothing_due_in (queue_seen queues) moment (n, connection)) (sym (zero-add k)))
 
 -- ---- full connections
 

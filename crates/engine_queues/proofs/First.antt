@@ -66,14 +66,3 @@ any-some owes test same (x ∷ xs) = by_owed (owes x) (filter_map owes xs) (any-
     by_owed : {Z : Type 0} (owed : Option Z) (rest : List Z) → is_some (slice_get rest 0) ≡ list_any test xs → is_some (slice_get (cons_option owed rest) 0) ≡ (is_some owed || list_any test xs)
     by_owed None rest is = is
     by_owed (Some z) rest is = refl
-
--- what holds of each of two lists' elements by their places
-pub all-places : {X Y : Type 0} (p : X → Bool) (test : ℕ × Y → Bool) (from : ℕ) (xs : List X) (ys : List Y) → length xs ≡ length ys
-    → ((k : ℕ) (x : X) (y : Y) → slice_get xs k ≡ Some x → slice_get ys k ≡ Some y → p x ≡ test (from + k, y)) → list_all p xs ≡ list_all test (enumerate_from from ys)
-all-places p test from [] [] long each = refl
-all-places p test from [] (y ∷ ys) long each = absurd (omega (arith, long))
-all-places p test from (x ∷ xs) [] long each = absurd (omega (arith, long))
-all-places p test from (x ∷ xs) (y ∷ ys) long each =
-    let here : p x ≡ test (from, y) = each 0 x y refl refl ∙ ap (λ n. test (n, y)) (omega arith) in
-    ap (λ b. b && list_all p xs) here
-    ∙ ap (λ b. test (from, y) && b) (all-places p test (from + 1) xs ys (omega (arith, long)) (λ k z w at is. each (suc k) z w at is ∙ ap (λ n. test (n, w)) (omega arith)))

@@ -1,14 +1,13 @@
 //! What the queues of a flow answer.
 ghost use Rattle.std.specs.Prelude.{◌≡◌, ℕ, ◌<◌, ◌≤◌, min, List, Some, length, map, find, slice_get, option_map, is_some, IfOk};
-ghost use Rattle.std.specs.List.{list_all, list_any, enumerate_from, filter_map, flat_map, reduce};
+ghost use Rattle.std.specs.List.{list_any, enumerate_from, filter_map, flat_map, reduce};
 ghost use Rattle.machine_model.specs.declared.limits.TheConstants.{CONNECTIONS_MAX};
 ghost use Rattle.machine_model.specs.declared.flow.Flow.{Flow as TheFlow};
 ghost use Rattle.machine_model.specs.declared.flow.Processor.{Processor};
 ghost use Rattle.machine_model.specs.Due.{due_expiry, first_due};
-ghost use Rattle.machine_model.specs.Kinds.{take_rule_of};
-ghost use Rattle.machine_model.specs.Quiet.{gives_a_pick, nothing_due, is_held_back, holds_back_any};
+ghost use Rattle.machine_model.specs.Quiet.{gives_a_pick, is_held_back, holds_back_any};
 ghost use Rattle.machine_model.specs.View.{QueueView};
-ghost use Rattle.flow_queue.specs.Queue.{seen, is_nothing_due, next_penalty_end, TakesAtMostOne};
+ghost use Rattle.flow_queue.specs.Queue.{seen, next_penalty_end};
 ghost use Rattle.engine_queues.specs.Queues.{queue_seen};
 ghost use Rattle.engine_queues.specs.Choosing.{AreOf, picked_from, first_pick};
 
@@ -64,8 +63,6 @@ impl Queues {
         requires queues { AreOf flow.now self.now }
         requires places { length flow.now.connections ≤ CONNECTIONS_MAX }
         requires processor { processor < length flow.now.processors }
-        requires rule { (p : Processor) → slice_get flow.now.processors processor ≡ Some p
-            → TakesAtMostOne (take_rule_of p.kind) }
         ensures { IfOk result (λ picked. (p : Processor) → slice_get flow.now.processors processor ≡ Some p
             → option_map (λ files. (files.connection, files.numbers)) picked
             ≡ first_pick flow.now (queue_seen self.now) moment (processor, p)) }
@@ -86,7 +83,6 @@ impl Queues {
     ) -> Result<Option<Picked>, AllocError>
         requires queues { AreOf flow.now self.now }
         requires places { length flow.now.connections ≤ CONNECTIONS_MAX }
-        requires rule { TakesAtMostOne rule }
         ensures { IfOk result (λ picked. option_map (λ files. (files.connection, files.numbers)) picked
             ≡ first_due (picked_from rule processor moment) flow.now (queue_seen self.now)) }
     {
@@ -135,14 +131,6 @@ impl Queues {
     {
         next_end(&self.list, moment)
     }
-
-    /// Whether no file has expired or waits for its penalty's end.
-    pub fn is_nothing_due(&self, moment: u64) -> bool
-        ensures { (flow : TheFlow) → AreOf flow self.now
-            → result ≡ nothing_due flow (queue_seen self.now) moment }
-    {
-        none_due(&self.list, moment)
-    }
 }
 
 fn next_end(queues: &[Queue], moment: u64) -> Option<u64>
@@ -153,12 +141,6 @@ fn next_end(queues: &[Queue], moment: u64) -> Option<u64>
         .iter()
         .filter_map(|queue| queue.next_penalty_end(moment))
         .min()
-}
-
-fn none_due(queues: &[Queue], moment: u64) -> bool
-    ensures { result ≡ list_all (λ queue. is_nothing_due moment queue) queues.now }
-{
-    queues.iter().all(|queue| queue.is_nothing_due(moment))
 }
 
 /// There is a first pick for a processor exactly where some connection gives it one.

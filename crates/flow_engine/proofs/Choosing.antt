@@ -38,7 +38,7 @@ use Rattle.machine_model.specs.Stepping.{as_taken, given_in, is_there, may_gener
 use Rattle.machine_model.specs.Valid.{IsValid}
 use Rattle.machine_model.proofs.Options.{if_and_then, if_at, if_when}
 use Rattle.machine_model.proofs.Took.{Took, taken-took}
-use Rattle.flow_queue.specs.Queue.{QueueState, TakesAtMostOne}
+use Rattle.flow_queue.specs.Queue.{QueueState}
 use Rattle.store_core.specs.Flow as store
 use Rattle.store_core.specs.Flow.{flow_in}
 use Rattle.store_core.specs.Store.{Holds, StoreState, kept_by}
@@ -63,17 +63,6 @@ all_at P [] k x all is = cc
 all_at {X = X} P (y ∷ xs) zero x all is = let same : y ≡ x = cc in subst P same (All-head P y xs all)
 all_at P (y ∷ xs) (suc k) x all is = all_at P xs k x (All-tail P y xs all) is
 
-takes_at_most_one : (kind : Kind) → IsTrue (is_built kind) → TakesAtMostOne (take_rule_of kind)
-takes_at_most_one (GetFile filter) built = tt
-takes_at_most_one (GenerateFlowFile count text) built = tt
-takes_at_most_one (PutFile conflict) built = tt
-takes_at_most_one (UpdateAttribute own) built = tt
-takes_at_most_one (RouteOnAttribute own) built = tt
-takes_at_most_one (AttributesToJson destination names) built = tt
-takes_at_most_one (DuplicateFlowFile copies) built = tt
-takes_at_most_one CryptographicHashContent built = tt
-takes_at_most_one kind built = absurd (true≢false (sym built))
-
 pub may_choose : (e : EngineState) → IsSound e.flow → AreBuilt e.flow → flow_in (kept_by e.store) ≡ identity_of e.flow → AreQueuesOf e.flow (kept_by e.store) e.queues → e.listing.flow ≡ e.flow
     → MayChoose e.flow e.queues (kept_by e.store).counts e.listing
 may_choose e sound built flow queues listing = record {
@@ -85,7 +74,6 @@ may_choose e sound built flow queues listing = record {
   processors = sound.processor_count;
   counts = ap (λ (f : store.Flow). f.processors) flow;
   listing = listing;
-  rules = λ place processor at. takes_at_most_one processor.kind (all_at (λ (p : Processor). IsTrue (is_built p.kind)) e.flow.processors place processor built at);
 }
 
 -- ---- the queues are the machine's

@@ -29,7 +29,7 @@ seen-at (first ∷ files) view up (place, within, is) =
     let same : view_of held ≡ view = sym (get_or-map view_of all place first view long) ∙ is in
     subst (λ (v : FileView). flight_of v.number all ≡ Some v.in_flight) same (flight-at all place held up long (get_or_default all place first held long))
 
-resting : (a b c : Bool) → ((not a && b) && c) ≡ true → a ≡ false
+pub resting : (a b c : Bool) → ((not a && b) && c) ≡ true → a ≡ false
 resting true b c h = absurd (true≢false (sym h))
 resting false b c h = refl
 

@@ -1,8 +1,13 @@
 pub mod AtRest
 pub mod Best
+pub mod Bins
+pub mod Compared
 pub mod Crosses
-pub mod Due
 pub mod Expiring
 pub mod Fields
 pub mod ForCallers
 pub mod Numbered
+pub mod Parts
+pub mod Reading
+pub mod Sorting
+pub mod Taken

@@ -1,6 +1,6 @@
 -- What a queue holds, and how it is seen.
-use Rattle.std.specs.Prelude.{◌≡◌, ◌≢◌, ℕ, ◌==◌, ◌&&◌, not, nat_lt, min, Bool, true, false, List, [], length, map, filter, All, Option, Some, if◌then◌else◌}
-use Rattle.std.specs.List.{list_all, reduce}
+use Rattle.std.specs.Prelude.{◌≡◌, ◌≢◌, ℕ, ◌==◌, nat_lt, min, Bool, true, false, List, [], map, filter, All, Option, Some, if◌then◌else◌}
+use Rattle.std.specs.List.{reduce}
 use Rattle.std.specs.Option.{option_map, option_map_or}
 use Rattle.flowfile_record.specs.NumberedItems.{item_of, with_item, without_item, AscendsByNumber}
 use Rattle.flowfile_record.specs.declared.flow_file.FlowFile.{FlowFile}
@@ -8,11 +8,11 @@ use Rattle.prioritizer.specs.declared.prioritizer.Prioritizer.{Prioritizer}
 use Rattle.machine_model.specs.declared.flow.QueueLimits.{QueueLimits}
 use Rattle.machine_model.specs.declared.kind.TakeRule.{TakeRule}
 use Rattle.machine_model.specs.declared.kind.TakeRule.TheVariants.{Source, One, Bin, Defragment}
-use Rattle.machine_model.specs.Due.{numbers_of, expired_numbers}
+use Rattle.machine_model.specs.Due.{numbers_of}
 use Rattle.machine_model.specs.Laws.{ArrivalsDiffer}
 use Rattle.machine_model.specs.Order.{eligible_files}
 use Rattle.machine_model.specs.Taking.{picks}
-use Rattle.machine_model.specs.View.{FileView, QueueView, is_penalised}
+use Rattle.machine_model.specs.View.{FileView, QueueView}
 use Rattle.flow_queue.specs.declared.held.Held.{Held}
 
 -- the order and the limits of its connection, its files in the order of their numbers, and for how many more there is
@@ -88,28 +88,28 @@ with_flight number in_flight files =
 
 -- ---- what is taken of it
 
+-- the files that a session may take at a moment, in their order
+abbrev pub eligible_in : ℕ → QueueState → List FileView
+eligible_in moment queue = eligible_files queue.order queue.limits moment (seen queue).active
+
+-- those that a rule picks from
+abbrev pub offered_by : TakeRule → List FileView → List FileView
+offered_by Source files = []
+offered_by One files = files
+offered_by (Bin min max) files = files
+offered_by Defragment files = files
+
+abbrev pub offered : TakeRule → ℕ → QueueState → List FileView
+offered rule moment queue = offered_by rule (eligible_in moment queue)
+
 -- the files that a session by a rule takes
 abbrev pub picked : TakeRule → ℕ → QueueState → Option (List FileView)
-picked rule moment queue = picks rule (eligible_files queue.order queue.limits moment (seen queue).active)
+picked rule moment queue = picks rule (eligible_in moment queue)
 
 abbrev pub picked_numbers : Option (List FileView) → List ℕ
 picked_numbers files = option_map_or numbers_of files []
 
--- a rule by which a session takes no file, or one
-abbrev pub TakesAtMostOne : TakeRule → Type 0
-TakesAtMostOne Source = Unit {0}
-TakesAtMostOne One = Unit {0}
-TakesAtMostOne (Bin min max) = ⊥
-TakesAtMostOne Defragment = ⊥
-
 -- ---- what is due
-
--- no file has expired or waits for its penalty's end
-abbrev pub is_nothing_due : ℕ → QueueState → Bool
-is_nothing_due moment queue =
-    let files = (seen queue).active in
-    (length (expired_numbers queue.limits moment files) == 0)
-    && list_all (λ file. not (is_penalised moment file)) files
 
 -- when the first penalty of some files ends that hasn't ended by a moment
 abbrev pub next_penalty_end : ℕ → List FileView → Option ℕ

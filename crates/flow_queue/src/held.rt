@@ -1,5 +1,6 @@
 //! A file of a queue.
 ghost use Rattle.std.specs.Prelude.{◌≡◌};
+ghost use Rattle.prioritizer.specs.Order.{order_cmp};
 ghost use Rattle.prioritizer.specs.Standing.{standing_of as standing};
 ghost use Rattle.machine_model.specs.Order.{standing_of, goes_before, is_eligible};
 ghost use Rattle.machine_model.specs.View.{is_penalised, is_expired};
@@ -8,6 +9,7 @@ ghost use Rattle.flow_queue.specs.Queue.{view_of, size_of};
 use flowfile_record::FlowFile;
 use machine_model::QueueLimits;
 use prioritizer::{Order, Rank};
+use std::cmp::Ordering;
 
 /// A file of a queue, and whether a session works on it.
 #[derive(Debug, Drop)]
@@ -34,10 +36,18 @@ impl Held {
         }
     }
 
+    // Which of two files goes first: `Less` where this one does.
+    pub(crate) fn compare(&self, other: &Held, order: &Order) -> Ordering
+        ensures { result
+            ≡ order_cmp order.now (standing_of (view_of self.now)) (standing_of (view_of other.now)) }
+    {
+        order.compare(&self.rank(), &other.rank())
+    }
+
     pub(crate) fn goes_before(&self, other: &Held, order: &Order) -> bool
         ensures { result ≡ goes_before order.now (view_of self.now) (view_of other.now) }
     {
-        order.compare(&self.rank(), &other.rank()).is_lt()
+        self.compare(other, order).is_lt()
     }
 
     pub(crate) fn is_penalised(&self, moment: u64) -> bool

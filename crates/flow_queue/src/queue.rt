@@ -2,8 +2,12 @@
 ghost use Rattle.std.specs.Prelude.{◌≡◌, ◌+◌, ◌-◌, ◌<◌, ◌≤◌, [], Some, false, true, IsSome, OnOk, OnErr};
 ghost use Rattle.flow_queue.specs.Queue.{IsApart, AreApart, with_file, without_file, file_of, flight_of, with_flight, IsAtRest, IsInFlight};
 
+mod bins;
 mod choosing;
+mod fragments;
+mod ordered;
 mod places;
+mod wholes;
 
 use self::places::place_of;
 use crate::held::Held;

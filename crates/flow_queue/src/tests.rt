@@ -1,20 +1,40 @@
-//! The files of a queue, in the order of their priorities.
+//! The files of a queue in the order of their priorities, and what rules pick.
 ghost use Rattle.std.specs.Prelude.{◌≡◌, IfOk};
 
 use crate::{Queue, QueueLimits, TakeRule};
-use flowfile_record::{Attributes, ContentRef, FlowFile};
+use flowfile_record::{Attributes, CONTENT_MAX, ContentRef, FlowFile};
 use prioritizer::{Order, Prioritizer};
 use std::alloc::Global;
+use std::process::Abort;
 use std::test::Fail;
 
-// A file's priority, and the place at which it goes.
-const FILES: [(Option<&'static str>, u64); 5] = [
-    (Some("A-99"), 3),
-    (None, 4),
-    (Some("100"), 1),
-    (Some("A-100"), 2),
-    (Some("99"), 0),
+// What a file has under the keys, where it isn't empty, and the size of its content.
+type Row = ([&'static str; 4], u64);
+
+// A rule, the files of a queue, and the places of those that it picks; no places where it picks none.
+type Case = (TakeRule, &'static [Row], &'static [u64]);
+
+const KEYS: [&str; 4] = [
+    "priority",
+    "fragment.identifier",
+    "fragment.index",
+    "fragment.count",
 ];
+
+const PLAIN: Row = (["", "", "", ""], 1);
+
+// Files by their priorities, and the places at which they go.
+const ROWS: [Row; 5] = [
+    (["A-99", "", "", ""], 1),
+    PLAIN,
+    (["100", "", "", ""], 1),
+    (["A-100", "", "", ""], 1),
+    (["99", "", "", ""], 1),
+];
+
+const PLACES: [u64; 5] = [3, 4, 1, 2, 0];
+
+const BIN: TakeRule = TakeRule::Bin { min: 2, max: 3 };
 
 const LIMITS: QueueLimits = QueueLimits {
     expiration: 10,
@@ -23,14 +43,113 @@ const LIMITS: QueueLimits = QueueLimits {
     swap: 20_000,
 };
 
-// The file of a place of the table: its number, its arrival and its content's size are the place.
-fn file_of(alloc: Global, place: u64, priority: Option<&str>) -> Result<FlowFile, Fail>
+const CASES: [Case; 25] = [
+    (TakeRule::Source, &[PLAIN], &[]),
+    (TakeRule::One, &[], &[]),
+    (TakeRule::One, &[PLAIN, PLAIN], &[0]),
+    // Bins.
+    (BIN, &[PLAIN, PLAIN, PLAIN, PLAIN, PLAIN], &[0, 1, 2]),
+    (BIN, &[PLAIN, PLAIN], &[0, 1]),
+    (BIN, &[PLAIN], &[]),
+    (BIN, &[], &[]),
+    (BIN, &[(["", "", "", ""], CONTENT_MAX), PLAIN], &[0]),
+    (
+        BIN,
+        &[(["", "", "", ""], CONTENT_MAX), (["", "", "", ""], 0)],
+        &[0, 1],
+    ),
+    // Fragments.
+    (TakeRule::Defragment, &[], &[]),
+    (
+        TakeRule::Defragment,
+        &[
+            (["", "a", "1", "2"], 1),
+            (["", "b", "1", "2"], 1),
+            (["", "b", "2", "2"], 1),
+            (["", "a", "2", "2"], 1),
+        ],
+        &[0, 3],
+    ),
+    (
+        TakeRule::Defragment,
+        &[(["", "a", "2", "2"], 1), (["", "a", "1", "2"], 1)],
+        &[1, 0],
+    ),
+    (
+        TakeRule::Defragment,
+        &[
+            (["", "a", "1", "2"], 1),
+            (["", "a", "1", "2"], 1),
+            (["", "a", "2", "2"], 1),
+            (["", "a", "2", "2"], 1),
+        ],
+        &[0, 2],
+    ),
+    (
+        TakeRule::Defragment,
+        &[(["", "a", "1", "3"], 1), (["", "a", "3", "3"], 1)],
+        &[],
+    ),
+    (
+        TakeRule::Defragment,
+        &[
+            (["", "a", "1", "3"], 1),
+            (["", "a", "3", "3"], 1),
+            (["", "b", "1", "1"], 1),
+        ],
+        &[2],
+    ),
+    (
+        TakeRule::Defragment,
+        &[(["", "a", "1", "2"], 1), (["", "a", "2", "3"], 1)],
+        &[],
+    ),
+    (
+        TakeRule::Defragment,
+        &[(["", "a", "1", "2"], 1), (["", "b", "2", "2"], 1)],
+        &[],
+    ),
+    // No fragments.
+    (
+        TakeRule::Defragment,
+        &[(["", "a", "1", "2"], 1), (["", "a", "1", "0"], 1)],
+        &[1],
+    ),
+    (TakeRule::Defragment, &[(["", "a", "0", "1"], 1)], &[0]),
+    (TakeRule::Defragment, &[(["", "a", "3", "2"], 1)], &[0]),
+    (
+        TakeRule::Defragment,
+        &[(["", "a", "1", "1000"], 1), (["", "a", "1", "1001"], 1)],
+        &[1],
+    ),
+    (TakeRule::Defragment, &[(["", "a", "one", "2"], 1)], &[0]),
+    (
+        TakeRule::Defragment,
+        &[PLAIN, (["", "a", "1", "1"], 1)],
+        &[0],
+    ),
+    (
+        TakeRule::Defragment,
+        &[(["", "a", "1", "2"], 1), PLAIN],
+        &[1],
+    ),
+    (
+        TakeRule::Defragment,
+        &[(["", "a", "1", "2"], 1), PLAIN, (["", "a", "2", "2"], 1)],
+        &[0, 2],
+    ),
+];
+
+// The number and the arrival of a file are its place.
+fn file_of(alloc: Global, place: u64, row: &Row) -> Result<FlowFile, Fail>
     ensures number { IfOk result (λ file. file.number ≡ place) }
     ensures arrival { IfOk result (λ file. file.arrival ≡ place) }
 {
     let mut attributes = Attributes::new(alloc);
-    if let Some(priority) = priority {
-        attributes.put("priority", priority)?;
+    for (key, value) in KEYS.iter().zip(&row.0) {
+        if !value.is_empty() {
+            attributes.put(key, value)?;
+        }
     }
     Ok(FlowFile {
         number: place,
@@ -38,7 +157,7 @@ fn file_of(alloc: Global, place: u64, priority: Option<&str>) -> Result<FlowFile
         content: ContentRef {
             slot: 0,
             offset: 0,
-            size: place,
+            size: row.1,
             digest: [0; 32],
         },
         entered: 1,
@@ -47,22 +166,33 @@ fn file_of(alloc: Global, place: u64, priority: Option<&str>) -> Result<FlowFile
     })
 }
 
-fn filled(alloc: Global) -> Result<Queue, Fail> {
+fn filled(alloc: Global, rows: &[Row]) -> Result<Queue, Fail> {
     let mut list = Vec::new(alloc);
     list.push(Prioritizer::PriorityAttribute)?;
     let mut queue = Queue::new(alloc, Order::new(list), LIMITS);
-    for (place, (priority, _)) in FILES.iter().enumerate() {
-        let file = file_of(alloc, place as u64, *priority)?;
+    for (place, row) in rows.iter().enumerate() {
+        let file = file_of(alloc, place as u64, row)?;
         queue.reserve(1)?;
         queue.put(file);
     }
     Ok(queue)
 }
 
+fn rules_pick(rt: &impl Abort, alloc: Global) -> Result<(), Fail> {
+    for (rule, rows, picked) in &CASES {
+        let queue = filled(alloc, rows)?;
+        let mut list = Vec::new(alloc);
+        let picks = queue.pick(*rule, 5, &mut list)?;
+        assert_eq!(rt; list.as_slice(), *picked);
+        assert_eq!(rt; picks, !picked.is_empty());
+    }
+    Ok(())
+}
+
 #[test]
-fn the_lowest_priority_goes_first(rt: HostRuntime) -> Result<(), Fail> {
+fn files_go_by_priority_and_rule(rt: HostRuntime) -> Result<(), Fail> {
     let alloc = rt.alloc();
-    let mut queue = filled(alloc)?;
+    let mut queue = filled(alloc, &ROWS)?;
     let mut list = Vec::new(alloc);
     queue.expired(10, &mut list)?;
     assert!(rt; list.is_empty());
@@ -73,10 +203,9 @@ fn the_lowest_priority_goes_first(rt: HostRuntime) -> Result<(), Fail> {
     for place in 0..5u64 {
         let number = queue.best(10).ok_or("no file goes")?;
         let file = queue.leave(number);
-        let wanted = FILES.get(number as usize).map(|file| file.1);
-        assert_eq!(rt; wanted, Some(place));
+        assert_eq!(rt; PLACES.get(number as usize).copied(), Some(place));
         assert_eq!(rt; file.number, number);
     }
     assert_eq!(rt; queue.len(), 0);
-    Ok(())
+    rules_pick(&rt, alloc)
 }

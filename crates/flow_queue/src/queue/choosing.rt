@@ -1,20 +1,23 @@
 //! What a queue answers.
-ghost use Rattle.std.specs.Prelude.{◌≡◌, ◌||◌, not, nat_lt, min, [], None, length, map, filter, All, IfOk, IfSome, IsOk, OnOk, OnErr, is_some};
-ghost use Rattle.std.specs.List.{list_all, reduce};
+ghost use Rattle.std.specs.Prelude.{◌≡◌, ◌||◌, nat_lt, min, [], ◌∷◌, None, length, map, filter, All, IfOk, IfSome, IsOk, OnOk, OnErr, is_some};
+ghost use Rattle.std.specs.List.{reduce};
 ghost use Rattle.std.specs.Option.{option_map};
 ghost use Rattle.machine_model.specs.Due.{expired_numbers};
 ghost use Rattle.machine_model.specs.Laws.{ArrivalsDiffer};
-ghost use Rattle.machine_model.specs.Order.{best};
+ghost use Rattle.machine_model.specs.Order.{best, eligible_files};
 ghost use Rattle.machine_model.specs.Quiet.{is_full};
-ghost use Rattle.machine_model.specs.View.{is_penalised, is_expired};
 ghost use Rattle.flow_queue.specs.Choosing.{goes_first};
-ghost use Rattle.flow_queue.specs.Queue.{AreApart, IsAtRest, seen, view_of, views_of, picked, picked_numbers, TakesAtMostOne, is_nothing_due, next_penalty_end};
+ghost use Rattle.flow_queue.specs.Picking.{Picks, numbers_picked};
+ghost use Rattle.flow_queue.specs.Queue.{AreApart, IsAtRest, seen, view_of, views_of, offered, offered_by, picked, picked_numbers, next_penalty_end};
 
 use super::Queue;
+use super::bins::pick_bin;
+use super::ordered::in_order;
+use super::wholes::pick_whole;
 use crate::held::Held;
 use machine_model::{QueueLimits, TakeRule};
 use prioritizer::Order;
-use std::alloc::AllocError;
+use std::alloc::{AllocError, Global};
 
 impl Queue {
     /// How many files there are, those that a session works on too.
@@ -38,24 +41,14 @@ impl Queue {
     /// The numbers of the files that a session by a rule takes at a moment. `false` where it takes none.
     pub fn pick(&self, rule: TakeRule, moment: u64, list: &mut Vec<u64>) -> Result<bool, AllocError>
         requires empty { list.old.items ≡ [] }
-        requires rule { TakesAtMostOne rule }
         ensures answer { IfOk result (λ answer. answer ≡ is_some (picked rule moment self.now)) }
         ensures numbers { OnOk result (list.new.items ≡ picked_numbers (picked rule moment self.now)) }
         ensures at_rest { All (IsAtRest self.now) list.new.items }
         ensures failed { OnErr result (list.new.items ≡ []) }
-        // Memory is taken for a number alone.
-        ensures free { picked rule moment self.now ≡ None → IsOk result }
+        // Memory is taken where there are files to pick from.
+        ensures free { offered rule moment self.now ≡ [] → IsOk result }
     {
-        let TakeRule::One = rule else {
-            return Ok(false);
-        };
-        match self.best(moment) {
-            Some(number) => {
-                list.push(number)?;
-                Ok(true)
-            }
-            None => Ok(false),
-        }
+        pick_by(rule, &self.files, &self.order, &self.limits, moment, list)
     }
 
     /// The numbers of the files that expired by a moment and that no session works on, ascending.
@@ -88,13 +81,6 @@ impl Queue {
             || (bytes > 0 && u128::from(bytes) <= self.bytes)
     }
 
-    /// Whether no file has expired or waits for its penalty's end.
-    pub fn is_nothing_due(&self, moment: u64) -> bool
-        ensures { result ≡ is_nothing_due moment self.now }
-    {
-        none_expired(&self.files, &self.limits, moment) && none_penalised(&self.files, moment)
-    }
-
     /// When the first penalty of a file ends that hasn't ended by a moment.
     pub fn next_penalty_end(&self, moment: u64) -> Option<u64>
         ensures { result ≡ next_penalty_end moment (seen self.now).active }
@@ -103,20 +89,48 @@ impl Queue {
     }
 }
 
-// Whether none of the files that no session works on has expired.
-fn none_expired(files: &[Held], limits: &QueueLimits, moment: u64) -> bool
-    ensures { result ≡ list_all
-        (λ held. held.in_flight || not (is_expired limits.now.expiration moment (view_of held))) files.now }
+fn pick_by(
+    rule: TakeRule,
+    files: &[Held],
+    order: &Order,
+    limits: &QueueLimits,
+    moment: u64,
+    list: &mut Vec<u64>,
+) -> Result<bool, AllocError>
+    requires arrivals { ArrivalsDiffer (views_of files.now) }
+    requires empty { list.old.items ≡ [] }
+    ensures picks { Picks (numbers_picked rule (eligible_files order.now limits.now moment (views_of files.now)))
+        result list.new.items }
+    ensures free { offered_by rule (eligible_files order.now limits.now moment (views_of files.now)) ≡ []
+        → IsOk result }
 {
-    files
-        .iter()
-        .all(|held| held.in_flight || !held.is_expired(limits, moment))
+    let alloc = *list.allocator();
+    match rule {
+        TakeRule::Source => Ok(false),
+        TakeRule::One => pick_best(best_of(files, order, limits, moment), list),
+        TakeRule::Bin { min, max } => {
+            let files = in_order(alloc, files, order, limits, moment)?;
+            pick_bin(&files, min, max, list)
+        }
+        TakeRule::Defragment => {
+            let files = in_order(alloc, files, order, limits, moment)?;
+            pick_whole(alloc, &files, list)
+        }
+    }
 }
 
-fn none_penalised(files: &[Held], moment: u64) -> bool
-    ensures { result ≡ list_all (λ held. not (is_penalised moment (view_of held))) files.now }
+fn pick_best(best: Option<&Held>, list: &mut Vec<u64>) -> Result<bool, AllocError>
+    requires { list.old.items ≡ [] }
+    ensures picks { Picks (option_map (λ held. held.now.file.number ∷ []) best.entry) result list.new.items }
+    ensures free { best.entry ≡ None → IsOk result }
 {
-    files.iter().all(|held| !held.is_penalised(moment))
+    match best {
+        Some(held) => {
+            list.push(held.file.number)?;
+            Ok(true)
+        }
+        None => Ok(false),
+    }
 }
 
 fn best_of<'a>(
