@@ -274,13 +274,13 @@ fn stops_within(
     Ok(())
 }
 
-// Makes a run, and stops it within each of its checkpoints.
-fn goes_by_logs(alloc: Global, run: LoggedRun) -> Result<(), Fail> {
+// Makes a run, and stops it within each of its checkpoints, with each of these picks.
+fn goes_by_logs(alloc: Global, run: LoggedRun, picks: &[Pick]) -> Result<(), Fail> {
     let mut disk = MemoryDisk::new(Vec::new(alloc));
     runs_on(alloc, &mut disk, run, 0)?;
-    for pick in PICKS {
+    for pick in picks {
         for checkpoint in run.checkpoints {
-            stops_within(alloc, &disk, pick, run, checkpoint)?;
+            stops_within(alloc, &disk, *pick, run, checkpoint)?;
         }
     }
     Ok(())
@@ -300,8 +300,8 @@ fn wherever_a_run_stops_the_next_one_delivers_the_file(rt: HostRuntime) -> Resul
     for pick in PICKS {
         assert_eq!(rt; runs_again(alloc, &disk, pick)?, 26);
     }
-    for run in LOGGED_RUNS {
-        goes_by_logs(alloc, run)?;
-    }
+    let [short, long] = LOGGED_RUNS;
+    goes_by_logs(alloc, short, &PICKS)?;
+    goes_by_logs(alloc, long, &[Pick::Torn(0x5a5a)])?;
     Ok(())
 }

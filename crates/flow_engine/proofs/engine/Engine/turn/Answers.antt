@@ -6,12 +6,12 @@ use Rattle.flow_engine.specs.declared.tending.Tended.TheVariants.{Nothing}
 use Rattle.flow_engine.proofs.engine.Engine.turn.Goals as goal
 
 pub go_on-requires-clause-short : goal.go_on-requires-clause-short
-go_on-requires-clause-short g c files within =
+go_on-requires-clause-short g c κs within =
     let was = c.in_ok-tend.was in
     let there = c.in_ok-tend.is in
     let nothing = c.in-Nothing.is in
     let is : c.tend.result ≡ Ok Nothing = cc in
-    c.tend.ensures.short is files within
+    c.tend.ensures.short is
 
 pub returns-in-Nothing-clause-turned : goal.returns-in-Nothing-clause-turned
 returns-in-Nothing-clause-turned g c =
