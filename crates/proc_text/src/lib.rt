@@ -1,0 +1,9 @@
+//! The processors of texts: each takes one file, and works on its content.
+#![tactic(auto)]
+
+mod modify_bytes;
+
+pub use modify_bytes::ModifyBytes;
+
+/// The place of the file that each of them takes.
+const FILE: u32 = 0;
