@@ -1,0 +1,4 @@
+pub mod Clones
+pub mod Routed
+pub mod Routes
+pub mod Texts
