@@ -1,6 +1,6 @@
 -- The session of a RouteOnContent: the places of the relationships whose patterns find something.
-use Rattle.std.proofs.Common.{◌≡◌, ℕ, ◌+◌, ◌<◌, ◌≤◌, Bool, true, false, cond, List, [], ◌∷◌, ◌++◌, length, map, None, Some, refl, sym, ◌∙◌, ap, subst, arith, add-zero, take, get_or, length-append, length-take-le}
-use Rattle.std.specs.Prelude.{codes, filter, is_some, nat_le, not, ◌&&◌}
+use Rattle.std.proofs.Common.{◌≡◌, ℕ, ◌+◌, ◌<◌, ◌≤◌, Bool, true, false, cond, List, [], ◌∷◌, ◌++◌, length, map, Some, refl, sym, ◌∙◌, ap, subst, arith, add-zero, take, get_or, length-append, length-take-le}
+use Rattle.std.specs.Prelude.{codes, filter, nat_le, not, ◌&&◌}
 use Rattle.std.specs.List.{All, enumerate_from, list_all}
 use Rattle.std.specs.Str.{is_utf8}
 use Rattle.std.proofs.lemmas.Bool.{and_parts, leb-true}

@@ -1,8 +1,8 @@
-//! A taken file that is routed, with its clones.
-ghost use Rattle.std.specs.Prelude.{◌≡◌, ◌∷◌, [], ◌<◌, ◌≤◌, ◌==◌, ◌||◌, length, map, true, All, None, OnOk};
+//! A taken file that is passed on or routed, with its clones.
+ghost use Rattle.std.specs.Prelude.{◌≡◌, ◌∷◌, [], ◌<◌, ◌≤◌, ◌==◌, ◌||◌, false, length, map, true, All, None, OnOk};
 ghost use Rattle.flowfile_record.specs.declared.worked.End.TheVariants.{To};
 ghost use Rattle.machine_model.specs.declared.limits.TheConstants.{OWN_PROPERTIES_MAX};
-ghost use Rattle.machine_model.specs.Making.{TakenFile};
+ghost use Rattle.machine_model.specs.Making.{TakenFile, alone, passed_on};
 ghost use Rattle.machine_model.specs.RouteOnAttribute.{routed, routed_clone};
 ghost use Rattle.process_session.specs.Bench.{attributes_at, made_size};
 ghost use Rattle.process_session.specs.Changes.{with_end, with_route};
@@ -16,12 +16,18 @@ use process_session::{FILENAME_SIZE, Session};
 use processor_api::or_no_memory;
 use std::alloc::AllocError;
 
+/// The taken file, as it is, to a relationship.
+pub(crate) fn pass(session: &mut Session, relationship: u16)
+    requires one { BeganWithOne session.old }
+    requires there { relationship < session.old.relationships }
+    ensures { EndsWith session.old session.new
+        (alone (passed_on FILE (attributes_at session.old FILE) false relationship)) }
+{
+    session.transfer(FILE, relationship).unwrap();
+}
+
 /// The taken file to the relationship at the first of these places and a clone to each other one, or to `unmatched`.
-pub(crate) fn route(
-    session: &mut Session,
-    unmatched: u16,
-    places: &[u16],
-) -> Result<(), AllocError>
+pub(crate) fn route(session: &mut Session, unmatched: u16, places: &[u16]) -> Result<(), AllocError>
     requires one { BeganWithOne session.old }
     requires unmatched { unmatched < session.old.relationships }
     requires there { All (λ place. place < session.old.relationships) places.now }

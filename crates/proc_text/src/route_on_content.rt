@@ -67,11 +67,7 @@ impl Acts for RouteOnContent<'_> {
 }
 
 /// The places of the relationships whose patterns find something in a content, if it is UTF-8.
-fn found_places(
-    alloc: Global,
-    content: &[u8],
-    own: &[OwnPattern],
-) -> Result<Vec<u16>, AllocError>
+fn found_places(alloc: Global, content: &[u8], own: &[OwnPattern]) -> Result<Vec<u16>, AllocError>
     requires { length own.now ≤ OWN_PROPERTIES_MAX }
     ensures { IfOk result (λ places. places.items ≡ found_places content.now own.now) }
 {
