@@ -1,0 +1,3 @@
+pub mod Cloning
+pub mod Finding
+pub mod Kinds

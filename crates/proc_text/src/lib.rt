@@ -1,0 +1,21 @@
+//! The processors of texts: each takes one file, and works on its content.
+#![tactic(auto)]
+
+mod cloning;
+mod modify_bytes;
+mod passing;
+mod replace_text;
+mod route_on_content;
+
+pub use modify_bytes::ModifyBytes;
+pub use replace_text::ReplaceText;
+pub use route_on_content::RouteOnContent;
+
+/// The place of the file that each of them takes.
+const FILE: u32 = 0;
+
+/// The place of the relationship that some of them name first.
+const SUCCESS: u16 = 0;
+
+/// The place of the relationship to which a ReplaceText gives up.
+const FAILURE: u16 = 1;
