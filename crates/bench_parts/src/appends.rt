@@ -3,13 +3,13 @@ ghost use Rattle.std.specs.Prelude.{◌≡◌, ◌+◌, ◌<◌, ◌≤◌, leng
 ghost use Rattle.content_repo.specs.Slots.{held_in, IsNamed};
 
 use crate::disk::BenchDisk;
-use crate::measured::Measured;
+use crate::measured::{Measured, processor_time};
 use anyhow::{Result, bail};
 use content_repo::{Content, ContentError, OPEN_SIZE, SLOTS};
 use flowfile_record::{ContentRef, DIGEST_SIZE};
 use sha2::{Digest, Sha256};
-use std::alloc::{AllocError, Global};
-use std::time::{Clock, Instant};
+use std::alloc::{Alloc, AllocError, Global};
+use std::fs::Files;
 
 /// How many contents are appended.
 const APPENDS: u32 = 1_000;
@@ -18,16 +18,16 @@ const APPENDS: u32 = 1_000;
 const CONTENT_SIZE: usize = 100;
 
 /// The time that the appends take where so many claims are live.
-pub fn measure<R: Clock>(rt: &R, alloc: Global, live: u32) -> Result<Measured> {
+pub fn measure<R: Files + Alloc<A = Global>>(rt: &R, alloc: Global, live: u32) -> Result<Measured> {
     if live == 0 || live > SLOTS {
         bail!("there are 1 to {SLOTS} claims");
     }
     let references = references(alloc, live)?;
-    let mut disk = BenchDisk::of_claims(alloc, sizes(alloc, references.as_slice())?);
+    let mut disk = BenchDisk::new(sizes(alloc, references.as_slice())?, Vec::new(alloc));
     let mut content = Content::load(alloc, &mut disk, references.as_slice())?;
-    let start = Instant::now(rt)?;
+    let start = processor_time(rt);
     append_all(&mut content, &mut disk)?;
-    let took = start.elapsed(rt)?;
+    let took = processor_time(rt).saturating_sub(start);
     Ok(Measured {
         count: u64::from(APPENDS),
         took,

@@ -9,10 +9,11 @@ mod kept;
 
 use disk_trait::{Disk, DiskError, Failed, FileKind, FileName};
 use kept::Kept;
-use std::alloc::Global;
+pub use kept::{CLAIM_BYTE, KeptFile};
+use std::alloc::{AllocError, Global};
 
-/// Claims whose sizes alone are kept, and one file that is read. It tells nothing of them, and no call fails but one
-/// that asks for what isn't kept, for want of memory, or after the last moment.
+/// Claims whose sizes alone are kept, and files that are read. It tells nothing of them, and no call fails but one that
+/// asks for what isn't kept, for want of memory, or after the last moment.
 #[derive(Drop)]
 pub struct BenchDisk {
     kept: Kept,
@@ -21,30 +22,19 @@ pub struct BenchDisk {
 }
 
 impl BenchDisk {
-    /// Claims of these sizes, by their numbers.
-    pub fn of_claims(alloc: Global, sizes: Vec<u64>) -> BenchDisk {
-        let none = FileName {
-            kind: FileKind::Events,
-            number: 0,
-        };
-        BenchDisk::of(sizes, none, Vec::new(alloc))
-    }
-
-    /// One file.
-    pub fn of_file(alloc: Global, file: FileName, bytes: Vec<u8>) -> BenchDisk {
-        BenchDisk::of(Vec::new(alloc), file, bytes)
-    }
-
-    fn of(claims: Vec<u64>, file: FileName, bytes: Vec<u8>) -> BenchDisk {
+    /// Claims of these sizes, by their numbers, and files.
+    pub fn new(claims: Vec<u64>, files: Vec<KeptFile>) -> BenchDisk {
         BenchDisk {
-            kept: Kept {
-                claims,
-                file,
-                bytes,
-            },
+            kept: Kept { claims, files },
             moment: 0,
             faults: 0,
         }
+    }
+
+    /// One file.
+    pub fn of_file(alloc: Global, name: FileName, bytes: Vec<u8>) -> Result<BenchDisk, AllocError> {
+        let files = vec![in alloc; KeptFile { name, bytes }]?;
+        Ok(BenchDisk::new(Vec::new(alloc), files))
     }
 
     // Counts a call that changes something.

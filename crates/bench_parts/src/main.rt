@@ -7,15 +7,16 @@ mod logs;
 mod measured;
 mod records;
 mod snapshots;
+mod stores;
 
 use anyhow::{Result, bail};
 use measured::Measured;
-use std::alloc::Global;
+use std::alloc::{Alloc, Global};
 use std::env;
-use std::time::Clock;
+use std::fs::Files;
 
 /// The parts that are measured.
-const PARTS: [&str; 4] = ["appends", "loads", "reads", "writes"];
+const PARTS: [&str; 5] = ["appends", "loads", "opens", "reads", "writes"];
 
 /// How much there is of each where the word is `check`.
 const FEW: u32 = 5;
@@ -28,14 +29,18 @@ fn main(rt: HostRuntime) -> Result<()> {
     };
     if word.as_str() == "check" {
         for part in PARTS {
-            let measured = measure(&rt, alloc, part, FEW)?;
+            let measured = measure(&rt, alloc, part, FEW, FEW)?;
             println!(rt; "{part} {FEW}: {}", measured.count)?;
         }
         return Ok(());
     }
     let much = read_count(word.as_str(), words.get(1))?;
-    let measured = measure(&rt, alloc, word.as_str(), much)?;
-    let microseconds = measured.took.as_micros();
+    let live = match words.get(2) {
+        Some(_) => read_count(word.as_str(), words.get(2))?,
+        None => 0,
+    };
+    let measured = measure(&rt, alloc, word.as_str(), much, live)?;
+    let microseconds = measured.took / 1_000;
     println!(rt;
         "{word} {much}: {} in {microseconds} microseconds",
         measured.count
@@ -43,10 +48,18 @@ fn main(rt: HostRuntime) -> Result<()> {
     Ok(())
 }
 
-fn measure<R: Clock>(rt: &R, alloc: Global, part: &str, much: u32) -> Result<Measured> {
+// Of a store there is so much behind so many live files.
+fn measure<R: Files + Alloc<A = Global>>(
+    rt: &R,
+    alloc: Global,
+    part: &str,
+    much: u32,
+    live: u32,
+) -> Result<Measured> {
     match part {
         "appends" => appends::measure(rt, alloc, much),
         "loads" => logs::measure(rt, alloc, much),
+        "opens" => stores::measure(rt, alloc, much, live),
         "reads" => snapshots::measure_reading(rt, alloc, much),
         "writes" => snapshots::measure_writing(rt, alloc, much),
         _ => bail!("`{part}` measures nothing"),

@@ -1,13 +1,33 @@
 //! Bytes of records, as docs/STORE.md has them.
+use crate::disk::CLAIM_BYTE;
 use anyhow::{Result, bail};
+use flowfile_record::DIGEST_SIZE;
 use record_codec::{PAYLOAD_MAX, append_block};
-use std::alloc::AllocError;
+use sha2::{Digest, Sha256};
+use std::alloc::{AllocError, Global};
 
 /// Two attributes, as a file from a folder has them.
 const ATTRIBUTES: &[u8; 33] = b"\0\x02\0\x08filename\0\0\0\x05a.txt\0\x04path\0\0\0\x02./";
 
-/// The reference to a content, in bytes.
-const CONTENT_SIZE: usize = 52;
+/// The size of a file's content, in bytes.
+const CONTENT_SIZE: u64 = 100;
+
+/// How many contents stand in each claim.
+const CONTENTS_OF_A_CLAIM: u32 = 10_000;
+
+/// The digest of the content that each file has.
+pub fn digest_of_contents() -> [u8; DIGEST_SIZE] {
+    Sha256::digest(&[CLAIM_BYTE; CONTENT_SIZE as usize])
+}
+
+/// The sizes of the claims in which the contents of files up to this number stand.
+pub fn claims(alloc: Global, last: u32) -> Result<Vec<u64>, AllocError> {
+    let mut sizes = Vec::new(alloc);
+    for _ in 0..=last / CONTENTS_OF_A_CLAIM {
+        sizes.push(u64::from(CONTENTS_OF_A_CLAIM) * CONTENT_SIZE)?;
+    }
+    Ok(sizes)
+}
 
 /// Appends numbers of eight bytes.
 pub fn put_numbers(out: &mut Vec<u8>, numbers: &[u64]) -> Result<(), AllocError> {
@@ -17,13 +37,21 @@ pub fn put_numbers(out: &mut Vec<u8>, numbers: &[u64]) -> Result<(), AllocError>
     Ok(())
 }
 
-/// Appends a file that waits in the first connection. Its arrival is its number.
-pub fn put_file(out: &mut Vec<u8>, number: u64) -> Result<(), AllocError> {
+/// Appends a file that waits in the first connection, with a content of this digest. Its arrival is its number.
+pub fn put_file(
+    out: &mut Vec<u8>,
+    number: u32,
+    digest: &[u8; DIGEST_SIZE],
+) -> Result<(), AllocError> {
+    let slot = number / CONTENTS_OF_A_CLAIM;
+    let offset = u64::from(number % CONTENTS_OF_A_CLAIM) * CONTENT_SIZE;
     out.extend_from_slice(&[0, 0])?;
-    put_numbers(out, &[number])?;
+    put_numbers(out, &[u64::from(number)])?;
     out.extend_from_slice(ATTRIBUTES)?;
-    out.extend_from_slice(&[0; CONTENT_SIZE])?;
-    put_numbers(out, &[1_000, 0, number])
+    out.extend_from_slice(&slot.to_be_bytes())?;
+    put_numbers(out, &[offset, CONTENT_SIZE])?;
+    out.extend_from_slice(digest)?;
+    put_numbers(out, &[1_000, 0, u64::from(number)])
 }
 
 /// Appends a block.

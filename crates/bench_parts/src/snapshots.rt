@@ -4,27 +4,31 @@ ghost use Rattle.flowfile_record.specs.Stored.{kept_of};
 ghost use Rattle.checkpoint_store.specs.Consistent.{IsConsistent};
 
 use crate::disk::BenchDisk;
-use crate::measured::Measured;
-use crate::records::{put_block, put_file, put_numbers};
+use crate::measured::{Measured, processor_time};
+use crate::records::{digest_of_contents, put_block, put_file, put_numbers};
 use anyhow::{Result, bail};
 use checkpoint_store::{read, write};
 use disk_trait::{FileKind, FileName};
 use flowfile_record::{DIGEST_SIZE, Stored};
 use record_codec::{FORMAT_VERSION, SnapshotKind};
-use std::alloc::{AllocError, Global};
-use std::time::{Clock, Instant};
+use std::alloc::{Alloc, AllocError, Global};
+use std::fs::Files;
 
-const SNAPSHOT: FileName = FileName {
+pub const SNAPSHOT: FileName = FileName {
     kind: FileKind::Snapshot,
     number: 1,
 };
 
 /// The time that it takes to read a snapshot of so many files.
-pub fn measure_reading<R: Clock>(rt: &R, alloc: Global, files: u32) -> Result<Measured> {
-    let mut disk = BenchDisk::of_file(alloc, SNAPSHOT, snapshot(alloc, files)?);
-    let start = Instant::now(rt)?;
+pub fn measure_reading<R: Files + Alloc<A = Global>>(
+    rt: &R,
+    alloc: Global,
+    files: u32,
+) -> Result<Measured> {
+    let mut disk = BenchDisk::of_file(alloc, SNAPSHOT, snapshot(alloc, files)?)?;
+    let start = processor_time(rt);
     let state = read(alloc, &mut disk, SNAPSHOT.number)?;
-    let took = start.elapsed(rt)?;
+    let took = processor_time(rt).saturating_sub(start);
     Ok(Measured {
         count: state.files.len(),
         took,
@@ -32,15 +36,19 @@ pub fn measure_reading<R: Clock>(rt: &R, alloc: Global, files: u32) -> Result<Me
 }
 
 /// The time that it takes to write one, which is kept nowhere.
-pub fn measure_writing<R: Clock>(rt: &R, alloc: Global, files: u32) -> Result<Measured> {
+pub fn measure_writing<R: Files + Alloc<A = Global>>(
+    rt: &R,
+    alloc: Global,
+    files: u32,
+) -> Result<Measured> {
     let state = state(alloc, files)?;
     if !state.batches.is_empty() {
         bail!("a snapshot without batches has some");
     }
-    let mut disk = BenchDisk::of_file(alloc, SNAPSHOT, Vec::new(alloc));
-    let start = Instant::now(rt)?;
+    let mut disk = BenchDisk::of_file(alloc, SNAPSHOT, Vec::new(alloc))?;
+    let start = processor_time(rt);
     write(alloc, &mut disk, SNAPSHOT.number, &state)?;
-    let took = start.elapsed(rt)?;
+    let took = processor_time(rt).saturating_sub(start);
     Ok(Measured {
         count: state.files.len(),
         took,
@@ -51,19 +59,21 @@ pub fn measure_writing<R: Clock>(rt: &R, alloc: Global, files: u32) -> Result<Me
 fn state(alloc: Global, files: u32) -> Result<Stored>
     ensures { IfOk result (λ state. (kept_of state).batches ≡ [] → IsConsistent (kept_of state)) }
 {
-    let mut disk = BenchDisk::of_file(alloc, SNAPSHOT, snapshot(alloc, files)?);
+    let mut disk = BenchDisk::of_file(alloc, SNAPSHOT, snapshot(alloc, files)?)?;
     let state = read(alloc, &mut disk, SNAPSHOT.number)?;
     Ok(state)
 }
 
-fn snapshot(alloc: Global, files: u32) -> Result<Vec<u8>> {
+/// A snapshot of so many files.
+pub fn snapshot(alloc: Global, files: u32) -> Result<Vec<u8>> {
+    let digest = digest_of_contents();
     let mut bytes = Vec::new(alloc);
     let head = head(alloc, u64::from(files))?;
     put_block(&mut bytes, SnapshotKind::Head.code(), head.as_slice())?;
     let mut payload = Vec::new(alloc);
-    for number in 0..files {
+    for before in 0..files {
         payload.clear();
-        put_file(&mut payload, u64::from(number) + 1)?;
+        put_file(&mut payload, before + 1, &digest)?;
         put_block(&mut bytes, SnapshotKind::File.code(), payload.as_slice())?;
     }
     let blocks = (u64::from(files) + 1).to_be_bytes();

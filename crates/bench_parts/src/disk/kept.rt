@@ -5,12 +5,21 @@ ghost use Rattle.std.specs.List.Sorted.{IsStrictlyIncreasing};
 use disk_trait::{FileKind, FileName};
 use std::alloc::AllocError;
 
-/// The sizes of claims, by their numbers, and one file with its bytes. Of other files nothing is kept.
+/// What each byte of a claim is.
+pub const CLAIM_BYTE: u8 = b'x';
+
+/// A file that is read.
+#[derive(Drop)]
+pub struct KeptFile {
+    pub name: FileName,
+    pub bytes: Vec<u8>,
+}
+
+/// The sizes of claims, by their numbers, and files with their bytes. Of other files nothing is kept.
 #[derive(Drop)]
 pub struct Kept {
     pub claims: Vec<u64>,
-    pub file: FileName,
-    pub bytes: Vec<u8>,
+    pub files: Vec<KeptFile>,
 }
 
 impl Kept {
@@ -21,8 +30,10 @@ impl Kept {
         if kind == FileKind::Claim {
             push_claims(self.claims.as_slice(), list)?;
         }
-        if kind == self.file.kind && !self.bytes.is_empty() {
-            list.push(self.file.number)?;
+        for file in &self.files {
+            if kind == file.name.kind && !file.bytes.is_empty() {
+                list.push(file.name.number)?;
+            }
         }
         list.sort_unstable();
         list.dedup();
@@ -31,8 +42,8 @@ impl Kept {
 
     /// The file's length in bytes.
     pub fn size(&self, file: FileName) -> u64 {
-        if file == self.file {
-            return self.bytes.len() as u64;
+        if let Some(bytes) = self.bytes_of(file) {
+            return bytes.len() as u64;
         }
         if file.kind == FileKind::Claim && file.number < self.claims.len() as u64 {
             return self.claims[file.number as usize];
@@ -43,11 +54,24 @@ impl Kept {
     /// Fills `into` with the bytes from `at` on, where they are kept.
     pub fn read(&self, file: FileName, at: u64, into: &mut [u8]) -> Option<()> {
         let end = at.checked_add(into.len() as u64)?;
-        if file != self.file || end > self.bytes.len() as u64 {
+        if end > self.size(file) {
             return None;
         }
-        into.copy_from_slice(&self.bytes[at as usize..end as usize]);
+        match self.bytes_of(file) {
+            Some(bytes) => into.copy_from_slice(bytes.get(at as usize..end as usize)?),
+            None => into.fill(CLAIM_BYTE),
+        }
         Some(())
+    }
+
+    // The bytes of a file that is read.
+    fn bytes_of(&self, name: FileName) -> Option<&[u8]> {
+        for file in &self.files {
+            if file.name == name {
+                return Some(file.bytes.as_slice());
+            }
+        }
+        None
     }
 
     /// A claim is as long as this write makes it. The bytes aren't kept.
