@@ -5,8 +5,8 @@ ghost use Rattle.disk_trait.specs.declared.damage.Damage.{Damage as TheDamage};
 ghost use Rattle.flowfile_record.specs.Stored.{kept_of};
 ghost use Rattle.flowfile_record.specs.declared.change.Change.TheVariants as change;
 ghost use Rattle.checkpoint_store.specs.Consistent.{IsConsistent};
-ghost use Rattle.content_repo.specs.Claims.{IsRead, IdleShortened, claim};
-ghost use Rattle.content_repo.specs.Slots.{references_to};
+ghost use Rattle.content_repo.specs.Claims.{AreEmptied, IsRead, IdleShortened, claim};
+ghost use Rattle.content_repo.specs.Slots.{references_to, IsReclaimed};
 ghost use Rattle.kept_state.specs.Changes.{entry_of, expiry_entry};
 ghost use Rattle.kept_state.specs.Limits.{numbers_limit};
 ghost use Rattle.kept_state.specs.declared.limit.Limit.{Limit as TheLimit};
@@ -202,6 +202,10 @@ impl Store {
     /// Empties the claims that no live content and none of the opening stands in. It takes no memory.
     pub fn reclaim<D: Disk>(&mut self, disk: &mut D) -> Result<Reclaimed, StoreError>
         requires { IsKeptOn D.tells D.held D.moment D.images self.old disk.old }
+        // Each idle claim is emptied, and its slot is free.
+        ensures reclaimed { IfOk result (IsReclaimed self.old.slots self.new.slots) }
+        ensures emptied { OnOk result (IsTrue D.tells
+            → AreEmptied self.old.slots self.new.slots (D.held disk.old) (D.held disk.new)) }
         // Whatever a stop leaves holds the same, and stands for the same state.
         ensures images { self.old.failed ≡ false → Since D.moment D.images disk.old disk.new (Holds self.old) }
         ensures states { self.old.failed ≡ false → (state : State)
@@ -216,6 +220,7 @@ impl Store {
         ensures log { self.new.log.number ≡ self.old.log.number }
         ensures refusal { RefusesOnFault result self.old self.new (D.faults disk.old) (D.faults disk.new) }
         ensures kinds { IfErr result IsDiskOrReopen }
+        ensures untouched { self.old.failed ≡ true → (self.new ≡ self.old) × (disk.new ≡ disk.old) }
     {
         if self.has_failed {
             return Err(StoreError::MustReopen);
@@ -248,6 +253,7 @@ impl Store {
         ensures state { (kept_by self.new ≡ kept_by self.old) × (self.new.lot ≡ self.old.lot) }
         ensures refusal { RefusesOnFault result self.old self.new (D.faults disk.old) (D.faults disk.new) }
         ensures kinds { IfErr result IsDiskOrReopen }
+        ensures untouched { self.old.failed ≡ true → (self.new ≡ self.old) × (disk.new ≡ disk.old) }
     {
         if self.has_failed {
             return Err(StoreError::MustReopen);

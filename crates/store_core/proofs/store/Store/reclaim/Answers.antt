@@ -1,5 +1,7 @@
 use Rattle.std.proofs.Common.{◌≡◌, sym, subst}
 use Rattle.disk_trait.specs.Images.{Since}
+use Rattle.content_repo.specs.Claims.{AreEmptied}
+use Rattle.content_repo.specs.Slots.{IsReclaimed}
 use Rattle.store_core.specs.Store.{StoreState, state_in, EachStandsFor, IsKeptOn, Holds, kept_by}
 use Rattle.store_core.specs.Flow.{flow_in}
 use Rattle.store_core.specs.State.{stands_for}
@@ -67,3 +69,12 @@ returns-clause-states g c works state =
     let kept = subst (λ (t : StoreState). IsKeptOn g.D.Disk.tells g.D.Disk.held moment images t old) (sym c.self.view_is) c.requires in
     subst (λ (t : StoreState). EachStandsFor (flow_in (kept_by t)) t.lot state (images old (moment old)) → Since moment images old new (λ c'. stands_for (flow_in (kept_by t)) t.lot c' ≡ of_state state)) c.self.view_is
     (states_reclaimed g.D.Disk.tells g.D.Disk.held moment images s old new (c.self.invariant.works c.if-self.false) c.if-self.false kept c.reclaim.ensures.images state)
+
+pub returns-clause-reclaimed : goal.returns-clause-reclaimed
+returns-clause-reclaimed g c =
+    subst (λ (t : StoreState). IsReclaimed t.slots c.reclaim.new.self c.in-Ok.reclaimed) c.self.view_is c.in-Ok.ensures.reclaimed
+
+pub returns-clause-emptied : goal.returns-clause-emptied
+returns-clause-emptied g c told =
+    subst (λ (t : StoreState). AreEmptied t.slots c.reclaim.new.self (g.D.Disk.held c.args.disk.now) (g.D.Disk.held c.reclaim.new.disk)) c.self.view_is
+    (c.in-Ok.ensures.emptied told)
