@@ -1,5 +1,6 @@
 pub mod Agreeing
 pub mod Ahead
+pub mod Appending
 pub mod ByKey
 pub mod Checkpointing
 pub mod ClaimsAlone

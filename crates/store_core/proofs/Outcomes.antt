@@ -26,12 +26,13 @@ use Rattle.prov_store.specs.Events.{events_in}
 use Rattle.prov_store.specs.State.{EventsState, IsAppended}
 use Rattle.store_core.specs.Change.{HasLiveContents}
 use Rattle.store_core.specs.Committed.{PreparedChange, IsPrepared, HasChange, HoldsEither}
-use Rattle.store_core.specs.Touched.{MayTouch, TouchesOnly}
+use Rattle.store_core.specs.Touched.{ClaimsGrow, MayTouch, TouchesOnly}
 use Rattle.store_core.specs.Flow.{flow_in}
 use Rattle.store_core.specs.Placing.{contents_of, GrowsAhead, AddsEvents, ArePlaced, HoldsMore, PlacesAll}
 use Rattle.store_core.specs.State.{stands_for}
 use Rattle.store_core.specs.Store.{StoreState, IsWorking, IsKeptOn, EachStandsFor, Holds, kept_by}
 use Rattle.store_core.proofs.Agreeing.{of_state}
+use Rattle.store_core.proofs.Appending.{GrowingClaims, claims_ahead, claims_logged, claims_acknowledged}
 use Rattle.store_core.proofs.Commits.{entry_acts, referred_gone, events_beside_log, working_after}
 use Rattle.store_core.proofs.EventsStay.{same_events}
 use Rattle.store_core.proofs.Following.{Follows, follows_ahead, state_following}
@@ -103,6 +104,9 @@ module _ {D : Type 0} (tells : Bool) (held : D → Files) (moment : D → ℕ) (
   pub placed_alone : (log : Option ℕ) (slots : List Slot) (events : EventsState) → Since moment images old mid (After (GrowsAhead slots events) (images old (moment old)))
       → Since moment images old mid (After (TouchesOnly (MayTouch log)) (images old (moment old)))
   placed_alone log slots events grows = since_ahead_touches moment images held log slots events 0 e old mid mid grows
+
+  pub placed_claims : HasPlaced tells held moment images s p e old mid → Since moment images old mid (GrowingClaims moment images s.slots old)
+  placed_claims has = claims_ahead moment images held s.slots s.events old mid has.grows
 
 -- ---- the entry
 
@@ -194,6 +198,12 @@ module _ {D : Type 0} (tells : Bool) (held : D → Files) (moment : D → ℕ) (
 
   pub logged_alone : Since moment images old end (After (TouchesOnly (MayTouch s.log.number)) (images old (moment old)))
   logged_alone = since_touches moment images held s.log.number s.slots s.events number e old mid end logged.numbered has.grows logged.logged tells (logged.told end) (logged.left mid)
+
+  pub logged_claims : Since moment images old end (GrowingClaims moment images s.slots old)
+  logged_claims = claims_logged moment images held s.slots s.events old mid has.grows number e end logged.logged tells (logged.told end) (logged.left mid)
+
+  pub acknowledged_claims : InEach (images end (moment end)) (Adds number e (held mid)) → IsTrue tells → ClaimsGrow s.slots (held old) (held end)
+  acknowledged_claims added told = claims_acknowledged s.slots s.events number e (held old) (held mid) (held end) (has.held_grows told) (added (held end) (logged.left end told))
 
   abbrev behind : State → State
   behind state = state_after (content_in (held old)) state p.settled

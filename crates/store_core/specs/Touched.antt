@@ -1,10 +1,13 @@
 -- Which files a call changes, and how.
-use Rattle.std.specs.Prelude.{◌≡◌, ◌⊎◌, ℕ, List, Option, None, Some}
+use Rattle.std.specs.Prelude.{◌≡◌, ◌⊎◌, ℕ, ◌≤◌, Bool, IsTrue, List, length, take, Option, None, Some, Result, OnOk}
 use Rattle.disk_trait.specs.Files.{Files, Shortened, named}
+use Rattle.disk_trait.specs.Images.{After, Since}
 use Rattle.disk_trait.specs.declared.file_name.FileKind.TheVariants.{Claim, Events, Log, Snapshot}
 use Rattle.disk_trait.specs.declared.file_name.FileName.{FileName}
 use Rattle.flowfile_record.specs.declared.content.ContentRef.{ContentRef}
-use Rattle.content_repo.specs.Claims.{OnClaims}
+use Rattle.content_repo.specs.Claims.{claim, OnClaims}
+use Rattle.content_repo.specs.Slots.{size_of}
+use Rattle.content_repo.specs.declared.slot.Slot.{Slot}
 use Rattle.store_core.specs.New.{first_log}
 use Rattle.store_core.specs.Store.{StandsIn}
 
@@ -38,6 +41,18 @@ pub record Revives (current : Option ℕ) (old new : Files) : Type 0 where
 -- files of claims and of events change, and the log of this number
 abbrev pub MayTouch : Option ℕ → FileName → Type 0
 MayTouch log f = (f.kind ≡ Claim) ⊎ (f.kind ≡ Events) ⊎ ((n : ℕ) × (log ≡ Some n) × (f ≡ named Log n))
+
+-- each claim has its bytes of before up to the size of its slot, and is no shorter
+abbrev pub ClaimsGrow : List Slot → Files → Files → Type 0
+ClaimsGrow slots old new =
+    (k : ℕ) → (take (size_of slots k) (new (claim k)) ≡ take (size_of slots k) (old (claim k)))
+    × (length (old (claim k)) ≤ length (new (claim k)))
+
+-- Whatever a stop leaves, claims only grow, and so do those that are held once the call has answered Ok.
+pub record AppendsToClaims {D A E : Type 0} (tells : Bool) (held : D → Files) (moment : D → ℕ)
+    (images : D → ℕ → Files → Type 0) (slots : List Slot) (old new : D) (result : Result A E) : Type 0 where
+  pub left : Since moment images old new (After (ClaimsGrow slots) (images old (moment old)))
+  pub acknowledged : OnOk result (IsTrue tells → ClaimsGrow slots (held old) (held new))
 
 -- only claims change, and they get shorter; one that any of these contents stands in stays
 abbrev pub Frees : List ContentRef → Files → Files → Type 0

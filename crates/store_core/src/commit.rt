@@ -15,7 +15,7 @@ ghost use Rattle.store_core.specs.Flow.{flow_in};
 ghost use Rattle.store_core.specs.Placing.{MayPlace, PlacesAll, AddsEvents, GrowsAhead};
 ghost use Rattle.store_core.specs.State.{stands_for};
 ghost use Rattle.store_core.specs.Store.{kept_by, IsKeptOn, EachStandsFor};
-ghost use Rattle.store_core.specs.Touched.{MayTouch, TouchesOnly};
+ghost use Rattle.store_core.specs.Touched.{AppendsToClaims, MayTouch, TouchesOnly};
 
 use crate::contents::{give_up, place_contents};
 use crate::{Prepared, Store, StoreError};
@@ -60,6 +60,8 @@ impl Store {
             (D.images disk.new (D.moment disk.new))) }
         ensures alone { Since D.moment D.images disk.old disk.new
             (After (TouchesOnly (MayTouch self.old.log.number)) (D.images disk.old (D.moment disk.old))) }
+        // What stood in a claim stands there.
+        ensures claims { AppendsToClaims D.tells D.held D.moment D.images self.old.slots disk.old disk.new result }
         ensures refusal { RefusesOnFault result self.old self.new (D.faults disk.old) (D.faults disk.new) }
         ensures kinds { IfErr result IsDiskOrReopen }
         ensures untouched { self.old.failed ≡ true → (self.new ≡ self.old) × (disk.new ≡ disk.old) }

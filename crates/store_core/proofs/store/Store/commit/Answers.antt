@@ -20,7 +20,7 @@ use Rattle.store_core.specs.State.{stands_for}
 use Rattle.store_core.specs.Store.{StoreState, state_in, kept_by, IsWorking}
 use Rattle.store_core.proofs.Agreeing.{of_state}
 use Rattle.store_core.proofs.Commits.{may_place, recorded_first, entry_acts, entry_room, entry_frame}
-use Rattle.store_core.proofs.Outcomes.{has_placed, has_change, placed_images, placed_states, placed_alone, numbered_of, has_logged, may_give_up, logged_images, logged_alone, logged_states, acknowledged_state as state_of_acknowledged, acknowledged_kept, acknowledged_works, events_counted}
+use Rattle.store_core.proofs.Outcomes.{has_placed, has_change, placed_images, placed_states, placed_alone, placed_claims, numbered_of, has_logged, may_give_up, logged_images, logged_alone, logged_claims, logged_states, acknowledged_state as state_of_acknowledged, acknowledged_kept, acknowledged_claims, acknowledged_works, events_counted}
 use Rattle.store_core.proofs.Whole.{ready_ahead}
 use Rattle.store_core.proofs.store.Store.commit.Goals as goal
 
@@ -555,3 +555,79 @@ returns-clause-events g c =
     let s = state_in i.state i.log i.entries i.contents i.opened.items i.events i.lot i.has_failed in
     let change : PreparedChange = record { entry = c.prepared.inside.entry; settled = c.prepared.inside.settled.now; events = c.prepared.inside.events } in
     events_counted s c.args.self.now change c.args.prepared c.write_ahead.new.events c.self.view_is c.prepared.view_is c.requires.prepared c.in-Ok.ensures.events.appended
+
+pub returns-in_default-clause-claims : goal.returns-in_default-clause-claims
+returns-in_default-clause-claims g c =
+    let i = c.self.inside in
+    let s = state_in i.state i.log i.entries i.contents i.opened.items i.events i.lot i.has_failed in
+    let now = c.args.self.now in
+    let view : s ≡ now = c.self.view_is in
+    let change : PreparedChange = record { entry = c.prepared.inside.entry; settled = c.prepared.inside.settled.now; events = c.prepared.inside.events } in
+    let p = c.args.prepared in
+    let p_view : change ≡ p = c.prepared.view_is in
+    let e = c.write_ahead.new.entry in
+    let old = c.args.disk.now in
+    let mid = c.write_ahead.new.disk in
+    let moment = g.D.Disk.moment in
+    let images = g.D.Disk.images in
+    let held = g.D.Disk.held in
+    let tells = g.D.Disk.tells in
+    let has = has_placed tells held moment images s now change p e old mid view p_view (c.self.invariant.works c.if-self.false) c.if-self.false c.stored-stored.ensures.consistent c.stored-stored.ensures.no_batches c.requires.kept c.requires.prepared c.requires.contents c.write_ahead.ensures.same c.write_ahead.ensures.images c.write_ahead.ensures.held in
+    record { left = placed_claims tells held moment images now p e old mid has; acknowledged = tt }
+
+pub returns-in_default-append-clause-claims : goal.returns-in_default-append-clause-claims
+returns-in_default-append-clause-claims g c =
+    let i = c.self.inside in
+    let s = state_in i.state i.log i.entries i.contents i.opened.items i.events i.lot i.has_failed in
+    let now = c.args.self.now in
+    let view : s ≡ now = c.self.view_is in
+    let change : PreparedChange = record { entry = c.prepared.inside.entry; settled = c.prepared.inside.settled.now; events = c.prepared.inside.events } in
+    let p = c.args.prepared in
+    let p_view : change ≡ p = c.prepared.view_is in
+    let e = c.write_ahead.new.entry in
+    let old = c.args.disk.now in
+    let mid = c.write_ahead.new.disk in
+    let moment = g.D.Disk.moment in
+    let images = g.D.Disk.images in
+    let held = g.D.Disk.held in
+    let tells = g.D.Disk.tells in
+    let has = has_placed tells held moment images s now change p e old mid view p_view (c.self.invariant.works c.if-self.false) c.if-self.false c.stored-stored.ensures.consistent c.stored-stored.ensures.no_batches c.requires.kept c.requires.prepared c.requires.contents c.write_ahead.ensures.same c.write_ahead.ensures.images c.write_ahead.ensures.held in
+    let slots = c.write_ahead.new.contents in
+    let placed : PlacesAll tells (held mid) change.settled.placed s.slots slots e = subst (λ (l : List Placed). PlacesAll tells (held mid) l s.slots slots e) c.as_slice.ensures c.in-Ok.ensures.placed in
+    let framed : IsFrame e c.as_slice-3.result.now = entry_frame now p e c.as_slice-3.result.now has.consistent has.prepared has.same c.into_frame-entry-2.ensures.encoded (c.as_slice-3.ensures.value ∙ c.into_frame-entry-2.ensures.frame) in
+    let new = state_in c.apply-2.new.self c.append.new.self i.entries c.give_up.new.contents i.opened.items c.write_ahead.new.events i.lot true in
+    let end = c.append.new.disk in
+    let laws = g.met.D.Disk g.world.𝓛 g.world.𝓜 g.world.𝓡 ((λ s x. x), (λ x. x), (λ x. x), λ x. x) in
+    let number = numbered_of i.log.number c.self.invariant.current in
+    let logged = has_logged tells held moment images s now new change p e c.into_frame-entry-2.result.0 old mid end number.0 slots view p_view number.1 placed c.in-Ok.ensures.sizes c.in-Ok.ensures.events c.into_frame-entry-2.ensures.entry c.apply-2.ensures.kept refl (c.append.ensures.images number.0 e number.1 framed) (λ disk k c' image. laws.left_is_told disk k c' image) (λ disk told. laws.held_is_left disk told) in
+    record { left = logged_claims tells held moment images now new p e old mid end number.0 slots has logged; acknowledged = tt }
+
+pub returns-clause-claims : goal.returns-clause-claims
+returns-clause-claims g c =
+    let i = c.self.inside in
+    let s = state_in i.state i.log i.entries i.contents i.opened.items i.events i.lot i.has_failed in
+    let now = c.args.self.now in
+    let view : s ≡ now = c.self.view_is in
+    let change : PreparedChange = record { entry = c.prepared.inside.entry; settled = c.prepared.inside.settled.now; events = c.prepared.inside.events } in
+    let p = c.args.prepared in
+    let p_view : change ≡ p = c.prepared.view_is in
+    let e = c.write_ahead.new.entry in
+    let old = c.args.disk.now in
+    let mid = c.write_ahead.new.disk in
+    let moment = g.D.Disk.moment in
+    let images = g.D.Disk.images in
+    let held = g.D.Disk.held in
+    let tells = g.D.Disk.tells in
+    let has = has_placed tells held moment images s now change p e old mid view p_view (c.self.invariant.works c.if-self.false) c.if-self.false c.stored-stored.ensures.consistent c.stored-stored.ensures.no_batches c.requires.kept c.requires.prepared c.requires.contents c.write_ahead.ensures.same c.write_ahead.ensures.images c.write_ahead.ensures.held in
+    let slots = c.write_ahead.new.contents in
+    let placed : PlacesAll tells (held mid) change.settled.placed s.slots slots e = subst (λ (l : List Placed). PlacesAll tells (held mid) l s.slots slots e) c.as_slice.ensures c.in-Ok.ensures.placed in
+    let framed : IsFrame e c.as_slice-3.result.now = entry_frame now p e c.as_slice-3.result.now has.consistent has.prepared has.same c.into_frame-entry-2.ensures.encoded (c.as_slice-3.ensures.value ∙ c.into_frame-entry-2.ensures.frame) in
+    let new = state_in c.apply-2.new.self c.append.new.self c.saturating_add-self-inside.result c.give_up.new.contents i.opened.items c.write_ahead.new.events i.lot i.has_failed in
+    let end = c.append.new.disk in
+    let laws = g.met.D.Disk g.world.𝓛 g.world.𝓜 g.world.𝓡 ((λ s x. x), (λ x. x), (λ x. x), λ x. x) in
+    let number = numbered_of i.log.number c.self.invariant.current in
+    let logged = has_logged tells held moment images s now new change p e c.into_frame-entry-2.result.0 old mid end number.0 slots view p_view number.1 placed c.in-Ok.ensures.sizes c.in-Ok.ensures.events c.into_frame-entry-2.ensures.entry c.apply-2.ensures.kept refl (c.append.ensures.images number.0 e number.1 framed) (λ disk k c' image. laws.left_is_told disk k c' image) (λ disk told. laws.held_is_left disk told) in
+    record {
+      left = logged_claims tells held moment images now new p e old mid end number.0 slots has logged;
+      acknowledged = acknowledged_claims tells held moment images now new p e old mid end number.0 slots has logged (c.in-Ok-append.ensures.added number.0 e number.1 framed);
+    }
