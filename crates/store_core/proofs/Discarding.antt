@@ -2,6 +2,7 @@
 use Rattle.std.proofs.Common.{◌≡◌, ℕ, ◌≤◌, ◌==◌, Bool, true, false, List, [], ◌∷◌, length, take, get_or, refl, sym, ap, subst, ◌∙◌, eq-eqb, arith}
 use Rattle.std.specs.Prelude.{Option, Some, None, nat_lt, nat_le, ◌&&◌}
 use Rattle.std.proofs.lemmas.Bool.{false≢true, le-leb, lt-ltb, ltb-true, leb-true, eqb-true, false_from_ne_true}
+use Rattle.std.proofs.lemmas.List.{nil_from_length}
 use Rattle.disk_trait.specs.Files.{Files, Shortened, named}
 use Rattle.disk_trait.specs.Images.{After, Since}
 use Rattle.disk_trait.specs.declared.file_name.FileKind.TheVariants.{Log, Snapshot, Swap}
@@ -9,7 +10,7 @@ use Rattle.disk_trait.proofs.Moments.{wider, step_after_step}
 use Rattle.record_codec.specs.declared.log.TheConstants.{OPEN_GATE}
 use Rattle.flowfile_wal.specs.Current.{counts}
 use Rattle.store_core.specs.declared.discard.Spared.TheVariants.{UpTo, Only}
-use Rattle.store_core.specs.Discard.{spares, CutsKind, IsAbove, Discards}
+use Rattle.store_core.specs.Discard.{spares, CutsKind, HasCut, HasNoOthers, IsAbove, Discards}
 use Rattle.store_core.proofs.Cutting.{shortened_same, shortened_in_turn, shortened_to_none}
 
 -- ---- logs that are passed over
@@ -124,6 +125,25 @@ empties_batches current old new cut = record {
   snapshot = λ n is. cut.others (named Snapshot n) (λ (e : Snapshot ≡ Swap). absurd cc);
   shorter = cut.each;
   passed = λ n above passed. ap counts (cut.others (named Log n) (λ (e : Log ≡ Swap). absurd cc)) ∙ passed;
+}
+
+-- ---- what is left
+
+emptied : (bytes : List ℕ) → length bytes ≤ 0 → bytes ≡ []
+emptied bytes short = nil_from_length bytes (omega (arith, short))
+
+-- once each kind is cut, one after another
+pub no_others : (current : Option ℕ) (a b c d : Files) → HasCut Log (spares (Only current)) 0 a b → HasCut Snapshot (spares (Only current)) 0 b c → HasCut Swap (spares (Only None)) 0 c d
+    → HasNoOthers current d
+no_others current a b c d logs snapshots batches = record {
+  logs = λ n other.
+      batches.step.others (named Log n) (λ (e : Log ≡ Swap). absurd cc)
+      ∙ snapshots.step.others (named Log n) (λ (e : Log ≡ Snapshot). absurd cc)
+      ∙ emptied (b (named Log n)) (logs.short n (unspared_other current n other));
+  snapshots = λ n other.
+      batches.step.others (named Snapshot n) (λ (e : Snapshot ≡ Swap). absurd cc)
+      ∙ emptied (c (named Snapshot n)) (snapshots.short n (unspared_other current n other));
+  batches = λ n. emptied (d (named Swap n)) (batches.short n refl);
 }
 
 module _ {D : Type 0} (moment : D → ℕ) (images : D → ℕ → Files → Type 0) (current : Option ℕ) where

@@ -19,6 +19,7 @@ pub mod Following
 pub mod Giving
 pub mod Growing
 pub mod KeptRead
+pub mod Leftovers
 pub mod Machine
 pub mod Made
 pub mod MadeSteps

@@ -1,8 +1,8 @@
 -- Files that don't matter are cut to nothing.
-use Rattle.std.specs.Prelude.{◌≡◌, ◌≢◌, ℕ, ◌<◌, ◌≤◌, ◌==◌, nat_le, Bool, true, false, length, Option, None, Some}
+use Rattle.std.specs.Prelude.{◌≡◌, ◌≢◌, ℕ, ◌<◌, ◌≤◌, ◌==◌, nat_le, Bool, true, false, [], length, Option, None, Some}
 use Rattle.disk_trait.specs.Files.{Files, Shortened, named}
 use Rattle.disk_trait.specs.declared.file_name.FileKind.{FileKind}
-use Rattle.disk_trait.specs.declared.file_name.FileKind.TheVariants.{Log, Snapshot, Claim, Events}
+use Rattle.disk_trait.specs.declared.file_name.FileKind.TheVariants.{Log, Snapshot, Swap, Claim, Events}
 use Rattle.disk_trait.specs.declared.file_name.FileName.{FileName}
 use Rattle.flowfile_wal.specs.Current.{counts}
 use Rattle.store_core.specs.declared.discard.Spared.{Spared}
@@ -40,3 +40,9 @@ pub record Discards (current : Option ℕ) (old new : Files) : Type 0 where
   pub snapshot : (n : ℕ) → current ≡ Some n → new (named Snapshot n) ≡ old (named Snapshot n)
   pub shorter : (f : FileName) → Shortened 0 (old f) (new f)
   pub passed : (n : ℕ) → IsAbove current n → counts (old (named Log n)) ≡ false → counts (new (named Log n)) ≡ false
+
+-- beside the log of this number and its snapshot there is no other, and no batch is swapped out
+pub record HasNoOthers (current : Option ℕ) (files : Files) : Type 0 where
+  pub logs : (n : ℕ) → (current ≡ Some n → ⊥) → files (named Log n) ≡ []
+  pub snapshots : (n : ℕ) → (current ≡ Some n → ⊥) → files (named Snapshot n) ≡ []
+  pub batches : (n : ℕ) → files (named Swap n) ≡ []

@@ -1,9 +1,11 @@
 -- What opening a store finds and leaves.
-use Rattle.std.specs.Prelude.{◌≡◌, ◌≢◌, ◌⊎◌, ℕ, ◌^◌, ◌<◌, Bool, false, IsTrue, List, [], ◌++◌, Ok, Err, None, Some}
+use Rattle.std.specs.Prelude.{◌≡◌, ◌≢◌, ◌⊎◌, ℕ, ◌^◌, ◌<◌, Bool, false, IsTrue, List, [], ◌++◌, length, Ok, Err, None, Some}
 use Rattle.disk_trait.specs.declared.file_name.FileKind.TheVariants.{Claim}
 use Rattle.checkpoint_store.specs.Begun.{IsBegun}
 use Rattle.checkpoint_store.specs.Consistent.{IsConsistent}
 use Rattle.checkpoint_store.specs.Snapshot.{snapshot, snapshot_file}
+use Rattle.content_repo.specs.Claims.{claim}
+use Rattle.content_repo.specs.Slots.{covered}
 use Rattle.disk_trait.specs.Files.{Files, named}
 use Rattle.disk_trait.specs.declared.damage.Damage.{Damage}
 use Rattle.flowfile_record.specs.Stored.{Kept}
@@ -11,6 +13,7 @@ use Rattle.flowfile_wal.specs.Current.{current_number}
 use Rattle.machine_model.specs.State.{State}
 use Rattle.prov_store.specs.Events.{events_file}
 use Rattle.prov_store.specs.State.{EventsState, HasEvents, HasStale}
+use Rattle.store_core.specs.Discard.{HasNoOthers}
 use Rattle.store_core.specs.Flow.{Flow, flow_in}
 use Rattle.store_core.specs.Kept.{kept_in}
 use Rattle.store_core.specs.Found.{IsFoundIn}
@@ -33,6 +36,12 @@ pub record IsFound (flow : Flow) (lot : ℕ) (s : StoreState) (files : Files) : 
   pub kept : kept_in flow lot files ≡ Ok (kept_by s)
   pub state : State
   pub stood : stands_for flow lot files ≡ Ok state
+
+-- What doesn't matter is gone: other logs and snapshots than the current ones, batches, and the bytes of each claim
+-- behind its last live content.
+pub record HasNoLeftovers (s : StoreState) (files : Files) : Type 0 where
+  pub others : HasNoOthers s.log.number files
+  pub claims : (n : ℕ) → length (files (claim n)) ≡ covered n (live_in s)
 
 -- these files stand for a state of another flow, whose digest is this
 pub record IsOfOther (flow : Flow) (lot : ℕ) (digest : List ℕ) (files : Files) : Type 0 where

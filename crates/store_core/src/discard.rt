@@ -2,13 +2,13 @@
 //!
 //! A log that is passed over is first cut to one byte: within a cut to nothing its first byte might become an open
 //! gate.
-ghost use Rattle.std.specs.Prelude.{◌≡◌, ◌≢◌, ◌⊎◌, ℕ, ◌≤◌, ◌<◌, [], length, true, Some, IsTrue, OnOk, IfErr, IsErr, IsErrOf};
+ghost use Rattle.std.specs.Prelude.{◌≡◌, ◌≢◌, ◌⊎◌, ℕ, ◌≤◌, ◌<◌, length, true, IsTrue, OnOk, IfErr, IsErr, IsErrOf};
 ghost use Rattle.disk_trait.specs.Files.{At, Shortened, named};
 ghost use Rattle.disk_trait.specs.Images.{After, Since, IsOnly};
 ghost use Rattle.disk_trait.specs.Faults.{CountsFaults};
 ghost use Rattle.disk_trait.specs.declared.file_name.FileKind.TheVariants.{Log as LogKind};
 ghost use Rattle.store_core.specs.Calls.{IsDiskOrMemory};
-ghost use Rattle.store_core.specs.Discard.{spares, CutsKind, HasCut, IsAbove, Discards};
+ghost use Rattle.store_core.specs.Discard.{spares, CutsKind, HasCut, HasNoOthers, IsAbove, Discards};
 
 use crate::StoreError;
 use disk_trait::{Disk, Failed, FileKind, FileName};
@@ -38,8 +38,7 @@ impl Spared {
 pub fn discard<D: Disk>(alloc: Global, disk: &mut D, current: Option<u64>) -> Result<(), StoreError>
     ensures images { Since D.moment D.images disk.old disk.new
         (After (Discards current) (D.images disk.old (D.moment disk.old))) }
-    ensures logs { OnOk result (IsTrue D.tells
-        → (n : ℕ) → (current ≡ Some n → ⊥) → D.held disk.new (named LogKind n) ≡ []) }
+    ensures others { OnOk result (IsTrue D.tells → HasNoOthers current (D.held disk.new)) }
     ensures held { OnOk result (IsTrue D.tells → Discards current (D.held disk.old) (D.held disk.new)) }
     ensures refusal { IfErr result IsDiskOrMemory }
     ensures cause { CountsFaults (D.faults disk.old) (D.faults disk.new) (IsErrOf result StoreError.Disk) }
@@ -75,8 +74,7 @@ fn empty_files<D: Disk>(alloc: Global, disk: &mut D, current: Option<u64>) -> Re
     ensures images { Since D.moment D.images disk.old disk.new
         (After (Discards current) (D.images disk.old (D.moment disk.old))) }
     ensures held { OnOk result (IsTrue D.tells → Discards current (D.held disk.old) (D.held disk.new)) }
-    ensures logs { OnOk result (IsTrue D.tells
-        → (n : ℕ) → (current ≡ Some n → ⊥) → D.held disk.new (named LogKind n) ≡ []) }
+    ensures others { OnOk result (IsTrue D.tells → HasNoOthers current (D.held disk.new)) }
     ensures refusal { IfErr result IsDiskOrMemory }
     ensures cause { CountsFaults (D.faults disk.old) (D.faults disk.new) (IsErrOf result StoreError.Disk) }
 {

@@ -11,7 +11,7 @@ ghost use Rattle.kept_state.specs.declared.limit.Limit.{Limit as TheLimit};
 ghost use Rattle.store_core.specs.Calls.{SinceSync, IsUnsynced, IsUnwritten};
 ghost use Rattle.store_core.specs.Flow.{agrees_with, flow_in};
 ghost use Rattle.store_core.specs.New.{kept_anew};
-ghost use Rattle.store_core.specs.Opened.{IsOpenedFor, IsFound, IsOfOther, IsShut, SameMeaning};
+ghost use Rattle.store_core.specs.Opened.{HasNoLeftovers, IsOpenedFor, IsFound, IsOfOther, IsShut, SameMeaning};
 ghost use Rattle.store_core.specs.State.{stands_for};
 ghost use Rattle.store_core.specs.Store.{IsKeptOn};
 ghost use Rattle.store_core.specs.Touched.{Revives};
@@ -41,6 +41,7 @@ impl Store {
         ensures opened { IfOk result (IsOpenedFor flow.now lot) }
         ensures found { IfOk result (λ store. IsTrue D.tells → IsFound flow.now lot store (D.held disk.old)) }
         ensures kept { IfOk result (λ store. IsKeptOn D.tells D.held D.moment D.images store disk.new) }
+        ensures tidy { IfOk result (λ store. IsTrue D.tells → HasNoLeftovers store (D.held disk.new)) }
         // From behind the first sync on, whatever a stop leaves keeps and stands for the same; or that sync failed.
         ensures images { SinceSync D.moment D.images disk.old disk.new (SameMeaning flow.now lot (D.held disk.old))
             ⊎ IsUnsynced D.moment D.images disk.old disk.new result }
@@ -82,6 +83,7 @@ fn restore<D: Disk>(
     ensures opened { IfOk result (IsOpenedFor flow.now lot) }
     ensures found { IfOk result (λ store. IsTrue D.tells → IsFound flow.now lot store (D.held disk.old)) }
     ensures kept { IfOk result (λ store. IsKeptOn D.tells D.held D.moment D.images store disk.new) }
+    ensures tidy { IfOk result (λ store. IsTrue D.tells → HasNoLeftovers store (D.held disk.new)) }
     ensures images { Since D.moment D.images disk.old disk.new (SameMeaning flow.now lot (D.held disk.old)) }
     ensures alone { Since D.moment D.images disk.old disk.new
         (Revives (current_number (D.held disk.old)) (D.held disk.old)) }

@@ -4,16 +4,17 @@ ghost use Rattle.disk_trait.specs.Files.{Files};
 ghost use Rattle.disk_trait.specs.Faults.{CountsFaults};
 ghost use Rattle.disk_trait.specs.Images.{After, Since, IsOnly};
 ghost use Rattle.flowfile_record.specs.Stored.{kept_of};
-ghost use Rattle.content_repo.specs.Claims.{HasSizes, IsCovered, ShortenedTo};
+ghost use Rattle.content_repo.specs.Claims.{CutTo, HasSizes, IsCovered, ShortenedTo};
 ghost use Rattle.content_repo.specs.Slots.{count_of, size_of, held_in, end_of, covered, references_to, IsNamed};
 ghost use Rattle.flowfile_wal.specs.Calls.{InEach};
 ghost use Rattle.flowfile_wal.specs.Steps.{IsReadyIn, IsCurrentIn};
 ghost use Rattle.checkpoint_store.specs.Consistent.{IsConsistent};
 ghost use Rattle.store_core.specs.Agreement.{Needs, IsPlain, Agrees, SameEventFiles, IsUnmade};
 ghost use Rattle.store_core.specs.Calls.{IsDiskOrMemory};
+ghost use Rattle.store_core.specs.Discard.{HasNoOthers};
 ghost use Rattle.store_core.specs.Flow.{flow_in};
 ghost use Rattle.store_core.specs.New.{kept_anew};
-ghost use Rattle.store_core.specs.Opened.{IsReadWhole, IsRevived, SameMeaning, IsMade};
+ghost use Rattle.store_core.specs.Opened.{HasNoLeftovers, IsReadWhole, IsRevived, SameMeaning, IsMade};
 ghost use Rattle.store_core.specs.State.{live_contents};
 ghost use Rattle.store_core.specs.Store.{IsKeptOn};
 ghost use Rattle.store_core.specs.Touched.{Revives, log_opened};
@@ -46,6 +47,7 @@ pub fn revive<D: Disk>(
     requires named { All IsNamed opened.items }
     ensures revived { IfOk result (IsRevived lot found) }
     ensures kept { IfOk result (λ store. IsKeptOn D.tells D.held D.moment D.images store disk.new) }
+    ensures tidy { IfOk result (λ store. IsTrue D.tells → HasNoLeftovers store (D.held disk.new)) }
     ensures images { Since D.moment D.images disk.old disk.new
         (SameMeaning (flow_in found.state.kept) lot (D.held disk.old)) }
     ensures alone { Since D.moment D.images disk.old disk.new (Revives found.log.number (D.held disk.old)) }
@@ -95,6 +97,8 @@ fn make_whole<D: Disk>(
         → Since D.moment D.images disk.old disk.new (λ c. IsUnmade c ⊎ IsMade (kept_of stored.now) c) }
     ensures made { OnOk result (log.old.number ≡ None
         → InEach (D.images disk.new (D.moment disk.new)) (IsMade (kept_of stored.now))) }
+    ensures others { OnOk result (IsTrue D.tells
+        → HasNoOthers (Some (log_opened log.old.number)) (D.held disk.new)) }
     ensures events { Since D.moment D.images disk.old disk.new
         (After SameEventFiles (D.images disk.old (D.moment disk.old))) }
     ensures alone { Since D.moment D.images disk.old disk.new
@@ -116,6 +120,7 @@ fn mend<D: Disk>(alloc: Global, disk: &mut D, log: &mut Log, number: u64) -> Res
     requires current { IsTrue D.tells → IsCurrentIn log.old (D.held disk.old) }
     ensures log { OnOk result (log.new ≡ record log.old { mended = true }) }
     ensures ready { OnOk result (InEach (D.images disk.new (D.moment disk.new)) (IsReadyIn log.new)) }
+    ensures others { OnOk result (IsTrue D.tells → HasNoOthers (Some number) (D.held disk.new)) }
     // What matters beside it stays, wherever a stop comes.
     ensures images { (needs : Needs) → IsPlain needs number
         → Since D.moment D.images disk.old disk.new (After (Agrees needs) (D.images disk.old (D.moment disk.old))) }
@@ -146,6 +151,7 @@ fn make<D: Disk>(
     // Wherever a stop comes, no store is made yet, or it is made.
     ensures images { Since D.moment D.images disk.old disk.new (λ c. IsUnmade c ⊎ IsMade (kept_of stored.now) c) }
     ensures made { OnOk result (InEach (D.images disk.new (D.moment disk.new)) (IsMade (kept_of stored.now))) }
+    ensures others { OnOk result (IsTrue D.tells → HasNoOthers (Some FIRST_LOG) (D.held disk.new)) }
     ensures events { Since D.moment D.images disk.old disk.new
         (After SameEventFiles (D.images disk.old (D.moment disk.old))) }
     ensures alone { Since D.moment D.images disk.old disk.new
@@ -174,6 +180,8 @@ fn hold_opened<D: Disk>(
     ensures held { IfOk result (λ contents. held_in contents ≡ length opened.now + length opened.now) }
     ensures sizes { IfOk result (λ contents. (k : ℕ) → size_of contents k ≡ covered k opened.now) }
     ensures files { IfOk result (λ contents. IsTrue D.tells → HasSizes contents (D.held disk.new)) }
+    ensures cut { OnOk result (IsTrue D.tells
+        → CutTo (λ k. covered k opened.now) (D.held disk.old) (D.held disk.new)) }
     ensures images { Since D.moment D.images disk.old disk.new
         (After (ShortenedTo (λ k. covered k opened.now)) (D.images disk.old (D.moment disk.old))) }
     ensures refusal { IfErr result IsDiskOrMemory }

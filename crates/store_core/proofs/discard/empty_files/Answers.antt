@@ -1,11 +1,11 @@
 use Rattle.std.proofs.Common.{◌≡◌, ℕ, ◌≤◌, length, subst, sym}
-use Rattle.std.specs.Prelude.{Option}
+use Rattle.std.specs.Prelude.{Option, OnOk, Result, Ok, Err}
 use Rattle.disk_trait.specs.Files.{Files, named}
 use Rattle.disk_trait.specs.Images.{After, Since}
 use Rattle.disk_trait.specs.declared.file_name.FileKind.TheVariants.{Log}
 use Rattle.store_core.specs.declared.discard.Spared.TheVariants.{Only}
 use Rattle.store_core.specs.Discard.{spares, CutsKind, IsAbove, Discards}
-use Rattle.store_core.proofs.Discarding.{empties_logs, since_step, after_snapshots, after_batches}
+use Rattle.store_core.proofs.Discarding.{empties_logs, no_others, since_step, after_snapshots, after_batches}
 use Rattle.store_core.proofs.discard.empty_files.Goals as goal
 
 -- the names of the steps
@@ -44,3 +44,16 @@ returns-clause-images g c =
     (λ d left. c.requires.short (laws.left_is_told old (g.D.Disk.moment old) d left)) c.cut_kind.ensures.images)
     c.cut_kind-2.ensures.images)
     c.cut_kind-3.ensures.images
+
+also : {A E P Q : Type 0} (r : Result A E) → (P → Q) → OnOk r P → OnOk r Q
+also (Ok x) to p = to p
+also (Err e) to p = tt
+
+pub returns-clause-others : goal.returns-clause-others
+returns-clause-others g c =
+    let held = g.D.Disk.held in
+    also c.cut_kind-3.result
+    (λ last told.
+    no_others c.args.current (held c.args.disk.now) (held c.cut_kind.new.disk) (held c.cut_kind-2.new.disk) (held c.cut_kind-3.new.disk)
+    (c.in_ok-cut_kind.ensures.cut told) (c.in_ok-cut_kind-2.ensures.cut told) (last told))
+    c.cut_kind-3.ensures.cut

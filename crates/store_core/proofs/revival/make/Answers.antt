@@ -9,6 +9,7 @@ use Rattle.store_core.specs.Discard.{Discards}
 use Rattle.store_core.proofs.Reviving.{EventsStaying, same_events_discarded, same_events_logged, same_events_snapshot, since_events, since_events_in_turn}
 use Rattle.store_core.proofs.Made.{since_discards, since_snapshot}
 use Rattle.store_core.proofs.MadeSteps.{begun_files, since_unmade, since_begin, made_at_the_end, each_staged, unmade_images}
+use Rattle.store_core.proofs.Leftovers.{no_others_made}
 use Rattle.store_core.proofs.Touching.{revives_discarded, revives_first_log, revives_first_snapshot, since_revived, since_revives}
 use Rattle.store_core.proofs.revival.make.Goals as goal
 
@@ -61,7 +62,7 @@ begin-requires-clause-ready g c κs within = λ d left.
     let laws = g.met.D.Disk g.world.𝓛 g.world.𝓜 g.world.𝓡 ((λ s x. x), (λ x. x), (λ x. x), λ x. x) in
     let d1 = c.discard.new.disk in
     let d2 = c.write.new.disk in
-    (each_staged moment images g.D.Disk.tells g.D.Disk.held (kept_of c.args.stored.now) d1 d2 (λ d left. laws.left_is_told d2 (moment d2) d left) c.in_ok-write.ensures.synced c.in_ok-discard.ensures.logs c.in_ok-write.ensures.written d left).begin
+    (each_staged moment images g.D.Disk.tells g.D.Disk.held (kept_of c.args.stored.now) d1 d2 (λ d left. laws.left_is_told d2 (moment d2) d left) c.in_ok-write.ensures.synced (λ told. (c.in_ok-discard.ensures.others told).logs) c.in_ok-write.ensures.written d left).begin
 
 pub returns-in_err-begin-clause-images : goal.returns-in_err-begin-clause-images
 returns-in_err-begin-clause-images g c =
@@ -76,7 +77,7 @@ returns-in_err-begin-clause-images g c =
     (since_snapshot moment images d0 d1 d2 (Torn 0 (length (snapshot k)))
     (since_discards moment images d0 d1 (unmade_images moment images g.D.Disk.tells g.D.Disk.held d0 (λ d left. laws.left_is_told d0 (moment d0) d left) c.requires.synced c.requires.unmade) c.discard.ensures.images)
     c.write.ensures.images)
-    (each_staged moment images g.D.Disk.tells g.D.Disk.held k d1 d2 (λ d left. laws.left_is_told d2 (moment d2) d left) c.in_ok-write.ensures.synced c.in_ok-discard.ensures.logs c.in_ok-write.ensures.written)
+    (each_staged moment images g.D.Disk.tells g.D.Disk.held k d1 d2 (λ d left. laws.left_is_told d2 (moment d2) d left) c.in_ok-write.ensures.synced (λ told. (c.in_ok-discard.ensures.others told).logs) c.in_ok-write.ensures.written)
     c.begin.ensures.images
 
 pub begun-requires-after_bounds : goal.begun-requires-after_bounds
@@ -95,7 +96,7 @@ returns-clause-images g c =
     (since_snapshot moment images d0 d1 d2 (Torn 0 (length (snapshot k)))
     (since_discards moment images d0 d1 (unmade_images moment images g.D.Disk.tells g.D.Disk.held d0 (λ d left. laws.left_is_told d0 (moment d0) d left) c.requires.synced c.requires.unmade) c.discard.ensures.images)
     c.write.ensures.images)
-    (each_staged moment images g.D.Disk.tells g.D.Disk.held k d1 d2 (λ d left. laws.left_is_told d2 (moment d2) d left) c.in_ok-write.ensures.synced c.in_ok-discard.ensures.logs c.in_ok-write.ensures.written)
+    (each_staged moment images g.D.Disk.tells g.D.Disk.held k d1 d2 (λ d left. laws.left_is_told d2 (moment d2) d left) c.in_ok-write.ensures.synced (λ told. (c.in_ok-discard.ensures.others told).logs) c.in_ok-write.ensures.written)
     c.begin.ensures.images
 
 pub returns-clause-made : goal.returns-clause-made
@@ -111,7 +112,7 @@ returns-clause-made g c =
     (since_snapshot moment images d0 d1 d2 (Torn 0 (length (snapshot k)))
     (since_discards moment images d0 d1 (unmade_images moment images g.D.Disk.tells g.D.Disk.held d0 (λ d left. laws.left_is_told d0 (moment d0) d left) c.requires.synced c.requires.unmade) c.discard.ensures.images)
     c.write.ensures.images)
-    (each_staged moment images g.D.Disk.tells g.D.Disk.held k d1 d2 (λ d left. laws.left_is_told d2 (moment d2) d left) c.in_ok-write.ensures.synced c.in_ok-discard.ensures.logs c.in_ok-write.ensures.written)
+    (each_staged moment images g.D.Disk.tells g.D.Disk.held k d1 d2 (λ d left. laws.left_is_told d2 (moment d2) d left) c.in_ok-write.ensures.synced (λ told. (c.in_ok-discard.ensures.others told).logs) c.in_ok-write.ensures.written)
     c.begin.ensures.images c.in_ok-begin.ensures.begun
 
 pub returns-in_err-discard-clause-events : goal.returns-in_err-discard-clause-events
@@ -177,3 +178,9 @@ returns-clause-alone g c =
     (since_revives moment images None d0 d1 (Discards None) c.discard.ensures.images (revives_discarded None))
     (since_revives moment images None d1 d2 (At (snapshot_file 1) torn) c.write.ensures.images (revives_first_snapshot torn)))
     (since_revives moment images None d2 d3 (At (log_file 1) (λ old new. IsBegunOrNot 1 new)) c.begin.ensures.images (revives_first_log (λ old new. IsBegunOrNot 1 new)))
+
+pub returns-clause-others : goal.returns-clause-others
+returns-clause-others g c told =
+    let laws = g.met.D.Disk g.world.𝓛 g.world.𝓜 g.world.𝓡 ((λ s x. x), (λ x. x), (λ x. x), λ x. x) in
+    no_others_made g.D.Disk.moment g.D.Disk.images g.D.Disk.held _ _ c.discard.new.disk c.write.new.disk c.begin.new.disk (c.in_ok-discard.ensures.others told) (c.in_ok-write.ensures.written told)
+    c.in_ok-write.ensures.synced c.begin.ensures.images (laws.held_is_left c.begin.new.disk told)

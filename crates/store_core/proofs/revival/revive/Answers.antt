@@ -11,6 +11,8 @@ use Rattle.store_core.specs.Opened.{IsMade}
 use Rattle.store_core.specs.Store.{state_in}
 use Rattle.prov_store.specs.State.{EventsState, CutsStale}
 use Rattle.store_core.proofs.RevivedFiles.{unmade_found, means_mid, means_new, means_end, events_known, end_holds, end_log, sizes_trimmed, since_still, still_covered, working, few_live}
+use Rattle.store_core.specs.Touched.{log_opened}
+use Rattle.store_core.proofs.Leftovers.{no_leftovers}
 use Rattle.store_core.proofs.Touching.{revives_cut, revives_trimmed, since_held, since_revived, since_revives}
 use Rattle.store_core.proofs.revival.revive.Goals as goal
 
@@ -198,3 +200,15 @@ returns-clause-alone g c =
     (since_revived moment images current d0 d1 d2 c.make_whole.ensures.alone
     (since_revives moment images current d1 d2 (ShortenedTo ends) c.hold_opened.ensures.images (revives_cut current ends)))
     (since_revives moment images current d2 d3 (CutsStale c.args.events.stale) c.trim.ensures.images (revives_trimmed current c.args.events.stale)))
+
+pub returns-clause-tidy : goal.returns-clause-tidy
+returns-clause-tidy g c told =
+    let held = g.D.Disk.held in
+    let d1 = c.make_whole.new.disk in
+    let d2 = c.hold_opened.new.disk in
+    let d3 = c.trim.new.disk in
+    let s = state_in c.args.found.state c.make_whole.new.log c.args.found.entries c.in_ok-contents.contents c.args.opened.items c.trim.new.self c.args.lot false in
+    no_leftovers s (log_opened c.args.found.log.number) c.as_slice.result.now c.args.events.stale (held d1) (held d2) (held d3) c.in_ok-make_whole.ensures.log.0
+    (c.as_slice.ensures.value ∙ c.requires.opened) (c.in_ok-make_whole.ensures.others told) (c.in_ok-contents.ensures.cut told) (c.trim.ensures.held told)
+    (sizes_trimmed c.args.events.stale s.slots (held d2) (held d3) (c.trim.ensures.held told) (c.in_ok-contents.ensures.files told))
+    c.in_ok-contents.ensures.sizes
