@@ -10,7 +10,7 @@ use Rattle.record_codec.specs.declared.entry.LogEntry.{LogEntry}
 use Rattle.content_repo.specs.Claims.{claim}
 use Rattle.content_repo.specs.Slots.{size_of}
 use Rattle.content_repo.specs.declared.slot.Slot.{Slot}
-use Rattle.flowfile_wal.specs.Calls.{InEach, WithOrWithout}
+use Rattle.flowfile_wal.specs.Calls.{WithOrWithout}
 use Rattle.flowfile_wal.specs.Steps.{Adds}
 use Rattle.prov_store.specs.State.{EventsState}
 use Rattle.store_core.specs.Placing.{GrowsAhead}

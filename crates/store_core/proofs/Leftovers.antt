@@ -1,5 +1,5 @@
 -- What an opening leaves beside the current log and its snapshot: nothing.
-use Rattle.std.proofs.Common.{◌≡◌, ◌≢◌, ℕ, List, [], length, sym, ap, subst, ◌∙◌}
+use Rattle.std.proofs.Common.{◌≡◌, ◌≢◌, ℕ, List, sym, ap, subst, ◌∙◌}
 use Rattle.std.specs.Prelude.{Option, None, Some}
 use Rattle.disk_trait.specs.Files.{Files, At, named}
 use Rattle.disk_trait.specs.Images.{After, Since, IsOnly}
