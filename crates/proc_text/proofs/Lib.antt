@@ -1,5 +1,7 @@
 pub mod Began
 pub mod Clones
+pub mod Extracts
+pub mod ExtractsSet
 pub mod Modifying
 pub mod Passed
 pub mod Replacing

@@ -1,7 +1,11 @@
 -- Which kinds these processors are of.
 use Rattle.std.specs.Prelude.{Bool, true, false}
 use Rattle.machine_model.specs.declared.kind.Kind.{Kind}
-use Rattle.machine_model.specs.declared.kind.Kind.TheVariants.{ModifyBytes, ReplaceText, RouteOnContent}
+use Rattle.machine_model.specs.declared.kind.Kind.TheVariants.{ExtractText, ModifyBytes, ReplaceText, RouteOnContent}
+
+abbrev pub is_extract_text : Kind → Bool
+is_extract_text (ExtractText own) = true
+is_extract_text _ = false
 
 abbrev pub is_modify_bytes : Kind → Bool
 is_modify_bytes (ModifyBytes start end) = true

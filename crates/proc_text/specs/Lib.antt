@@ -1,3 +1,4 @@
 pub mod Cloning
+pub mod Extracting
 pub mod Finding
 pub mod Kinds

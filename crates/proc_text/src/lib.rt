@@ -2,11 +2,13 @@
 #![tactic(auto)]
 
 mod cloning;
+mod extract_text;
 mod modify_bytes;
 mod passing;
 mod replace_text;
 mod route_on_content;
 
+pub use extract_text::ExtractText;
 pub use modify_bytes::ModifyBytes;
 pub use replace_text::ReplaceText;
 pub use route_on_content::RouteOnContent;
