@@ -1,20 +1,19 @@
 -- How the joined file is made, and how it ends.
-use Rattle.std.proofs.Common.{◌≡◌, inl, inr, ℕ, ◌+◌, ◌<◌, ◌≤◌, zero, suc, Bool, true, false, cond, List, [], ◌∷◌, ◌++◌, length, map, get_or, Option, None, Some, refl, sym, ◌∙◌, ap, subst, arith, sum_by, length-append}
-use Rattle.std.specs.Prelude.{◌==◌, ◌⊎◌, IfErr, IfOk, OnOk, codes, decimal, Result, Ok, Err, is_ok, is_some, nat_le, option_and_then, slice_get}
+use Rattle.std.proofs.Common.{◌≡◌, inl, inr, ℕ, ◌+◌, ◌<◌, ◌≤◌, zero, suc, true, false, cond, List, [], ◌∷◌, ◌++◌, length, map, get_or, Option, None, Some, refl, sym, ◌∙◌, ap, subst, arith, sum_by, length-append}
+use Rattle.std.specs.Prelude.{◌==◌, ◌⊎◌, IfErr, IfOk, OnOk, codes, decimal, Result, Ok, Err, is_ok, is_some, option_and_then, slice_get}
 use Rattle.std.specs.FinMap.{empty, remove}
 use Rattle.std.specs.List.{All, AllByRecursion, IsDistinct, range_with_len}
 use Rattle.std.specs.Option.{option_map, option_map_or}
 use Rattle.std.specs.Result.{result_err}
-use Rattle.std.proofs.lemmas.Bool.{cases_lt, le-leb, lt-leb, leb-true, ne_eqb, true≢false}
+use Rattle.std.proofs.lemmas.Bool.{le-leb, lt-leb, leb-true, ne_eqb}
 use Rattle.std.proofs.lemmas.List.{append-nil, length-map}
 use Rattle.std.proofs.lemmas.List.Elements.{All-cons, All-get_or, All-head, All-nil, All-tail}
-use Rattle.std.proofs.lemmas.List.FromFn.{length-range_with_len}
 use Rattle.std.proofs.lemmas.List.Sums.{sum_by-cons}
 use Rattle.std.proofs.lemmas.Option.{slice_get-get_or}
-use Rattle.flowfile_record.specs.Attributes.{AttributeMap, encoded_size}
+use Rattle.flowfile_record.specs.Attributes.{AttributeMap}
 use Rattle.flowfile_record.specs.declared.TheConstants.{CONTENT_MAX}
 use Rattle.flowfile_record.specs.declared.attributes.TheConstants.{ATTRIBUTES_MAX}
-use Rattle.flowfile_record.specs.declared.limits.TheConstants.{TAKEN_MAX, WRITTEN_MAX}
+use Rattle.flowfile_record.specs.declared.limits.TheConstants.{TAKEN_MAX}
 use Rattle.flowfile_record.specs.declared.worked.Body.TheVariants.{New}
 use Rattle.flowfile_record.specs.declared.worked.End.{End}
 use Rattle.flowfile_record.specs.declared.worked.End.TheVariants.{To, Removed}
@@ -25,10 +24,9 @@ use Rattle.machine_model.specs.declared.kind.MergeStrategy.TheVariants.{BinPacki
 use Rattle.process_session.specs.declared.error.SessionError.{SessionError}
 use Rattle.process_session.specs.declared.error.SessionError.TheVariants.{Memory}
 use Rattle.process_session.specs.declared.file.File.{File}
-use Rattle.process_session.specs.declared.file.Source.{Source}
 use Rattle.process_session.specs.declared.file.Taken.{Taken}
-use Rattle.process_session.specs.Bench.{Bench, HasItsSize, IsWhole, attributes_at, made_size, source_of, taken_file, taken_files}
-use Rattle.process_session.specs.Changes.{attributed_file, change_at, common_attributes, made_file, with_attributes, with_changed, with_end, with_joined, with_written, written_file}
+use Rattle.process_session.specs.Bench.{Bench, HasItsSize, IsWhole, attributes_at, made_size, source_of}
+use Rattle.process_session.specs.Changes.{attributed_file, common_attributes, made_file, with_attributes, with_end, with_joined, with_written, written_file}
 use Rattle.process_session.specs.Finish.{is_left_out}
 use Rattle.process_session.specs.Reasons.{IsRefusal, IsRefusalBehind, Refusal, already_ended, session_full}
 use Rattle.process_session.specs.Refusals.{ended_files, refusal_of_create_joined, refusal_of_parents, refusal_of_remove, refusal_of_transfer, refusal_of_write, unknown_files}

@@ -1,12 +1,11 @@
 -- The attributes of the joined file, a call at a time.
-use Rattle.std.proofs.Common.{◌≡◌, inl, inr, ℕ, ◌≤◌, Bool, true, false, cond, List, [], ◌∷◌, ◌++◌, length, Option, None, Some, codes, refl, sym, ◌∙◌, ap, subst, arith, bytes_eq, sum_by, not, ◌&&◌}
+use Rattle.std.proofs.Common.{◌≡◌, inl, inr, ℕ, ◌≤◌, Bool, true, false, cond, List, [], ◌∷◌, ◌++◌, length, Option, None, Some, codes, refl, sym, ◌∙◌, ap, subst, arith, bytes_eq, not, ◌&&◌}
 use Rattle.std.specs.Prelude.{Err, IfOk, IsTrue, Ok, Result, decimal, is_none, is_some, nat_lt, option_and_then, slice_get}
 use Rattle.std.specs.FinMap.{contains_key, empty, get, get-remove, insert, remove}
 use Rattle.std.specs.Cmp.Lexicographic.{nat_list_cmp_total}
-use Rattle.std.specs.List.{All}
 use Rattle.std.specs.Option.{option_map_or}
 use Rattle.std.proofs.lemmas.Bool.{and_parts, cases_lt, le-leb, lt-leb, lt-ltb}
-use Rattle.flowfile_record.specs.Attributes.{AttributeMap, encoded_size, has_key_length, is_uuid}
+use Rattle.flowfile_record.specs.Attributes.{AttributeMap, has_key_length, is_uuid}
 use Rattle.flowfile_record.specs.Outcome.{filename_to_come}
 use Rattle.flowfile_record.specs.declared.attributes.TheConstants.{ATTRIBUTES_MAX}
 use Rattle.flowfile_record.specs.declared.limits.TheConstants.{FILENAME_SIZE, WRITTEN_MAX}
@@ -22,14 +21,13 @@ use Rattle.process_session.specs.declared.error.SessionError.TheVariants.{Attrib
 use Rattle.process_session.specs.declared.file.File.{File}
 use Rattle.process_session.specs.Bench.{Bench, attributes_at, made_size, named_size, origin_at}
 use Rattle.process_session.specs.Changes.{attributed_file, change_at, made_file, with_attributes, with_put, with_removed}
-use Rattle.process_session.specs.Reasons.{IsErrorFor, Refusal, already_ended, attributes_too_large, bad_key, first_refusal, session_full, unknown_file, where_it_holds}
-use Rattle.process_session.specs.Refusals.{refusal_of_put, refusal_of_remove, refusal_of_remove_attribute}
+use Rattle.process_session.specs.Reasons.{IsErrorFor, attributes_too_large, bad_key, session_full, where_it_holds}
+use Rattle.process_session.specs.Refusals.{refusal_of_put, refusal_of_remove_attribute}
 use Rattle.process_session.proofs.Encoded.{absent-remove, encoded_size-remove}
 use Rattle.process_session.proofs.Refused.{put_refusal}
 use Rattle.process_session.proofs.Refusing.{no_refusal, pass, stop}
 use Rattle.proc_merge.specs.Joining.{HasJoined, IsDescribed, described, name_of_whole, of_parents}
-use Rattle.proc_merge.specs.Taken.{IsSmall}
-use Rattle.proc_merge.proofs.Benches.{at-seam, change-seam, few_attributes, known, next, remove-free, roomy, still_open}
+use Rattle.proc_merge.proofs.Benches.{at-seam, change-seam, few_attributes, known, next, roomy, still_open}
 
 -- ---- a session with the joined file
 

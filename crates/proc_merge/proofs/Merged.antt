@@ -1,20 +1,19 @@
 -- The session of a MergeContent, from its beginning to its end.
-use Rattle.std.proofs.Common.{◌≡◌, inl, inr, ℕ, ◌+◌, ◌<◌, ◌≤◌, Bool, true, false, cond, List, [], ◌∷◌, ◌++◌, length, map, take, Option, None, Some, refl, sym, ◌∙◌, ap, subst, arith, sum_by, length-append}
+use Rattle.std.proofs.Common.{◌≡◌, inl, inr, ℕ, ◌+◌, ◌≤◌, Bool, true, false, cond, List, [], ◌∷◌, ◌++◌, length, map, take, Option, None, Some, refl, sym, ◌∙◌, ap, subst, arith, sum_by, length-append}
 use Rattle.std.specs.Prelude.{◌==◌, ◌&&◌, IfSome, fold, is_some, nat_le, option_and_then}
 use Rattle.std.specs.List.{All, concat, enumerate_from, list_all}
 use Rattle.std.specs.Option.{option_map}
 use Rattle.std.proofs.lemmas.Bool.{and_parts, cases_lt, le-leb, leb-true, lt-leb, false≢true, true≢false}
-use Rattle.std.proofs.lemmas.List.{append-nil, length-map, take_at}
-use Rattle.std.proofs.lemmas.List.Elements.{All-append, All-cons, All-head, All-nil, All-tail}
+use Rattle.std.proofs.lemmas.List.{append-nil, take_at}
+use Rattle.std.proofs.lemmas.List.Elements.{All-head, All-nil, All-tail}
 use Rattle.std.proofs.lemmas.List.Sums.{sum_by-cons}
 use Rattle.flowfile_record.specs.Attributes.{AttributeMap, shared}
 use Rattle.flowfile_record.specs.declared.TheConstants.{CONTENT_MAX}
 use Rattle.flowfile_record.specs.declared.worked.Outcome.{Outcome}
 use Rattle.flowfile_record.specs.declared.limits.TheConstants.{TAKEN_MAX}
-use Rattle.machine_model.specs.Acting.{act}
 use Rattle.machine_model.specs.Making.{TakenFile, made_file, may_have, or_given_up, passed_from}
 use Rattle.machine_model.specs.MergeContent.{are_fragments_of, counted, joined, joined_attributes, joined_content, may_join, merge, named_as_whole, shared_by_all, without_fragment}
-use Rattle.machine_model.specs.Kinds.{relationships_of, take_rule_of}
+use Rattle.machine_model.specs.Kinds.{take_rule_of}
 use Rattle.machine_model.specs.Laws.{MayTake}
 use Rattle.machine_model.specs.Sound.{IsSoundKind, are_entries_sound, within}
 use Rattle.machine_model.specs.Taking.{Fragment, fragment_of, is_fragment_at}
@@ -23,13 +22,12 @@ use Rattle.machine_model.specs.declared.kind.Kind.TheVariants.{MergeContent}
 use Rattle.machine_model.specs.declared.kind.MergeStrategy.{MergeStrategy}
 use Rattle.machine_model.specs.declared.kind.MergeStrategy.TheVariants.{BinPacking, Defragment}
 use Rattle.process_session.specs.declared.file.File.{File}
-use Rattle.process_session.specs.declared.file.Source.{Source}
 use Rattle.process_session.specs.declared.file.Taken.{Taken}
 use Rattle.process_session.specs.Bench.{Bench, bench_of, source_of, taken_file, taken_files}
 use Rattle.process_session.specs.Finish.{outcome_of}
 use Rattle.process_session.specs.Reasons.{not_accounted_from}
 use Rattle.process_session.specs.Refusals.{refusal_of_finish}
-use Rattle.processor_api.specs.Acts.{AreRead, AreTakenAs, BeganWith, Begins, EndsAs, IsTakenAs, KeepsTaken, fit_a_content}
+use Rattle.processor_api.specs.Acts.{AreRead, AreTakenAs, BeganWith, Begins, EndsAs, KeepsTaken, fit_a_content}
 use Rattle.proc_merge.specs.Joining.{IsJoined, file_joined, joined_file, origin_joined, with_more}
 use Rattle.proc_merge.specs.Passing.{with_all_passed}
 use Rattle.proc_merge.specs.Taken.{TookSome, bytes_read, files_seen, seen}

@@ -1,16 +1,14 @@
 -- The outcome of a session whose taken files were all passed on, with what it made behind them.
-use Rattle.std.proofs.Common.{◌≡◌, ℕ, ◌+◌, ◌<◌, ◌≤◌, zero, suc, Bool, true, false, cond, List, [], ◌∷◌, ◌++◌, length, map, drop, None, Some, refl, sym, ◌∙◌, ap, subst, arith, append_assoc, length-append}
+use Rattle.std.proofs.Common.{◌≡◌, ℕ, ◌+◌, ◌<◌, ◌≤◌, zero, suc, Bool, true, false, cond, List, [], ◌∷◌, ◌++◌, length, map, drop, None, Some, refl, sym, ◌∙◌, ap, arith, append_assoc, length-append}
 use Rattle.std.specs.Prelude.{◌==◌, ◌&&◌, Option, filter, is_none, not, slice_get, unwrap_or}
 use Rattle.std.specs.List.{All, flat_map, range_with_len}
 use Rattle.std.proofs.lemmas.Bool.{ne_eqb}
-use Rattle.std.proofs.lemmas.List.{append-nil, drop_at, length-map, map-append, take_at}
+use Rattle.std.proofs.lemmas.List.{append-nil, drop_at, take_at}
 use Rattle.std.proofs.lemmas.List.Elements.{All-head, All-tail}
-use Rattle.std.proofs.lemmas.List.FromFn.{length-range_with_len}
 use Rattle.std.proofs.Math.Seq.{get_or-append_seam}
 use Rattle.std.proofs.lemmas.Option.{slice_get-get_or}
 use Rattle.flowfile_record.specs.Attributes.{AttributeMap}
 use Rattle.flowfile_record.specs.declared.worked.End.{End}
-use Rattle.flowfile_record.specs.declared.worked.End.TheVariants.{To}
 use Rattle.flowfile_record.specs.declared.worked.Origin.TheVariants.{Joined}
 use Rattle.flowfile_record.specs.declared.worked.Outcome.{Outcome}
 use Rattle.flowfile_record.specs.declared.worked.Worked.{Worked}
@@ -18,7 +16,7 @@ use Rattle.flowfile_record.specs.Outcome.{is_made, parents_of}
 use Rattle.machine_model.specs.Making.{TakenFile, made_file, passed_from, passed_on}
 use Rattle.process_session.specs.declared.file.File.{File}
 use Rattle.process_session.specs.declared.file.Taken.{Taken}
-use Rattle.process_session.specs.Bench.{Bench, bench_of, source_of, taken_file, taken_files}
+use Rattle.process_session.specs.Bench.{Bench, taken_files}
 use Rattle.process_session.specs.Finish.{each_once, is_left_out, is_removed, joined_of, kept_files, origin_in, outcome_of, sent_in, standing_for, standing_from, worked_of, worked_with}
 use Rattle.process_session.specs.Reasons.{not_accounted_from}
 use Rattle.process_session.specs.Refusals.{refusal_of_finish}
@@ -28,7 +26,7 @@ use Rattle.proc_merge.specs.Joining.{joined_file, origin_joined, with_more}
 use Rattle.proc_merge.specs.Passing.{passed, passed_to, with_all_passed}
 use Rattle.proc_merge.specs.Taken.{TookSome}
 use Rattle.proc_merge.proofs.Benches.{next}
-use Rattle.proc_merge.proofs.Reading.{as-many, count-taken, many-taken}
+use Rattle.proc_merge.proofs.Reading.{count-taken, many-taken}
 
 -- ---- the taken files, passed on
 

@@ -1,5 +1,5 @@
 -- What fragments are, as attributes are read, and files that are in turn, a file at a time.
-use Rattle.std.proofs.Common.{◌≡◌, ℕ, ◌+◌, ◌<◌, true, false, List, [], ◌∷◌, length, map, drop, get_or, Option, codes, refl, sym, ◌∙◌, ap, arith, Bool}
+use Rattle.std.proofs.Common.{◌≡◌, ℕ, ◌+◌, ◌<◌, true, false, List, [], ◌∷◌, length, map, drop, get_or, Option, codes, sym, ◌∙◌, ap, arith, Bool}
 use Rattle.std.specs.Prelude.{◌==◌, option_and_then, ◌&&◌}
 use Rattle.std.specs.FinMap.{get}
 use Rattle.std.specs.List.{enumerate_from, list_all}

@@ -1,10 +1,9 @@
 -- The taken files of a session, passed on one after another.
-use Rattle.std.proofs.Common.{◌≡◌, ℕ, ◌+◌, ◌<◌, ◌≤◌, suc, List, [], ◌∷◌, ◌++◌, length, map, take, drop, get_or, None, Some, refl, sym, ◌∙◌, ap, subst, arith, add-one, append_assoc, drop-cons, length-append, length-take-le}
+use Rattle.std.proofs.Common.{◌≡◌, ℕ, ◌+◌, ◌<◌, ◌≤◌, List, [], ◌∷◌, ◌++◌, length, map, take, drop, get_or, None, Some, refl, sym, ◌∙◌, ap, arith, add-one, append_assoc, drop-cons, length-take-le}
 use Rattle.std.specs.Prelude.{slice_get}
 use Rattle.std.specs.List.{All}
 use Rattle.std.proofs.lemmas.List.{get_or-take, length-map, map-append, take_more}
 use Rattle.std.proofs.lemmas.List.Elements.{All-get_or}
-use Rattle.std.proofs.lemmas.Option.{slice_get-get_or}
 use Rattle.flowfile_record.specs.declared.worked.End.TheVariants.{To}
 use Rattle.process_session.specs.declared.file.File.{File}
 use Rattle.process_session.specs.Bench.{Bench}

@@ -1,5 +1,5 @@
 -- The contents of taken files, a file at a time.
-use Rattle.std.proofs.Common.{◌≡◌, ℕ, ◌+◌, ◌<◌, ◌≤◌, zero, suc, true, false, List, [], ◌∷◌, ◌++◌, length, map, drop, get_or, Option, None, Some, refl, sym, ◌∙◌, ap, arith, append_assoc}
+use Rattle.std.proofs.Common.{◌≡◌, ℕ, ◌+◌, ◌<◌, ◌≤◌, zero, suc, List, [], ◌∷◌, ◌++◌, length, map, drop, get_or, Option, None, Some, refl, sym, ◌∙◌, ap, arith, append_assoc}
 use Rattle.std.specs.Prelude.{Err, Result, is_none, option_and_then, slice_get}
 use Rattle.std.specs.List.{All}
 use Rattle.std.specs.Option.{option_map}
@@ -11,8 +11,8 @@ use Rattle.process_session.specs.declared.error.SessionError.{SessionError}
 use Rattle.process_session.specs.declared.file.File.{File}
 use Rattle.process_session.specs.declared.file.Source.{Source}
 use Rattle.process_session.specs.declared.file.Taken.{Taken}
-use Rattle.process_session.specs.Bench.{Bench, bench_of, body_bytes, bytes_of, source_of, taken_bytes, taken_file, taken_files}
-use Rattle.process_session.specs.Reasons.{first_refusal, no_bytes, unknown_file, where_it_holds}
+use Rattle.process_session.specs.Bench.{Bench, bench_of, body_bytes, bytes_of, source_of, taken_file, taken_files}
+use Rattle.process_session.specs.Reasons.{no_bytes, where_it_holds}
 use Rattle.process_session.specs.Refusals.{refusal_of_content}
 use Rattle.process_session.proofs.Refusing.{no_refusal}
 use Rattle.proc_merge.specs.Taken.{TookSome, bytes_read}

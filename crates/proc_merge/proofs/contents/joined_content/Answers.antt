@@ -1,4 +1,4 @@
-use Rattle.std.proofs.Common.{◌≡◌, ◌+◌, ◌<◌, None, drop, get_or, length, sym, ◌∙◌, ap, arith}
+use Rattle.std.proofs.Common.{◌+◌, ◌<◌, drop, length, sym, ◌∙◌, ap, arith}
 use Rattle.proc_merge.specs.Taken.{bytes_read}
 use Rattle.proc_merge.proofs.Reading.{and_read, as-many, bytes-there, no_source, read-more, read-stops, unread}
 use Rattle.proc_merge.proofs.contents.joined_content.Goals as goal

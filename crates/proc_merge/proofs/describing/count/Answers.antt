@@ -1,4 +1,4 @@
-use Rattle.std.proofs.Common.{◌≡◌, codes, length, refl, sym, ◌∙◌, ap}
+use Rattle.std.proofs.Common.{◌≡◌, codes, length, refl, ◌∙◌, ap}
 use Rattle.std.specs.Prelude.{decimal}
 use Rattle.machine_model.specs.Making.{with_set}
 use Rattle.machine_model.specs.MergeContent.{counted}

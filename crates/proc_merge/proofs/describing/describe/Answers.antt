@@ -1,4 +1,4 @@
-use Rattle.std.proofs.Common.{◌≡◌, false, true, length, sym, ◌∙◌, ap, subst}
+use Rattle.std.proofs.Common.{false, true, length, sym, ◌∙◌, ap, subst}
 use Rattle.std.specs.Option.{option_map}
 use Rattle.machine_model.specs.Making.{with_set}
 use Rattle.machine_model.specs.MergeContent.{counted, named_as_whole, without_fragment}

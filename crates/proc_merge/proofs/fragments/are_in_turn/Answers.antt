@@ -1,4 +1,4 @@
-use Rattle.std.proofs.Common.{◌≡◌, ◌+◌, ◌<◌, ◌≤◌, drop, length, sym, ◌∙◌, ap, arith}
+use Rattle.std.proofs.Common.{◌+◌, ◌<◌, ◌≤◌, length, sym, ◌∙◌, ap, arith}
 use Rattle.machine_model.specs.Taking.{fragment_of, is_fragment_at}
 use Rattle.proc_merge.specs.Taken.{fragment_seen}
 use Rattle.proc_merge.proofs.Benches.{no_file}

@@ -11,7 +11,7 @@ pub create_joined-requires-clause-distinct : goal.create_joined-requires-clause-
 create_joined-requires-clause-distinct c =
     let count = c.taken.result in
     let whole : count - 0 ≡ count = omega arith in
-    let items : c.in_ok-parents.parents.items ≡ range_with_len 0 count = 
+    let items : c.in_ok-parents.parents.items ≡ range_with_len 0 count =
     at-ok c.collect.result c.in_ok-parents.parents (λ w. vec_items w ≡ range_with_len 0 count) c.in_ok-parents.was (items_from_collect c.collect.result c.collect.ensures.ran (YieldsList-from_range 0 count count refl whole)) in
     let parents : c.deref.result.now ≡ range_with_len 0 count = c.deref.ensures.value ∙ items in
     subst (IsDistinct (λ a b. a == b)) (sym parents) (range-distinct count 0)
@@ -21,7 +21,7 @@ or_no_memory-requires c =
     let bench = c.args.session.now in
     let count = c.taken.result in
     let whole : count - 0 ≡ count = omega arith in
-    let items : c.in_ok-parents.parents.items ≡ range_with_len 0 count = 
+    let items : c.in_ok-parents.parents.items ≡ range_with_len 0 count =
     at-ok c.collect.result c.in_ok-parents.parents (λ w. vec_items w ≡ range_with_len 0 count) c.in_ok-parents.was (items_from_collect c.collect.result c.collect.ensures.ran (YieldsList-from_range 0 count count refl whole)) in
     let parents : c.deref.result.now ≡ range_with_len 0 (length bench.sources) = c.deref.ensures.value ∙ items ∙ ap (range_with_len 0) c.taken.ensures in
     create-memory bench c.deref.result.now c.create_joined.result c.requires.took parents c.requires.small c.requires.may c.create_joined.ensures.refusal
@@ -31,7 +31,7 @@ returns-clause-after c =
     let bench = c.args.session.now in
     let count = c.taken.result in
     let whole : count - 0 ≡ count = omega arith in
-    let items : c.in_ok-parents.parents.items ≡ range_with_len 0 count = 
+    let items : c.in_ok-parents.parents.items ≡ range_with_len 0 count =
     at-ok c.collect.result c.in_ok-parents.parents (λ w. vec_items w ≡ range_with_len 0 count) c.in_ok-parents.was (items_from_collect c.collect.result c.collect.ensures.ran (YieldsList-from_range 0 count count refl whole)) in
     let parents : c.deref.result.now ≡ range_with_len 0 (length bench.sources) = c.deref.ensures.value ∙ items ∙ ap (range_with_len 0) c.taken.ensures in
     made-so c.or_no_memory.result c.create_joined.result bench c.create_joined.new.self (with_joined bench c.deref.result.now) _ c.or_no_memory.ensures.value c.create_joined.ensures.after

@@ -1,4 +1,4 @@
-use Rattle.std.proofs.Common.{◌<◌, ◌≤◌, length, arith}
+use Rattle.std.proofs.Common.{length, arith}
 use Rattle.processor_api.proofs.Answered.{changed_so, never_refused}
 use Rattle.proc_merge.proofs.Benches.{no_file}
 use Rattle.proc_merge.proofs.Passed.{pass-free, pass-step}

@@ -1,4 +1,4 @@
-use Rattle.std.proofs.Common.{◌≡◌, ◌≤◌, drop, take}
+use Rattle.std.proofs.Common.{◌≡◌, drop, take}
 use Rattle.std.specs.List.{All}
 use Rattle.machine_model.specs.MergeContent.{shared_by_all}
 use Rattle.proc_merge.specs.Taken.{IsSmall, files_seen}

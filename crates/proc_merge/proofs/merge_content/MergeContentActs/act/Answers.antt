@@ -1,6 +1,5 @@
-use Rattle.std.proofs.Common.{◌≡◌, ◌<◌, false, true, sym, ◌∙◌, ap, subst, arith}
+use Rattle.std.proofs.Common.{false, true, sym, ◌∙◌, ap, subst, arith}
 use Rattle.process_session.specs.Bench.{Bench}
-use Rattle.machine_model.specs.MergeContent.{may_join}
 use Rattle.proc_merge.specs.Joining.{IsJoined, file_joined}
 use Rattle.proc_merge.specs.Passing.{with_all_passed}
 use Rattle.proc_merge.specs.Taken.{bytes_read, files_seen}
