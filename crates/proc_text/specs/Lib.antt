@@ -1,3 +1,5 @@
 pub mod Cloning
 pub mod Finding
 pub mod Kinds
+pub mod Parting
+pub mod Pieces
