@@ -1,0 +1,265 @@
+#!/usr/bin/env python3
+"""Tries the processors that work on texts and bytes, and the merge, with the built program, over real folders.
+
+What each makes of its files shows in the outbox and in the events. Last, a flow that splits, routes, replaces and merges
+is killed at random moments and started again until it ends by itself.
+"""
+
+import random
+import subprocess
+
+import store_format
+from flow_texts import flow, generator, let_go, processor, queue, source, state_of, told
+from processors import kinds, state_of_any, through
+from store_format import (ATTRIBUTES_MODIFIED, CLONE, CONTENT_MODIFIED, CREATE, DROP, FORK, JOIN, RECEIVE, ROUTE,
+                          SEND)
+from support import (DONE, REFUSED, Report, find_program, in_memory, names, need, need_status, options, parse_seeded,
+                     photo, read_files, run, start, work_folder, write_files)
+
+# What MergeContent and SplitText let go beside what they make.
+REST = ["original", "failure"]
+
+
+def splitter(lines, **fields):
+    return processor("split", "SplitText", {"Line Split Count": str(lines)}, REST, **fields)
+
+
+def merger(**properties):
+    named = {name.replace("_", " "): value for name, value in properties.items()}
+    return processor("merge", "MergeContent", named, REST)
+
+
+class Cases:
+    def __init__(self, program, parent, count):
+        self.program = program
+        self.parent = parent
+        self.count = count
+
+    def ends(self, text, files, out):
+        """Runs a flow over these files to its end, and gives what its store tells."""
+        with work_folder(self.parent, text) as folder:
+            write_files(folder / "in", files)
+            need_status(run(self.program, folder), DONE)
+            need(read_files(folder / "out") == out, f"out holds {names(folder / 'out')[:8]}, or other bytes")
+            state = state_of(folder)
+            need(not state.files, f"the store holds {state.files}")
+            return state
+
+    def log_pipeline(self):
+        """Errors out of a log: split into lines, routed by a pattern, merged, named."""
+        text = flow([source("get"), splitter(1),
+                     processor("route", "RouteOnContent", {"Match Requirement": "content must contain match",
+                                                           "errors": "ERROR"}, ["unmatched"]),
+                     merger(), processor("name", "UpdateAttribute", {"filename": "${filename:append('.errors')}"},
+                                         ["failure"]), let_go("put", "fail")],
+                    [queue("new", "get", "split"), queue("lines", "split", "route", "splits"),
+                     queue("errors", "route", "merge", "errors"), queue("merged", "merge", "name", "merged"),
+                     queue("named", "name", "put")])
+        state = self.ends(text, {"app.log": b"INFO start\nERROR disk\nINFO stop\n"},
+                          {"app.log.errors": b"ERROR disk\n"})
+        need(kinds(state) == {RECEIVE: 1, FORK: 1, JOIN: 1, ATTRIBUTES_MODIFIED: 1, ROUTE: 3, SEND: 1, DROP: 5},
+             f"the events tell {kinds(state)}")
+
+    def whole_again(self):
+        """What was split by lines and merged by its fragments is what it was, whatever its end."""
+        text = flow([source("get"), splitter(2), merger(Merge_Strategy="Defragment"), let_go("put", "fail")],
+                    [queue("new", "get", "split"), queue("lines", "split", "merge", "splits"),
+                     queue("merged", "merge", "put", "merged")])
+        files = {"a": b"x\ny\nz", "b": b"1\n2\n3\n4\n", "c": b"\n\n\n", "d": b"\xff\n\x00" * 40}
+        state = self.ends(text, files, files)
+        told_kinds = kinds(state)
+        need(told_kinds[FORK] == 4 and told_kinds[JOIN] == 4, f"the events tell {told_kinds}")
+        for event in state.events:
+            if event.kind == JOIN:
+                need(len(event.parents) >= 2 and event.children == (event.file,) or event.children == [event.file],
+                     f"a join tells {event}")
+
+    def one_part(self):
+        """A part that is the whole content is a clone; an empty content has no part."""
+        text = flow([source("get"), splitter(5), let_go("put", "fail")],
+                    [queue("new", "get", "split"), queue("lines", "split", "put", "splits")])
+        state = self.ends(text, {"a": b"one\ntwo"}, {"a": b"one\ntwo"})
+        need(kinds(state) == {RECEIVE: 1, CLONE: 1, SEND: 1, DROP: 2}, f"the events tell {kinds(state)}")
+        state = self.ends(text, {"empty": b""}, {})
+        need(kinds(state) == {RECEIVE: 1, DROP: 1}, f"the events tell {kinds(state)}")
+
+    def too_many_parts(self):
+        """A file of as many lines as a session may have files goes to failure, whole."""
+        text = flow([source("get"), processor("split", "SplitText", {"Line Split Count": "1"},
+                                              ["original", "splits"]), let_go("put", "fail")],
+                    [queue("new", "get", "split"), queue("failed", "split", "put", "failure")])
+        files = {"most": b"\n" * 9_999, "more": b"\n" * 10_000}
+        state = self.ends(text, files, {"more": files["more"]})
+        need(told(state)[DROP, "split", "splits"] == 9_999, f"the parts are {told(state)[DROP, 'split', 'splits']}")
+
+    def replaces(self):
+        """Matches of a pattern, or places of a text; a content that isn't UTF-8 goes to failure."""
+        pattern = through(processor("swap", "ReplaceText",
+                                    {"Search Value": r"(\w+)=(\w+)", "Replacement Value": "$2:${1}$$"}, ["failure"]))
+        self.ends(pattern, {"a": b"k=v, n=1\n", "b": b"none", "c": b"", "bad": b"k=v\xff"},
+                  {"a": b"v:k$, 1:n$\n", "b": b"none", "c": b""})
+        literal = through(processor("swap", "ReplaceText",
+                                    {"Replacement Strategy": "Literal Replace", "Search Value": "aa",
+                                     "Replacement Value": "$1"}, ["failure"]))
+        state = self.ends(literal, {"a": b"aaa.aa", "b": b"b"}, {"a": b"$1a.$1", "b": b"b"})
+        need(kinds(state)[CONTENT_MODIFIED] == 2, f"the events tell {kinds(state)}")
+
+    def extracts(self):
+        """Groups of the first match become attributes, by which the file is named here."""
+        text = flow([source("get"), processor("find", "ExtractText", {"k": r"(\d)(x)?", "line": "^.*"}),
+                     processor("name", "UpdateAttribute", {"filename": "${filename}-${k}-${k.0}-${k.1}-${k.2}-${line}"},
+                               ["failure"]),
+                     processor("other", "UpdateAttribute", {"filename": "${filename}-unmatched"}, ["failure"]),
+                     let_go("put", "fail")],
+                    [queue("new", "get", "find"), queue("found", "find", "name", "matched"),
+                     queue("rest", "find", "other", "unmatched"), queue("named", "name", "put"),
+                     queue("others", "other", "put")])
+        state = self.ends(text, {"a": b"a7", "b": b"b8x\nmore", "n": b"\xff7"},
+                          {"a-7-7-7--a7": b"a7", "b-8-8x-8-x-b8x": b"b8x\nmore", "n-unmatched": b"\xff7"})
+        need(kinds(state)[ATTRIBUTES_MODIFIED] == 5, f"the events tell {kinds(state)}")
+
+    def segments(self):
+        """Bytes in parts of a size, and joined in bins of three."""
+        text = flow([source("get"), processor("cut", "SegmentContent", {"Segment Size": "2"}, REST),
+                     merger(Minimum_Number_of_Entries="3", Maximum_Number_of_Entries="3"), let_go("put", "fail")],
+                    [queue("new", "get", "cut"), queue("parts", "cut", "merge", "segments"),
+                     queue("joined", "merge", "put", "merged")])
+        state = self.ends(text, {"a": b"abcde"}, {"a": b"abcde"})
+        need(kinds(state) == {RECEIVE: 1, FORK: 1, JOIN: 1, SEND: 1, DROP: 5}, f"the events tell {kinds(state)}")
+
+    def large(self):
+        """16 MiB cut into 16 parts that stand in the store by reference, and whole again."""
+        text = flow([source("get"), processor("cut", "SegmentContent", {"Segment Size": "1048576"}, REST),
+                     merger(Merge_Strategy="Defragment"), let_go("put", "fail")],
+                    [queue("new", "get", "cut"), queue("parts", "cut", "merge", "segments"),
+                     queue("joined", "merge", "put", "merged")])
+        files = {"large": random.randbytes(16_777_216)}
+        self.ends(text, files, files)
+
+    def modifies(self):
+        """Bytes cut at both ends."""
+        text = through(processor("cut", "ModifyBytes", {"Start Offset": "1", "End Offset": "1"}))
+        state = self.ends(text, {"a": b"abc", "b": b"a", "c": b""}, {"a": b"b", "b": b"", "c": b""})
+        need(kinds(state)[CONTENT_MODIFIED] == 3, f"the events tell {kinds(state)}")
+
+    def routes(self):
+        """A file goes to each own relationship whose pattern finds something; one may have to match all."""
+        out = {}
+        for requirement, found in (("content must contain match", {"a": "ab", "b": "ab", "c": "", "n": ""}),
+                                   ("content must match exactly", {"a": "a", "b": "", "c": "", "n": ""})):
+            text = flow([source("get"),
+                         processor("route", "RouteOnContent", {"Match Requirement": requirement, "a": "a+", "b": "a."}),
+                         *(processor(f"name-{to}", "UpdateAttribute", {"filename": f"{to}-${{filename}}"}, ["failure"])
+                           for to in ("a", "b", "unmatched")), let_go("put", "replace")],
+                        [queue("new", "get", "route"),
+                         *(queue(f"to-{to}", "route", f"name-{to}", to) for to in ("a", "b", "unmatched")),
+                         *(queue(f"put-{to}", f"name-{to}", "put") for to in ("a", "b", "unmatched"))])
+            files = {"a": b"aaa", "b": b"xay", "c": b"x", "n": b"a\xff"}
+            out = {f"{to}-{name}": files[name] for name, all_found in found.items()
+                   for to in (all_found or ["unmatched"])}
+            self.ends(text, files, out)
+
+    def refuses(self):
+        """Properties that break a rule: nothing is touched."""
+        for one in (processor("p", "SplitText", {"Line Split Count": "0"}, ["original", "splits", "failure"]),
+                    processor("p", "SplitText", {}, ["original", "splits", "failure"]),
+                    processor("p", "SegmentContent", {"Segment Size": "16777217"}, ["segments", *REST]),
+                    processor("p", "ReplaceText", {"Search Value": "(", "Replacement Value": ""},
+                              ["success", "failure"]),
+                    processor("p", "ReplaceText", {"Search Value": "", "Replacement Value": "",
+                                                   "Replacement Strategy": "Literal Replace"}, ["success", "failure"]),
+                    processor("p", "ExtractText", {"a": "("}, ["matched", "unmatched"]),
+                    processor("p", "RouteOnContent", {"unmatched": "a"}, ["unmatched"]),
+                    processor("p", "RouteOnContent", {"Match Requirement": "any", "a": "a"}, ["a", "unmatched"]),
+                    processor("p", "MergeContent", {"Minimum Number of Entries": "3",
+                                                    "Maximum Number of Entries": "2"}, ["merged", *REST])):
+            with work_folder(self.parent, flow([source("get"), one], [queue("c", "get", "p")])) as folder:
+                write_files(folder / "in", {"a": b"one"})
+                need_status(run(self.program, folder), REFUSED)
+                before = photo(folder)
+                need_status(run(self.program, folder), REFUSED)
+                need(photo(folder) == before, f"the run of {one} changed something")
+                need(read_files(folder / "in") == {"a": b"one"}, f"the run of {one} took a file")
+                need(not names(folder / "out"), f"the run of {one} delivered {names(folder / 'out')}")
+
+    def fragments_of_many(self):
+        """Fragments of many wholes that stand in one queue, in turns: each whole is joined by itself."""
+        text = flow([generator("gen", 60, "a${generate.index}\nb\nc\n"), splitter(1, tasks=4),
+                     merger(Merge_Strategy="Defragment"),
+                     processor("name", "UpdateAttribute", {"filename": "${generate.index}"}, ["failure"]),
+                     let_go("put", "fail")],
+                    [queue("made", "gen", "split"), queue("lines", "split", "merge", "splits"),
+                     queue("joined", "merge", "name", "merged"), queue("named", "name", "put")])
+        state = self.ends(text, {}, {str(n): f"a{n}\nb\nc\n".encode() for n in range(1, 61)})
+        need(kinds(state) == {CREATE: 60, FORK: 60, JOIN: 60, ATTRIBUTES_MODIFIED: 60, SEND: 60, DROP: 300},
+             f"the events tell {kinds(state)}")
+
+    def killed(self):
+        """Lines of tables, split, masked and joined: at the end all is delivered, and the events tell of each file."""
+        text = flow([source("get"), splitter(1),
+                     processor("route", "RouteOnContent", {"Match Requirement": "content must contain match",
+                                                           "even": "[02468]\\s*$"}),
+                     processor("mask", "ReplaceText", {"Search Value": "\\d", "Replacement Value": "#"}, ["failure"]),
+                     processor("gather", "UpdateAttribute", {}, ["failure"]),
+                     merger(Merge_Strategy="Defragment"), let_go("put", "replace")],
+                    [queue("new", "get", "split"), queue("lines", "split", "route", "splits"),
+                     queue("even", "route", "mask", "even"), queue("odd", "route", "gather", "unmatched"),
+                     queue("masked", "mask", "gather"), queue("all", "gather", "merge"),
+                     queue("joined", "merge", "put", "merged")])
+        lines = [[f"{random.randrange(1000)}\n" for _ in range(random.randrange(1, 12))] for _ in range(8)]
+        files = {str(n): "".join(one).encode() for n, one in enumerate(lines)}
+        out = {str(n): "".join(line if int(line) % 2 else "#" * (len(line) - 1) + "\n" for line in one).encode()
+               for n, one in enumerate(lines)}
+        kills = 0
+        while kills < self.count:
+            with work_folder(self.parent, text) as folder:
+                write_files(folder / "in", files)
+                kills += self.kill_until_done(folder)
+                need(read_files(folder / "out") == out, f"out holds {names(folder / 'out')[:8]}, or other bytes")
+                need(not names(folder / "in"), f"in holds {names(folder / 'in')}")
+                need(not state_of(folder).files, "the store holds files")
+
+    def kill_until_done(self, folder):
+        kills = 0
+        while True:
+            child = start(self.program, folder)
+            try:
+                status = child.wait(timeout=random.uniform(0, 0.08))
+            except subprocess.TimeoutExpired:
+                child.kill()
+                child.wait()
+                kills += 1
+                state_of_any(folder)
+                continue
+            need(status == DONE, f"a run ended with {status}")
+            return kills
+
+
+def main():
+    parser = options(__doc__)
+    parser.add_argument("--count", type=int, default=100, help="how many kills, at least (default 100)")
+    given, seed = parse_seeded(parser)
+    # What a disk leaves is nothing here.
+    cases = Cases(find_program(given.program), in_memory(given.folder), given.count)
+    print(f"texts: {given.count} kills, seed {seed}", flush=True)
+    report = Report()
+    for text, body in (
+            ("errors out of a log", cases.log_pipeline),
+            ("split and merged, whole again", cases.whole_again),
+            ("a part that is the whole, and none", cases.one_part),
+            ("as many parts as may be, and one more", cases.too_many_parts),
+            ("replaced by a pattern and by a text", cases.replaces),
+            ("extracted groups", cases.extracts),
+            ("segments, and a bin", cases.segments),
+            ("16 MiB in parts, and whole again", cases.large),
+            ("bytes cut at both ends", cases.modifies),
+            ("routed by contents", cases.routes),
+            ("properties that break a rule: 3, nothing touched", cases.refuses),
+            ("fragments of many wholes", cases.fragments_of_many),
+            ("a flow of these, killed at random moments", cases.killed)):
+        report.case(text, body)
+    report.end()
+
+
+if __name__ == "__main__":
+    main()
