@@ -1,11 +1,10 @@
 -- A content cut into pieces, one after another.
-use Rattle.std.proofs.Common.{◌≡◌, ℕ, ◌+◌, ◌<◌, ◌≤◌, false, true, cond, inl, inr, List, [], ◌∷◌, ◌++◌, length, map, take, drop, suc, None, Some, refl, sym, ◌∙◌, ap, arith, sum_by, length-append, append_assoc}
-use Rattle.std.specs.Prelude.{Option, nat_lt, option_map}
+use Rattle.std.proofs.Common.{◌≡◌, ℕ, ◌+◌, ◌<◌, ◌≤◌, cond, inl, inr, List, [], ◌∷◌, ◌++◌, length, map, take, drop, suc, None, Some, refl, sym, ◌∙◌, ap, arith, sum_by, length-append, append_assoc}
 use Rattle.std.proofs.lemmas.Bool.{cases_lt, le-ltb, lt-ltb}
-use Rattle.std.proofs.lemmas.List.{append-nil, drop_all, length-map, length-take-le, length-drop, map-append, take_all}
+use Rattle.std.proofs.lemmas.List.{append-nil, drop_all, length-map, map-append, take_all}
 use Rattle.std.proofs.lemmas.List.Sums.{sum_by-append, sum_by-cons}
 use Rattle.flowfile_record.specs.declared.limits.TheConstants.{FILES_MAX}
-use Rattle.machine_model.specs.Parts.{Piece, groups_of}
+use Rattle.machine_model.specs.Parts.{groups_of}
 use Rattle.machine_model.specs.SegmentContent.{bytes_together}
 use Rattle.machine_model.proofs.Cuts.{groups-step}
 use Rattle.proc_text.specs.declared.pieces.Cut.{Cut}

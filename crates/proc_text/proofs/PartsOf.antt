@@ -1,5 +1,5 @@
 -- The pieces of a content and their parts, as the calls below `part` come to them.
-use Rattle.std.proofs.Common.{◌≡◌, ℕ, ◌+◌, ◌<◌, ◌≤◌, Bool, true, false, cond, List, [], ◌∷◌, ◌++◌, length, map, drop, take, get_or, suc, add-one, drop-cons, None, Some, refl, sym, ◌∙◌, ap, subst, arith, sum_by}
+use Rattle.std.proofs.Common.{◌≡◌, ℕ, ◌+◌, ◌<◌, ◌≤◌, Bool, true, false, cond, List, [], ◌∷◌, ◌++◌, length, map, drop, take, get_or, add-one, drop-cons, None, Some, refl, sym, ◌∙◌, ap, subst, arith, sum_by}
 use Rattle.std.specs.Prelude.{Option, is_none, nat_lt, option_map, slice_get, unwrap_or}
 use Rattle.std.proofs.lemmas.List.{length-map, take_more}
 use Rattle.std.proofs.lemmas.List.Sums.{sum_by-append, sum_by-cons, sum_by-take-le}
