@@ -1,5 +1,5 @@
 -- Lines of a content, one after another.
-use Rattle.std.proofs.Common.{◌≡◌, ℕ, ◌+◌, ◌-◌, ◌<◌, ◌≤◌, false, true, cond, inl, inr, List, [], ◌∷◌, ◌++◌, length, map, take, drop, get_or, suc, add-one, drop-cons, Some, refl, sym, ◌∙◌, ap, subst, arith, sum_by, length-append, append_assoc}
+use Rattle.std.proofs.Common.{◌≡◌, ℕ, ◌+◌, ◌-◌, ◌<◌, ◌≤◌, false, true, cond, inl, inr, List, [], ◌∷◌, ◌++◌, length, map, take, drop, get_or, suc, add-one, drop-cons, refl, sym, ◌∙◌, ap, subst, arith, sum_by, length-append, append_assoc}
 use Rattle.std.specs.Prelude.{All, ◌⊎◌, ◌==◌, codes, decimal}
 use Rattle.std.proofs.lemmas.List.{append-nil, drop-append-le, drop_all, take-append-drop, take-append-le, take_all, take_more}
 use Rattle.std.proofs.lemmas.Bool.{ne_eqb}

@@ -1,6 +1,6 @@
 -- The parts of a content, one after another, as the machine makes them and as a session does.
-use Rattle.std.proofs.Common.{◌≡◌, ℕ, ◌+◌, ◌<◌, ◌≤◌, Bool, true, false, cond, ◌&&◌, inl, inr, List, [], ◌∷◌, ◌++◌, length, map, None, Some, refl, sym, ◌∙◌, ap, subst, arith, sum_by, length-append, append_assoc}
-use Rattle.std.specs.Prelude.{◌==◌, All, Option, option_and_then, option_map, slice_get}
+use Rattle.std.proofs.Common.{◌≡◌, ℕ, ◌+◌, ◌<◌, ◌≤◌, true, false, cond, ◌&&◌, inl, inr, List, [], ◌∷◌, ◌++◌, length, map, None, Some, refl, sym, ◌∙◌, ap, subst, arith, length-append, append_assoc}
+use Rattle.std.specs.Prelude.{◌==◌, All, Option, option_and_then, option_map}
 use Rattle.std.proofs.lemmas.List.{append-nil, length-map, map-append}
 use Rattle.std.proofs.lemmas.List.Elements.{All-append, All-cons, All-nil}
 use Rattle.flowfile_record.specs.Attributes.{AttributeMap, encoded_size}
@@ -15,7 +15,7 @@ use Rattle.process_session.specs.Changes.{is_whole}
 use Rattle.process_session.specs.Finish.{is_left_out}
 use Rattle.process_session.specs.declared.file.File.{File}
 use Rattle.processor_api.specs.Sessions.{BeganWithOne, HasTaken}
-use Rattle.proc_text.specs.Parting.{AddsPart, AddsParts, IsPart, IsRead, LeavesOut, opened, part_file, parts_of, taken_in, with_files}
+use Rattle.proc_text.specs.Parting.{AddsPart, AddsParts, IsPart, IsRead, opened, part_file, parts_of, taken_in, with_files}
 use Rattle.proc_text.proofs.Telling.{MayAdd, Pair, end-size, part-attributes}
 
 -- ---- a part as the machine makes it

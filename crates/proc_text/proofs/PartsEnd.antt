@@ -1,33 +1,30 @@
 -- How parts end, and the outcome of a session that made them.
-use Rattle.std.proofs.Common.{◌≡◌, ℕ, zero, suc, ◌+◌, ◌<◌, ◌≤◌, Bool, true, false, cond, ◌&&◌, inl, inr, List, [], ◌∷◌, ◌++◌, length, map, None, Some, refl, sym, ◌∙◌, ap, subst, arith, length-append}
-use Rattle.std.specs.Prelude.{◌⊎◌, All, Option, IsSomeAnd, is_none, is_some, option_map, nat_lt, slice_get, slice_set}
+use Rattle.std.proofs.Common.{◌≡◌, ℕ, zero, suc, ◌+◌, ◌<◌, Bool, true, false, cond, ◌&&◌, inl, inr, List, [], ◌∷◌, ◌++◌, length, map, None, Some, refl, sym, ◌∙◌, ap, subst, arith, length-append}
+use Rattle.std.specs.Prelude.{◌⊎◌, All, Option, IsSomeAnd, is_none, option_map, slice_get, slice_set}
 use Rattle.std.specs.Option.{option_map_or}
 use Rattle.std.proofs.lemmas.Bool.{and_parts, lt-ltb}
-use Rattle.std.proofs.lemmas.List.{append-nil, length-map}
-use Rattle.std.proofs.lemmas.List.Elements.{All-append, All-cons, All-head, All-nil, All-tail}
+use Rattle.std.proofs.lemmas.List.{length-map}
+use Rattle.std.proofs.lemmas.List.Elements.{All-cons, All-head, All-nil, All-tail}
 use Rattle.flowfile_record.specs.Outcome.{is_made}
 use Rattle.flowfile_record.specs.declared.limits.TheConstants.{FILES_MAX}
 use Rattle.flowfile_record.specs.declared.worked.End.{End}
 use Rattle.flowfile_record.specs.declared.worked.End.TheVariants.{To, Removed}
-use Rattle.flowfile_record.specs.declared.worked.Origin.{Origin}
 use Rattle.flowfile_record.specs.declared.worked.Origin.TheVariants.{Taken as FromQueue, Cloned, Part as PartOf}
 use Rattle.flowfile_record.specs.declared.worked.Outcome.{Outcome}
 use Rattle.flowfile_record.specs.declared.worked.Worked.{Worked}
-use Rattle.machine_model.specs.Making.{TakenFile, or_given_up, passed_on}
+use Rattle.machine_model.specs.Making.{or_given_up, passed_on}
 use Rattle.machine_model.specs.Parts.{Piece, parted}
 use Rattle.process_session.specs.declared.file.File.{File}
-use Rattle.process_session.specs.declared.file.Source.{Source}
-use Rattle.process_session.specs.declared.file.Taken.{Taken}
-use Rattle.process_session.specs.Bench.{Bench, attributes_at, bench_of, source_of, taken_file}
+use Rattle.process_session.specs.Bench.{Bench, attributes_at, bench_of, taken_file}
 use Rattle.process_session.specs.Changes.{change_at, with_end}
 use Rattle.process_session.specs.Finish.{is_left_out, is_removed, kept_files, origin_in, outcome_of, sent_in, standing_from, worked_of, worked_with}
 use Rattle.process_session.specs.Reasons.{not_accounted_from}
 use Rattle.process_session.specs.Refusals.{refusal_of_finish, refusal_of_remove, refusal_of_transfer}
 use Rattle.process_session.proofs.Refusing.{no_refusal}
-use Rattle.processor_api.specs.Sessions.{BeganWithOne, EndsWith, HasTaken}
+use Rattle.processor_api.specs.Sessions.{BeganWithOne, EndsWith}
 use Rattle.proc_text.specs.Cloning.{ended}
-use Rattle.proc_text.specs.Parting.{AddsParts, HasOpen, IsPart, behind_first, end_of, ended_as, first_ended, opened, parts_of, taken_in, with_files, with_first_ended}
-use Rattle.proc_text.proofs.Clones.{StartsWith, change-first, known, next, starts, still_open, taken_names, taken_stays, transfer-free}
+use Rattle.proc_text.specs.Parting.{AddsParts, HasOpen, IsPart, behind_first, ended_as, first_ended, opened, parts_of, taken_in, with_files, with_first_ended}
+use Rattle.proc_text.proofs.Clones.{change-first, known, next, starts, still_open, taken_names, taken_stays, transfer-free}
 
 -- ---- one part after another ends
 

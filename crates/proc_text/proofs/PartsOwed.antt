@@ -1,15 +1,13 @@
 -- What a processor that makes parts knows of the session that it is handed, and how it shows what it owes.
-use Rattle.std.proofs.Common.{◌≡◌, ℕ, ◌≤◌, true, List, [], ◌∷◌, length, map, Option, None, Some, refl, sym, ◌∙◌, ap, subst, arith}
+use Rattle.std.proofs.Common.{◌≡◌, ℕ, ◌≤◌, true, List, [], ◌∷◌, length, Option, None, Some, refl, sym, ◌∙◌, ap, subst, arith}
 use Rattle.std.specs.Prelude.{is_some, unwrap_or}
 use Rattle.std.proofs.lemmas.Bool.{and_parts, false≢true, le-leb, leb-true}
 use Rattle.std.proofs.lemmas.List.Elements.{All-head}
 use Rattle.std.proofs.lemmas.List.Sums.{sum_by-cons}
 use Rattle.flowfile_record.specs.declared.TheConstants.{CONTENT_MAX}
-use Rattle.machine_model.specs.Acting.{act}
 use Rattle.machine_model.specs.Kinds.{relationships_of, take_rule_of}
 use Rattle.machine_model.specs.Laws.{MayTake}
-use Rattle.machine_model.specs.Making.{TakenFile, or_given_up}
-use Rattle.machine_model.specs.Parts.{parted}
+use Rattle.machine_model.specs.Making.{TakenFile}
 use Rattle.machine_model.specs.SegmentContent.{segment}
 use Rattle.machine_model.specs.SplitText.{split}
 use Rattle.machine_model.specs.Sound.{IsSoundKind}
@@ -18,12 +16,9 @@ use Rattle.machine_model.specs.declared.kind.Kind.{Kind}
 use Rattle.machine_model.specs.declared.kind.Kind.TheVariants.{SegmentContent, SplitText}
 use Rattle.machine_model.specs.declared.kind.TakeRule.TheVariants.{One}
 use Rattle.process_session.specs.Bench.{Bench, HasItsSize, IsWhole, bench_of, bytes_of, content_size}
-use Rattle.process_session.specs.Finish.{outcome_of}
 use Rattle.process_session.specs.declared.file.Taken.{Taken}
 use Rattle.processor_api.specs.Acts.{AreRead, Begins, EndsAs, IsTakenAs, fit_a_content}
 use Rattle.processor_api.proofs.Began.{one-acts, taken-attributes, taken-content}
-use Rattle.processor_api.specs.Sessions.{EndsWith}
-use Rattle.proc_text.specs.declared.pieces.Cut.{Cut}
 use Rattle.proc_text.specs.declared.pieces.Cut.TheVariants.{Bytes, Lines}
 use Rattle.proc_text.specs.Parting.{IsRead, taken_in}
 use Rattle.proc_text.specs.Pieces.{pieces_in}

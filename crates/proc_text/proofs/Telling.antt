@@ -1,9 +1,8 @@
 -- A part of the taken file, as it is made and told its attributes, one after another.
-use Rattle.std.proofs.Common.{◌≡◌, ℕ, ◌+◌, ◌<◌, ◌≤◌, Bool, true, false, cond, ◌&&◌, inl, inr, List, [], ◌∷◌, ◌++◌, length, map, drop, get_or, suc, add-one, drop-cons, None, Some, Ok, Err, Result, is_ok, refl, sym, ◌∙◌, ap, subst, arith, sum_by, length-append}
-use Rattle.std.specs.Prelude.{◌==◌, All, IfOk, Option, is_none, is_some, not, nat_le, nat_lt, slice_get, string_bytes}
+use Rattle.std.proofs.Common.{◌≡◌, ℕ, ◌+◌, ◌<◌, ◌≤◌, Bool, true, false, cond, ◌&&◌, List, [], ◌∷◌, ◌++◌, length, map, drop, get_or, suc, add-one, drop-cons, None, Some, Ok, Result, is_ok, refl, sym, ◌∙◌, ap, subst, arith, sum_by, length-append}
+use Rattle.std.specs.Prelude.{IfOk, Option, is_none, is_some, not, nat_le, nat_lt, slice_get, string_bytes}
 use Rattle.std.specs.FinMap.{empty, insert}
 use Rattle.std.specs.Option.{option_map_or}
-use Rattle.std.specs.Result.{result_err}
 use Rattle.std.proofs.lemmas.Bool.{and_parts, le-leb, le-ltb, lt-leb, ltb-false, ltb-true}
 use Rattle.std.proofs.lemmas.List.{append-nil, map-append}
 use Rattle.std.proofs.lemmas.List.Elements.{All-cons, All-nil}
@@ -18,20 +17,20 @@ use Rattle.flowfile_record.specs.declared.worked.Origin.{Origin}
 use Rattle.flowfile_record.specs.declared.worked.Origin.TheVariants.{Taken as FromQueue, Part as PartOf}
 use Rattle.machine_model.specs.Making.{may_have}
 use Rattle.machine_model.specs.Parts.{all_set_beside, has_room}
-use Rattle.process_session.specs.declared.error.Full.TheVariants.{Files, Attributes, Written}
+use Rattle.process_session.specs.declared.error.Full.TheVariants.{Attributes}
 use Rattle.process_session.specs.declared.error.SessionError.{SessionError}
-use Rattle.process_session.specs.declared.error.SessionError.TheVariants.{Memory, SessionFull}
+use Rattle.process_session.specs.declared.error.SessionError.TheVariants.{SessionFull}
 use Rattle.process_session.specs.declared.file.File.{File}
 use Rattle.process_session.specs.Bench.{Bench, attribute_size, attributes_at, body_at, content_size, file_size, made_size, named_size, origin_at, taken_file}
-use Rattle.process_session.specs.Changes.{attributed_file, is_whole, part_of, with_attributes, with_changed, with_clone, with_end, with_made, with_part, with_put, with_range}
+use Rattle.process_session.specs.Changes.{attributed_file, is_whole, part_of, with_attributes, with_clone, with_end, with_made, with_part, with_put, with_range}
 use Rattle.process_session.specs.Finish.{is_left_out}
-use Rattle.process_session.specs.Reasons.{Refusal, IsErrorFor, IsRefusal, already_ended, attributes_too_large, bad_key, first_refusal, no_room_for, past_limits, range_outside, session_full, unknown_file, where_it_holds}
+use Rattle.process_session.specs.Reasons.{Refusal, IsErrorFor, IsRefusal, attributes_too_large, bad_key, first_refusal, past_limits, range_outside, session_full, where_it_holds}
 use Rattle.process_session.specs.Refusals.{refusal_of_clone_range, refusal_of_put, refusal_of_remove}
 use Rattle.process_session.proofs.Refused.{put_refusal, range_refusal}
 use Rattle.process_session.proofs.Refusing.{no_refusal, one, pass}
 use Rattle.processor_api.specs.Sessions.{HasTaken}
 use Rattle.proc_text.specs.declared.parting.Told.{Told}
-use Rattle.proc_text.specs.Parting.{AddsPart, IsAnswered, LeavesOut, ended_as, may_be_keys, part_file, told_by, with_files}
+use Rattle.proc_text.specs.Parting.{AddsPart, IsAnswered, ended_as, may_be_keys, part_file, told_by}
 use Rattle.proc_text.proofs.Clones.{at-end, changed-end, clone-is, known, next, none_holds, still_open, with_file}
 
 abbrev pub Pair : Type 0

@@ -1,5 +1,5 @@
 -- A session that makes parts of the file that it took.
-use Rattle.std.specs.Prelude.{◌≡◌, ◌⊎◌, ℕ, zero, suc, ◌+◌, ◌==◌, ◌&&◌, ◌<◌, ◌≤◌, Bool, true, false, not, List, [], ◌∷◌, ◌++◌, length, map, All, Option, None, Some, Result, Ok, Err, slice_get, unwrap_or, string_bytes, codes, decimal, if◌then◌else◌}
+use Rattle.std.specs.Prelude.{◌≡◌, ◌⊎◌, ℕ, zero, suc, ◌&&◌, ◌<◌, ◌≤◌, Bool, true, false, not, List, [], ◌∷◌, ◌++◌, length, map, All, Option, None, Some, Result, Ok, Err, slice_get, unwrap_or, string_bytes, codes, decimal}
 use Rattle.std.specs.List.{list_all}
 use Rattle.std.specs.Option.{option_map_or}
 use Rattle.flowfile_record.specs.Attributes.{AttributeMap, encoded_size, has_key_length, is_uuid}

@@ -1,4 +1,4 @@
-use Rattle.std.proofs.Common.{rules, ◌≡◌, List, [], ◌∷◌, ◌++◌, map, refl, sym, ◌∙◌, ap}
+use Rattle.std.proofs.Common.{rules, ◌≡◌, List, [], ◌∷◌, ◌++◌, ◌∙◌}
 use Rattle.std.specs.Prelude.{codes, decimal, string_bytes}
 use Rattle.proc_text.specs.Parting.{told_by}
 use Rattle.proc_text.specs.Pieces.{lines_told}
