@@ -1,7 +1,7 @@
 //! The work of a flow's processors.
-ghost use Rattle.std.specs.Prelude.{IfOk, IsTrue};
+ghost use Rattle.std.specs.Prelude.{◌≡◌, IfOk, IsTrue};
 ghost use Rattle.processor_api.specs.Acts.{KeepsGiven, MayBeHanded};
-ghost use Rattle.engine_session.specs.Working.{is_built, is_of_attributes, IsWorkAt, IsWorkOf, MayWork};
+ghost use Rattle.engine_session.specs.Working.{is_built, is_of_attributes, is_of_texts, IsWorkAt, IsWorkOf, MayWork};
 
 use flowfile_record::Outcome;
 use machine_model::{Flow, Given, Kind};
@@ -10,6 +10,7 @@ use proc_attribute::{
     UpdateAttribute,
 };
 use proc_source::{GenerateFlowFile, GetFile, PutFile};
+use proc_text::{ModifyBytes, ReplaceText, RouteOnContent};
 use process_session::{SourceList, TakenList};
 use processor_api::work_on;
 use std::alloc::{AllocError, Global};
@@ -54,7 +55,20 @@ fn work_as(
     if let Some(put_file) = PutFile::of(kind) {
         return work_on(alloc, &put_file, 2, taken, given);
     }
+    if is_of_texts(kind) {
+        return work_on_texts(alloc, kind, taken, given);
+    }
     work_on_attributes(alloc, kind, taken, given)
+}
+
+/// Whether a processor of this kind works on a content, or goes by it.
+fn is_of_texts(kind: &Kind) -> bool
+    ensures { result ≡ is_of_texts kind.now }
+{
+    matches!(
+        kind,
+        Kind::ReplaceText { .. } | Kind::RouteOnContent { .. } | Kind::ModifyBytes { .. }
+    )
 }
 
 /// The same of a processor of attributes.
@@ -84,6 +98,31 @@ fn work_on_attributes(
     }
     if let Some(hash) = CryptographicHashContent::of(kind) {
         return work_on(alloc, &hash, 2, taken, given);
+    }
+    unreachable!()
+}
+
+/// The same of a processor of contents.
+fn work_on_texts(
+    alloc: Global,
+    kind: &Kind,
+    taken: TakenList,
+    given: &mut Given,
+) -> Result<(Outcome, SourceList), AllocError>
+    requires built { IsTrue (is_of_texts kind.now) }
+    requires handed { MayBeHanded kind.now taken given.old }
+    ensures work { IfOk result (IsWorkOf kind.now taken given.old) }
+    ensures given { KeepsGiven given.old given.new }
+{
+    if let Some(replace) = ReplaceText::of(kind) {
+        return work_on(alloc, &replace, 2, taken, given);
+    }
+    if let Some(route) = RouteOnContent::of(kind) {
+        let relationships = route.own.len() as u16 + 1;
+        return work_on(alloc, &route, relationships, taken, given);
+    }
+    if let Some(modify) = ModifyBytes::of(kind) {
+        return work_on(alloc, &modify, 1, taken, given);
     }
     unreachable!()
 }

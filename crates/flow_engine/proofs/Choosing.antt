@@ -19,7 +19,7 @@ use Rattle.machine_model.specs.declared.given.Given.{Given}
 use Rattle.machine_model.specs.declared.journal.Step.{Step}
 use Rattle.machine_model.specs.declared.journal.Step.TheVariants.{Session}
 use Rattle.machine_model.specs.declared.kind.Kind.{Kind}
-use Rattle.machine_model.specs.declared.kind.Kind.TheVariants.{GetFile, GenerateFlowFile, PutFile, UpdateAttribute, RouteOnAttribute, AttributesToJson, DuplicateFlowFile, CryptographicHashContent}
+use Rattle.machine_model.specs.declared.kind.Kind.TheVariants.{GetFile, GenerateFlowFile, PutFile, UpdateAttribute, RouteOnAttribute, AttributesToJson, DuplicateFlowFile, CryptographicHashContent, SplitText, ReplaceText, ExtractText, RouteOnContent, MergeContent, SegmentContent, ModifyBytes}
 use Rattle.machine_model.specs.declared.pattern.Pattern.{Pattern}
 use Rattle.machine_model.specs.Acting.{act, generated, name_in, put, received, received_attributes}
 use Rattle.machine_model.specs.Making.{TakenFile, alone, made_file}
@@ -28,6 +28,13 @@ use Rattle.machine_model.specs.RouteOnAttribute.{route}
 use Rattle.machine_model.specs.AttributesToJson.{attributes_to_json}
 use Rattle.machine_model.specs.DuplicateFlowFile.{duplicate}
 use Rattle.machine_model.specs.CryptographicHashContent.{hash_content}
+use Rattle.machine_model.specs.SplitText.{split}
+use Rattle.machine_model.specs.ReplaceText.{replace_text}
+use Rattle.machine_model.specs.ExtractText.{extract_text}
+use Rattle.machine_model.specs.RouteOnContent.{route_by_content}
+use Rattle.machine_model.specs.MergeContent.{merge}
+use Rattle.machine_model.specs.SegmentContent.{segment}
+use Rattle.machine_model.specs.ModifyBytes.{modify}
 use Rattle.machine_model.specs.Files.{queues_of}
 use Rattle.machine_model.specs.Kinds.{take_rule_of}
 use Rattle.machine_model.specs.Laws.{MayTake}
@@ -51,7 +58,6 @@ use Rattle.engine_choice.specs.declared.choice.Choice.{Choice}
 use Rattle.engine_choice.specs.declared.choice.Taking.{Taking}
 use Rattle.engine_choice.specs.declared.choice.Taking.TheVariants as taking
 use Rattle.engine_session.specs.Steps.{SessionsAreSteps}
-use Rattle.engine_session.specs.Working.{is_built}
 use Rattle.flow_run.specs.Run.{IsStateOf}
 use Rattle.flow_engine.specs.Driving.{ShowsState, choice_in}
 use Rattle.flow_engine.specs.Engine.{AreBuilt, EngineState}
@@ -113,30 +119,36 @@ one_outcome : (kind : Kind) (makes : TakenFile → Outcome) → ((taken : List T
 one_outcome kind makes acts state [] given one = absurd (omega (arith, one))
 one_outcome kind makes acts state (file ∷ more) given one = record { outcome = makes (as_taken state file); is = acts (map (as_taken state) (file ∷ more)) given }
 
--- what the processors of a built kind are handed makes an outcome
+-- what a processor is handed makes an outcome
 module _ (place : ℕ) (state : State) (world : World) (files : List QueuedFile) (given : Given) where
-  outcome_in : (kind : Kind) → IsTrue (is_built kind) → MayTake (take_rule_of kind) (length files) → IfSome (given_in kind place state world files given) (HasOutcome kind state files)
-  outcome_in (GetFile filter) built many =
+  outcome_in : (kind : Kind) → MayTake (take_rule_of kind) (length files) → IfSome (given_in kind place state world files given) (HasOutcome kind state files)
+  outcome_in (GetFile filter) many =
       if_and_then _ given.file (HasOutcome (GetFile filter) state files)
       (λ name is. if_when (may_get filter world name) (record given { bytes = bytes_of world.inbox name }) (HasOutcome (GetFile filter) state files)
       (λ may.
       received_is filter state files (record given { bytes = bytes_of world.inbox name }) name given.file (bytes_of world.inbox name) refl refl is
       (and_parts _ (option_map_or (λ (b : List ℕ). nat_le (length b) CONTENT_MAX) (bytes_of world.inbox name) false) may).1))
-  outcome_in (GenerateFlowFile count text) built many =
+  outcome_in (GenerateFlowFile count text) many =
       if_when (may_generate count (slice_index state.counts place) given.index) given (HasOutcome (GenerateFlowFile count text) state files)
       (λ may. record { outcome = generated text given.index; is = refl })
-  outcome_in (PutFile conflict) built many =
+  outcome_in (PutFile conflict) many =
       if_when (same_bool given.there (is_there world files)) given (HasOutcome (PutFile conflict) state files) (λ may. of_one files many)
     where
       of_one : (some : List QueuedFile) → length some ≡ 1 → HasOutcome (PutFile conflict) state some given
       of_one [] one = absurd (omega (arith, one))
       of_one (file ∷ more) one = record { outcome = put conflict given.there (as_taken state file) (name_in file.attributes); is = refl }
-  outcome_in (UpdateAttribute own) built many = one_outcome (UpdateAttribute own) (update own) (λ taken given. refl) state files given many
-  outcome_in (RouteOnAttribute own) built many = one_outcome (RouteOnAttribute own) (route own) (λ taken given. refl) state files given many
-  outcome_in (AttributesToJson destination names) built many = one_outcome (AttributesToJson destination names) (attributes_to_json destination names) (λ taken given. refl) state files given many
-  outcome_in (DuplicateFlowFile copies) built many = one_outcome (DuplicateFlowFile copies) (duplicate copies) (λ taken given. refl) state files given many
-  outcome_in CryptographicHashContent built many = one_outcome CryptographicHashContent hash_content (λ taken given. refl) state files given many
-  outcome_in kind built many = absurd (true≢false (sym built))
+  outcome_in (UpdateAttribute own) many = one_outcome (UpdateAttribute own) (update own) (λ taken given. refl) state files given many
+  outcome_in (RouteOnAttribute own) many = one_outcome (RouteOnAttribute own) (route own) (λ taken given. refl) state files given many
+  outcome_in (AttributesToJson destination names) many = one_outcome (AttributesToJson destination names) (attributes_to_json destination names) (λ taken given. refl) state files given many
+  outcome_in (DuplicateFlowFile copies) many = one_outcome (DuplicateFlowFile copies) (duplicate copies) (λ taken given. refl) state files given many
+  outcome_in CryptographicHashContent many = one_outcome CryptographicHashContent hash_content (λ taken given. refl) state files given many
+  outcome_in (SplitText lines) many = one_outcome (SplitText lines) (split lines) (λ taken given. refl) state files given many
+  outcome_in (ReplaceText replacement) many = one_outcome (ReplaceText replacement) (replace_text replacement) (λ taken given. refl) state files given many
+  outcome_in (ExtractText own) many = one_outcome (ExtractText own) (extract_text own) (λ taken given. refl) state files given many
+  outcome_in (RouteOnContent requirement own) many = one_outcome (RouteOnContent requirement own) (route_by_content own) (λ taken given. refl) state files given many
+  outcome_in (MergeContent strategy minimum maximum) many = record { outcome = merge strategy (map (as_taken state) files); is = refl }
+  outcome_in (SegmentContent size) many = one_outcome (SegmentContent size) (segment size) (λ taken given. refl) state files given many
+  outcome_in (ModifyBytes start end) many = one_outcome (ModifyBytes start end) (modify start end) (λ taken given. refl) state files given many
 
 no_bytes : (moment : ℕ) (there : Bool) (takes : Taking) → (given_for moment there takes).bytes ≡ None
 no_bytes moment there (taking.Files connection numbers) = refl
@@ -149,14 +161,14 @@ at_moment moment there (taking.Generate index) = refl
 at_moment moment there (taking.Receive name) = refl
 
 -- a session that comes next is one
-pub session_step : SessionsAreSteps → (flow : Flow) (m : Machine) (moment : ℕ) (choice : Choice) → AreBuilt flow → IsSessionAt flow m.state m.world moment choice → HasStep flow m
-session_step law flow m moment choice built s =
+pub session_step : SessionsAreSteps → (flow : Flow) (m : Machine) (moment : ℕ) (choice : Choice) → IsSessionAt flow m.state m.world moment choice → HasStep flow m
+session_step law flow m moment choice s =
     let kind = s.processor.kind in
     let given : Given = given_for moment (is_there m.world s.files) choice.taking in
     let took = if_at (taken_files flow m.state choice.processor (take_rule_of kind) (numbers_in choice.taking) moment) s.files (Took m.state (take_rule_of kind)) s.taken
     (taken-took flow m.state choice.processor (take_rule_of kind) (numbers_in choice.taking) moment) in
     let makes = if_at (given_in kind choice.processor m.state m.world s.files given) s.handed (HasOutcome kind m.state s.files) s.given
-    (outcome_in choice.processor m.state m.world s.files given kind (all_at (λ (p : Processor). IsTrue (is_built p.kind)) flow.processors choice.processor s.processor built s.found) took.many_enough) in
+    (outcome_in choice.processor m.state m.world s.files given kind took.many_enough) in
     let session : EndedSession = record { flow = flow; place = choice.processor; processor = s.processor; state = m.state; taken = s.files; given = s.handed } in
     record {
       next = Session choice.processor (numbers_in choice.taking) moment given;
@@ -171,10 +183,10 @@ session_step law flow m moment choice built s =
     }
 
 -- .. and so the machine goes on where one comes
-pub goes_on : ChoicesAreSessions → SessionsAreSteps → (e : EngineState) (m : Machine) (moment : ℕ) (choice : Choice) → AreBuilt e.flow → IsValid e.flow m.state → SeesTheSame e.flow (queue_seen e.queues) (queues_of m.state)
+pub goes_on : ChoicesAreSessions → SessionsAreSteps → (e : EngineState) (m : Machine) (moment : ℕ) (choice : Choice) → IsValid e.flow m.state → SeesTheSame e.flow (queue_seen e.queues) (queues_of m.state)
     → (kept_by e.store).counts ≡ m.state.counts → coming_of m.world ≡ e.listing.names → choice_in e moment ≡ Some choice → HasStep e.flow m
-goes_on choices steps e m moment choice built valid seen counts coming is =
-    session_step steps e.flow m moment choice built
+goes_on choices steps e m moment choice valid seen counts coming is =
+    session_step steps e.flow m moment choice
     (choices e.flow (queue_seen e.queues) m.state m.world moment e.last choice valid seen
     (ap (λ (made : List ℕ). next_choice e.flow (queue_seen e.queues) made (coming_of m.world) moment e.last) (sym counts)
     ∙ ap (λ (names : List (List ℕ)). next_choice e.flow (queue_seen e.queues) (kept_by e.store).counts names moment e.last) coming ∙ is))

@@ -1,8 +1,7 @@
 -- What the session that comes next takes, by the kind of its processor.
-use Rattle.std.proofs.Common.{◌≡◌, inl, inr, ℕ, ◌+◌, ◌<◌, ◌≤◌, ◌==◌, ◌&&◌, zero, suc, Bool, true, false, cond, List, [], ◌∷◌, length, refl, sym, ap, subst, ◌∙◌, arith}
-use Rattle.std.specs.Prelude.{nat_lt, Option, None, Some, IsSome, IsTrue, IfSome, filter, find, option_map, slice_get, slice_index}
+use Rattle.std.proofs.Common.{◌≡◌, inl, inr, ℕ, ◌+◌, ◌<◌, ◌≤◌, zero, suc, Bool, true, false, cond, List, [], ◌∷◌, length, refl, sym, ap, subst, ◌∙◌, arith}
+use Rattle.std.specs.Prelude.{nat_lt, Option, None, Some, IsSome, IsTrue, IfSome, find, option_map, slice_get, slice_index}
 use Rattle.std.specs.Option.{IsSomeAnd, option_to_list}
-use Rattle.std.specs.List.{enumerate_from}
 use Rattle.std.proofs.lemmas.List.{length-map}
 use Rattle.std.proofs.lemmas.Bool.{ltb-true, leb-true}
 use Rattle.expr_lang.specs.declared.syntax.Expr.{Expr}
@@ -10,46 +9,37 @@ use Rattle.flowfile_record.specs.NamedFile.{NamedFile, bytes_of}
 use Rattle.flowfile_record.specs.Stored.{Kept}
 use Rattle.flowfile_record.specs.declared.TheConstants.{CONTENT_MAX}
 use Rattle.flowfile_record.specs.declared.limits.TheConstants.{NUMBER_LIMIT}
-use Rattle.flowfile_record.specs.declared.stored.ActiveFile.{ActiveFile}
-use Rattle.prioritizer.specs.declared.prioritizer.Prioritizer.{Prioritizer}
 use Rattle.checkpoint_store.specs.Consistent.{IsConsistent}
-use Rattle.kept_state.specs.Fits.{active_of, are_active_in, is_in}
-use Rattle.machine_model.specs.declared.flow.Connection.{Connection}
 use Rattle.machine_model.specs.declared.flow.Flow.{Flow}
 use Rattle.machine_model.specs.declared.flow.Processor.{Processor}
 use Rattle.machine_model.specs.declared.given.Given.{Given}
 use Rattle.machine_model.specs.declared.kind.Kind.{Kind}
-use Rattle.machine_model.specs.declared.kind.Kind.TheVariants.{GetFile, GenerateFlowFile, PutFile, UpdateAttribute, RouteOnAttribute, AttributesToJson, DuplicateFlowFile, CryptographicHashContent}
+use Rattle.machine_model.specs.declared.kind.Kind.TheVariants.{GetFile, GenerateFlowFile}
 use Rattle.machine_model.specs.declared.kind.TakeRule.{TakeRule}
-use Rattle.machine_model.specs.declared.kind.TakeRule.TheVariants.{One}
 use Rattle.machine_model.specs.declared.limits.TheConstants.{GENERATED_MAX}
 use Rattle.machine_model.specs.declared.pattern.Pattern.{Pattern}
 use Rattle.machine_model.specs.Acting.{passes}
-use Rattle.machine_model.specs.Due.{at_place, numbers_of}
 use Rattle.machine_model.specs.Kinds.{take_rule_of}
 use Rattle.machine_model.specs.Laws.{MayTake, received_name}
-use Rattle.machine_model.specs.Order.{eligible_files, goes_before, in_order, is_eligible, put_in_order}
 use Rattle.machine_model.specs.Sound.{IsSound, IsSoundKind}
-use Rattle.machine_model.specs.View.{FileView, QueueView}
-use Rattle.machine_model.proofs.Among.{Among, all_among, is_made, kept_by}
+use Rattle.machine_model.specs.View.{QueueView}
+use Rattle.machine_model.proofs.Among.{Among, all_among}
 use Rattle.processor_api.specs.Acts.{IsGivenTo}
 use Rattle.flow_queue.specs.Queue.{QueueState}
 use Rattle.store_core.specs.Flow.{flow_in}
 use Rattle.store_core.specs.Flow as store
 use Rattle.engine_core.specs.Committing.{identity_of}
-use Rattle.engine_queues.specs.Choosing.{first_pick, picked_from}
+use Rattle.engine_queues.specs.Choosing.{first_pick}
 use Rattle.engine_queues.specs.Laws.{QueuesShowKept}
 use Rattle.engine_queues.specs.Queues.{AreQueuesOf, queue_seen}
-use Rattle.engine_queues.specs.Views.{kept_queues, kept_views, view_of_kept}
+use Rattle.engine_queues.specs.Views.{kept_queues}
 use Rattle.engine_choice.specs.Choice.{next_choice, taking_by}
 use Rattle.engine_choice.specs.Laws.{given_for, numbers_in}
 use Rattle.engine_choice.specs.Listing.{first_passed}
 use Rattle.engine_choice.specs.declared.choice.Choice.{Choice}
 use Rattle.engine_choice.specs.declared.choice.Taking.{Taking}
 use Rattle.engine_choice.specs.declared.choice.Taking.TheVariants.{Files, Generate, Receive}
-use Rattle.engine_choice.proofs.Found.{Stands, each-stands, given-by}
 use Rattle.engine_choice.proofs.Sessions.{chosen}
-use Rattle.engine_session.proofs.Lookups.{found_active}
 use Rattle.engine_session.specs.Working.{is_built}
 use Rattle.flow_engine.specs.Engine.{AreBuilt, AreTakeable}
 use Rattle.flow_engine.specs.Handing.{HasBytes, IsHanded, MayBeReceived, MayBeTaken, received_in}
@@ -57,87 +47,17 @@ use Rattle.flow_engine.specs.Job.{MayHand}
 use Rattle.flow_engine.specs.declared.job.Job.{Job}
 use Rattle.flow_engine.proofs.Files.{some_and}
 use Rattle.flow_engine.proofs.Left.{found_among}
-
--- ---- the file that is picked
-
-put_among : (order : List Prioritizer) (file other : FileView) (files : List FileView) → Among file (put_in_order order other files) → Among file (other ∷ files)
-put_among order file other [] there = there
-put_among order file other (next ∷ files) there = by_test (goes_before order other next) there (put_among order file other files)
-  where
-    by_test : (b : Bool) → Among file (cond b (other ∷ next ∷ files) (next ∷ put_in_order order other files))
-        → (Among file (put_in_order order other files) → Among file (other ∷ files)) → Among file (other ∷ next ∷ files)
-    by_test true there later = there
-    by_test false (inl is) later = inr (inl is)
-    by_test false (inr there) later = elim (later there) [ inl is ↦ inl is | inr among ↦ inr (inr among) ]
-
-ordered_among : (order : List Prioritizer) (file : FileView) (files : List FileView) → Among file (in_order order files) → Among file files
-ordered_among order file [] there = there
-ordered_among order file (other ∷ files) there = elim (put_among order file other (in_order order files) there) [
-  | inl is ↦ inl is
-  | inr among ↦ inr (ordered_among order file files among)
-]
+use Rattle.flow_engine.proofs.Picked.{IsPicked, first_picked}
 
 among_got : {X : Type 0} (xs : List X) (place : ℕ) (x : X) → slice_get xs place ≡ Some x → Among x xs
 among_got [] place x is = absurd cc
 among_got (y ∷ xs) zero x is = let same : y ≡ x = cc in inl same
 among_got (y ∷ xs) (suc place) x is = inr (among_got xs place x is)
 
--- one file of these, by its number
-record IsOneOf (files : List FileView) (numbers : List ℕ) : Type 0 where
-  file : FileView
-  there : Among file files
-  is : numbers ≡ file.number ∷ []
-
-picked_one : (place moment : ℕ) (connection : Connection) (queue : QueueView) (numbers : List ℕ) → picked_from One place moment connection queue ≡ Some numbers → IsOneOf queue.active numbers
-picked_one place moment connection queue numbers is =
-    by_target (connection.target == place) (slice_get (eligible_files connection.order connection.limits moment queue.active) 0) refl is
-  where
-    by_target : (b : Bool) (o : Option FileView) → slice_get (eligible_files connection.order connection.limits moment queue.active) 0 ≡ o
-        → cond b (option_map numbers_of (option_map (λ file. file ∷ []) o)) None ≡ Some numbers → IsOneOf queue.active numbers
-    by_target false o e is = absurd cc
-    by_target true None e is = absurd cc
-    by_target true (Some file) e is =
-        let among = ordered_among connection.order file (filter (is_eligible connection.limits moment) queue.active)
-        (among_got (eligible_files connection.order connection.limits moment queue.active) 0 file e) in
-        record {
-          file = file;
-          there = (kept_by (is_eligible connection.limits moment) queue.active file among).0;
-          is = cc;
-        }
-
-kept_active : (k : Kept) (place : ℕ) (numbers : List ℕ) → IsConsistent k → IsOneOf (kept_views k place) numbers → (are_active_in k.files place numbers ≡ true) × (length numbers ≡ 1)
-kept_active k place numbers consistent one =
-    let made = is_made (λ (a : ActiveFile). view_of_kept a.file) (filter (λ a. a.connection == place) k.files) one.file one.there in
-    let among = kept_by (λ (a : ActiveFile). a.connection == place) k.files made.source made.there in
-    let numbered : one.file.number ≡ made.source.file.number = ap (λ (f : FileView). f.number) (sym made.is) in
-    let found : active_of one.file.number k.files ≡ Some made.source = ap (λ n. active_of n k.files) numbered ∙ found_active made.source k.files consistent.numbers among.0 in
-    let here : is_in place (active_of one.file.number k.files) ≡ true = ap (is_in place) found ∙ among.1 in
-    let active : are_active_in k.files place (one.file.number ∷ []) ≡ true = ap (λ b. b && true) here in
-    (ap (are_active_in k.files place) one.is ∙ active, ap length one.is)
-
-picked_active : (flow : Flow) (k : Kept) (moment place connection : ℕ) (processor : Processor) (numbers : List ℕ) → IsConsistent k → take_rule_of processor.kind ≡ One
-    → first_pick flow (kept_queues k) moment (place, processor) ≡ Some (connection, numbers) → (are_active_in k.files connection numbers ≡ true) × (length numbers ≡ 1)
-picked_active flow k moment place connection processor numbers consistent rule is =
-    let given = given-by (Stands flow.connections) (at_place (picked_from (take_rule_of processor.kind) place moment) (kept_queues k)) (enumerate_from 0 flow.connections) (connection, numbers)
-    (each-stands flow.connections) is in
-    by_picked given.item.0 given.item.1 (picked_from (take_rule_of processor.kind) place moment given.item.1 (kept_queues k given.item.0)) refl given.is_given
-  where
-    by_picked : (at : ℕ) (c : Connection) (o : Option (List ℕ)) → picked_from (take_rule_of processor.kind) place moment c (kept_queues k at) ≡ o → option_map {U = ℕ × List ℕ} (λ x. (at, x)) o ≡ Some (connection, numbers)
-        → (are_active_in k.files connection numbers ≡ true) × (length numbers ≡ 1)
-    by_picked at c None e is = absurd cc
-    by_picked at c (Some ns) e is =
-        let one : ℕ × List ℕ = (at, ns) in
-        let other : ℕ × List ℕ = (connection, numbers) in
-        let pairs : one ≡ other = cc in
-        let from : picked_from One place moment c (kept_queues k at) ≡ Some ns = ap (λ r. picked_from r place moment c (kept_queues k at)) (sym rule) ∙ e in
-        let active = kept_active k at ns consistent (picked_one place moment c (kept_queues k at) ns from) in
-        let P : ℕ × List ℕ → Type 0 = λ p. (are_active_in k.files p.0 p.1 ≡ true) × (length p.1 ≡ 1) in
-        subst P pairs active
-
 -- ---- by kind
 
--- What a processor takes of a kind that there are processors of: it may be taken, it comes first, it is as many as the
--- rule wants, and what a session is given for it is for this kind.
+-- What a processor of a kind takes: it may be taken, it comes first, it is as many as the rule wants, and what a session
+-- is given for it is for this kind.
 pub record TakesSo (k : Kept) (names : List (List ℕ)) (moment : ℕ) (kind : Kind) (taking : Taking) : Type 0 where
   pub may : MayBeTaken k taking
   pub named : IfSome (received_in taking) (λ name. Among name names × (first_passed kind names ≡ Some name))
@@ -146,17 +66,16 @@ pub record TakesSo (k : Kept) (names : List (List ℕ)) (moment : ℕ) (kind : K
   pub file : (given : Given) (there : Bool) → record given { bytes = None } ≡ given_for moment there taking → received_name kind given.file ≡ option_to_list given.file
   pub index : (given : Given) (there : Bool) → record given { bytes = None } ≡ given_for moment there taking → given.index < NUMBER_LIMIT
 
--- a kind that takes one file, and is given nothing beside it
-record TakesOneFile (kind : Kind) : Type 0 where
-  pub rule : take_rule_of kind ≡ One
+-- a kind that takes files, and is given nothing beside them
+record TakesFiles (kind : Kind) : Type 0 where
   pub to : (given : Given) → IsGivenTo kind given
   pub file : received_name kind None ≡ []
   pub taking : (names : List (List ℕ)) (made : ℕ) (pick : Option (ℕ × List ℕ)) → taking_by kind names made pick ≡ option_map (λ files. Files files.0 files.1) pick
 
 module _ (k : Kept) (names : List (List ℕ)) (moment made : ℕ) (pick : Option (ℕ × List ℕ)) where
-  -- what is picked is one live file
+  -- what is picked are live files, as the rule takes them
   abbrev Picks : TakeRule → Type 0
-  Picks rule = rule ≡ One → (connection : ℕ) (numbers : List ℕ) → pick ≡ Some (connection, numbers) → (are_active_in k.files connection numbers ≡ true) × (length numbers ≡ 1)
+  Picks rule = (connection : ℕ) (numbers : List ℕ) → pick ≡ Some (connection, numbers) → IsPicked k rule connection numbers
 
   received_so : (filter : Option Pattern) (name : List ℕ) → find (passes filter) names ≡ Some name → TakesSo k names moment (GetFile filter) (Receive name)
   received_so filter name found = record {
@@ -168,24 +87,24 @@ module _ (k : Kept) (names : List (List ℕ)) (moment made : ℕ) (pick : Option
     index = λ given there is. let index : given.index ≡ 0 = ap (λ (g : Given). g.index) is in omega (arith, index);
   }
 
-  taken_so : (kind : Kind) → TakesOneFile kind → (connection : ℕ) (numbers : List ℕ) → (are_active_in k.files connection numbers ≡ true) × (length numbers ≡ 1) → TakesSo k names moment kind (Files connection numbers)
-  taken_so kind one connection numbers active = record {
-    may = active;
+  files_so : (kind : Kind) → TakesFiles kind → (connection : ℕ) (numbers : List ℕ) → IsPicked k (take_rule_of kind) connection numbers → TakesSo k names moment kind (Files connection numbers)
+  files_so kind of connection numbers picked = record {
+    may = (picked.active, picked.distinct);
     named = tt;
-    rule = subst (λ rule. MayTake rule (length numbers)) (sym one.rule) active.1;
-    to = λ given there is has. one.to given;
-    file = λ given there is. let file : given.file ≡ None = ap (λ (g : Given). g.file) is in subst (λ (o : Option (List ℕ)). received_name kind o ≡ option_to_list o) (sym file) one.file;
+    rule = picked.count;
+    to = λ given there is has. of.to given;
+    file = λ given there is. let file : given.file ≡ None = ap (λ (g : Given). g.file) is in subst (λ (o : Option (List ℕ)). received_name kind o ≡ option_to_list o) (sym file) of.file;
     index = λ given there is. let index : given.index ≡ 0 = ap (λ (g : Given). g.index) is in omega (arith, index);
   }
 
-  one_taken_so : (kind : Kind) → TakesOneFile kind → (taking : Taking) → Picks (take_rule_of kind) → taking_by kind names made pick ≡ Some taking → TakesSo k names moment kind taking
-  one_taken_so kind one taking may is = by_pick pick refl (sym (one.taking names made pick) ∙ is)
+  files_taken_so : (kind : Kind) → TakesFiles kind → (taking : Taking) → Picks (take_rule_of kind) → taking_by kind names made pick ≡ Some taking → TakesSo k names moment kind taking
+  files_taken_so kind of taking may is = by_pick pick refl (sym (of.taking names made pick) ∙ is)
     where
       by_pick : (o : Option (ℕ × List ℕ)) → pick ≡ o → option_map (λ files. Files files.0 files.1) o ≡ Some taking → TakesSo k names moment kind taking
       by_pick None e is = absurd cc
       by_pick (Some (connection, numbers)) e is =
           let same : Files connection numbers ≡ taking = cc in
-          subst (TakesSo k names moment kind) same (taken_so kind one connection numbers (may one.rule connection numbers e))
+          subst (TakesSo k names moment kind) same (files_so kind of connection numbers (may connection numbers e))
 
   generated_so : (count : ℕ) (text : Expr) → IsSoundKind (GenerateFlowFile count text) → nat_lt made count ≡ true → TakesSo k names moment (GenerateFlowFile count text) (Generate (made + 1))
   generated_so count text sound less = record {
@@ -201,24 +120,18 @@ module _ (k : Kept) (names : List (List ℕ)) (moment made : ℕ) (pick : Option
         omega (arith, index, below, most);
   }
 
-  pub takes_so : (kind : Kind) (taking : Taking) → IsSoundKind kind → IsTrue (is_built kind) → Picks (take_rule_of kind) → taking_by kind names made pick ≡ Some taking → TakesSo k names moment kind taking
-  takes_so (GetFile filter) taking sound built may is = by_name (find (passes filter) names) refl is
+  pub takes_so : (kind : Kind) (taking : Taking) → IsSoundKind kind → Picks (take_rule_of kind) → taking_by kind names made pick ≡ Some taking → TakesSo k names moment kind taking
+  takes_so (GetFile filter) taking sound may is = by_name (find (passes filter) names) refl is
     where
       by_name : (o : Option (List ℕ)) → find (passes filter) names ≡ o → option_map (λ name. Receive name) o ≡ Some taking → TakesSo k names moment (GetFile filter) taking
       by_name None e is = absurd cc
       by_name (Some name) e is = let same : Receive name ≡ taking = cc in subst (TakesSo k names moment (GetFile filter)) same (received_so filter name e)
-  takes_so (GenerateFlowFile count text) taking sound built may is = by_count (nat_lt made count) refl is
+  takes_so (GenerateFlowFile count text) taking sound may is = by_count (nat_lt made count) refl is
     where
       by_count : (b : Bool) → nat_lt made count ≡ b → cond b (Some (Generate (made + 1))) None ≡ Some taking → TakesSo k names moment (GenerateFlowFile count text) taking
       by_count false e is = absurd cc
       by_count true e is = let same : Generate (made + 1) ≡ taking = cc in subst (TakesSo k names moment (GenerateFlowFile count text)) same (generated_so count text sound e)
-  takes_so (PutFile conflict) taking sound built may is = one_taken_so (PutFile conflict) (record { rule = refl; to = λ given. tt; file = refl; taking = λ names made pick. refl }) taking may is
-  takes_so (UpdateAttribute own) taking sound built may is = one_taken_so (UpdateAttribute own) (record { rule = refl; to = λ given. tt; file = refl; taking = λ names made pick. refl }) taking may is
-  takes_so (RouteOnAttribute own) taking sound built may is = one_taken_so (RouteOnAttribute own) (record { rule = refl; to = λ given. tt; file = refl; taking = λ names made pick. refl }) taking may is
-  takes_so (AttributesToJson destination names) taking sound built may is = one_taken_so (AttributesToJson destination names) (record { rule = refl; to = λ given. tt; file = refl; taking = λ names made pick. refl }) taking may is
-  takes_so (DuplicateFlowFile copies) taking sound built may is = one_taken_so (DuplicateFlowFile copies) (record { rule = refl; to = λ given. tt; file = refl; taking = λ names made pick. refl }) taking may is
-  takes_so CryptographicHashContent taking sound built may is = one_taken_so CryptographicHashContent (record { rule = refl; to = λ given. tt; file = refl; taking = λ names made pick. refl }) taking may is
-  takes_so kind taking sound built may is = absurd cc
+  takes_so kind taking sound may is = files_taken_so kind (record { to = λ given. tt; file = refl; taking = λ names made pick. refl }) taking may is
 
 -- ---- the session that comes next
 
@@ -245,8 +158,8 @@ next_takes shown flow k queues names moment last choice consistent flow_is sound
       processor = it.processor;
       found = it.there;
       built = is_one;
-      takes = takes_so k names moment (slice_index k.counts choice.processor) (first_pick flow (kept_queues k) moment (choice.processor, it.processor)) kind choice.taking is_so is_one
-          (λ rule connection numbers picked. picked_active flow k moment choice.processor connection it.processor numbers consistent rule picked) takes;
+      takes = takes_so k names moment (slice_index k.counts choice.processor) (first_pick flow (kept_queues k) moment (choice.processor, it.processor)) kind choice.taking is_so
+          (λ connection numbers picked. first_picked flow k moment choice.processor connection it.processor numbers consistent picked) takes;
     }
 
 -- the file that it receives is left

@@ -2,6 +2,7 @@ pub mod Choosing
 mod Chosen
 pub mod Closing
 mod Committed
+mod ContentsRead
 pub mod Ending
 pub mod Expired
 mod Files
@@ -11,6 +12,7 @@ mod Goes
 mod Left
 pub mod Names
 pub mod Outbox
+mod Picked
 pub mod RunsOn
 pub mod Sends
 pub mod SessionSteps

@@ -1,11 +1,12 @@
 -- What a session is handed that was chosen.
-use Rattle.std.specs.Prelude.{◌≡◌, ⊤, ℕ, ◌≤◌, true, List, Option, None, Some, length, map}
+use Rattle.std.specs.Prelude.{◌≡◌, ⊤, ℕ, ◌≤◌, Bool, true, List, Option, None, Some, length, map}
 use Rattle.std.specs.Option.{IsSomeAnd}
 use Rattle.flowfile_record.specs.NamedFile.{NamedFile, bytes_of}
 use Rattle.flowfile_record.specs.Stored.{Kept}
 use Rattle.flowfile_record.specs.declared.TheConstants.{CONTENT_MAX}
 use Rattle.flowfile_record.specs.declared.content.ContentRef.{ContentRef}
-use Rattle.kept_state.specs.Fits.{are_active_in}
+use Rattle.flowfile_record.specs.declared.flow_file.FlowFile.{FlowFile}
+use Rattle.kept_state.specs.Fits.{are_active_in, are_distinct}
 use Rattle.machine_model.specs.Changing.{queued_file}
 use Rattle.machine_model.specs.State.{World}
 use Rattle.machine_model.specs.Stepping.{is_there}
@@ -13,7 +14,7 @@ use Rattle.engine_choice.specs.Laws.{given_for, numbers_in}
 use Rattle.engine_choice.specs.declared.choice.Choice.{Choice}
 use Rattle.engine_choice.specs.declared.choice.Taking.{Taking}
 use Rattle.engine_choice.specs.declared.choice.Taking.TheVariants.{Files, Receive}
-use Rattle.engine_session.specs.Handing.{AreTaken}
+use Rattle.engine_session.specs.Handing.{AreReadOf, AreTaken}
 use Rattle.flow_engine.specs.declared.job.Job.{Job}
 
 -- ---- what is taken
@@ -23,15 +24,22 @@ abbrev pub received_in : Taking → Option (List ℕ)
 received_in (Receive name) = Some name
 received_in _ = None
 
--- the files that it takes are live ones of their connection: one, as each rule takes that there are processors for
+-- the files that it takes are live ones of their connection, each once
 abbrev pub MayBeTaken : Kept → Taking → Type 0
-MayBeTaken k (Files connection numbers) = (are_active_in k.files connection numbers ≡ true) × (length numbers ≡ 1)
+MayBeTaken k (Files connection numbers) =
+    (are_active_in k.files connection numbers ≡ true) × (are_distinct numbers ≡ true)
 MayBeTaken k _ = ⊤
 
 -- the file that it receives is left, and no longer than a content may be
 abbrev pub MayBeReceived : List NamedFile → Taking → Type 0
 MayBeReceived left (Receive name) = IsSomeAnd (bytes_of left name) (λ bytes. length bytes ≤ CONTENT_MAX)
 MayBeReceived left _ = ⊤
+
+-- ---- what is read
+
+-- there are bytes that the references of these files stand for, and what was read are these
+abbrev pub HaveRead : (fits : Bool) → List FlowFile → List (Option (List ℕ)) → Type 0
+HaveRead fits files contents = (bytes : ContentRef → List ℕ) × AreReadOf bytes fits files contents
 
 -- ---- what is handed
 

@@ -1,32 +1,30 @@
 //! What a session is handed: files of a queue with their contents, a file of the inbox, or an index.
-ghost use Rattle.std.specs.Prelude.{◌≡◌, ◌⊎◌, ℕ, ◌≤◌, true, false, length, All, Contains, List, Option, Some, None, is_some, IfOk, OnOk, IfErr, IsErrOf, IsTrue, slice_get, []};
+ghost use Rattle.std.specs.Prelude.{◌≡◌, ◌⊎◌, ◌≤◌, false, length, List, Option, Some, None, is_some, IfOk, OnOk, IfErr, IsErrOf, IsTrue, slice_get, []};
 ghost use Rattle.std.specs.Option.{option_map_or};
 ghost use Rattle.disk_trait.specs.Faults.{CountsFaults};
 ghost use Rattle.disk_trait.specs.Images.{Stays};
 ghost use Rattle.disk_trait.specs.declared.damage.Damage.{Damage as TheDamage};
 ghost use Rattle.flowfile_record.specs.NamedFile.{NamedFile, bytes_of};
 ghost use Rattle.flowfile_record.specs.declared.TheConstants.{CONTENT_MAX};
-ghost use Rattle.flowfile_record.specs.declared.content.ContentRef.{ContentRef as TheRef};
-ghost use Rattle.content_repo.specs.Claims.{IsRead, content_in};
+ghost use Rattle.content_repo.specs.Claims.{content_in};
 ghost use Rattle.engine_choice.specs.declared.choice.Taking.TheVariants.{Files, Generate, Receive};
-ghost use Rattle.engine_session.specs.Handing.{AreReadOf};
 ghost use Rattle.kept_state.specs.declared.limit.Limit.{Limit as TheLimit};
 ghost use Rattle.machine_model.specs.Acting.{name_in};
 ghost use Rattle.machine_model.specs.declared.flow.Flow.{Flow as TheFlow};
-ghost use Rattle.store_core.specs.Store.{kept_by, live_in};
+ghost use Rattle.store_core.specs.Store.{kept_by};
 ghost use Rattle.flow_engine.specs.Errors.{CountsEachFault};
 ghost use Rattle.flow_engine.specs.Handing.{IsHanded, IsHandedAs, MayBeReceived, MayBeTaken};
 ghost use Rattle.flow_run.specs.Work.{IsAtWork, IsReadDamaged};
 
 use crate::EngineError;
-use crate::tied::holds_its_state;
+use crate::reading::read_contents;
 use disk_trait::Disk;
 use engine_choice::{Choice, Taking};
 use engine_session::{ReadList, live_files};
-use flowfile_record::{Attributes, Bytes, ContentRef, FileList, FlowFile, NameError, Numbers};
+use flowfile_record::{Attributes, Bytes, FileList, FlowFile, NameError, Numbers};
 use machine_model::Given;
 use std::alloc::Global;
-use store_core::{Store, StoreError};
+use store_core::Store;
 use world_io::{Inbox, Name, Outbox};
 
 /// A session before its work: its processor's place in the flow, the place of the connection that its files are taken
@@ -173,7 +171,6 @@ fn hand_files<D: Disk, O: Outbox>(
     ensures outbox_cause { CountsFaults (O.faults outbox.old) (O.faults outbox.new)
         (IsErrOf result EngineError.Outbox) }
 {
-    holds_its_state(store, disk);
     let files = live_files(alloc, store, numbers.as_slice())?;
     let contents = read_contents(alloc, store, disk, files.as_slice())?;
     let there = is_there(alloc, outbox, files.as_slice())?;
@@ -192,62 +189,6 @@ fn hand_files<D: Disk, O: Outbox>(
         contents,
         given,
     })
-}
-
-// What is read of the contents of files: there is one, and a content is no longer than all together may be.
-fn read_contents<D: Disk>(
-    alloc: Global,
-    store: &mut Store,
-    disk: &mut D,
-    files: &[FlowFile],
-) -> Result<ReadList, EngineError>
-    requires work { (flow : TheFlow) × IsAtWork flow D.tells D.held D.moment D.images store.old disk.old }
-    requires one { length files.now ≡ 1 }
-    requires live { All (λ file. Contains (live_in store.old) file.content) files.now }
-    ensures read { IfOk result (λ contents. (bytes : TheRef → List ℕ) × AreReadOf bytes true files.now contents) }
-    ensures told { IfOk result (λ contents. IsTrue D.tells
-        → AreReadOf (content_in (D.held disk.old)) true files.now contents) }
-    ensures same { OnOk result (store.new ≡ store.old) }
-    ensures lot { (store.new.lot ≡ store.old.lot) × (store.new.log.number ≡ store.old.log.number) }
-    ensures stays { Stays D.held D.moment D.images disk.old disk.new }
-    ensures kinds { IfErr result (λ error. (error ≡ EngineError.Disk) ⊎ (error ≡ EngineError.Memory)
-        ⊎ ((damage : TheDamage) × (error ≡ EngineError.Damaged damage))) }
-    ensures damaged { (damage : TheDamage) → IsErrOf result (EngineError.Damaged damage) → (flow : TheFlow)
-        → IsAtWork flow D.tells D.held D.moment D.images store.old disk.old
-        → IsReadDamaged flow D.tells D.held D.moment D.images store.old.lot disk.new }
-    ensures cause { CountsFaults (D.faults disk.old) (D.faults disk.new) (IsErrOf result EngineError.Disk) }
-{
-    let mut contents = ReadList::new(alloc);
-    let bytes = read_content(store, disk, &files[0].content)?;
-    contents.push(Some(Bytes::from(bytes)))?;
-    Ok(contents)
-}
-
-// The bytes of a content that is kept.
-fn read_content<D: Disk>(
-    store: &mut Store,
-    disk: &mut D,
-    at: &ContentRef,
-) -> Result<Vec<u8>, EngineError>
-    requires work { (flow : TheFlow) × IsAtWork flow D.tells D.held D.moment D.images store.old disk.old }
-    requires live { Contains (live_in store.old) at.now }
-    ensures read { IfOk result (λ bytes. IsRead D.tells (D.held disk.old) at.now bytes.items) }
-    ensures undamaged { (damage : TheDamage) → IsErrOf result (EngineError.Damaged damage) → IsTrue D.tells → ⊥ }
-    ensures same { OnOk result (store.new ≡ store.old) }
-    ensures lot { (store.new.lot ≡ store.old.lot) × (store.new.log.number ≡ store.old.log.number) }
-    ensures stays { Stays D.held D.moment D.images disk.old disk.new }
-    ensures kinds { IfErr result (λ error. (error ≡ EngineError.Disk) ⊎ (error ≡ EngineError.Memory)
-        ⊎ ((damage : TheDamage) × (error ≡ EngineError.Damaged damage))) }
-    ensures cause { CountsFaults (D.faults disk.old) (D.faults disk.new) (IsErrOf result EngineError.Disk) }
-{
-    match store.read(disk, at) {
-        Ok(bytes) => Ok(bytes),
-        Err(StoreError::Disk | StoreError::MustReopen) => Err(EngineError::Disk),
-        Err(StoreError::Damaged(damage)) => Err(EngineError::Damaged(damage)),
-        Err(StoreError::Memory) => Err(EngineError::Memory),
-        // Reading passes no limit, and asks for no flow.
-        Err(StoreError::Limit(_) | StoreError::OtherFlow { .. }) => unreachable!(),
-    }
 }
 
 // Whether the outbox has what the first file is named.

@@ -6,6 +6,7 @@ mod driving;
 mod engine;
 mod error;
 mod job;
+mod reading;
 mod run;
 mod session;
 mod tending;

@@ -6,23 +6,17 @@ use Rattle.flowfile_record.specs.declared.flow_file.FlowFile.{FlowFile}
 use Rattle.content_repo.specs.Claims.{content_in}
 use Rattle.machine_model.specs.Acting.{name_in}
 use Rattle.store_core.specs.Store.{kept_by, live_in}
-use Rattle.engine_session.specs.Handing.{AreReadOf, live_files}
+use Rattle.engine_session.specs.Handing.{AreReadOf, fit_a_content, live_files}
 use Rattle.flow_engine.specs.declared.error.EngineError.{EngineError}
-use Rattle.flow_engine.proofs.Files.{all_are_live, one_live, taken_one, there_so}
+use Rattle.flow_engine.proofs.Files.{all_are_live, taken_so, there_so}
 use Rattle.flow_engine.proofs.job.hand_files.Goals as goal
-
-pub read_contents-requires-clause-one : goal.read_contents-requires-clause-one
-read_contents-requires-clause-one g c κs within =
-    let k = kept_by c.args.store.now in
-    ap length (c.as_slice-2.ensures ∙ c.in_ok-files.ensures ∙ ap (live_files k) c.as_slice.ensures)
-    ∙ one_live k c.args.connection c.args.numbers c.holds_its_state.ensures.kept.0 c.requires.taken
 
 pub read_contents-requires-clause-live : goal.read_contents-requires-clause-live
 read_contents-requires-clause-live g c κs within =
     let k = kept_by c.args.store.now in
     let are : c.as_slice-2.result.now ≡ live_files k c.args.numbers = c.as_slice-2.ensures ∙ c.in_ok-files.ensures ∙ ap (live_files k) c.as_slice.ensures in
     subst (λ (files : List FlowFile). All (λ (file : FlowFile). Contains (live_in c.args.store.now) file.content) files) (sym are)
-    (all_are_live k c.args.connection c.args.numbers c.holds_its_state.ensures.kept.0 c.requires.taken)
+    (all_are_live k c.args.connection c.args.numbers c.requires.taken)
 
 pub returns-in_err-contents-clause-damaged : goal.returns-in_err-contents-clause-damaged
 returns-in_err-contents-clause-damaged g c damage is =
@@ -41,8 +35,8 @@ returns-clause-handed g c =
       given = refl;
       has = refl;
       bytes = read.0;
-      taken = taken_one k c.args.connection c.args.numbers c.holds_its_state.ensures.kept.0 c.requires.taken read.0 c.in_ok-files.files c.in_ok-contents.contents are
-          (subst (λ (files : List FlowFile). AreReadOf read.0 true files c.in_ok-contents.contents) c.as_slice-2.ensures read.1);
+      taken = taken_so k c.args.connection c.args.numbers c.requires.taken read.0 c.in_ok-files.files c.in_ok-contents.contents are
+          (subst (λ (files : List FlowFile). AreReadOf read.0 (fit_a_content files) files c.in_ok-contents.contents) c.as_slice-2.ensures read.1);
     }
 
 pub returns-clause-told : goal.returns-clause-told
@@ -52,8 +46,8 @@ returns-clause-told g c telling out_telling left =
     let standing = g.O.Outbox.standing c.args.outbox.now in
     let are : c.in_ok-files.files ≡ live_files k c.args.numbers = c.in_ok-files.ensures ∙ ap (live_files k) c.as_slice.ensures in
     record {
-      read = taken_one k c.args.connection c.args.numbers c.holds_its_state.ensures.kept.0 c.requires.taken contents c.in_ok-files.files c.in_ok-contents.contents are
-          (subst (λ (files : List FlowFile). AreReadOf contents true files c.in_ok-contents.contents) c.as_slice-2.ensures (c.in_ok-contents.ensures.told telling));
+      read = taken_so k c.args.connection c.args.numbers c.requires.taken contents c.in_ok-files.files c.in_ok-contents.contents are
+          (subst (λ (files : List FlowFile). AreReadOf contents (fit_a_content files) files c.in_ok-contents.contents) c.as_slice-2.ensures (c.in_ok-contents.ensures.told telling));
       received = tt;
       there = λ world same. there_so world standing contents c.in_ok-files.files c.in_ok-there.there same
           (c.in_ok-there.ensures.there out_telling

@@ -21,7 +21,7 @@ returns-then-self-clause-stopped g c error is telling in_telling out_telling ope
     let most_is : c.self.inside.most ≡ e.most = ap (λ (s : EngineState). s.most) c.self.view_is in
     let entries_is : c.self.inside.entries ≡ e.entries = ap (λ (s : EngineState). s.entries) c.self.view_is in
     let full : e.entries ≡ e.most = omega (arith, most_is, entries_is, c.if-self.true, c.requires.ready.entries) in
-    let step = goes_on c.choices_are_sessions.ensures c.sessions_are_steps.ensures.steps e run.reached c.args.moment c.args.choice c.requires.ready.built run.to.run.valid shown.seen shown.counts run.to.coming c.requires.chosen in
+    let step = goes_on c.choices_are_sessions.ensures c.sessions_are_steps.ensures.steps e run.reached c.args.moment c.args.choice run.to.run.valid shown.seen shown.counts run.to.coming c.requires.chosen in
     let same : Limit (journal_full c.self.inside.most) ≡ error = cc in
     subst (λ (x : EngineError). Stops x D.tells D.held D.moment D.images e opened first disk left standing) same
     (subst (λ (n : ℕ). IsLimited D.tells D.held D.moment D.images e (journal_full n) opened first disk left standing) (sym most_is)
