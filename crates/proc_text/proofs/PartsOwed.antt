@@ -66,18 +66,12 @@ taken-is before taken file read is alike =
 
 -- ---- segments
 
-pub some-bytes : (size : ℕ) → IsSoundKind (SegmentContent size) → 1 ≤ size
-some-bytes size sound = leb-true 1 size (and_parts _ _ sound.ranges).0
-
 pub segment-acts : (size : ℕ) (before : Bench) (given : Given) (after : Bench) → Begins (SegmentContent size) before given → EndsParted before after 1 0 (pieces_in (Bytes size) (taken_in before).bytes) → EndsAs (SegmentContent size) before given after
 segment-acts size before given after begins ends =
     one-acts (SegmentContent size) before given after refl begins ends.finished ends.kept
     (λ taken file began alike. ap (λ f. Some (segment size f)) (taken-is before taken file (began-read (SegmentContent size) before given refl begins) began alike) ∙ ap Some (sym ends.outcome))
 
 -- ---- lines
-
-pub some-lines : (lines : ℕ) → IsSoundKind (SplitText lines) → 1 ≤ lines
-some-lines lines sound = leb-true 1 lines (and_parts _ _ sound.ranges).0
 
 pub split-acts : (lines : ℕ) (before : Bench) (given : Given) (after : Bench) → Begins (SplitText lines) before given → EndsParted before after 0 1 (pieces_in (Lines lines) (taken_in before).bytes) → EndsAs (SplitText lines) before given after
 split-acts lines before given after begins ends =
