@@ -10,7 +10,7 @@ use Rattle.flowfile_record.specs.declared.worked.Origin.TheVariants.{Part as Par
 use Rattle.flowfile_record.specs.declared.worked.Worked.{Worked}
 use Rattle.machine_model.specs.Making.{TakenFile, clone_of}
 use Rattle.machine_model.specs.Parts.{Piece, all_set_beside, fragment_pairs, part_of, parts_from}
-use Rattle.process_session.specs.Bench.{Bench, attribute_size, attributes_at, bench_of, content_size}
+use Rattle.process_session.specs.Bench.{Bench, attribute_size, attributes_at, content_size}
 use Rattle.process_session.specs.Changes.{is_whole}
 use Rattle.process_session.specs.Finish.{is_left_out}
 use Rattle.process_session.specs.declared.file.File.{File}

@@ -1,7 +1,7 @@
 -- What a processor that makes parts knows of the session that it is handed, and how it shows what it owes.
 use Rattle.std.proofs.Common.{◌≡◌, ℕ, ◌≤◌, true, List, [], ◌∷◌, length, Option, None, Some, refl, sym, ◌∙◌, ap, subst, arith}
 use Rattle.std.specs.Prelude.{is_some, unwrap_or}
-use Rattle.std.proofs.lemmas.Bool.{and_parts, false≢true, le-leb, leb-true}
+use Rattle.std.proofs.lemmas.Bool.{false≢true, le-leb}
 use Rattle.std.proofs.lemmas.List.Elements.{All-head}
 use Rattle.std.proofs.lemmas.List.Sums.{sum_by-cons}
 use Rattle.flowfile_record.specs.declared.TheConstants.{CONTENT_MAX}
@@ -10,7 +10,6 @@ use Rattle.machine_model.specs.Laws.{MayTake}
 use Rattle.machine_model.specs.Making.{TakenFile}
 use Rattle.machine_model.specs.SegmentContent.{segment}
 use Rattle.machine_model.specs.SplitText.{split}
-use Rattle.machine_model.specs.Sound.{IsSoundKind}
 use Rattle.machine_model.specs.declared.given.Given.{Given}
 use Rattle.machine_model.specs.declared.kind.Kind.{Kind}
 use Rattle.machine_model.specs.declared.kind.Kind.TheVariants.{SegmentContent, SplitText}
