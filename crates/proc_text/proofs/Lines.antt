@@ -49,9 +49,6 @@ pub record Counting (content rest : List ℕ) (count : ℕ) : Type 0 where
   pub sizes : sum_by length first + length rest ≡ length content
   pub some : count ≤ sum_by length first
 
-pub counting-begins : (content : List ℕ) → Counting content content 0
-counting-begins content = record { first = []; lines = refl; counted = refl; sizes = omega arith; some = omega arith }
-
 pub counting-more : (content rest behind : List ℕ) (count next : ℕ) → Counting content rest count → IsBehindLine rest behind → next ≡ count + 1 → Counting content behind next
 counting-more content rest behind count next counting line is = record {
   first = counting.first ++ line.line ∷ [];
@@ -105,7 +102,3 @@ counting-ends content rest count limit size counting few some filled end is =
     ap lines_together front ∙ (λ i. record { size = sized i; told = (codes "text.line.count", decimal (counting.counted i)) ∷ [] }) in
     lines-step limit (lines_of content) some (lines-some content filled)
     ∙ (λ i. piece i ∷ map lines_together (groups_of limit (counted-back content rest count limit counting few end i)))
-
-pub counting-shorter : (content rest : List ℕ) (count limit : ℕ) → Counting content rest count → 1 ≤ limit → 0 < length content → ((count ≡ limit) ⊎ (length rest ≡ 0)) → length rest < length content
-counting-shorter content rest count limit counting some filled (inl all) = omega (arith, counting.sizes, counting.some, all, some)
-counting-shorter content rest count limit counting some filled (inr end) = omega (arith, end, filled)

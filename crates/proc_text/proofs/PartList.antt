@@ -10,7 +10,7 @@ use Rattle.flowfile_record.specs.declared.worked.Origin.TheVariants.{Part as Par
 use Rattle.flowfile_record.specs.declared.worked.Worked.{Worked}
 use Rattle.machine_model.specs.Making.{TakenFile, clone_of}
 use Rattle.machine_model.specs.Parts.{Piece, all_set_beside, fragment_pairs, part_of, parts_from}
-use Rattle.process_session.specs.Bench.{Bench, attribute_size, attributes_at, bench_of, content_size}
+use Rattle.process_session.specs.Bench.{Bench, attribute_size, attributes_at, content_size}
 use Rattle.process_session.specs.Changes.{is_whole}
 use Rattle.process_session.specs.Finish.{is_left_out}
 use Rattle.process_session.specs.declared.file.File.{File}
@@ -42,10 +42,6 @@ part-is relationship file attributes offset size =
 abbrev behind : List Worked → Option (List Worked) → Option (List Worked)
 behind parts rest = option_map (λ more. parts ++ more) rest
 
-behind-none : (rest : Option (List Worked)) → rest ≡ behind [] rest
-behind-none None = refl
-behind-none (Some parts) = refl
-
 behind-one : (parts : List Worked) (part : Worked) (rest : Option (List Worked)) → behind parts (option_map (λ more. part ∷ more) rest) ≡ behind (parts ++ part ∷ []) rest
 behind-one parts part None = refl
 behind-one parts part (Some more) = ap Some (sym (append_assoc parts (part ∷ []) more))
@@ -73,24 +69,6 @@ pub record Adding (before now : Bench) (relationship : ℕ) (pieces left : List 
   pub many : length parts ≡ place
   pub each : All (IsPart relationship) parts
   pub same : parts_of before relationship pieces ≡ behind parts (parts_from (taken_in before) relationship (length pieces) (place + 1) offset (attribute_size now) left)
-
-began-size : (before : Bench) → BeganWithOne before → attribute_size before ≡ encoded_size (taken_in before).attributes
-began-size before took = of_bench before took.begun
-  where
-    of_bench : (bench : Bench) → bench ≡ bench_of before.relationships (took.taken ∷ []) → attribute_size bench ≡ encoded_size (taken_in bench).attributes
-    of_bench bench is = ap attribute_size is ∙ omega (arith) ∙ sym (ap (λ b. encoded_size (taken_in b).attributes) is)
-
-pub adding-begins : (before : Bench) (relationship : ℕ) (pieces : List Piece) → BeganWithOne before → Adding before before relationship pieces pieces 0 0
-adding-begins before relationship pieces took =
-    let file = taken_in before in
-    record {
-      parts = [];
-      is = ap (λ files. record before { files = files }) (sym (append-nil before.files));
-      many = refl;
-      each = All-nil (IsPart relationship);
-      same = behind-none (parts_of before relationship pieces)
-          ∙ ap (λ n. behind [] (parts_from file relationship (length pieces) 1 0 n pieces)) (sym (began-size before took));
-    }
 
 -- what it is while the parts are made
 with-taken : (before : Bench) (files : List File) (took : BeganWithOne before) → HasTaken (with_files before files)

@@ -66,13 +66,6 @@ end-more how bench now new count k place next has below at then is new-is =
     new-is ∙ ap (λ b. with_end b place how) is ∙ ap (λ p. with_end (with_first_ended how k bench) p how) at
     ∙ ap (λ files. record bench { files = files }) changed ∙ ap (λ n. with_first_ended how n bench) (sym then)
 
-none-ended : (how : End) (files : List File) → files ≡ behind_first (first_ended how zero) files
-none-ended how [] = refl
-none-ended how (file ∷ files) = refl
-
-pub end-begins : (how : End) (bench : Bench) → bench ≡ with_first_ended how zero bench
-end-begins how bench = ap (λ files. record bench { files = files }) (none-ended how bench.files)
-
 -- it isn't refused
 pub open-there : (o : Option File) → IsSomeAnd o (λ file. file.«end» ≡ None) → (file : File) × (o ≡ Some file) × (file.«end» ≡ None)
 open-there None h = absurd h

@@ -1,7 +1,7 @@
 -- What a processor that makes parts knows of the session that it is handed, and how it shows what it owes.
 use Rattle.std.proofs.Common.{◌≡◌, ℕ, ◌≤◌, true, List, [], ◌∷◌, length, Option, None, Some, refl, sym, ◌∙◌, ap, subst, arith}
 use Rattle.std.specs.Prelude.{is_some, unwrap_or}
-use Rattle.std.proofs.lemmas.Bool.{and_parts, false≢true, le-leb, leb-true}
+use Rattle.std.proofs.lemmas.Bool.{false≢true, le-leb}
 use Rattle.std.proofs.lemmas.List.Elements.{All-head}
 use Rattle.std.proofs.lemmas.List.Sums.{sum_by-cons}
 use Rattle.flowfile_record.specs.declared.TheConstants.{CONTENT_MAX}
@@ -10,7 +10,6 @@ use Rattle.machine_model.specs.Laws.{MayTake}
 use Rattle.machine_model.specs.Making.{TakenFile}
 use Rattle.machine_model.specs.SegmentContent.{segment}
 use Rattle.machine_model.specs.SplitText.{split}
-use Rattle.machine_model.specs.Sound.{IsSoundKind}
 use Rattle.machine_model.specs.declared.given.Given.{Given}
 use Rattle.machine_model.specs.declared.kind.Kind.{Kind}
 use Rattle.machine_model.specs.declared.kind.Kind.TheVariants.{SegmentContent, SplitText}
@@ -66,18 +65,12 @@ taken-is before taken file read is alike =
 
 -- ---- segments
 
-pub some-bytes : (size : ℕ) → IsSoundKind (SegmentContent size) → 1 ≤ size
-some-bytes size sound = leb-true 1 size (and_parts _ _ sound.ranges).0
-
 pub segment-acts : (size : ℕ) (before : Bench) (given : Given) (after : Bench) → Begins (SegmentContent size) before given → EndsParted before after 1 0 (pieces_in (Bytes size) (taken_in before).bytes) → EndsAs (SegmentContent size) before given after
 segment-acts size before given after begins ends =
     one-acts (SegmentContent size) before given after refl begins ends.finished ends.kept
     (λ taken file began alike. ap (λ f. Some (segment size f)) (taken-is before taken file (began-read (SegmentContent size) before given refl begins) began alike) ∙ ap Some (sym ends.outcome))
 
 -- ---- lines
-
-pub some-lines : (lines : ℕ) → IsSoundKind (SplitText lines) → 1 ≤ lines
-some-lines lines sound = leb-true 1 lines (and_parts _ _ sound.ranges).0
 
 pub split-acts : (lines : ℕ) (before : Bench) (given : Given) (after : Bench) → Begins (SplitText lines) before given → EndsParted before after 0 1 (pieces_in (Lines lines) (taken_in before).bytes) → EndsAs (SplitText lines) before given after
 split-acts lines before given after begins ends =

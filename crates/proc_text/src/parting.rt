@@ -195,7 +195,7 @@ fn told_as(name: &'static str, text: String) -> Told
     Told { name, text }
 }
 
-/// Makes a file of a part of the taken file's content, with these attributes too, unless the session has no room for it.
+/// Makes a file of a part of the taken content, with these attributes too, unless the session has no room for it.
 fn add_told_part(
     session: &mut Session,
     offset: u64,

@@ -75,7 +75,8 @@ fn first_piece(content: &[u8], cut: Cut) -> (Piece, &[u8])
 fn first_lines(content: &[u8], lines: u64) -> (Piece, &[u8])
     requires some { 1 ≤ lines }
     requires filled { 0 < length content.now }
-    ensures piece { pieces_in (Cut.Lines lines) content.now ≡ piece_of result.0 ∷ pieces_in (Cut.Lines lines) result.1.now }
+    ensures piece { pieces_in (Cut.Lines lines) content.now
+        ≡ piece_of result.0 ∷ pieces_in (Cut.Lines lines) result.1.now }
     ensures size { result.0.size + length result.1.now ≡ length content.now }
     ensures shorter { length result.1.now < length content.now }
 {
