@@ -201,11 +201,7 @@ short-read bench bytes took is =
 
 -- ---- how it ends
 
--- it is as it was made, but for its attributes
-abbrev Has : Bench → AttributeMap → Bench → Type 0
-Has bench attributes now =
-    now ≡ record bench { files = bench.files ++ made_file (origin_joined (length bench.sources)) attributes (New []) ∷ [] }
-
+-- with other attributes it is as it was made
 pub child-described : (bench made now : Bench) (place : ℕ) (shared attributes : AttributeMap) → place ≡ length bench.files → made ≡ with_child bench shared → now ≡ with_attributes made place attributes → now ≡ with_child bench attributes
 child-described bench made now place shared attributes last is described =
     let file = made_file (origin_joined (length bench.sources)) shared (New []) in

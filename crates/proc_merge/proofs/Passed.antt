@@ -1,5 +1,5 @@
 -- The taken files of a session, passed on one after another.
-use Rattle.std.proofs.Common.{◌≡◌, ℕ, ◌+◌, ◌<◌, ◌≤◌, List, [], ◌∷◌, ◌++◌, length, map, take, drop, get_or, None, Some, refl, sym, ◌∙◌, ap, arith, add-one, append_assoc, drop-cons, length-take-le}
+use Rattle.std.proofs.Common.{◌≡◌, ℕ, ◌+◌, ◌<◌, ◌≤◌, List, [], ◌∷◌, ◌++◌, length, map, take, drop, get_or, None, Some, sym, ◌∙◌, ap, arith, add-one, append_assoc, drop-cons, length-take-le}
 use Rattle.std.specs.Prelude.{slice_get}
 use Rattle.std.specs.List.{All}
 use Rattle.std.proofs.lemmas.List.{get_or-take, length-map, map-append, take_more}
@@ -18,9 +18,6 @@ left xs i d within = rw add-one (drop-cons xs i d within)
 -- the first so many of them have ended
 abbrev pub with_passed : Bench → (count relationship : ℕ) → Bench
 with_passed bench count relationship = record bench { files = passed count relationship bench.files }
-
-pub none-passed : (bench : Bench) (relationship : ℕ) → bench ≡ with_passed bench 0 relationship
-none-passed bench relationship = refl
 
 passed-parts : (count relationship : ℕ) (files : List File) (d : File) → count < length files
     → passed count relationship files ≡ map (passed_to relationship) (take count files) ++ get_or files count d ∷ drop (count + 1) files

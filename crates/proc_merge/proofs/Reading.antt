@@ -4,7 +4,7 @@ use Rattle.std.specs.Prelude.{Err, Result, is_none, option_and_then, slice_get}
 use Rattle.std.specs.List.{All}
 use Rattle.std.specs.Option.{option_map}
 use Rattle.std.specs.Result.{result_err}
-use Rattle.std.proofs.lemmas.List.{append-nil, length-map}
+use Rattle.std.proofs.lemmas.List.{length-map}
 use Rattle.std.proofs.lemmas.List.Elements.{All-cons, All-nil}
 use Rattle.std.proofs.lemmas.Option.{slice_get-get_or, slice_get-map}
 use Rattle.process_session.specs.declared.error.SessionError.{SessionError}
@@ -92,10 +92,6 @@ no_source = record { uuid = []; size = 0; bytes = None }
 abbrev pub and_read : List ℕ → Option (List ℕ) → Option (List ℕ)
 and_read bytes rest = option_map (λ more. bytes ++ more) rest
 
-pub read-begins : (rest : Option (List ℕ)) → rest ≡ and_read [] rest
-read-begins None = refl
-read-begins (Some more) = refl
-
 one_more : (bytes content : List ℕ) (rest : Option (List ℕ)) → and_read bytes (option_map (λ more. content ++ more) rest) ≡ and_read (bytes ++ content) rest
 one_more bytes content None = refl
 one_more bytes content (Some more) = ap Some (sym (append_assoc bytes content more))
@@ -119,6 +115,3 @@ drop-past [] zero long = refl
 drop-past [] (suc n) long = refl
 drop-past (x ∷ xs) zero long = absurd (omega arith)
 drop-past (x ∷ xs) (suc n) long = drop-past xs n (omega arith)
-
-pub read-ends : (sources : List Source) (place : ℕ) (bytes : List ℕ) → length sources ≤ place → and_read bytes (bytes_read (drop place sources)) ≡ Some bytes
-read-ends sources place bytes long = ap (λ s. and_read bytes (bytes_read s)) (drop-past sources place long) ∙ ap Some (append-nil bytes)

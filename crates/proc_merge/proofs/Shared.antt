@@ -19,10 +19,6 @@ use Rattle.proc_merge.proofs.Passed.{left}
 abbrev pub shared_with : AttributeMap → List File → AttributeMap
 shared_with these files = fold (λ these (other : TakenFile). shared these other.attributes) these (map seen files)
 
-pub shared-begins : (files : List File) (d : File) → 0 < length files → shared_by_all (map seen files) ≡ shared_with (get_or files 0 d).attributes (drop 1 files)
-shared-begins [] d some = absurd (omega arith)
-shared-begins (file ∷ files) d some = refl
-
 pub shared-more : (these new : AttributeMap) (files : List File) (place : ℕ) (d : File) → place < length files → new ≡ shared these (get_or files place d).attributes → shared_with these (drop place files) ≡ shared_with new (drop (place + 1) files)
 shared-more these new files place d within is =
     ap (shared_with these) (left files place d within) ∙ ap (λ a. shared_with a (drop (place + 1) files)) (sym is)

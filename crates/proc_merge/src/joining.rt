@@ -15,8 +15,8 @@ use process_session::Session;
 use processor_api::or_no_memory;
 use std::alloc::{AllocError, Global};
 
-/// Joins the taken files to one more, which goes to merged, and says whether a limit let it. Where it didn't, nothing is
-/// left of the joined file.
+/// Joins the taken files to one more, which goes to merged, and says whether a limit let it. Where it didn't, nothing
+/// is left of the joined file.
 pub(crate) fn join(
     alloc: Global,
     strategy: MergeStrategy,
