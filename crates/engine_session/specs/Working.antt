@@ -12,8 +12,9 @@ use Rattle.process_session.specs.declared.file.Source.{Source}
 use Rattle.process_session.specs.declared.file.Taken.{Taken}
 use Rattle.processor_api.specs.Acts.{IsOutcomeOf, MayBeHanded}
 use Rattle.proc_attribute.specs.Kinds.{is_attributes_to_json, is_cryptographic_hash_content, is_duplicate_flow_file, is_route_on_attribute, is_update_attribute}
+use Rattle.proc_merge.specs.Kinds.{is_merge_content}
 use Rattle.proc_source.specs.Kinds.{is_get_file, is_generate_flow_file, is_put_file}
-use Rattle.proc_text.specs.Kinds.{is_modify_bytes, is_replace_text, is_route_on_content}
+use Rattle.proc_text.specs.Kinds.{is_extract_text, is_modify_bytes, is_replace_text, is_route_on_content, is_segment_content, is_split_text}
 
 -- a processor of this kind works on attributes, or goes by them
 abbrev pub is_of_attributes : Kind → Bool
@@ -23,12 +24,15 @@ is_of_attributes kind =
 
 -- a processor of this kind works on a content, or goes by it
 abbrev pub is_of_texts : Kind → Bool
-is_of_texts kind = is_replace_text kind || is_route_on_content kind || is_modify_bytes kind
+is_of_texts kind =
+    is_split_text kind || is_replace_text kind || is_extract_text kind || is_route_on_content kind
+    || is_segment_content kind || is_modify_bytes kind
 
 -- there are processors of this kind
 abbrev pub is_built : Kind → Bool
 is_built kind =
-    is_get_file kind || is_generate_flow_file kind || is_put_file kind || is_of_attributes kind || is_of_texts kind
+    is_get_file kind || is_generate_flow_file kind || is_put_file kind || is_merge_content kind
+    || is_of_attributes kind || is_of_texts kind
 
 -- the processor at this place may be handed these files
 pub record MayWork (flow : Flow) (place : ℕ) (taken : List Taken) (given : Given) : Type 0 where

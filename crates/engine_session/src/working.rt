@@ -9,8 +9,9 @@ use proc_attribute::{
     AttributesToJson, CryptographicHashContent, DuplicateFlowFile, RouteOnAttribute,
     UpdateAttribute,
 };
+use proc_merge::MergeContent;
 use proc_source::{GenerateFlowFile, GetFile, PutFile};
-use proc_text::{ModifyBytes, ReplaceText, RouteOnContent};
+use proc_text::{ExtractText, ModifyBytes, ReplaceText, RouteOnContent, SegmentContent, SplitText};
 use process_session::{SourceList, TakenList};
 use processor_api::work_on;
 use std::alloc::{AllocError, Global};
@@ -55,6 +56,9 @@ fn work_as(
     if let Some(put_file) = PutFile::of(kind) {
         return work_on(alloc, &put_file, 2, taken, given);
     }
+    if let Some(merge) = MergeContent::of(kind) {
+        return work_on(alloc, &merge, 3, taken, given);
+    }
     if is_of_texts(kind) {
         return work_on_texts(alloc, kind, taken, given);
     }
@@ -67,7 +71,12 @@ fn is_of_texts(kind: &Kind) -> bool
 {
     matches!(
         kind,
-        Kind::ReplaceText { .. } | Kind::RouteOnContent { .. } | Kind::ModifyBytes { .. }
+        Kind::SplitText { .. }
+            | Kind::ReplaceText { .. }
+            | Kind::ExtractText { .. }
+            | Kind::RouteOnContent { .. }
+            | Kind::SegmentContent { .. }
+            | Kind::ModifyBytes { .. }
     )
 }
 
@@ -114,12 +123,21 @@ fn work_on_texts(
     ensures work { IfOk result (IsWorkOf kind.now taken given.old) }
     ensures given { KeepsGiven given.old given.new }
 {
+    if let Some(split) = SplitText::of(kind) {
+        return work_on(alloc, &split, 3, taken, given);
+    }
     if let Some(replace) = ReplaceText::of(kind) {
         return work_on(alloc, &replace, 2, taken, given);
+    }
+    if let Some(extract) = ExtractText::of(kind) {
+        return work_on(alloc, &extract, 2, taken, given);
     }
     if let Some(route) = RouteOnContent::of(kind) {
         let relationships = route.own.len() as u16 + 1;
         return work_on(alloc, &route, relationships, taken, given);
+    }
+    if let Some(segment) = SegmentContent::of(kind) {
+        return work_on(alloc, &segment, 3, taken, given);
     }
     if let Some(modify) = ModifyBytes::of(kind) {
         return work_on(alloc, &modify, 1, taken, given);
