@@ -69,7 +69,7 @@ risen R (d ∷ ds) (made.Refused (NoExpression p) ∷ ms) k path each found = ri
 risen R (d ∷ ds) (made.Refused (NoOwnExpression n) ∷ ms) k path each found = risen R ds ms (suc k) path each.1 found
 risen R (d ∷ ds) (made.Refused (NoOwnPatterns list) ∷ ms) k path each found =
     risen_own R k (unread_in list) (in_property (name_refused list)) path (first_refused PatternTooBig (suc k) ms)
-    (some_big R (is_whole_in d) (own_texts_in d) list each.0.0 each.0.1) (risen R ds ms (suc k) path each.1) found
+    (some_big R (is_whole_in d) (own_texts_in d) list each.0.1.0 each.0.1.1) (risen R ds ms (suc k) path each.1) found
 
 -- where each was made, the count stays
 pub count_none : (n : ℕ) (ms : List Made) → AreAllMade ms → count_all n ms ≡ n
@@ -95,7 +95,8 @@ refusal_later R S d (Unread p) f h = h
 refusal_later R S d (TooBig p) f h = (h.0, f h.1)
 refusal_later R S d (NoExpression p) f h = h
 refusal_later R S d (NoOwnExpression n) f h = h
-refusal_later R S d (NoOwnPatterns list) f h = (attempts_later R S (is_whole_in d) (own_texts_in d) list f h.0, h.1)
+refusal_later R S d (NoOwnPatterns list) f h =
+    (h.0, (attempts_later R S (is_whole_in d) (own_texts_in d) list f h.1.0, h.1.1))
 
 -- what is made without a pattern
 kind_later : (S : Type 0) (d : Data) (m : MadeKind) → IsMadeKind ⊥ d m → IsMadeKind S d m
@@ -113,7 +114,7 @@ kind_uncounted n d (kind.Refused (Unread p)) h = refl
 kind_uncounted n d (kind.Refused (TooBig p)) h = absurd h.1
 kind_uncounted n d (kind.Refused (NoExpression p)) h = refl
 kind_uncounted n d (kind.Refused (NoOwnExpression name)) h = refl
-kind_uncounted n d (kind.Refused (NoOwnPatterns list)) h = sym (none_big n (is_whole_in d) (own_texts_in d) list h.0)
+kind_uncounted n d (kind.Refused (NoOwnPatterns list)) h = sym (none_big n (is_whole_in d) (own_texts_in d) list h.1.0)
 
 pub answer_uncounted : {E : Type 0} (n : ℕ) (d : Data) (r : Result MadeKind E) → IfOk r (IsMadeKind ⊥ d) → IfOk r (λ m. n ≡ count_kind n m)
 answer_uncounted n d (Ok m) h = kind_uncounted n d m h

@@ -1,5 +1,5 @@
 -- What stands in an object of the text, where it is there and of the right kind.
-use Rattle.std.specs.Prelude.{ℕ, Bool, false, not, filter, List, [], ◌∷◌, ◌++◌, map, Option, option_and_then, is_some, unwrap_or, bytes_eq, find, if◌then◌else◌}
+use Rattle.std.specs.Prelude.{ℕ, Bool, true, false, not, filter, List, [], ◌∷◌, ◌++◌, map, Option, option_and_then, is_some, unwrap_or, bytes_eq, find, if◌then◌else◌}
 use Rattle.std.specs.Option.{option_map_or}
 use Rattle.std.specs.List.{list_all, list_any}
 use Rattle.serde_json.specs.Data.{Data, Items, no_items, item, Members, no_members, member}
@@ -106,6 +106,22 @@ others_in processor = others (properties_in processor) (given_in processor)
 
 abbrev pub own_in : Data → Own
 own_in processor = option_map_or own_of (type_of processor) own.Nothing
+
+-- own properties of this sort hold expressions
+abbrev pub hold_expressions : Own → Bool
+hold_expressions own.Nothing = false
+hold_expressions own.Attributes = true
+hold_expressions own.Relationships = true
+hold_expressions own.AttributePatterns = false
+hold_expressions own.RelationshipPatterns = false
+
+-- own properties of this sort hold patterns
+abbrev pub hold_patterns : Own → Bool
+hold_patterns own.Nothing = false
+hold_patterns own.Attributes = false
+hold_patterns own.Relationships = false
+hold_patterns own.AttributePatterns = true
+hold_patterns own.RelationshipPatterns = true
 
 abbrev pub own_given : Own → List (List ℕ × Data) → List (List ℕ × Data)
 own_given own.Nothing given = []

@@ -1,5 +1,5 @@
 -- What becomes of a processor of the text: it is made, or why it isn't, and where.
-use Rattle.std.specs.Prelude.{◌≡◌, ℕ, suc, ◌==◌, List, [], ◌∷◌, ◌++◌, All, Option, Some, None, option_map, Contains, if◌then◌else◌}
+use Rattle.std.specs.Prelude.{◌≡◌, ℕ, suc, ◌==◌, true, List, [], ◌∷◌, ◌++◌, All, Option, Some, None, option_map, Contains, if◌then◌else◌}
 use Rattle.std.specs.Option.{option_or}
 use Rattle.disk_trait.specs.Count.{one_more}
 use Rattle.expr_lang.specs.Grammar.{IsText}
@@ -20,7 +20,7 @@ use Rattle.flow_definition.specs.declared.processor_type.Property.{Property}
 use Rattle.flow_definition.specs.declared.rule.Rule.{Rule}
 use Rattle.flow_definition.specs.declared.rule.Rule.TheVariants.{UnknownType, BadPattern, BadExpression, PatternTooBig}
 use Rattle.flow_definition.specs.Building.{IsPattern, pattern_text}
-use Rattle.flow_definition.specs.Looks.{type_of, properties_in, property_text, own_texts_in}
+use Rattle.flow_definition.specs.Looks.{type_of, properties_in, property_text, own_in, own_texts_in, hold_expressions, hold_patterns}
 use Rattle.flow_definition.specs.Numbers.{number_of}
 use Rattle.flow_definition.specs.OwnPatterns.{AreRefused, count_attempts, name_refused, rule_by, unread_in}
 use Rattle.flow_definition.specs.Patterns.{IsUnread}
@@ -51,8 +51,10 @@ IsRefusal Risen d NoType = type_of d ≡ None
 IsRefusal Risen d (Unread property) = IsPattern d property × IsUnread (pattern_text property d)
 IsRefusal Risen d (TooBig property) = IsPattern d property × Risen
 IsRefusal Risen d (NoExpression property) = IsExpression d property × IsNoExpression (property_text property d)
-IsRefusal Risen d (NoOwnExpression name) = IsFirstUnread (own_texts_in d) name
-IsRefusal Risen d (NoOwnPatterns attempts) = AreRefused Risen (is_whole_in d) (own_texts_in d) attempts
+IsRefusal Risen d (NoOwnExpression name) =
+    (hold_expressions (own_in d) ≡ true) × IsFirstUnread (own_texts_in d) name
+IsRefusal Risen d (NoOwnPatterns attempts) =
+    (hold_patterns (own_in d) ≡ true) × AreRefused Risen (is_whole_in d) (own_texts_in d) attempts
 
 abbrev pub AreOwnMade : List (List ℕ × List ℕ) → MadeOwn → Type 0
 AreOwnMade texts (own.Read list) = AreOwnOf texts list

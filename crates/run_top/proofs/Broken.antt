@@ -1,6 +1,8 @@
 -- A text that breaks a rule gives no flow.
-use Rattle.std.proofs.Common.{◌≡◌, ◌≢◌, ◌⊎◌, inl, inr, ⊎_elim, ℕ, suc, ◌+◌, ◌≤◌, ◌<◌, Bool, List, [], ◌∷◌, ◌++◌, length, take, refl, sym, ◌∙◌, ap, subst, arith, Contains}
+use Rattle.std.proofs.Common.{◌≡◌, ◌≢◌, ◌⊎◌, inl, inr, ⊎_elim, ℕ, suc, ◌+◌, ◌≤◌, ◌<◌, Bool, true, false, List, [], ◌∷◌, ◌++◌, length, take, drop, refl, sym, ◌∙◌, ap, subst, arith, Contains}
 use Rattle.std.proofs.Math.Logic.{∥∥₁_elim}
+use Rattle.std.proofs.lemmas.Bool.{true≢false}
+use Rattle.std.specs.List.{list_all}
 use Rattle.std.specs.Option.{option_map_or, option_or}
 use Rattle.std.specs.Prelude.{Option, None, Some, Ok, Err, IfSome, IsSomeAnd, IsTrue, MatchBool, MatchOption, chars, nat_lt, option_map}
 use Rattle.expr_lang.specs.View.{tree_of}
@@ -17,6 +19,9 @@ use Rattle.machine_model.specs.declared.flow.Processor.{Processor}
 use Rattle.machine_model.specs.declared.kind.Kind.{Kind}
 use Rattle.machine_model.specs.declared.kind.Kind.TheVariants as kind
 use Rattle.machine_model.specs.declared.kind.OwnExpression.{OwnExpression}
+use Rattle.machine_model.specs.declared.kind.OwnPattern.{OwnPattern}
+use Rattle.machine_model.specs.declared.kind.Replacement.{Replacement}
+use Rattle.machine_model.specs.declared.kind.Replacement.TheVariants as replacement
 use Rattle.machine_model.specs.declared.pattern.Pattern.{Pattern}
 use Rattle.machine_model.proofs.Among.{Among, among_contained}
 use Rattle.flow_definition.specs.declared.error.FlowError.TheVariants as error
@@ -25,19 +30,26 @@ use Rattle.flow_definition.specs.declared.limits.TheConstants.{TEXT_MAX}
 use Rattle.flow_definition.specs.declared.made.Made.{Made}
 use Rattle.flow_definition.specs.declared.made.Made.TheVariants as made
 use Rattle.flow_definition.specs.declared.made.Refusal.{Refusal}
-use Rattle.flow_definition.specs.declared.made.Refusal.TheVariants.{NoType, Unread, TooBig, NoExpression, NoOwnExpression}
+use Rattle.flow_definition.specs.declared.made.Refusal.TheVariants.{NoType, Unread, TooBig, NoExpression, NoOwnExpression, NoOwnPatterns}
+use Rattle.flow_definition.specs.declared.own_patterns.Attempt.{Attempt}
+use Rattle.flow_definition.specs.declared.own_patterns.Attempt.TheVariants as attempt
+use Rattle.flow_definition.specs.declared.own_patterns.Attempt.TheVariants.{Read}
 use Rattle.flow_definition.specs.declared.processor_type.Own.{Own}
 use Rattle.flow_definition.specs.declared.processor_type.Own.TheVariants as own
 use Rattle.flow_definition.specs.declared.processor_type.ProcessorType.{ProcessorType}
 use Rattle.flow_definition.specs.declared.processor_type.ProcessorType.TheVariants as type
 use Rattle.flow_definition.specs.declared.processor_type.Property.{Property}
-use Rattle.flow_definition.specs.declared.processor_type.Property.TheVariants.{FileFilter, Count, CustomText, ConflictResolution, AttributesList, JsonDestination, Copies}
+use Rattle.flow_definition.specs.declared.processor_type.Property.TheVariants.{FileFilter, Count, CustomText, ConflictResolution, AttributesList, JsonDestination, Copies, LineSplitCount, ReplacementStrategy, ReplacementValue, SearchValue, Requirement, MergeStrategy, MinimumEntries, MaximumEntries, SegmentSize, StartOffset, EndOffset}
+use Rattle.flow_definition.specs.declared.processor_type.ReplaceStrategy.{ReplaceStrategy}
+use Rattle.flow_definition.specs.declared.processor_type.ReplaceStrategy.TheVariants.{Regex}
 use Rattle.flow_definition.specs.declared.rule.Rule.{Rule}
 use Rattle.flow_definition.specs.declared.rule.Rule.TheVariants.{UnknownType, BadPattern, BadExpression, TooMany, PatternTooBig}
-use Rattle.flow_definition.specs.Looks.{given_in, items_at, own_given, own_in, own_texts_in, properties_in, property_text, texts_of, type_of}
-use Rattle.flow_definition.specs.Made.{AreMade, IsExpression, IsFirstUnread, IsNoExpression, IsPattern, IsRefusal, first_refused}
+use Rattle.flow_definition.specs.Building.{IsPattern, pattern_text}
+use Rattle.flow_definition.specs.Looks.{hold_expressions, hold_patterns, items_at, own_in, own_texts_in, properties_in, property_text, type_of}
+use Rattle.flow_definition.specs.Made.{AreMade, IsExpression, IsFirstUnread, IsNoExpression, IsRefusal, first_refused}
+use Rattle.flow_definition.specs.OwnPatterns.{AreAttempts, AreRefused, is_read}
 use Rattle.flow_definition.specs.Patterns.{IsUnread}
-use Rattle.flow_definition.specs.Reading.{AreOwnOf, AreProcessorsOf, IsKindOf, IsProcessorOf}
+use Rattle.flow_definition.specs.Reading.{AreOwnOf, AreProcessorsOf, IsKindOf, IsProcessorOf, IsReplacementOf, is_whole_in, own_patterns, patterns_in, patterns_of, replace_strategy_in}
 use Rattle.flow_definition.specs.Rules.{Path}
 use Rattle.flow_definition.specs.Types.{own_of, properties_of}
 use Rattle.flow_definition.specs.Verdict.{Accepts, IsAnswer, IsAnswerBehind, IsAnswerOf, IsAnswerTo, IsSettled, Refuses, first_behind, object_in, refused}
@@ -79,7 +91,13 @@ typed d (kind.RouteOnAttribute properties) is = (type.RouteOnAttribute, is.0)
 typed d (kind.AttributesToJson destination names) is = (type.AttributesToJson, is.0)
 typed d (kind.DuplicateFlowFile copies) is = (type.DuplicateFlowFile, is.0)
 typed d kind.CryptographicHashContent is = (type.CryptographicHashContent, is)
-typed d _ is = absurd is
+typed d (kind.SplitText lines) is = (type.SplitText, is.0)
+typed d (kind.ReplaceText by) is = (type.ReplaceText, is.0)
+typed d (kind.ExtractText list) is = (type.ExtractText, is.0)
+typed d (kind.RouteOnContent requirement list) is = (type.RouteOnContent, is.0)
+typed d (kind.MergeContent strategy minimum maximum) is = (type.MergeContent, is.0)
+typed d (kind.SegmentContent size) is = (type.SegmentContent, is.0)
+typed d (kind.ModifyBytes start end) is = (type.ModifyBytes, is.0)
 
 -- the type has the property
 has_property : (d : Data) (t : ProcessorType) (property : Property) → type_of d ≡ Some t → Contains (properties_in d) property → Among property (properties_of t)
@@ -90,15 +108,62 @@ filter_read : (d : Data) (k : Kind) → IsKindOf d k → Contains (properties_in
 filter_read d (kind.GetFile None) is there unread = absurd is.1
 filter_read d (kind.GetFile (Some pattern)) is there unread = was_read pattern (subst (λ (text : List ℕ). IsUnread text) (sym is.1) unread)
 filter_read d (kind.GenerateFlowFile count text) is there unread =
-    ⊎_elim (λ same. absurd (cc)) (λ more. ⊎_elim (λ same. absurd (cc)) (λ none. none) more) (has_property d type.GenerateFlowFile FileFilter is.0 there)
-filter_read d (kind.PutFile conflict) is there unread = ⊎_elim (λ same. absurd (cc)) (λ none. none) (has_property d type.PutFile FileFilter is.0 there)
+    ⊎_elim (λ same. absurd (cc)) (λ more. ⊎_elim (λ same. absurd (cc)) (λ never. never) more) (has_property d type.GenerateFlowFile FileFilter is.0 there)
+filter_read d (kind.PutFile conflict) is there unread =
+    ⊎_elim (λ same. absurd (cc)) (λ never. never) (has_property d type.PutFile FileFilter is.0 there)
 filter_read d (kind.UpdateAttribute properties) is there unread = has_property d type.UpdateAttribute FileFilter is.0 there
 filter_read d (kind.RouteOnAttribute properties) is there unread = has_property d type.RouteOnAttribute FileFilter is.0 there
 filter_read d (kind.AttributesToJson destination names) is there unread =
     ⊎_elim (λ same. absurd (cc)) (λ more. ⊎_elim (λ same. absurd (cc)) (λ never. never) more) (has_property d type.AttributesToJson FileFilter is.0 there)
-filter_read d (kind.DuplicateFlowFile copies) is there unread = ⊎_elim (λ same. absurd (cc)) (λ never. never) (has_property d type.DuplicateFlowFile FileFilter is.0 there)
+filter_read d (kind.DuplicateFlowFile copies) is there unread =
+    ⊎_elim (λ same. absurd (cc)) (λ never. never) (has_property d type.DuplicateFlowFile FileFilter is.0 there)
 filter_read d kind.CryptographicHashContent is there unread = has_property d type.CryptographicHashContent FileFilter is there
-filter_read d _ is there unread = absurd is
+filter_read d (kind.SplitText lines) is there unread =
+    ⊎_elim (λ same. absurd (cc)) (λ never. never) (has_property d type.SplitText FileFilter is.0 there)
+filter_read d (kind.ReplaceText by) is there unread =
+    ⊎_elim (λ same. absurd (cc)) (λ more. ⊎_elim (λ same. absurd (cc)) (λ more. ⊎_elim (λ same. absurd (cc)) (λ never. never) more) more) (has_property d type.ReplaceText FileFilter is.0 there)
+filter_read d (kind.ExtractText list) is there unread = has_property d type.ExtractText FileFilter is.0 there
+filter_read d (kind.RouteOnContent requirement list) is there unread =
+    ⊎_elim (λ same. absurd (cc)) (λ never. never) (has_property d type.RouteOnContent FileFilter is.0 there)
+filter_read d (kind.MergeContent strategy minimum maximum) is there unread =
+    ⊎_elim (λ same. absurd (cc)) (λ more. ⊎_elim (λ same. absurd (cc)) (λ more. ⊎_elim (λ same. absurd (cc)) (λ never. never) more) more) (has_property d type.MergeContent FileFilter is.0 there)
+filter_read d (kind.SegmentContent size) is there unread =
+    ⊎_elim (λ same. absurd (cc)) (λ never. never) (has_property d type.SegmentContent FileFilter is.0 there)
+filter_read d (kind.ModifyBytes start end) is there unread =
+    ⊎_elim (λ same. absurd (cc)) (λ more. ⊎_elim (λ same. absurd (cc)) (λ never. never) more) (has_property d type.ModifyBytes FileFilter is.0 there)
+
+replaced_read : (search value : List ℕ) (by : Replacement) → IsReplacementOf Regex search value by → IsUnread search → ⊥
+replaced_read search value (replacement.Regex pattern template) is unread = was_read pattern (subst (λ (text : List ℕ). IsUnread text) (sym is.0) unread)
+replaced_read search value (replacement.Literal text other) is unread = absurd is
+
+search_read : (d : Data) (k : Kind) → IsKindOf d k → Contains (properties_in d) SearchValue → replace_strategy_in d ≡ Regex → IsUnread (property_text SearchValue d) → ⊥
+search_read d (kind.GetFile filter) is there regex unread =
+    ⊎_elim (λ same. absurd (cc)) (λ never. never) (has_property d type.GetFile SearchValue is.0 there)
+search_read d (kind.GenerateFlowFile count text) is there regex unread =
+    ⊎_elim (λ same. absurd (cc)) (λ more. ⊎_elim (λ same. absurd (cc)) (λ never. never) more) (has_property d type.GenerateFlowFile SearchValue is.0 there)
+search_read d (kind.PutFile conflict) is there regex unread =
+    ⊎_elim (λ same. absurd (cc)) (λ never. never) (has_property d type.PutFile SearchValue is.0 there)
+search_read d (kind.UpdateAttribute properties) is there regex unread = has_property d type.UpdateAttribute SearchValue is.0 there
+search_read d (kind.RouteOnAttribute properties) is there regex unread = has_property d type.RouteOnAttribute SearchValue is.0 there
+search_read d (kind.AttributesToJson destination names) is there regex unread =
+    ⊎_elim (λ same. absurd (cc)) (λ more. ⊎_elim (λ same. absurd (cc)) (λ never. never) more) (has_property d type.AttributesToJson SearchValue is.0 there)
+search_read d (kind.DuplicateFlowFile copies) is there regex unread =
+    ⊎_elim (λ same. absurd (cc)) (λ never. never) (has_property d type.DuplicateFlowFile SearchValue is.0 there)
+search_read d kind.CryptographicHashContent is there regex unread = has_property d type.CryptographicHashContent SearchValue is there
+search_read d (kind.SplitText lines) is there regex unread =
+    ⊎_elim (λ same. absurd (cc)) (λ never. never) (has_property d type.SplitText SearchValue is.0 there)
+search_read d (kind.ReplaceText by) is there regex unread =
+    replaced_read (property_text SearchValue d) (property_text ReplacementValue d) by
+    (subst (λ (s : ReplaceStrategy). IsReplacementOf s (property_text SearchValue d) (property_text ReplacementValue d) by) regex is.1) unread
+search_read d (kind.ExtractText list) is there regex unread = has_property d type.ExtractText SearchValue is.0 there
+search_read d (kind.RouteOnContent requirement list) is there regex unread =
+    ⊎_elim (λ same. absurd (cc)) (λ never. never) (has_property d type.RouteOnContent SearchValue is.0 there)
+search_read d (kind.MergeContent strategy minimum maximum) is there regex unread =
+    ⊎_elim (λ same. absurd (cc)) (λ more. ⊎_elim (λ same. absurd (cc)) (λ more. ⊎_elim (λ same. absurd (cc)) (λ never. never) more) more) (has_property d type.MergeContent SearchValue is.0 there)
+search_read d (kind.SegmentContent size) is there regex unread =
+    ⊎_elim (λ same. absurd (cc)) (λ never. never) (has_property d type.SegmentContent SearchValue is.0 there)
+search_read d (kind.ModifyBytes start end) is there regex unread =
+    ⊎_elim (λ same. absurd (cc)) (λ more. ⊎_elim (λ same. absurd (cc)) (λ never. never) more) (has_property d type.ModifyBytes SearchValue is.0 there)
 
 text_read : (d : Data) (k : Kind) → IsKindOf d k → Contains (properties_in d) CustomText → IsNoExpression (property_text CustomText d) → ⊥
 text_read d (kind.GetFile filter) is there none = ⊎_elim (λ same. absurd (cc)) (λ never. never) (has_property d type.GetFile CustomText is.0 there)
@@ -108,18 +173,41 @@ text_read d (kind.UpdateAttribute properties) is there none = has_property d typ
 text_read d (kind.RouteOnAttribute properties) is there none = has_property d type.RouteOnAttribute CustomText is.0 there
 text_read d (kind.AttributesToJson destination names) is there none =
     ⊎_elim (λ same. absurd (cc)) (λ more. ⊎_elim (λ same. absurd (cc)) (λ never. never) more) (has_property d type.AttributesToJson CustomText is.0 there)
-text_read d (kind.DuplicateFlowFile copies) is there none = ⊎_elim (λ same. absurd (cc)) (λ never. never) (has_property d type.DuplicateFlowFile CustomText is.0 there)
+text_read d (kind.DuplicateFlowFile copies) is there none =
+    ⊎_elim (λ same. absurd (cc)) (λ never. never) (has_property d type.DuplicateFlowFile CustomText is.0 there)
 text_read d kind.CryptographicHashContent is there none = has_property d type.CryptographicHashContent CustomText is there
-text_read d _ is there none = absurd is
+text_read d (kind.SplitText lines) is there none = ⊎_elim (λ same. absurd (cc)) (λ never. never) (has_property d type.SplitText CustomText is.0 there)
+text_read d (kind.ReplaceText by) is there none =
+    ⊎_elim (λ same. absurd (cc)) (λ more. ⊎_elim (λ same. absurd (cc)) (λ more. ⊎_elim (λ same. absurd (cc)) (λ never. never) more) more) (has_property d type.ReplaceText CustomText is.0 there)
+text_read d (kind.ExtractText list) is there none = has_property d type.ExtractText CustomText is.0 there
+text_read d (kind.RouteOnContent requirement list) is there none =
+    ⊎_elim (λ same. absurd (cc)) (λ never. never) (has_property d type.RouteOnContent CustomText is.0 there)
+text_read d (kind.MergeContent strategy minimum maximum) is there none =
+    ⊎_elim (λ same. absurd (cc)) (λ more. ⊎_elim (λ same. absurd (cc)) (λ more. ⊎_elim (λ same. absurd (cc)) (λ never. never) more) more) (has_property d type.MergeContent CustomText is.0 there)
+text_read d (kind.SegmentContent size) is there none =
+    ⊎_elim (λ same. absurd (cc)) (λ never. never) (has_property d type.SegmentContent CustomText is.0 there)
+text_read d (kind.ModifyBytes start end) is there none =
+    ⊎_elim (λ same. absurd (cc)) (λ more. ⊎_elim (λ same. absurd (cc)) (λ never. never) more) (has_property d type.ModifyBytes CustomText is.0 there)
 
-pattern_read : (d : Data) (k : Kind) (property : Property) → IsKindOf d k → IsPattern d property → IsUnread (to_match_whole (property_text property d)) → ⊥
+pattern_read : (d : Data) (k : Kind) (property : Property) → IsKindOf d k → IsPattern d property → IsUnread (pattern_text property d) → ⊥
 pattern_read d k FileFilter is one unread = filter_read d k is one.0 unread
-pattern_read d k Count is one unread = let form = one.1 in absurd (cc)
-pattern_read d k CustomText is one unread = let form = one.1 in absurd (cc)
-pattern_read d k ConflictResolution is one unread = let form = one.1 in absurd (cc)
-pattern_read d k AttributesList is one unread = let form = one.1 in absurd (cc)
-pattern_read d k JsonDestination is one unread = let form = one.1 in absurd (cc)
-pattern_read d k Copies is one unread = let form = one.1 in absurd (cc)
+pattern_read d k Count is one unread = absurd one.1
+pattern_read d k CustomText is one unread = absurd one.1
+pattern_read d k ConflictResolution is one unread = absurd one.1
+pattern_read d k AttributesList is one unread = absurd one.1
+pattern_read d k JsonDestination is one unread = absurd one.1
+pattern_read d k Copies is one unread = absurd one.1
+pattern_read d k LineSplitCount is one unread = absurd one.1
+pattern_read d k ReplacementStrategy is one unread = absurd one.1
+pattern_read d k ReplacementValue is one unread = absurd one.1
+pattern_read d k SearchValue is one unread = search_read d k is one.0 one.1 unread
+pattern_read d k Requirement is one unread = absurd one.1
+pattern_read d k MergeStrategy is one unread = absurd one.1
+pattern_read d k MinimumEntries is one unread = absurd one.1
+pattern_read d k MaximumEntries is one unread = absurd one.1
+pattern_read d k SegmentSize is one unread = absurd one.1
+pattern_read d k StartOffset is one unread = absurd one.1
+pattern_read d k EndOffset is one unread = absurd one.1
 
 expression_read : (d : Data) (k : Kind) (property : Property) → IsKindOf d k → IsExpression d property → IsNoExpression (property_text property d) → ⊥
 expression_read d k FileFilter is one none = let form = one.1 in absurd (cc)
@@ -129,6 +217,17 @@ expression_read d k ConflictResolution is one none = let form = one.1 in absurd 
 expression_read d k AttributesList is one none = let form = one.1 in absurd (cc)
 expression_read d k JsonDestination is one none = let form = one.1 in absurd (cc)
 expression_read d k Copies is one none = let form = one.1 in absurd (cc)
+expression_read d k LineSplitCount is one none = let form = one.1 in absurd (cc)
+expression_read d k ReplacementStrategy is one none = let form = one.1 in absurd (cc)
+expression_read d k ReplacementValue is one none = let form = one.1 in absurd (cc)
+expression_read d k SearchValue is one none = let form = one.1 in absurd (cc)
+expression_read d k Requirement is one none = let form = one.1 in absurd (cc)
+expression_read d k MergeStrategy is one none = let form = one.1 in absurd (cc)
+expression_read d k MinimumEntries is one none = let form = one.1 in absurd (cc)
+expression_read d k MaximumEntries is one none = let form = one.1 in absurd (cc)
+expression_read d k SegmentSize is one none = let form = one.1 in absurd (cc)
+expression_read d k StartOffset is one none = let form = one.1 in absurd (cc)
+expression_read d k EndOffset is one none = let form = one.1 in absurd (cc)
 
 -- each own property's text was read
 own_read : (before behind : List (List ℕ × List ℕ)) (name text : List ℕ) (list : List OwnExpression) → AreOwnOf (before ++ (name, text) ∷ behind) list → IsNoExpression text → ⊥
@@ -141,34 +240,82 @@ own_is_read : (texts : List (List ℕ × List ℕ)) (list : List OwnExpression) 
 own_is_read texts list name all first =
     own_read first.before first.behind name first.text list (subst (λ (ts : List (List ℕ × List ℕ)). AreOwnOf ts list) first.place all) first.unread
 
-nothing_there : (before behind : List (List ℕ × List ℕ)) (given : List ℕ × List ℕ) → [] ≡ before ++ given ∷ behind → ⊥
-nothing_there [] behind given is = absurd (cc)
-nothing_there (one ∷ before) behind given is = absurd (cc)
+-- own properties are of one sort
+own_by : (d : Data) (t : ProcessorType) → type_of d ≡ Some t → own_in d ≡ own_of t
+own_by d t is = ap (λ (o : Option ProcessorType). option_map_or own_of o own.Nothing) is
 
--- a type without own properties has none to read
-no_own : (d : Data) (t : ProcessorType) (name : List ℕ) → type_of d ≡ Some t → own_of t ≡ own.Nothing → IsFirstUnread (own_texts_in d) name → ⊥
-no_own d t name is nothing first =
-    let without : own_in d ≡ own.Nothing = ap (λ (o : Option ProcessorType). option_map_or own_of o own.Nothing) is ∙ nothing in
-    let none : own_texts_in d ≡ [] = ap (λ (o : Own). texts_of (own_given o (given_in d))) without in
-    nothing_there first.before first.behind (name, first.text) (sym none ∙ first.place)
+no_expressions : (d : Data) (t : ProcessorType) → type_of d ≡ Some t → hold_expressions (own_of t) ≡ false → hold_expressions (own_in d) ≡ true → ⊥
+no_expressions d t is none held = true≢false (sym held ∙ ap (λ (o : Own). hold_expressions o) (own_by d t is) ∙ none)
 
-own_texts_read : (d : Data) (k : Kind) (name : List ℕ) → IsKindOf d k → IsFirstUnread (own_texts_in d) name → ⊥
-own_texts_read d (kind.GetFile filter) name is first = no_own d type.GetFile name is.0 refl first
-own_texts_read d (kind.GenerateFlowFile count text) name is first = no_own d type.GenerateFlowFile name is.0 refl first
-own_texts_read d (kind.PutFile conflict) name is first = no_own d type.PutFile name is.0 refl first
-own_texts_read d (kind.UpdateAttribute properties) name is first = own_is_read (own_texts_in d) properties name is.1 first
-own_texts_read d (kind.RouteOnAttribute properties) name is first = own_is_read (own_texts_in d) properties name is.1 first
-own_texts_read d (kind.AttributesToJson destination names) name is first = no_own d type.AttributesToJson name is.0 refl first
-own_texts_read d (kind.DuplicateFlowFile copies) name is first = no_own d type.DuplicateFlowFile name is.0 refl first
-own_texts_read d kind.CryptographicHashContent name is first = no_own d type.CryptographicHashContent name is refl first
-own_texts_read d _ name is first = absurd is
+no_patterns : (d : Data) (t : ProcessorType) → type_of d ≡ Some t → hold_patterns (own_of t) ≡ false → hold_patterns (own_in d) ≡ true → ⊥
+no_patterns d t is none held = true≢false (sym held ∙ ap (λ (o : Own). hold_patterns o) (own_by d t is) ∙ none)
+
+own_texts_read : (d : Data) (k : Kind) (name : List ℕ) → IsKindOf d k → hold_expressions (own_in d) ≡ true → IsFirstUnread (own_texts_in d) name → ⊥
+own_texts_read d (kind.GetFile filter) name is held first = no_expressions d type.GetFile is.0 refl held
+own_texts_read d (kind.GenerateFlowFile count text) name is held first = no_expressions d type.GenerateFlowFile is.0 refl held
+own_texts_read d (kind.PutFile conflict) name is held first = no_expressions d type.PutFile is.0 refl held
+own_texts_read d (kind.UpdateAttribute properties) name is held first = own_is_read (own_texts_in d) properties name is.1 first
+own_texts_read d (kind.RouteOnAttribute properties) name is held first = own_is_read (own_texts_in d) properties name is.1 first
+own_texts_read d (kind.AttributesToJson destination names) name is held first = no_expressions d type.AttributesToJson is.0 refl held
+own_texts_read d (kind.DuplicateFlowFile copies) name is held first = no_expressions d type.DuplicateFlowFile is.0 refl held
+own_texts_read d kind.CryptographicHashContent name is held first = no_expressions d type.CryptographicHashContent is refl held
+own_texts_read d (kind.SplitText lines) name is held first = no_expressions d type.SplitText is.0 refl held
+own_texts_read d (kind.ReplaceText by) name is held first = no_expressions d type.ReplaceText is.0 refl held
+own_texts_read d (kind.ExtractText list) name is held first = no_expressions d type.ExtractText is.0 refl held
+own_texts_read d (kind.RouteOnContent requirement list) name is held first = no_expressions d type.RouteOnContent is.0 refl held
+own_texts_read d (kind.MergeContent strategy minimum maximum) name is held first = no_expressions d type.MergeContent is.0 refl held
+own_texts_read d (kind.SegmentContent size) name is held first = no_expressions d type.SegmentContent is.0 refl held
+own_texts_read d (kind.ModifyBytes start end) name is held first = no_expressions d type.ModifyBytes is.0 refl held
+
+-- the text of the first pattern of some
+first_text : List (List ℕ × List ℕ) → List ℕ
+first_text [] = []
+first_text ((name, text) ∷ more) = text
+
+-- each own property's pattern was read
+attempts_read : (whole : Bool) (texts : List (List ℕ × List ℕ)) (attempts : List Attempt) (list : List OwnPattern)
+    → own_patterns list ≡ patterns_of whole texts → AreAttempts ⊥ whole texts attempts → list_all is_read attempts ≡ true
+unfolding first_text
+attempts_read whole [] [] list same all = refl
+attempts_read whole [] (attempt ∷ rest) list same all = absurd all
+attempts_read whole (given ∷ more) [] list same all = absurd all
+attempts_read whole ((name, text) ∷ more) (attempt ∷ rest) [] same all = absurd (cc)
+attempts_read whole ((name, text) ∷ more) (Read own ∷ rest) (property ∷ list) same all =
+    attempts_read whole more rest list (ap (λ (ps : List (List ℕ × List ℕ)). drop 1 ps) same) all.1
+attempts_read whole ((name, text) ∷ more) (attempt.Unread other ∷ rest) (property ∷ list) same all =
+    absurd (was_read property.pattern (subst (λ (t : List ℕ). IsUnread t) (sym (ap first_text same)) all.0.1))
+attempts_read whole ((name, text) ∷ more) (attempt.TooBig other ∷ rest) (property ∷ list) same all = absurd all.0.1
+
+own_are_read : (d : Data) (list : List OwnPattern) (attempts : List Attempt) → own_patterns list ≡ patterns_in d
+    → AreRefused ⊥ (is_whole_in d) (own_texts_in d) attempts → ⊥
+own_are_read d list attempts same refused =
+    true≢false (sym (attempts_read (is_whole_in d) (own_texts_in d) attempts list same refused.0) ∙ refused.1)
+
+own_patterns_read : (d : Data) (k : Kind) (attempts : List Attempt) → IsKindOf d k → hold_patterns (own_in d) ≡ true
+    → AreRefused ⊥ (is_whole_in d) (own_texts_in d) attempts → ⊥
+own_patterns_read d (kind.GetFile filter) attempts is held refused = no_patterns d type.GetFile is.0 refl held
+own_patterns_read d (kind.GenerateFlowFile count text) attempts is held refused = no_patterns d type.GenerateFlowFile is.0 refl held
+own_patterns_read d (kind.PutFile conflict) attempts is held refused = no_patterns d type.PutFile is.0 refl held
+own_patterns_read d (kind.UpdateAttribute properties) attempts is held refused = no_patterns d type.UpdateAttribute is.0 refl held
+own_patterns_read d (kind.RouteOnAttribute properties) attempts is held refused = no_patterns d type.RouteOnAttribute is.0 refl held
+own_patterns_read d (kind.AttributesToJson destination names) attempts is held refused = no_patterns d type.AttributesToJson is.0 refl held
+own_patterns_read d (kind.DuplicateFlowFile copies) attempts is held refused = no_patterns d type.DuplicateFlowFile is.0 refl held
+own_patterns_read d kind.CryptographicHashContent attempts is held refused = no_patterns d type.CryptographicHashContent is refl held
+own_patterns_read d (kind.SplitText lines) attempts is held refused = no_patterns d type.SplitText is.0 refl held
+own_patterns_read d (kind.ReplaceText by) attempts is held refused = no_patterns d type.ReplaceText is.0 refl held
+own_patterns_read d (kind.ExtractText list) attempts is held refused = own_are_read d list attempts is.1 refused
+own_patterns_read d (kind.RouteOnContent requirement list) attempts is held refused = own_are_read d list attempts is.2 refused
+own_patterns_read d (kind.MergeContent strategy minimum maximum) attempts is held refused = no_patterns d type.MergeContent is.0 refl held
+own_patterns_read d (kind.SegmentContent size) attempts is held refused = no_patterns d type.SegmentContent is.0 refl held
+own_patterns_read d (kind.ModifyBytes start end) attempts is held refused = no_patterns d type.ModifyBytes is.0 refl held
 
 no_refusal : (d : Data) (p : Processor) (r : Refusal) → IsProcessorOf d p → IsRefusal ⊥ d r → ⊥
 no_refusal d p NoType is why = let some = (typed d p.kind is.kind).1 in absurd (cc (why, some))
 no_refusal d p (Unread property) is why = pattern_read d p.kind property is.kind why.0 why.1
 no_refusal d p (TooBig property) is why = why.1
 no_refusal d p (NoExpression property) is why = expression_read d p.kind property is.kind why.0 why.1
-no_refusal d p (NoOwnExpression name) is why = own_texts_read d p.kind name is.kind why
+no_refusal d p (NoOwnExpression name) is why = own_texts_read d p.kind name is.kind why.0 why.1
+no_refusal d p (NoOwnPatterns attempts) is why = own_patterns_read d p.kind attempts is.kind why.0 why.1
 
 none_refused : (rule : Rule) (k : ℕ) (ds : List Data) (ps : List Processor) (ms : List Made) → AreProcessorsOf ds ps → AreMade ⊥ ds ms → first_refused rule k ms ≡ None
 none_refused rule k [] [] [] each all = refl

@@ -31,12 +31,18 @@ built_one : (d : Data) (k : Kind) → IsKindOf d k → is_built k ≡ true
 built_one d (kind.GetFile filter) is = refl
 built_one d (kind.GenerateFlowFile count text) is = refl
 built_one d (kind.PutFile conflict) is = refl
-built_one d (kind.UpdateAttribute own) is = refl
-built_one d (kind.RouteOnAttribute own) is = refl
+built_one d (kind.UpdateAttribute properties) is = refl
+built_one d (kind.RouteOnAttribute properties) is = refl
 built_one d (kind.AttributesToJson destination names) is = refl
 built_one d (kind.DuplicateFlowFile copies) is = refl
 built_one d kind.CryptographicHashContent is = refl
-built_one d _ is = absurd is
+built_one d (kind.SplitText lines) is = refl
+built_one d (kind.ReplaceText by) is = refl
+built_one d (kind.ExtractText list) is = refl
+built_one d (kind.RouteOnContent requirement list) is = refl
+built_one d (kind.MergeContent strategy minimum maximum) is = refl
+built_one d (kind.SegmentContent size) is = refl
+built_one d (kind.ModifyBytes start end) is = refl
 
 built_all : (ds : List Data) (ps : List Processor) → AreProcessorsOf ds ps → All (λ processor. IsTrue (is_built processor.kind)) ps
 built_all [] [] each = All-nil (λ (processor : Processor). IsTrue (is_built processor.kind))
