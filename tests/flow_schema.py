@@ -19,10 +19,14 @@ WRITTEN = re.compile(r'"(tasks|penalty|expiration|objects|bytes|swap)": (-0\b|[0
 
 # The name of an own property that has too many bytes, but not too many characters, is of a right length to a schema.
 NAME = re.compile(r'"([^"\\]{128,255})": "')
+# Which of two numbers is the greater is nothing to a schema.
+ENTRIES = re.compile(r'"Minimum Number of Entries": "([0-9]+)", "Maximum Number of Entries": "([0-9]+)"')
 
 
 def is_untold(text):
-    return WRITTEN.search(text) or any(len(name.encode()) > 255 for name in NAME.findall(text))
+    if any(len(name.encode()) > 255 for name in NAME.findall(text)):
+        return True
+    return WRITTEN.search(text) or any(int(least) > int(most) for least, most in ENTRIES.findall(text))
 
 
 def text_of(case):

@@ -1,7 +1,10 @@
 //! What an accepted flow is told as.
 use anyhow::Result;
 use flowfile_record::Text;
-use machine_model::{Conflict, Connection, Destination, Flow, Kind, OwnExpression, Processor};
+use machine_model::{
+    Conflict, Connection, Destination, Flow, Kind, MatchRequirement, MergeStrategy, OwnExpression,
+    OwnPattern, Processor, Replacement,
+};
 use std::alloc::Global;
 
 /// The processors and the connections of a flow, one after the other.
@@ -67,7 +70,67 @@ fn kind_told(alloc: Global, kind: &Kind) -> Result<String> {
         Kind::CryptographicHashContent => {
             Ok(String::from_str(alloc, "CryptographicHashContent")?)
         }
-        _ => Ok(String::from_str(alloc, "another type")?),
+        Kind::SplitText { lines } => Ok(format!(in alloc; "SplitText {lines}")?),
+        Kind::ReplaceText { replacement } => replacement_told(alloc, replacement),
+        Kind::ExtractText { own } => {
+            let own = patterns_told(alloc, own.as_slice())?;
+            Ok(format!(in alloc; "ExtractText{own}")?)
+        }
+        Kind::RouteOnContent { requirement, own } => {
+            let requirement = requirement_told(*requirement);
+            let own = patterns_told(alloc, own.as_slice())?;
+            Ok(format!(in alloc; "RouteOnContent {requirement}{own}")?)
+        }
+        Kind::MergeContent {
+            strategy,
+            minimum,
+            maximum,
+        } => {
+            let strategy = strategy_told(*strategy);
+            Ok(format!(in alloc; "MergeContent {strategy} {minimum} {maximum}")?)
+        }
+        Kind::SegmentContent { size } => Ok(format!(in alloc; "SegmentContent {size}")?),
+        Kind::ModifyBytes { start, end } => Ok(format!(in alloc; "ModifyBytes {start} {end}")?),
+    }
+}
+
+fn replacement_told(alloc: Global, replacement: &Replacement) -> Result<String> {
+    match replacement {
+        Replacement::Regex { search, template } => {
+            let search = search.text.as_str();
+            let template = template.as_str();
+            Ok(format!(in alloc; "ReplaceText regex [{search}] [{template}]")?)
+        }
+        Replacement::Literal { search, value } => {
+            let search = search.as_str();
+            let value = value.as_str();
+            Ok(format!(in alloc; "ReplaceText literal [{search}] [{value}]")?)
+        }
+    }
+}
+
+/// The name of each own property in brackets, behind a space, and its pattern behind another one.
+fn patterns_told(alloc: Global, own: &[OwnPattern]) -> Result<String> {
+    let mut text = String::new(alloc);
+    for property in own {
+        push_bracketed(&mut text, property.name.as_str())?;
+        text.push(' ')?;
+        text.push_str(property.pattern.text.as_str())?;
+    }
+    Ok(text)
+}
+
+fn requirement_told(requirement: MatchRequirement) -> &'static str {
+    match requirement {
+        MatchRequirement::Exactly => "exactly",
+        MatchRequirement::Contains => "contains",
+    }
+}
+
+fn strategy_told(strategy: MergeStrategy) -> &'static str {
+    match strategy {
+        MergeStrategy::BinPacking => "bin-packing",
+        MergeStrategy::Defragment => "defragment",
     }
 }
 
