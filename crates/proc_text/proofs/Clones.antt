@@ -60,28 +60,28 @@ change-end change files file =
 pub changed-end : (bench : Bench) (file : File) (change : File → File) → with_changed (with_file bench file) (length bench.files) change ≡ with_file bench (change file)
 changed-end bench file change = ap (λ files. record bench { files = files }) (change-end change bench.files file)
 
-change-first : (change : File → File) (file : File) (more : List File) → change_at change 0 (file ∷ more) ≡ change file ∷ more
+pub change-first : (change : File → File) (file : File) (more : List File) → change_at change 0 (file ∷ more) ≡ change file ∷ more
 unfolding change_at
 change-first change file more = refl
 
 -- ---- what isn't refused
 
-none_holds : (holds : Bool) (error : SessionError) → holds ≡ false → where_it_holds holds error ≡ None
+pub none_holds : (holds : Bool) (error : SessionError) → holds ≡ false → where_it_holds holds error ≡ None
 none_holds holds error isnt = ap (λ b. where_it_holds b error) isnt
 
-next : (refusal : Refusal) (refusals : List Refusal) → refusal ≡ None → first_refusal refusals ≡ None → first_refusal (refusal ∷ refusals) ≡ None
+pub next : (refusal : Refusal) (refusals : List Refusal) → refusal ≡ None → first_refusal refusals ≡ None → first_refusal (refusal ∷ refusals) ≡ None
 next refusal refusals none rest = pass refusal refusals (sym none) ∙ rest
 
-known : (bench : Bench) (place : ℕ) (file : File) → slice_get bench.files place ≡ Some file → unknown_file bench place ≡ None
+pub known : (bench : Bench) (place : ℕ) (file : File) → slice_get bench.files place ≡ Some file → unknown_file bench place ≡ None
 unfolding unknown_file
 known bench place file there = none_holds _ _ (lt-leb (length bench.files) place (slice_get_within bench.files place file there))
 
-still_open : (bench : Bench) (place : ℕ) (file : File) → slice_get bench.files place ≡ Some file → file.«end» ≡ None → already_ended bench place ≡ None
+pub still_open : (bench : Bench) (place : ℕ) (file : File) → slice_get bench.files place ≡ Some file → file.«end» ≡ None → already_ended bench place ≡ None
 unfolding already_ended
 still_open bench place file there opened =
     none_holds _ _ (ap (λ o. option_map_or (λ (f : File). is_some f.«end») o false) there ∙ ap is_some opened)
 
-related : (bench : Bench) (relationship : ℕ) → relationship < bench.relationships → no_relationship bench relationship ≡ None
+pub related : (bench : Bench) (relationship : ℕ) → relationship < bench.relationships → no_relationship bench relationship ≡ None
 unfolding no_relationship
 related bench relationship there = none_holds _ _ (lt-leb bench.relationships relationship there)
 
@@ -210,14 +210,14 @@ unfolding not_accounted_from
 all_ended place [] = refl
 all_ended place (file ∷ files) = all_ended (place + 1) files
 
-abbrev StartsWith : List ℕ → List (List ℕ) → Type 0
+abbrev pub StartsWith : List ℕ → List (List ℕ) → Type 0
 StartsWith places stand = (rest : List (List ℕ)) × (stand ≡ places ∷ rest)
 
 starts_so : (places : List ℕ) (b : Bool) (one other : List (List ℕ)) → StartsWith places one → StartsWith places other → StartsWith places (cond b one other)
 starts_so places true one other first second = first
 starts_so places false one other first second = second
 
-starts : (places : List ℕ) (stand : List (List ℕ)) (place : ℕ) (files : List File) → StartsWith places (standing_from (places ∷ stand) place files)
+pub starts : (places : List ℕ) (stand : List (List ℕ)) (place : ℕ) (files : List File) → StartsWith places (standing_from (places ∷ stand) place files)
 unfolding standing_from
 starts places stand place [] = (stand, refl)
 starts places stand place (file ∷ files) =
@@ -250,10 +250,10 @@ ended_bench n sources files = record { relationships = n; sources = sources; fil
 pub ended-finished : (n : ℕ) (sources : List Source) (files : List Worked) → refusal_of_finish (ended_bench n sources files) ≡ None
 ended-finished n sources files = next _ _ (all_ended 0 files) no_refusal
 
-taken_stays : (file : Worked) → file.origin ≡ FromQueue 0 → is_left_out (ended file) ≡ false
+pub taken_stays : (file : Worked) → file.origin ≡ FromQueue 0 → is_left_out (ended file) ≡ false
 taken_stays file is = ap (λ o. is_made o && is_removed (Some file.«end»)) is
 
-taken_names : (stand : List (List ℕ)) (file : Worked) → file.origin ≡ FromQueue 0 → worked_of stand (ended file) ≡ file
+pub taken_names : (stand : List (List ℕ)) (file : Worked) → file.origin ≡ FromQueue 0 → worked_of stand (ended file) ≡ file
 taken_names stand file is = ap (λ o. worked_with o (ended file)) (ap (origin_in stand) is ∙ sym is)
 
 pub ended-outcome : (n : ℕ) (sources : List Source) (attributes : AttributeMap) (file : Worked) (clones : List Worked) → file.origin ≡ FromQueue 0 → All (IsClone attributes) clones

@@ -1,10 +1,17 @@
 pub mod Began
 pub mod Clones
+pub mod Cutting
 pub mod Extracts
 pub mod ExtractsSet
+pub mod Lines
 pub mod Modifying
+pub mod PartsOf
+pub mod PartsOwed
+pub mod PartList
+pub mod PartsEnd
 pub mod Passed
 pub mod Replacing
 pub mod Routed
 pub mod Routes
+pub mod Telling
 pub mod Texts

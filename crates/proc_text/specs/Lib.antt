@@ -2,3 +2,5 @@ pub mod Cloning
 pub mod Extracting
 pub mod Finding
 pub mod Kinds
+pub mod Parting
+pub mod Pieces

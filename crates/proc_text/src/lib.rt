@@ -4,14 +4,20 @@
 mod cloning;
 mod extract_text;
 mod modify_bytes;
+mod parting;
 mod passing;
+mod pieces;
 mod replace_text;
 mod route_on_content;
+mod segment_content;
+mod split_text;
 
 pub use extract_text::ExtractText;
 pub use modify_bytes::ModifyBytes;
 pub use replace_text::ReplaceText;
 pub use route_on_content::RouteOnContent;
+pub use segment_content::SegmentContent;
+pub use split_text::SplitText;
 
 /// The place of the file that each of them takes.
 const FILE: u32 = 0;
