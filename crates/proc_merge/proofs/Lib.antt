@@ -1,0 +1,9 @@
+pub mod Benches
+pub mod Child
+pub mod Described
+pub mod Merged
+pub mod Outcomes
+pub mod Parts
+pub mod Passed
+pub mod Reading
+pub mod Shared

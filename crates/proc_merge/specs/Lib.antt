@@ -1,0 +1,4 @@
+pub mod Joining
+pub mod Kinds
+pub mod Passing
+pub mod Taken

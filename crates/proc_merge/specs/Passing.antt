@@ -1,0 +1,16 @@
+-- A session that passes on all files that it took.
+use Rattle.std.specs.Prelude.{ℕ, List, ◌++◌, length, map, take, drop, Some}
+use Rattle.flowfile_record.specs.declared.worked.End.TheVariants.{To}
+use Rattle.process_session.specs.Bench.{Bench}
+use Rattle.process_session.specs.declared.file.File.{File}
+
+abbrev pub passed_to : (relationship : ℕ) → File → File
+passed_to relationship file = record file { «end» = Some (To relationship) }
+
+-- the first so many of them
+abbrev pub passed : (count relationship : ℕ) → List File → List File
+passed count relationship files = map (passed_to relationship) (take count files) ++ drop count files
+
+abbrev pub with_all_passed : Bench → (relationship : ℕ) → Bench
+with_all_passed bench relationship =
+    record bench { files = passed (length bench.sources) relationship bench.files }
