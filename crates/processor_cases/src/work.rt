@@ -14,9 +14,7 @@ use proc_attribute::{
 };
 use proc_merge::MergeContent;
 use proc_source::{GenerateFlowFile, GetFile, PutFile};
-use proc_text::{
-    ExtractText, ModifyBytes, ReplaceText, RouteOnContent, SegmentContent, SplitText,
-};
+use proc_text::{ExtractText, ModifyBytes, ReplaceText, RouteOnContent, SegmentContent, SplitText};
 use process_session::TakenList;
 use processor_api::work_on;
 use serde_json::Value;
