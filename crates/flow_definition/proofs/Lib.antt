@@ -7,9 +7,12 @@ pub mod Linked
 pub mod Lists
 pub mod Names
 pub mod Ordered
+pub mod Others
+pub mod OwnPatterns
 pub mod OwnProperties
 pub mod Parts
 pub mod Passed
+pub mod Properties
 pub mod Soundness
 pub mod Verdicts
 pub mod Walks

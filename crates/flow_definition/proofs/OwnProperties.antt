@@ -1,5 +1,5 @@
 -- The properties of a processor's own.
-use Rattle.std.proofs.Common.{◌≡◌, ℕ, ◌≤◌, Bool, true, false, ◌&&◌, ◌||◌, List, [], ◌∷◌, ◌++◌, length, map, nat_lt, is_some, find, bytes_eq, codes, All, Option, Some, None, option_and_then, Ordering, Less, Equal, Greater, nat_cmp, is_eq, refl, sym, ap, ◌∙◌, subst}
+use Rattle.std.proofs.Common.{not, ◌≡◌, ℕ, ◌≤◌, Bool, true, false, ◌&&◌, ◌||◌, List, [], ◌∷◌, ◌++◌, length, map, is_some, bytes_eq, codes, All, Option, Some, None, option_and_then, Ordering, Less, Equal, Greater, nat_cmp, is_eq, refl, sym, ap, ◌∙◌, subst}
 use Rattle.std.specs.Cmp.Lexicographic.{slice_cmp}
 use Rattle.std.specs.List.{list_all}
 use Rattle.std.specs.Option.{option_map_or}
@@ -19,12 +19,15 @@ use Rattle.machine_model.specs.Sound.{within, HasText, are_own_names, are_own_re
 use Rattle.machine_model.specs.declared.kind.OwnExpression.{OwnExpression}
 use Rattle.machine_model.specs.declared.limits.TheConstants.{OWN_NAME_MAX, OWN_PROPERTIES_MAX}
 use Rattle.flow_definition.specs.declared.processor_type.Own.TheVariants as own
-use Rattle.flow_definition.specs.declared.processor_type.ProcessorType.TheVariants.{UpdateAttribute, RouteOnAttribute}
-use Rattle.flow_definition.specs.Looks.{is_text, member_list, members_of, names_of, texts_of, type_of, properties_in, own_in, own_given, own_properties_in, own_texts_in, given_in, given_at, fixed_relationships_in}
+use Rattle.flow_definition.specs.declared.processor_type.ProcessorType.{ProcessorType}
+use Rattle.flow_definition.specs.declared.processor_type.Property.{Property}
+use Rattle.flow_definition.specs.Looks.{is_text, member_list, members_of, names_of, texts_of, type_of, properties_in, own_in, is_fixed, others_in, own_given, own_properties_in, own_texts_in, given_in, given_at, fixed_relationships_in}
 use Rattle.flow_definition.specs.Reading.{IsOwnOf, AreOwnOf}
 use Rattle.flow_definition.specs.Rules.{is_own_property, is_bad_property, is_bad_value, may_be_own}
-use Rattle.flow_definition.specs.Types.{own_of, properties_of, property_name, relationships_of}
+use Rattle.flow_definition.specs.Types.{own_of, relationships_of}
+use Rattle.flow_definition.proofs.Others.{not_named, none_fixed, none_others, ascending_others}
 use Rattle.flow_definition.proofs.Passed.{NoneOf}
+use Rattle.flow_definition.proofs.Properties.{IsRight}
 
 -- ---- a property of a name is given just where the name is among those given
 
@@ -64,7 +67,7 @@ own_named (t ∷ ts) [] each = absurd each
 own_named (t ∷ ts) (x ∷ list) each =
     ap (λ name. name ∷ map (λ property. property.name) list) each.0.0 ∙ ap (λ names. t.0 ∷ names) (own_named ts list each.1)
 
-texts_named : (gs : List (List ℕ × Data)) → map (λ t. t.0) (texts_of gs) ≡ names_of gs
+pub texts_named : (gs : List (List ℕ × Data)) → map (λ t. t.0) (texts_of gs) ≡ names_of gs
 texts_named [] = refl
 texts_named (g ∷ gs) = ap (λ names. g.0 ∷ names) (texts_named gs)
 
@@ -75,10 +78,9 @@ own_read (t ∷ ts) [] each = absurd each
 own_read (t ∷ ts) (x ∷ list) each =
     All-cons (λ property. HasText property.expression) x list (t.1, each.0.1) (own_read ts list each.1)
 
-pub names_read : (d : Data) (list : List OwnExpression) → own_properties_in d ≡ given_in d → AreOwnOf (own_texts_in d) list
-    → map (λ property. property.name) list ≡ names_of (given_in d)
-names_read d list all each =
-    own_named (own_texts_in d) list each ∙ texts_named (own_properties_in d) ∙ ap names_of all
+pub names_read : (d : Data) (list : List OwnExpression) → AreOwnOf (own_texts_in d) list
+    → map (λ property. property.name) list ≡ names_of (own_properties_in d)
+names_read d list each = own_named (own_texts_in d) list each ∙ texts_named (own_properties_in d)
 
 -- ---- one more property
 
@@ -98,67 +100,66 @@ trees_read (t ∷ ts) (x ∷ list) each =
 
 -- ---- the names of a processor that breaks no rule
 
-right_own : (d : Data) (g : List ℕ × Data) → properties_in d ≡ [] → is_bad_property d g ≡ false → is_own_property d g ≡ true
-right_own d g none right =
-    not-false (is_own_property d g) (sym (ap (λ ps. is_bad_value d g (find (λ p. bytes_eq (property_name p) g.0) ps)) none) ∙ right)
+right_own : (d : Data) (g : List ℕ × Data) → is_fixed (properties_in d) g.0 ≡ false → is_bad_property d g ≡ false → is_own_property d g ≡ true
+right_own d g other right = not-false (is_own_property d g) (sym (ap (is_bad_value d g) (not_named (properties_in d) g.0 other)) ∙ right)
 
-names_within : (d : Data) (gs : List (List ℕ × Data)) → properties_in d ≡ [] → NoneOf (is_bad_property d) gs
+names_within : (d : Data) (gs : List (List ℕ × Data)) → NoneOf (λ g. is_fixed (properties_in d) g.0) gs → NoneOf (is_bad_property d) gs
     → list_all (λ name. within 1 (length name) OWN_NAME_MAX) (names_of gs) ≡ true
-names_within d [] none right = refl
-names_within d (g ∷ gs) none right =
+names_within d [] other right = refl
+names_within d (g ∷ gs) other right =
     let short = and_parts (within 1 (length g.0) OWN_NAME_MAX && may_be_own (own_in d) (fixed_relationships_in d) g.0) (is_text g.1)
-    (right_own d g none right.0) in
+    (right_own d g other.0 right.0) in
     and_from (within 1 (length g.0) OWN_NAME_MAX) _
     (and_parts (within 1 (length g.0) OWN_NAME_MAX) (may_be_own (own_in d) (fixed_relationships_in d) g.0) short.0).0
-    (names_within d gs none right.1)
+    (names_within d gs other.1 right.1)
 
-other_name : (name fixed : List ℕ) → may_be_own own.Relationships (fixed ∷ []) name ≡ true → bytes_eq fixed name ≡ false
+-- a name that isn't among the fixed ones, of which there is one
+other_name : (name fixed : List ℕ) → not (is_among name (fixed ∷ [])) ≡ true → bytes_eq fixed name ≡ false
 other_name name fixed may =
     let apart : bytes_eq name fixed ≡ false = (or_parts (bytes_eq name fixed) false (not-true _ may)).0 in
     false_from_ne_true (bytes_eq fixed name)
     (λ same. both_ways (bytes_eq name fixed) apart
     ((bytes_eq-Decides name fixed).1 (sym ((bytes_eq-Decides fixed name).0 same))))
 
-names_other : (d : Data) (fixed : List ℕ) (gs : List (List ℕ × Data)) → properties_in d ≡ [] → own_in d ≡ own.Relationships
-    → fixed_relationships_in d ≡ fixed ∷ [] → NoneOf (is_bad_property d) gs → is_among fixed (names_of gs) ≡ false
-names_other d fixed [] none makes is right = refl
-names_other d fixed (g ∷ gs) none makes is right =
+names_other : (d : Data) (fixed : List ℕ) (gs : List (List ℕ × Data))
+    → ((name : List ℕ) → may_be_own (own_in d) (fixed_relationships_in d) name ≡ not (is_among name (fixed ∷ [])))
+    → NoneOf (λ g. is_fixed (properties_in d) g.0) gs → NoneOf (is_bad_property d) gs → is_among fixed (names_of gs) ≡ false
+names_other d fixed [] makes other right = refl
+names_other d fixed (g ∷ gs) makes other right =
     let short = and_parts (within 1 (length g.0) OWN_NAME_MAX && may_be_own (own_in d) (fixed_relationships_in d) g.0) (is_text g.1)
-    (right_own d g none right.0) in
+    (right_own d g other.0 right.0) in
     let may = (and_parts (within 1 (length g.0) OWN_NAME_MAX) (may_be_own (own_in d) (fixed_relationships_in d) g.0) short.0).1 in
-    or_from (bytes_eq fixed g.0) _
-    (other_name g.0 fixed (sym (ap (λ o. may_be_own o (fixed_relationships_in d) g.0) makes ∙ ap (λ names. may_be_own own.Relationships names g.0) is) ∙ may))
-    (names_other d fixed gs none makes is right.1)
+    or_from (bytes_eq fixed g.0) _ (other_name g.0 fixed (sym (makes g.0) ∙ may)) (names_other d fixed gs makes other.1 right.1)
 
--- what the rules say of a processor's own properties
-pub record IsOwnRight (d : Data) : Type 0 where
-  pub right : NoneOf (is_bad_property d) (given_in d)
-  pub few : nat_lt OWN_PROPERTIES_MAX (length (own_properties_in d)) ≡ false
-  pub ascending : are_ascending (names_of (given_in d)) ≡ true
-
-own_sound : (d : Data) → IsOwnRight d → properties_in d ≡ [] → own_properties_in d ≡ given_in d → are_own_names (names_of (given_in d)) ≡ true
-own_sound d right none all =
+own_sound : (d : Data) → IsRight d → own_properties_in d ≡ others_in d → are_own_names (names_of (own_properties_in d)) ≡ true
+own_sound d right all =
+    let ps : List Property = properties_in d in
+    let few : length (names_of (own_properties_in d)) ≤ OWN_PROPERTIES_MAX =
+    subst (λ n. n ≤ OWN_PROPERTIES_MAX) (sym (length-map (own_properties_in d) (λ given. given.0))) (ltb-false OWN_PROPERTIES_MAX _ right.few) in
     and_from _ _
     (and_from _ _
-    (le-leb (length (names_of (given_in d))) OWN_PROPERTIES_MAX
-    (subst (λ n. n ≤ OWN_PROPERTIES_MAX) (ap length all ∙ sym (length-map (given_in d) (λ given. given.0))) (ltb-false OWN_PROPERTIES_MAX _ right.few)))
-    (names_within d (given_in d) none right.right))
-    right.ascending
+    (le-leb (length (names_of (own_properties_in d))) OWN_PROPERTIES_MAX few)
+    (ap (λ gs. list_all (λ name. within 1 (length name) OWN_NAME_MAX) (names_of gs)) all
+    ∙ names_within d (others_in d) (none_fixed ps (given_in d)) (none_others (is_bad_property d) ps (given_in d) right.right)))
+    (ap (λ gs. are_ascending (names_of gs)) all ∙ ascending_others ps (given_in d) right.ascending)
 
-pub attributes_sound : (d : Data) (list : List OwnExpression) → IsOwnRight d → type_of d ≡ Some UpdateAttribute → AreOwnOf (own_texts_in d) list
-    → are_own_names (map (λ property. property.name) list) ≡ true
-attributes_sound d list right is each =
-    let all : own_properties_in d ≡ given_in d = ap (λ type. own_given (option_map_or own_of type own.Nothing) (given_in d)) is in
-    let none : properties_in d ≡ [] = ap (λ type. option_map_or properties_of type []) is in
-    ap are_own_names (names_read d list all each) ∙ own_sound d right none all
+-- the own properties of a type that sets attributes, or that makes relationships beside one
+pub attributes_sound : (d : Data) (t : ProcessorType) → IsRight d → type_of d ≡ Some t
+    → ((gs : List (List ℕ × Data)) → own_given (own_of t) gs ≡ gs) → are_own_names (names_of (own_properties_in d)) ≡ true
+attributes_sound d t right is gives =
+    own_sound d right (ap (λ type. own_given (option_map_or own_of type own.Nothing) (others_in d)) is ∙ gives (others_in d))
 
-pub relationships_sound : (d : Data) (list : List OwnExpression) → IsOwnRight d → type_of d ≡ Some RouteOnAttribute → AreOwnOf (own_texts_in d) list
-    → are_own_relationships (map (λ property. property.name) list) ≡ true
-relationships_sound d list right is each =
-    let all : own_properties_in d ≡ given_in d = ap (λ type. own_given (option_map_or own_of type own.Nothing) (given_in d)) is in
-    let none : properties_in d ≡ [] = ap (λ type. option_map_or properties_of type []) is in
-    let relationships : own_in d ≡ own.Relationships = ap (λ type. option_map_or own_of type own.Nothing) is in
-    let fixed : fixed_relationships_in d ≡ codes "unmatched" ∷ [] = ap (λ type. option_map_or relationships_of type []) is in
-    ap are_own_relationships (names_read d list all each)
-    ∙ and_from (are_own_names (names_of (given_in d))) _ (own_sound d right none all)
-    (not_from_false _ (names_other d (codes "unmatched") (given_in d) none relationships fixed right.right))
+pub relationships_sound : (d : Data) (t : ProcessorType) → IsRight d → type_of d ≡ Some t
+    → ((gs : List (List ℕ × Data)) → own_given (own_of t) gs ≡ gs)
+    → ((name : List ℕ) → may_be_own (own_of t) (relationships_of t) name ≡ not (is_among name (codes "unmatched" ∷ [])))
+    → are_own_relationships (names_of (own_properties_in d)) ≡ true
+relationships_sound d t right is gives makes =
+    let ps : List Property = properties_in d in
+    let all : own_properties_in d ≡ others_in d =
+    ap (λ type. own_given (option_map_or own_of type own.Nothing) (others_in d)) is ∙ gives (others_in d) in
+    let may : (name : List ℕ) → may_be_own (own_in d) (fixed_relationships_in d) name ≡ not (is_among name (codes "unmatched" ∷ [])) =
+    λ name. ap (λ type. may_be_own (option_map_or own_of type own.Nothing) (option_map_or relationships_of type []) name) is ∙ makes name in
+    and_from (are_own_names (names_of (own_properties_in d))) _ (own_sound d right all)
+    (not_from_false _ (ap (λ gs. is_among (codes "unmatched") (names_of gs)) all
+    ∙ names_other d (codes "unmatched") (others_in d) may (none_fixed ps (given_in d))
+    (none_others (is_bad_property d) ps (given_in d) right.right)))

@@ -1,36 +1,46 @@
 -- Each processor and each connection of an accepted text is sound.
-use Rattle.std.proofs.Common.{◌≡◌, ℕ, ◌≤◌, true, false, not, List, [], ◌∷◌, ◌++◌, length, map, nat_le, is_none, is_some, slice_get, IfSome, IsSomeAnd, codes, Option, Some, None, option_and_then, All, refl, sym, ap, ◌∙◌, subst}
+use Rattle.std.proofs.Common.{◌≡◌, ℕ, ◌≤◌, true, false, not, List, [], ◌∷◌, ◌++◌, length, map, nat_le, nat_lt, is_none, is_some, slice_get, IfSome, IsSomeAnd, codes, Option, Some, None, option_and_then, All, refl, sym, ap, ◌∙◌, subst}
 use Rattle.std.specs.Option.{option_map_or}
 use Rattle.std.specs.List.{list_all, position_or_len}
 use Rattle.std.proofs.lemmas.Bool.{false≢true, and_from, not-false, cond-true}
 use Rattle.std.proofs.lemmas.List.Elements.{All-nil, All-cons}
 use Rattle.serde_json.specs.Data.{Data}
 use Rattle.serde_json.specs.Find.{as_number, as_u64}
+use Rattle.flowfile_record.specs.declared.TheConstants.{CONTENT_MAX}
+use Rattle.flowfile_record.specs.declared.limits.TheConstants.{TAKEN_MAX}
 use Rattle.machine_model.specs.Kinds as kinds
 use Rattle.machine_model.specs.Kinds.{is_among}
-use Rattle.machine_model.specs.Sound.{within, IsSoundKind, MatchesWhole, to_match_whole, is_id, is_listed_name, is_sound_processor, is_sound_connection, has_relationships, may_be_target, are_sound_limits, are_distinct_texts, EachOnce}
+use Rattle.machine_model.specs.Sound.{within, IsSoundKind, MatchesWhole, to_match_whole, are_entries_sound, are_own_names, are_own_relationships, is_id, is_listed_name, is_replacement_sound, is_sound_processor, is_sound_connection, has_relationships, may_be_target, are_sound_limits, are_distinct_texts, EachOnce}
 use Rattle.machine_model.specs.declared.flow.Flow.{Flow}
 use Rattle.machine_model.specs.declared.flow.Processor.{Processor}
 use Rattle.machine_model.specs.declared.kind.Kind.{Kind}
 use Rattle.machine_model.specs.declared.kind.Kind.TheVariants as kind
-use Rattle.machine_model.specs.declared.limits.TheConstants.{COPIES_MAX, GENERATED_MAX, PENALTY_MAX, PROCESSORS_MAX, QUEUE_LIMIT_MAX, SWAP_MAX, SWAP_MIN, TASKS_MAX}
+use Rattle.machine_model.specs.declared.kind.MatchRequirement.TheVariants as requirement
+use Rattle.machine_model.specs.declared.kind.Replacement.{Replacement}
+use Rattle.machine_model.specs.declared.kind.Replacement.TheVariants as replacement
+use Rattle.machine_model.specs.declared.limits.TheConstants.{COPIES_MAX, GENERATED_MAX, LINES_MAX, PENALTY_MAX, PROCESSORS_MAX, QUEUE_LIMIT_MAX, SWAP_MAX, SWAP_MIN, TASKS_MAX}
 use Rattle.machine_model.specs.declared.pattern.Pattern.{Pattern}
 use Rattle.flow_definition.specs.declared.field.Field.{Field}
 use Rattle.flow_definition.specs.declared.field.Field.TheVariants.{Processors, Id, Tasks, Penalty, Terminated, From, To, Relationships, Prioritizers, Expiration, Objects, Bytes, Swap}
 use Rattle.flow_definition.specs.declared.processor_type.Own.TheVariants as own
 use Rattle.flow_definition.specs.declared.processor_type.ProcessorType.{ProcessorType}
-use Rattle.flow_definition.specs.declared.processor_type.Property.TheVariants.{FileFilter, Count, CustomText, AttributesList, Copies}
-use Rattle.flow_definition.specs.Looks.{value_at, text_at, has_text, items_at, names_at, type_of, relationships_in, relationships_given, names_of, given_in, own_given, own_texts_in, processor_named, property_text}
-use Rattle.flow_definition.specs.Reading.{id_at, place_at, connection_of, IsKindOf, IsProcessorOf, AreProcessorsOf}
+use Rattle.flow_definition.specs.declared.processor_type.ProcessorType.TheVariants as type
+use Rattle.flow_definition.specs.declared.processor_type.ReplaceStrategy.{ReplaceStrategy}
+use Rattle.flow_definition.specs.declared.processor_type.ReplaceStrategy.TheVariants as strategy
+use Rattle.flow_definition.specs.declared.processor_type.Property.TheVariants.{FileFilter, Count, CustomText, AttributesList, Copies, LineSplitCount, ReplacementValue, SearchValue, MinimumEntries, MaximumEntries, SegmentSize, StartOffset, EndOffset}
+use Rattle.flow_definition.specs.Looks.{value_at, text_at, has_text, items_at, names_at, type_of, relationships_in, relationships_given, names_of, given_in, others, own_given, own_texts_in, processor_named, property_text}
+use Rattle.flow_definition.specs.Reading.{id_at, place_at, connection_of, replace_strategy_in, requirement_in, must_match_whole, IsReplacementOf, IsKindOf, IsProcessorOf, AreProcessorsOf}
 use Rattle.flow_definition.specs.Rules.{may_be_end, in_item, wrong_item, wrong_name}
 use Rattle.flow_definition.specs.Shapes.{number_in}
-use Rattle.flow_definition.specs.Types.{own_of, relationships_of, is_source}
+use Rattle.flow_definition.specs.Types.{own_of, properties_of, relationships_of, is_source}
 use Rattle.flow_definition.proofs.Ends.{HasPlace, place_found, HasProcessor, processor_at}
 use Rattle.flow_definition.proofs.Given.{text_given, id_given, names_given, number_within, number_below, prioritizers_given}
 use Rattle.flow_definition.proofs.Commas.{names_listed}
 use Rattle.flow_definition.proofs.Names.{IsNamed, AreNamed, names_right, names_distinct}
 use Rattle.flow_definition.proofs.Ordered.{AreAscending}
-use Rattle.flow_definition.proofs.OwnProperties.{names_read, own_read, IsOwnRight, attributes_sound, relationships_sound}
+use Rattle.flow_definition.proofs.OwnPatterns.{pattern_names, whole_matched}
+use Rattle.flow_definition.proofs.OwnProperties.{names_read, own_read, attributes_sound, relationships_sound}
+use Rattle.flow_definition.proofs.Properties.{IsRight, entries_sound, search_sound}
 use Rattle.flow_definition.proofs.Passed.{none_map, IsPassedProcessor, ArePassedProcessors, IsPassedConnection, ArePassedConnections}
 
 -- the whole number in a field, where one stands there
@@ -51,7 +61,11 @@ pub record IsTyped (d : Data) (k : Kind) : Type 0 where
 
 abbrev names_by : Data → Option ProcessorType → List (List ℕ)
 names_by d type =
-    names_of (relationships_given (option_map_or own_of type own.Nothing) (given_in d)) ++ option_map_or relationships_of type []
+    names_of (relationships_given (option_map_or own_of type own.Nothing) (others (option_map_or properties_of type []) (given_in d)))
+    ++ option_map_or relationships_of type []
+
+abbrev own_names_by : Data → Option ProcessorType → List (List ℕ)
+own_names_by d type = names_of (own_given (option_map_or own_of type own.Nothing) (others (option_map_or properties_of type []) (given_in d)))
 
 pub kind_typed : (d : Data) (k : Kind) → IsKindOf d k → IsTyped d k
 kind_typed d (kind.GetFile filter) is = record {
@@ -76,9 +90,7 @@ kind_typed d (kind.UpdateAttribute own) is = record {
 }
 kind_typed d (kind.RouteOnAttribute list) is = record {
   typed = ap is_some is.0;
-  names = ap (names_by d) is.0
-      ∙ ap (λ names. names ++ codes "unmatched" ∷ [])
-      (sym (names_read d list (ap (λ type. own_given (option_map_or own_of type own.Nothing) (given_in d)) is.0) is.1));
+  names = ap (names_by d) is.0 ∙ ap (λ names. names ++ codes "unmatched" ∷ []) (sym (names_read d list is.1 ∙ ap (own_names_by d) is.0));
   source = ap (λ type. option_map_or is_source type false) is.0;
 }
 kind_typed d (kind.AttributesToJson destination names) is = record {
@@ -96,15 +108,53 @@ kind_typed d kind.CryptographicHashContent is = record {
   names = ap (names_by d) is;
   source = ap (λ type. option_map_or is_source type false) is;
 }
-kind_typed d (kind.SplitText lines) is = absurd is
-kind_typed d (kind.ReplaceText replacement) is = absurd is
-kind_typed d (kind.ExtractText own) is = absurd is
-kind_typed d (kind.RouteOnContent requirement own) is = absurd is
-kind_typed d (kind.MergeContent strategy minimum maximum) is = absurd is
-kind_typed d (kind.SegmentContent size) is = absurd is
-kind_typed d (kind.ModifyBytes start end) is = absurd is
+kind_typed d (kind.SplitText lines) is = record {
+  typed = ap is_some is.0;
+  names = ap (names_by d) is.0;
+  source = ap (λ type. option_map_or is_source type false) is.0;
+}
+kind_typed d (kind.ReplaceText by) is = record {
+  typed = ap is_some is.0;
+  names = ap (names_by d) is.0;
+  source = ap (λ type. option_map_or is_source type false) is.0;
+}
+kind_typed d (kind.ExtractText list) is = record {
+  typed = ap is_some is.0;
+  names = ap (names_by d) is.0;
+  source = ap (λ type. option_map_or is_source type false) is.0;
+}
+kind_typed d (kind.RouteOnContent requirement list) is = record {
+  typed = ap is_some is.0;
+  names = ap (names_by d) is.0
+      ∙ ap (λ names. names ++ codes "unmatched" ∷ []) (sym (pattern_names d list is.2 ∙ ap (own_names_by d) is.0));
+  source = ap (λ type. option_map_or is_source type false) is.0;
+}
+kind_typed d (kind.MergeContent by minimum maximum) is = record {
+  typed = ap is_some is.0;
+  names = ap (names_by d) is.0;
+  source = ap (λ type. option_map_or is_source type false) is.0;
+}
+kind_typed d (kind.SegmentContent size) is = record {
+  typed = ap is_some is.0;
+  names = ap (names_by d) is.0;
+  source = ap (λ type. option_map_or is_source type false) is.0;
+}
+kind_typed d (kind.ModifyBytes start end) is = record {
+  typed = ap is_some is.0;
+  names = ap (names_by d) is.0;
+  source = ap (λ type. option_map_or is_source type false) is.0;
+}
 
-kind_sound : (d : Data) (k : Kind) → IsOwnRight d → IsKindOf d k → IsSoundKind k
+replacement_sound : (d : Data) (s : ReplaceStrategy) (by : Replacement) → IsRight d → type_of d ≡ Some type.ReplaceText
+    → replace_strategy_in d ≡ s → IsReplacementOf s (property_text SearchValue d) (property_text ReplacementValue d) by
+    → is_replacement_sound by ≡ true
+replacement_sound d strategy.Regex (replacement.Regex search template) right typed is read = refl
+replacement_sound d strategy.Regex (replacement.Literal search value) right typed is read = absurd read
+replacement_sound d strategy.Literal (replacement.Regex search template) right typed is read = absurd read
+replacement_sound d strategy.Literal (replacement.Literal search value) right typed is read =
+    ap (λ text. nat_lt 0 (length text)) read.0 ∙ search_sound d right typed is
+
+kind_sound : (d : Data) (k : Kind) → IsRight d → IsKindOf d k → IsSoundKind k
 kind_sound d (kind.GetFile filter) right is =
     record { ranges = refl; texts = matches (property_text FileFilter d) filter is.1 }
 kind_sound d (kind.GenerateFlowFile count text) right is = record {
@@ -113,9 +163,15 @@ kind_sound d (kind.GenerateFlowFile count text) right is = record {
 }
 kind_sound d (kind.PutFile conflict) right is = record { ranges = refl; texts = tt }
 kind_sound d (kind.UpdateAttribute list) right is =
-    record { ranges = attributes_sound d list right is.0 is.1; texts = own_read (own_texts_in d) list is.1 }
-kind_sound d (kind.RouteOnAttribute list) right is =
-    record { ranges = relationships_sound d list right is.0 is.1; texts = own_read (own_texts_in d) list is.1 }
+    record {
+      ranges = ap are_own_names (names_read d list is.1) ∙ attributes_sound d type.UpdateAttribute right is.0 (λ gs. refl);
+      texts = own_read (own_texts_in d) list is.1;
+    }
+kind_sound d (kind.RouteOnAttribute list) right is = record {
+  ranges = ap are_own_relationships (names_read d list is.1)
+      ∙ relationships_sound d type.RouteOnAttribute right is.0 (λ gs. refl) (λ name. refl);
+  texts = own_read (own_texts_in d) list is.1;
+}
 kind_sound d (kind.AttributesToJson destination names) right is = record {
   ranges = ap (list_all is_listed_name) is.2 ∙ names_listed (property_text AttributesList d);
   texts = tt;
@@ -125,13 +181,47 @@ kind_sound d (kind.DuplicateFlowFile copies) right is = record {
   texts = tt;
 }
 kind_sound d kind.CryptographicHashContent right is = record { ranges = refl; texts = tt }
-kind_sound d (kind.SplitText lines) right is = absurd is
-kind_sound d (kind.ReplaceText replacement) right is = absurd is
-kind_sound d (kind.ExtractText own) right is = absurd is
-kind_sound d (kind.RouteOnContent requirement own) right is = absurd is
-kind_sound d (kind.MergeContent strategy minimum maximum) right is = absurd is
-kind_sound d (kind.SegmentContent size) right is = absurd is
-kind_sound d (kind.ModifyBytes start end) right is = absurd is
+kind_sound d (kind.SplitText lines) right is = record {
+  ranges = ap (λ n. within 1 n LINES_MAX) is.1 ∙ number_within 1 1 LINES_MAX (number_in (property_text LineSplitCount d)) refl;
+  texts = tt;
+}
+kind_sound d (kind.ReplaceText by) right is =
+    record { ranges = replacement_sound d (replace_strategy_in d) by right is.0 refl is.1; texts = tt }
+kind_sound d (kind.ExtractText list) right is = record {
+  ranges = ap are_own_names (pattern_names d list is.1) ∙ attributes_sound d type.ExtractText right is.0 (λ gs. refl);
+  texts = tt;
+}
+kind_sound d (kind.RouteOnContent requirement.Exactly list) right is = record {
+  ranges = ap are_own_relationships (pattern_names d list is.2)
+      ∙ relationships_sound d type.RouteOnContent right is.0 (λ gs. refl) (λ name. refl);
+  texts = whole_matched d list
+      (ap (λ type. must_match_whole (option_map_or own_of type own.Nothing) (requirement_in d)) is.0
+      ∙ ap (must_match_whole own.RelationshipPatterns) (sym is.1)) is.2;
+}
+kind_sound d (kind.RouteOnContent requirement.Contains list) right is = record {
+  ranges = ap are_own_relationships (pattern_names d list is.2)
+      ∙ relationships_sound d type.RouteOnContent right is.0 (λ gs. refl) (λ name. refl);
+  texts = tt;
+}
+kind_sound d (kind.MergeContent by minimum maximum) right is = record {
+  ranges = and_from _ _
+      (and_from _ _
+      (ap (λ n. within 1 n TAKEN_MAX) is.2 ∙ number_within 1 1 TAKEN_MAX (number_in (property_text MinimumEntries d)) refl)
+      (ap (λ n. within 1 n TAKEN_MAX) is.3 ∙ number_within 1 1 TAKEN_MAX (number_in (property_text MaximumEntries d)) refl))
+      ((λ i. are_entries_sound (is.1 i) (is.2 i) (is.3 i)) ∙ entries_sound d right is.0);
+  texts = tt;
+}
+kind_sound d (kind.SegmentContent size) right is = record {
+  ranges = ap (λ n. within 1 n CONTENT_MAX) is.1
+      ∙ number_within 1 1 CONTENT_MAX (number_in (property_text SegmentSize d)) refl;
+  texts = tt;
+}
+kind_sound d (kind.ModifyBytes start end) right is = record {
+  ranges = and_from _ _
+      (ap (λ n. nat_le n CONTENT_MAX) is.1 ∙ number_below 0 CONTENT_MAX (number_in (property_text StartOffset d)) refl)
+      (ap (λ n. nat_le n CONTENT_MAX) is.2 ∙ number_below 0 CONTENT_MAX (number_in (property_text EndOffset d)) refl);
+  texts = tt;
+}
 
 pub sound_kinds : (top : Data) (earlier ds : List Data) (ps : List Processor) → ArePassedProcessors top earlier ds → AreAscending ds
     → AreProcessorsOf ds ps → All (λ processor. IsSoundKind processor.kind) ps
@@ -139,7 +229,14 @@ sound_kinds top earlier [] [] passed ascending each = All-nil (λ processor. IsS
 sound_kinds top earlier [] (p ∷ ps) passed ascending each = absurd each
 sound_kinds top earlier (d ∷ ds) [] passed ascending each = absurd each
 sound_kinds top earlier (d ∷ ds) (p ∷ ps) passed ascending each =
-    let right : IsOwnRight d = record { right = passed.0.own; few = passed.0.own_few; ascending = ascending.0 } in
+    let right : IsRight d = record {
+      shaped = passed.0.shaped.1.1.1.1.0;
+      given = passed.0.properties;
+      right = passed.0.own;
+      numbers = passed.0.numbers;
+      few = passed.0.own_few;
+      ascending = ascending.0;
+    } in
     All-cons (λ processor. IsSoundKind processor.kind) p ps (kind_sound d p.kind right each.0.kind)
     (sound_kinds top (earlier ++ d ∷ []) ds ps passed.1 ascending.1 each.1)
 

@@ -10,10 +10,11 @@ use Rattle.flow_definition.specs.declared.field.Field.{Field}
 use Rattle.flow_definition.specs.declared.field.Field.TheVariants.{Processors, Connections, Id, Terminated, From, To, Properties}
 use Rattle.flow_definition.specs.declared.field.Level.TheVariants as level
 use Rattle.flow_definition.specs.declared.rule.Rule.{Rule}
-use Rattle.flow_definition.specs.declared.rule.Rule.TheVariants.{MissingField, DoubleId, UnknownEnd, RelationshipUnconnected, BadProperty, TooMany}
+use Rattle.flow_definition.specs.declared.rule.Rule.TheVariants.{MissingField, DoubleId, UnknownEnd, RelationshipUnconnected, BadProperty, TooMany, BadNumber}
 use Rattle.flow_definition.specs.Fields.{fields_of}
-use Rattle.flow_definition.specs.Looks.{items_at, is_object, relationships_in, given_in, own_properties_in}
-use Rattle.flow_definition.specs.Rules.{Path, in_field, in_property, is_missing, missing_field, missing_property, is_doubled, is_unknown_source, is_unknown_target, is_loose, wrong_item, not_of_source, is_misshapen, misshapen_field, is_bad_property, bad_property, has_crowded, are_connections_too_many}
+use Rattle.flow_definition.specs.Looks.{items_at, is_object, relationships_in, given_in, own_properties_in, properties_in}
+use Rattle.flow_definition.specs.Rules.{Path, in_field, in_property, is_missing, missing_field, is_missing_property, missing_property, is_doubled, is_unknown_source, is_unknown_target, is_loose, wrong_item, not_of_source, is_misshapen, misshapen_field, is_bad_property, bad_property, bad_number, is_bad_number_property, bad_number_property, has_crowded, are_connections_too_many}
+use Rattle.flow_definition.specs.Types.{property_name}
 use Rattle.flow_definition.specs.Walk.{in_top, in_level, in_list_item, in_object, first_in, first_place, first_of, first_rules, last_rules}
 
 -- ---- nothing was found
@@ -71,6 +72,7 @@ pub record IsUnbroken (top : Data) : Type 0 where
   pub connected : IsPassed RelationshipUnconnected top
   pub shaped : IsPassed BadProperty top
   pub few : IsPassed TooMany top
+  pub numbers : IsPassed BadNumber top
 
 pub unbroken : (top : Data) → first_of first_rules top ≡ None → first_of last_rules top ≡ None → IsUnbroken top
 unbroken top first last =
@@ -83,6 +85,7 @@ unbroken top first last =
       connected = before.1.1.1.1.0;
       shaped = before.1.1.1.1.1.0;
       few = behind.0;
+      numbers = behind.1.1.0;
     }
 
 -- ---- each object, behind the earlier ones of its list
@@ -103,6 +106,8 @@ pub record IsPassedProcessor (top : Data) (earlier : List Data) (d : Data) : Typ
   pub shaped : NoneOf (is_misshapen d) (fields_of level.Processor)
   pub few : has_crowded top d ≡ false
   pub own : NoneOf (is_bad_property d) (given_in d)
+  pub properties : NoneOf (is_missing_property d) (properties_in d)
+  pub numbers : NoneOf (is_bad_number_property d) (properties_in d)
   pub own_few : nat_lt OWN_PROPERTIES_MAX (length (own_properties_in d)) ≡ false
 
 abbrev pub ArePassedProcessors : (top : Data) (earlier ds : List Data) → Type 0
@@ -115,30 +120,36 @@ pub passed_processors : (top : Data) (earlier ds : List Data) → list_all is_ob
     → first_in (in_level level.Processor RelationshipUnconnected top) Processors earlier ds ≡ None
     → first_in (in_level level.Processor BadProperty top) Processors earlier ds ≡ None
     → first_in (in_level level.Processor TooMany top) Processors earlier ds ≡ None
+    → first_in (in_level level.Processor BadNumber top) Processors earlier ds ≡ None
     → list_any (has_crowded top) ds ≡ false → ArePassedProcessors top earlier ds
-passed_processors top earlier [] objects given once connected shaped own few = tt
-passed_processors top earlier (d ∷ ds) objects given once connected shaped own few =
+passed_processors top earlier [] objects given once connected shaped own numbers few = tt
+passed_processors top earlier (d ∷ ds) objects given once connected shaped own numbers few =
     let is = and_parts (is_object d) (list_all is_object ds) objects in
     let g = head_passed (in_level level.Processor MissingField top) Processors earlier ds d is.0 given in
     let o = head_passed (in_level level.Processor DoubleId top) Processors earlier ds d is.0 once in
     let c = head_passed (in_level level.Processor RelationshipUnconnected top) Processors earlier ds d is.0 connected in
     let s = head_passed (in_level level.Processor BadProperty top) Processors earlier ds d is.0 shaped in
+    let n = none_or (missing_field level.Processor d) (missing_property d) g.0 in
     let p = none_or (misshapen_field level.Processor d) (bad_property d) s.0 in
     let t = head_passed (in_level level.Processor TooMany top) Processors earlier ds d is.0 own in
+    let m = head_passed (in_level level.Processor BadNumber top) Processors earlier ds d is.0 numbers in
     let f = or_parts (has_crowded top d) (list_any (has_crowded top) ds) few in
     let linked = none_first (list_any (is_loose top d) (relationships_in d)) [] (wrong_item Terminated (Some d) d) c.0 in (
       record {
         given = unfound (is_missing d) (fields_of level.Processor)
-            (none_map in_field _ (none_or (missing_field level.Processor d) (missing_property d) g.0).0);
+            (none_map in_field _ n.0);
         once = (none_first (is_doubled earlier d) (in_field Id) None o.0).0;
         loose = linked.0;
         named = linked.1;
         shaped = unfound (is_misshapen d) (fields_of level.Processor) (none_map in_field _ p.0);
         few = f.0;
         own = unfound (is_bad_property d) (given_in d) (none_map (λ given. in_property given.0) _ p.1);
+        properties = unfound (is_missing_property d) (properties_in d) (none_map (λ p. in_property (property_name p)) _ n.1);
+        numbers = unfound (is_bad_number_property d) (properties_in d)
+            (none_map (λ p. in_property (property_name p)) _ (none_or (bad_number level.Processor d) (bad_number_property d) m.0).1);
         own_few = (none_first _ (in_field Properties) None t.0).0;
       },
-      passed_processors top (earlier ++ d ∷ []) ds is.1 g.1 o.1 c.1 s.1 t.1 f.1,
+      passed_processors top (earlier ++ d ∷ []) ds is.1 g.1 o.1 c.1 s.1 t.1 m.1 f.1,
     )
 
 pub record IsPassedConnection (top : Data) (earlier : List Data) (d : Data) : Type 0 where

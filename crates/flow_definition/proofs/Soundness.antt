@@ -43,7 +43,7 @@ whole top ordered right =
       few = few;
       processors = passed_processors top [] (items_at Processors top) (objects_given (value_at Processors top) shaped.0)
           right.given.processors right.once.processors right.connected.processors right.shaped.processors right.few.processors
-          few.crowded;
+          right.numbers.processors few.crowded;
       connections = passed_connections top [] (items_at Connections top) (objects_given (value_at Connections top) shaped.1.0)
           right.given.connections right.once.connections right.ends.connections right.connected.connections
           right.shaped.connections;

@@ -1,22 +1,41 @@
 -- What becomes of the processors of a text, and what that settles.
-use Rattle.std.proofs.Common.{◌≡◌, ℕ, suc, ◌≤◌, List, [], ◌∷◌, ◌++◌, Some, None, Contains, refl, sym, subst, arith}
+use Rattle.std.proofs.Common.{◌≡◌, ◌==◌, cond, ℕ, suc, ◌≤◌, List, [], ◌∷◌, ◌++◌, Option, Some, None, option_map, Result, Ok, Err, IfOk, Contains, refl, sym, subst, arith}
 use Rattle.std.specs.List.{filter_map}
-use Rattle.std.specs.Option.{option_map_or}
+use Rattle.std.specs.Option.{option_map_or, option_or}
 use Rattle.std.proofs.lemmas.Option.{none-some}
 use Rattle.serde_json.specs.Data.{Data}
+use Rattle.flow_definition.specs.declared.field.Field.TheVariants.{Processors}
 use Rattle.flow_definition.specs.declared.made.Made.{Made}
 use Rattle.flow_definition.specs.declared.made.Made.TheVariants as made
+use Rattle.flow_definition.specs.declared.made.MadeKind.{MadeKind}
+use Rattle.flow_definition.specs.declared.made.MadeKind.TheVariants as kind
 use Rattle.flow_definition.specs.declared.made.Refusal.{Refusal}
-use Rattle.flow_definition.specs.declared.made.Refusal.TheVariants.{NoType, Unread, TooBig, NoExpression, NoOwnExpression}
+use Rattle.flow_definition.specs.declared.made.Refusal.TheVariants.{NoType, Unread, TooBig, NoExpression, NoOwnExpression, NoOwnPatterns}
 use Rattle.flow_definition.specs.declared.rule.Rule.TheVariants.{UnknownType, BadPattern, BadExpression, PatternTooBig}
-use Rattle.flow_definition.specs.declared.processor_type.ProcessorType.TheVariants.{GetFile, GenerateFlowFile}
-use Rattle.flow_definition.specs.declared.processor_type.Property.TheVariants.{FileFilter, CustomText}
-use Rattle.flow_definition.specs.Looks.{type_of, properties_in}
+use Rattle.flow_definition.specs.declared.processor_type.ProcessorType.TheVariants.{GetFile, GenerateFlowFile, ReplaceText}
+use Rattle.flow_definition.specs.declared.processor_type.Property.TheVariants.{FileFilter, CustomText, SearchValue}
+use Rattle.flow_definition.specs.Looks.{type_of, properties_in, own_texts_in}
+use Rattle.flow_definition.specs.Numbers.{number_of}
+use Rattle.flow_definition.specs.OwnPatterns.{name_refused, rule_by, unread_in}
 use Rattle.flow_definition.specs.Types.{properties_of}
-use Rattle.flow_definition.specs.Made.{IsRefusal, IsMade, AreMade, AreAllMade, count_all, count_made, first_refused, processor_in}
+use Rattle.flow_definition.specs.Made.{IsRefusal, IsMade, IsMadeKind, count_kind, AreMade, AreAllMade, count_all, count_made, first_refused, processor_in}
 use Rattle.flow_definition.specs.Patterns.{HasRisen}
-use Rattle.flow_definition.specs.Reading.{AreProcessorsOf}
-use Rattle.flow_definition.specs.Rules.{Path}
+use Rattle.flow_definition.specs.Reading.{AreProcessorsOf, is_whole_in}
+use Rattle.flow_definition.specs.Rules.{Path, in_property}
+use Rattle.flow_definition.specs.Walk.{in_list_item}
+use Rattle.flow_definition.proofs.OwnPatterns.{attempts_later, none_big, some_big}
+
+-- own patterns are refused by one of two rules
+refused_so : (k : ℕ) (unread : Option (List ℕ)) (place : Path) (rest other : Option Path)
+    → option_or (option_map (in_list_item Processors k) (cond (number_of (rule_by unread) == number_of BadPattern) (Some place) None)) rest ≡ None
+    → option_or (option_map (in_list_item Processors k) (cond (number_of (rule_by unread) == number_of PatternTooBig) (Some place) None)) other ≡ None → ⊥
+refused_so k (Some name) place rest other read small = absurd (none-some _ (sym read))
+refused_so k None place rest other read small = absurd (none-some _ (sym small))
+
+risen_own : (R : Type 0) (k : ℕ) (unread : Option (List ℕ)) (place path : Path) (rest : Option Path) → (unread ≡ None → R) → (rest ≡ Some path → R)
+    → option_or (option_map (in_list_item Processors k) (cond (number_of (rule_by unread) == number_of PatternTooBig) (Some place) None)) rest ≡ Some path → R
+risen_own R k (Some name) place path rest here later found = later found
+risen_own R k None place path rest here later found = here refl
 
 pub all_made : (ms : List Made) (k : ℕ) → first_refused UnknownType k ms ≡ None → first_refused BadPattern k ms ≡ None
     → first_refused BadExpression k ms ≡ None → first_refused PatternTooBig k ms ≡ None → AreAllMade ms
@@ -27,6 +46,8 @@ all_made (made.Refused (Unread p) ∷ ms) k typed read expressed small = absurd 
 all_made (made.Refused (TooBig p) ∷ ms) k typed read expressed small = absurd (none-some _ (sym small))
 all_made (made.Refused (NoExpression p) ∷ ms) k typed read expressed small = absurd (none-some _ (sym expressed))
 all_made (made.Refused (NoOwnExpression n) ∷ ms) k typed read expressed small = absurd (none-some _ (sym expressed))
+all_made (made.Refused (NoOwnPatterns list) ∷ ms) k typed read expressed small =
+    absurd (refused_so k (unread_in list) (in_property (name_refused list)) _ _ read small)
 
 pub processors_made : (R : Type 0) (ds : List Data) (ms : List Made) → AreMade R ds ms → AreAllMade ms → AreProcessorsOf ds (filter_map processor_in ms)
 processors_made R [] [] each all = tt
@@ -46,6 +67,9 @@ risen R (d ∷ ds) (made.Refused (Unread p) ∷ ms) k path each found = risen R 
 risen R (d ∷ ds) (made.Refused (TooBig p) ∷ ms) k path each found = each.0.1
 risen R (d ∷ ds) (made.Refused (NoExpression p) ∷ ms) k path each found = risen R ds ms (suc k) path each.1 found
 risen R (d ∷ ds) (made.Refused (NoOwnExpression n) ∷ ms) k path each found = risen R ds ms (suc k) path each.1 found
+risen R (d ∷ ds) (made.Refused (NoOwnPatterns list) ∷ ms) k path each found =
+    risen_own R k (unread_in list) (in_property (name_refused list)) path (first_refused PatternTooBig (suc k) ms)
+    (some_big R (is_whole_in d) (own_texts_in d) list each.0.0 each.0.1) (risen R ds ms (suc k) path each.1) found
 
 -- where each was made, the count stays
 pub count_none : (n : ℕ) (ms : List Made) → AreAllMade ms → count_all n ms ≡ n
@@ -71,6 +95,29 @@ refusal_later R S d (Unread p) f h = h
 refusal_later R S d (TooBig p) f h = (h.0, f h.1)
 refusal_later R S d (NoExpression p) f h = h
 refusal_later R S d (NoOwnExpression n) f h = h
+refusal_later R S d (NoOwnPatterns list) f h = (attempts_later R S (is_whole_in d) (own_texts_in d) list f h.0, h.1)
+
+-- what is made without a pattern
+kind_later : (S : Type 0) (d : Data) (m : MadeKind) → IsMadeKind ⊥ d m → IsMadeKind S d m
+kind_later S d (kind.Kind k) h = h
+kind_later S d (kind.Refused r) h = refusal_later ⊥ S d r (λ x. absurd x) h
+
+pub answer_later : {E : Type 0} (S : Type 0) (d : Data) (r : Result MadeKind E) → IfOk r (IsMadeKind ⊥ d) → IfOk r (IsMadeKind S d)
+answer_later S d (Ok m) h = kind_later S d m h
+answer_later S d (Err e) h = tt
+
+kind_uncounted : (n : ℕ) (d : Data) (m : MadeKind) → IsMadeKind ⊥ d m → n ≡ count_kind n m
+kind_uncounted n d (kind.Kind k) h = refl
+kind_uncounted n d (kind.Refused NoType) h = refl
+kind_uncounted n d (kind.Refused (Unread p)) h = refl
+kind_uncounted n d (kind.Refused (TooBig p)) h = absurd h.1
+kind_uncounted n d (kind.Refused (NoExpression p)) h = refl
+kind_uncounted n d (kind.Refused (NoOwnExpression name)) h = refl
+kind_uncounted n d (kind.Refused (NoOwnPatterns list)) h = sym (none_big n (is_whole_in d) (own_texts_in d) list h.0)
+
+pub answer_uncounted : {E : Type 0} (n : ℕ) (d : Data) (r : Result MadeKind E) → IfOk r (IsMadeKind ⊥ d) → IfOk r (λ m. n ≡ count_kind n m)
+answer_uncounted n d (Ok m) h = kind_uncounted n d m h
+answer_uncounted n d (Err e) h = tt
 
 pub made_later : (R S : Type 0) (ds : List Data) (ms : List Made) → (R → S) → AreMade R ds ms → AreMade S ds ms
 made_later R S [] [] f each = tt
@@ -98,3 +145,7 @@ file_filter_in d is =
 pub custom_text_in : (d : Data) → type_of d ≡ Some GenerateFlowFile → Contains (properties_in d) CustomText
 custom_text_in d is =
     subst (λ type. Contains (option_map_or properties_of type []) CustomText) (sym is) (1, omega arith, refl)
+
+pub search_value_in : (d : Data) → type_of d ≡ Some ReplaceText → Contains (properties_in d) SearchValue
+search_value_in d is =
+    subst (λ type. Contains (option_map_or properties_of type []) SearchValue) (sym is) (2, omega arith, refl)

@@ -1,8 +1,10 @@
+pub mod Building
 pub mod Fields
 pub mod Listed
 pub mod Looks
 pub mod Made
 pub mod Numbers
+pub mod OwnPatterns
 pub mod Patterns
 pub mod Places
 pub mod Pointers

@@ -1,7 +1,7 @@
 -- What stands in an object of the text, where it is there and of the right kind.
-use Rattle.std.specs.Prelude.{ℕ, Bool, false, List, [], ◌∷◌, ◌++◌, map, Option, option_and_then, is_some, unwrap_or, bytes_eq, find, if◌then◌else◌}
+use Rattle.std.specs.Prelude.{ℕ, Bool, false, not, filter, List, [], ◌∷◌, ◌++◌, map, Option, option_and_then, is_some, unwrap_or, bytes_eq, find, if◌then◌else◌}
 use Rattle.std.specs.Option.{option_map_or}
-use Rattle.std.specs.List.{list_all}
+use Rattle.std.specs.List.{list_all, list_any}
 use Rattle.serde_json.specs.Data.{Data, Items, no_items, item, Members, no_members, member}
 use Rattle.serde_json.specs.Find.{get, as_str, as_array, as_object}
 use Rattle.flow_definition.specs.declared.field.Field.{Field}
@@ -93,6 +93,17 @@ property_text property processor = unwrap_or (given_text property processor) (un
 
 -- ---- properties of a processor's own, and the relationships that they make
 
+-- the name of a property of the type
+abbrev pub is_fixed : List Property → List ℕ → Bool
+is_fixed properties name = list_any (λ property. bytes_eq (property_name property) name) properties
+
+-- what is given beside the properties of the type
+abbrev pub others : List Property → List (List ℕ × Data) → List (List ℕ × Data)
+others properties given = filter (λ member. not (is_fixed properties member.0)) given
+
+abbrev pub others_in : Data → List (List ℕ × Data)
+others_in processor = others (properties_in processor) (given_in processor)
+
 abbrev pub own_in : Data → Own
 own_in processor = option_map_or own_of (type_of processor) own.Nothing
 
@@ -100,18 +111,22 @@ abbrev pub own_given : Own → List (List ℕ × Data) → List (List ℕ × Dat
 own_given own.Nothing given = []
 own_given own.Attributes given = given
 own_given own.Relationships given = given
+own_given own.AttributePatterns given = given
+own_given own.RelationshipPatterns given = given
 
 abbrev pub own_properties_in : Data → List (List ℕ × Data)
-own_properties_in processor = own_given (own_in processor) (given_in processor)
+own_properties_in processor = own_given (own_in processor) (others_in processor)
 
 abbrev pub relationships_given : Own → List (List ℕ × Data) → List (List ℕ × Data)
 relationships_given own.Nothing given = []
 relationships_given own.Attributes given = []
 relationships_given own.Relationships given = given
+relationships_given own.AttributePatterns given = []
+relationships_given own.RelationshipPatterns given = given
 
 -- an own property makes its relationship by its name, whatever its value is
 abbrev pub own_relationships_in : Data → List (List ℕ)
-own_relationships_in processor = names_of (relationships_given (own_in processor) (given_in processor))
+own_relationships_in processor = names_of (relationships_given (own_in processor) (others_in processor))
 
 abbrev pub relationships_in : Data → List (List ℕ)
 relationships_in processor = own_relationships_in processor ++ fixed_relationships_in processor

@@ -5,7 +5,6 @@ use Rattle.disk_trait.specs.Count.{one_more}
 use Rattle.expr_lang.specs.Grammar.{IsText}
 use Rattle.expr_lang.specs.Tree.{Tree}
 use Rattle.serde_json.specs.Data.{Data}
-use Rattle.machine_model.specs.Sound.{to_match_whole}
 use Rattle.machine_model.specs.declared.flow.Processor.{Processor}
 use Rattle.flow_definition.specs.declared.expressions.MadeOwn.{MadeOwn}
 use Rattle.flow_definition.specs.declared.expressions.MadeOwn.TheVariants as own
@@ -15,15 +14,17 @@ use Rattle.flow_definition.specs.declared.made.Made.TheVariants as made
 use Rattle.flow_definition.specs.declared.made.MadeKind.{MadeKind}
 use Rattle.flow_definition.specs.declared.made.MadeKind.TheVariants as kind
 use Rattle.flow_definition.specs.declared.made.Refusal.{Refusal}
-use Rattle.flow_definition.specs.declared.made.Refusal.TheVariants.{NoType, Unread, TooBig, NoExpression, NoOwnExpression}
-use Rattle.flow_definition.specs.declared.processor_type.Form.TheVariants.{WholePattern, Expression}
+use Rattle.flow_definition.specs.declared.made.Refusal.TheVariants.{NoType, Unread, TooBig, NoExpression, NoOwnExpression, NoOwnPatterns}
+use Rattle.flow_definition.specs.declared.processor_type.Form.TheVariants.{Expression}
 use Rattle.flow_definition.specs.declared.processor_type.Property.{Property}
 use Rattle.flow_definition.specs.declared.rule.Rule.{Rule}
 use Rattle.flow_definition.specs.declared.rule.Rule.TheVariants.{UnknownType, BadPattern, BadExpression, PatternTooBig}
+use Rattle.flow_definition.specs.Building.{IsPattern, pattern_text}
 use Rattle.flow_definition.specs.Looks.{type_of, properties_in, property_text, own_texts_in}
 use Rattle.flow_definition.specs.Numbers.{number_of}
+use Rattle.flow_definition.specs.OwnPatterns.{AreRefused, count_attempts, name_refused, rule_by, unread_in}
 use Rattle.flow_definition.specs.Patterns.{IsUnread}
-use Rattle.flow_definition.specs.Reading.{AreOwnOf, IsKindOf, IsProcessorOf}
+use Rattle.flow_definition.specs.Reading.{AreOwnOf, IsKindOf, IsProcessorOf, is_whole_in}
 use Rattle.flow_definition.specs.Rules.{Path, in_field, in_property}
 use Rattle.flow_definition.specs.Types.{form_of, property_name}
 use Rattle.flow_definition.specs.Walk.{in_list_item}
@@ -31,9 +32,6 @@ use Rattle.flow_definition.specs.Walk.{in_list_item}
 -- the text isn't in the grammar of expressions
 abbrev pub IsNoExpression : List ℕ → Type 0
 IsNoExpression text = (tree : Tree) → IsText text tree → ⊥
-
-abbrev pub IsPattern : Data → Property → Type 0
-IsPattern d property = Contains (properties_in d) property × (form_of property ≡ WholePattern)
 
 abbrev pub IsExpression : Data → Property → Type 0
 IsExpression d property = Contains (properties_in d) property × (form_of property ≡ Expression)
@@ -50,10 +48,11 @@ pub record IsFirstUnread (texts : List (List ℕ × List ℕ)) (name : List ℕ)
 -- the cause of a refusal. The builder may call any pattern too big where its count of such refusals rose
 abbrev pub IsRefusal : (Risen : Type 0) → Data → Refusal → Type 0
 IsRefusal Risen d NoType = type_of d ≡ None
-IsRefusal Risen d (Unread property) = IsPattern d property × IsUnread (to_match_whole (property_text property d))
+IsRefusal Risen d (Unread property) = IsPattern d property × IsUnread (pattern_text property d)
 IsRefusal Risen d (TooBig property) = IsPattern d property × Risen
 IsRefusal Risen d (NoExpression property) = IsExpression d property × IsNoExpression (property_text property d)
 IsRefusal Risen d (NoOwnExpression name) = IsFirstUnread (own_texts_in d) name
+IsRefusal Risen d (NoOwnPatterns attempts) = AreRefused Risen (is_whole_in d) (own_texts_in d) attempts
 
 abbrev pub AreOwnMade : List (List ℕ × List ℕ) → MadeOwn → Type 0
 AreOwnMade texts (own.Read list) = AreOwnOf texts list
@@ -79,6 +78,7 @@ rule_of (Unread property) = BadPattern
 rule_of (TooBig property) = PatternTooBig
 rule_of (NoExpression property) = BadExpression
 rule_of (NoOwnExpression name) = BadExpression
+rule_of (NoOwnPatterns attempts) = rule_by (unread_in attempts)
 
 abbrev pub part_of : Refusal → Path
 part_of NoType = in_field TypeName
@@ -86,6 +86,7 @@ part_of (Unread property) = in_property (property_name property)
 part_of (TooBig property) = in_property (property_name property)
 part_of (NoExpression property) = in_property (property_name property)
 part_of (NoOwnExpression name) = in_property name
+part_of (NoOwnPatterns attempts) = in_property (name_refused attempts)
 
 -- where in the processor a refusal by this rule is
 abbrev pub refused_by : Rule → Made → Option Path
@@ -119,6 +120,7 @@ count_refused count NoType = count
 count_refused count (Unread property) = count
 count_refused count (NoExpression property) = count
 count_refused count (NoOwnExpression name) = count
+count_refused count (NoOwnPatterns attempts) = count_attempts count attempts
 
 abbrev pub count_made : ℕ → Made → ℕ
 count_made count (made.Processor processor) = count

@@ -12,10 +12,18 @@ use Rattle.flow_definition.specs.declared.field.Field.TheVariants.{Processors, C
 use Rattle.flow_definition.specs.declared.field.Level.{Level}
 use Rattle.flow_definition.specs.declared.processor_type.Own.{Own}
 use Rattle.flow_definition.specs.declared.processor_type.Own.TheVariants as own
+use Rattle.flow_definition.specs.declared.processor_type.Form.{Form}
+use Rattle.flow_definition.specs.declared.processor_type.Form.TheVariants as form
 use Rattle.flow_definition.specs.declared.processor_type.Property.{Property}
+use Rattle.flow_definition.specs.declared.processor_type.Property.TheVariants.{MinimumEntries, MaximumEntries}
+use Rattle.flow_definition.specs.declared.processor_type.ReplaceStrategy.{ReplaceStrategy}
+use Rattle.flow_definition.specs.declared.processor_type.ReplaceStrategy.TheVariants as strategy
+use Rattle.machine_model.specs.declared.kind.MergeStrategy.{MergeStrategy}
+use Rattle.machine_model.specs.declared.kind.MergeStrategy.TheVariants.{BinPacking, Defragment}
 use Rattle.machine_model.specs.declared.limits.TheConstants.{PROCESSORS_MAX, CONNECTIONS_MAX, FAN_OUT_MAX, OWN_NAME_MAX, OWN_PROPERTIES_MAX}
 use Rattle.flow_definition.specs.Fields.{name_of, fields_of, shape_of, is_required}
 use Rattle.flow_definition.specs.Looks.{value_at, text_at, has_text, items_at, names_at, is_object, is_text, members_of, names_of, type_of, properties_in, own_in, fixed_relationships_in, relationships_in, own_properties_in, processor_named, given_in, given_at, given_text}
+use Rattle.flow_definition.specs.Reading.{merge_strategy_in, number_by, replace_strategy_in}
 use Rattle.flow_definition.specs.Shapes.{has_shape, is_in_range, is_of_set, is_number_text}
 use Rattle.flow_definition.specs.Types.{is_source, property_name, default_of, form_of}
 
@@ -150,6 +158,8 @@ abbrev pub may_be_own : Own → (fixed : List (List ℕ)) → List ℕ → Bool
 may_be_own own.Nothing fixed name = false
 may_be_own own.Attributes fixed name = true
 may_be_own own.Relationships fixed name = not (is_among name fixed)
+may_be_own own.AttributePatterns fixed name = true
+may_be_own own.RelationshipPatterns fixed name = not (is_among name fixed)
 
 -- an own property has a name of 1 to 255 bytes, and is a text
 abbrev pub is_own_property : Data → List ℕ × Data → Bool
@@ -157,9 +167,18 @@ is_own_property processor (name, value) =
     within 1 (length name) OWN_NAME_MAX && may_be_own (own_in processor) (fixed_relationships_in processor) name
     && is_text value
 
+-- nothing is sought as it stands
+abbrev pub is_empty_search : ReplaceStrategy → Form → List ℕ → Bool
+is_empty_search strategy.Literal form.Search [] = true
+is_empty_search _ _ _ = false
+
+abbrev pub may_hold : Data → Property → List ℕ → Bool
+may_hold processor property text =
+    is_of_set (form_of property) text && not (is_empty_search (replace_strategy_in processor) (form_of property) text)
+
 abbrev pub is_bad_value : Data → List ℕ × Data → Option Property → Bool
 is_bad_value processor given None = not (is_own_property processor given)
-is_bad_value processor given (Some property) = not (option_map_or (is_of_set (form_of property)) (as_str given.1) false)
+is_bad_value processor given (Some property) = not (option_map_or (may_hold processor property) (as_str given.1) false)
 
 abbrev pub is_bad_property : Data → List ℕ × Data → Bool
 is_bad_property processor given = is_bad_value processor given (property_named processor given.0)
@@ -199,7 +218,8 @@ is_unknown l name = not (list_any (λ f. bytes_eq (name_of f) name) (fields_of l
 abbrev pub unknown_field : Level → Data → Option Path
 unknown_field l part = option_map in_unknown (find (is_unknown l) (names_of (members_of part)))
 
--- ---- a number isn't a whole one without sign, point and exponent, or is out of range
+-- ---- a number isn't a whole one without sign, point and exponent, or is out of range; of files that are joined by
+-- number the least is above the most
 
 abbrev pub is_bad_number : Data → Field → Bool
 is_bad_number part f =
@@ -208,9 +228,19 @@ is_bad_number part f =
 abbrev pub bad_number : Level → Data → Option Path
 bad_number l part = option_map in_field (find (is_bad_number part) (fields_of l))
 
+abbrev pub is_above : MergeStrategy → (minimum maximum : ℕ) → Bool
+is_above BinPacking minimum maximum = nat_lt maximum minimum
+is_above Defragment minimum maximum = false
+
+abbrev pub is_above_most : Data → Property → Bool
+is_above_most processor MinimumEntries =
+    is_above (merge_strategy_in processor) (number_by MinimumEntries processor) (number_by MaximumEntries processor)
+is_above_most processor _ = false
+
 abbrev pub is_bad_number_property : Data → Property → Bool
 is_bad_number_property processor property =
     option_map_or (λ text. not (is_number_text (form_of property) text)) (given_text property processor) false
+    || is_above_most processor property
 
 abbrev pub bad_number_property : Data → Option Path
 bad_number_property processor =

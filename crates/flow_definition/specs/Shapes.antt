@@ -11,6 +11,10 @@ use Rattle.machine_model.specs.declared.kind.Conflict.{Conflict}
 use Rattle.machine_model.specs.declared.kind.Conflict.TheVariants.{Replace, Ignore, Fail}
 use Rattle.machine_model.specs.declared.kind.Destination.{Destination}
 use Rattle.machine_model.specs.declared.kind.Destination.TheVariants.{Attribute, Content}
+use Rattle.machine_model.specs.declared.kind.MatchRequirement.{MatchRequirement}
+use Rattle.machine_model.specs.declared.kind.MatchRequirement.TheVariants as requirement
+use Rattle.machine_model.specs.declared.kind.MergeStrategy.{MergeStrategy}
+use Rattle.machine_model.specs.declared.kind.MergeStrategy.TheVariants.{BinPacking, Defragment}
 use Rattle.prioritizer.specs.Order.{name_of}
 use Rattle.prioritizer.specs.declared.prioritizer.Prioritizer.{Prioritizer}
 use Rattle.prioritizer.specs.declared.prioritizer.Prioritizer.TheVariants.{FirstInFirstOut, NewestFlowFileFirst, OldestFlowFileFirst, PriorityAttribute}
@@ -18,6 +22,8 @@ use Rattle.flow_definition.specs.declared.field.Shape.{Shape}
 use Rattle.flow_definition.specs.declared.field.Shape.TheVariants as shape
 use Rattle.flow_definition.specs.declared.processor_type.Form.{Form}
 use Rattle.flow_definition.specs.declared.processor_type.Form.TheVariants as form
+use Rattle.flow_definition.specs.declared.processor_type.ReplaceStrategy.{ReplaceStrategy}
+use Rattle.flow_definition.specs.declared.processor_type.ReplaceStrategy.TheVariants as strategy
 use Rattle.flow_definition.specs.Looks.{is_text, is_object, items_of, names_in}
 
 abbrev pub is_list : Data → Bool
@@ -76,14 +82,42 @@ destination_name Content = codes "flowfile-content"
 abbrev pub destination_named : List ℕ → Option Destination
 destination_named name = find (λ d. bytes_eq (destination_name d) name) (Attribute ∷ Content ∷ [])
 
+abbrev pub replace_strategy_name : ReplaceStrategy → List ℕ
+replace_strategy_name strategy.Regex = codes "Regex Replace"
+replace_strategy_name strategy.Literal = codes "Literal Replace"
+
+abbrev pub replace_strategy_named : List ℕ → Option ReplaceStrategy
+replace_strategy_named name =
+    find (λ s. bytes_eq (replace_strategy_name s) name) (strategy.Regex ∷ strategy.Literal ∷ [])
+
+abbrev pub requirement_name : MatchRequirement → List ℕ
+requirement_name requirement.Exactly = codes "content must match exactly"
+requirement_name requirement.Contains = codes "content must contain match"
+
+abbrev pub requirement_named : List ℕ → Option MatchRequirement
+requirement_named name =
+    find (λ r. bytes_eq (requirement_name r) name) (requirement.Exactly ∷ requirement.Contains ∷ [])
+
+abbrev pub merge_strategy_name : MergeStrategy → List ℕ
+merge_strategy_name BinPacking = codes "Bin-Packing Algorithm"
+merge_strategy_name Defragment = codes "Defragment"
+
+abbrev pub merge_strategy_named : List ℕ → Option MergeStrategy
+merge_strategy_named name = find (λ s. bytes_eq (merge_strategy_name s) name) (BinPacking ∷ Defragment ∷ [])
+
 -- the text is of the set that the property has
 abbrev pub is_of_set : Form → List ℕ → Bool
 is_of_set form.Conflict text = is_some (conflict_named text)
 is_of_set form.Destination text = is_some (destination_named text)
+is_of_set form.ReplaceStrategy text = is_some (replace_strategy_named text)
+is_of_set form.Requirement text = is_some (requirement_named text)
+is_of_set form.MergeStrategy text = is_some (merge_strategy_named text)
 is_of_set form.WholePattern text = true
 is_of_set (form.Number least most) text = true
 is_of_set form.Expression text = true
 is_of_set form.Names text = true
+is_of_set form.Search text = true
+is_of_set form.Text text = true
 
 -- the number that 1 to 10 digits write
 abbrev pub number_in : List ℕ → Option ℕ
@@ -97,3 +131,8 @@ is_number_text form.Expression text = true
 is_number_text form.Conflict text = true
 is_number_text form.Destination text = true
 is_number_text form.Names text = true
+is_number_text form.ReplaceStrategy text = true
+is_number_text form.Search text = true
+is_number_text form.Text text = true
+is_number_text form.Requirement text = true
+is_number_text form.MergeStrategy text = true

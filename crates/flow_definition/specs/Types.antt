@@ -1,13 +1,15 @@
 -- The types of processors, a row for each: its name, whether it makes files and takes none, its properties, ascending
 -- by the bytes of their names, what properties of a processor's own are, and its relationships in their order. Own
--- relationships come before these. A type that has own properties has no other ones. Of a property: its name, what it
--- may hold, and what a missing one stands for; a property without a default is required.
+-- relationships come before these. Of a property: its name, what it may hold, and what a missing one stands for; a
+-- property without a default is required.
 use Rattle.std.specs.Prelude.{ℕ, Bool, true, false, List, [], ◌∷◌, Option, Some, None, codes, find, bytes_eq}
-use Rattle.machine_model.specs.declared.limits.TheConstants.{COPIES_MAX, GENERATED_MAX}
+use Rattle.flowfile_record.specs.declared.TheConstants.{CONTENT_MAX}
+use Rattle.flowfile_record.specs.declared.limits.TheConstants.{TAKEN_MAX}
+use Rattle.machine_model.specs.declared.limits.TheConstants.{COPIES_MAX, GENERATED_MAX, LINES_MAX}
 use Rattle.flow_definition.specs.declared.processor_type.ProcessorType.{ProcessorType}
-use Rattle.flow_definition.specs.declared.processor_type.ProcessorType.TheVariants.{GetFile, GenerateFlowFile, PutFile, UpdateAttribute, RouteOnAttribute, AttributesToJson, DuplicateFlowFile, CryptographicHashContent}
+use Rattle.flow_definition.specs.declared.processor_type.ProcessorType.TheVariants.{GetFile, GenerateFlowFile, PutFile, UpdateAttribute, RouteOnAttribute, AttributesToJson, DuplicateFlowFile, CryptographicHashContent, SplitText, ReplaceText, ExtractText, RouteOnContent, MergeContent, SegmentContent, ModifyBytes}
 use Rattle.flow_definition.specs.declared.processor_type.Property.{Property}
-use Rattle.flow_definition.specs.declared.processor_type.Property.TheVariants.{FileFilter, Count, CustomText, ConflictResolution, AttributesList, JsonDestination, Copies}
+use Rattle.flow_definition.specs.declared.processor_type.Property.TheVariants.{FileFilter, Count, CustomText, ConflictResolution, AttributesList, JsonDestination, Copies, LineSplitCount, ReplacementStrategy, ReplacementValue, SearchValue, Requirement, MergeStrategy, MinimumEntries, MaximumEntries, SegmentSize, StartOffset, EndOffset}
 use Rattle.flow_definition.specs.declared.processor_type.Form.{Form}
 use Rattle.flow_definition.specs.declared.processor_type.Form.TheVariants as form
 use Rattle.flow_definition.specs.declared.processor_type.Own.{Own}
@@ -77,6 +79,55 @@ row_of CryptographicHashContent = record {
   own = own.Nothing;
   relationships = codes "success" ∷ codes "failure" ∷ [];
 }
+row_of SplitText = record {
+  name = codes "SplitText";
+  source = false;
+  properties = LineSplitCount ∷ [];
+  own = own.Nothing;
+  relationships = codes "original" ∷ codes "splits" ∷ codes "failure" ∷ [];
+}
+row_of ReplaceText = record {
+  name = codes "ReplaceText";
+  source = false;
+  properties = ReplacementStrategy ∷ ReplacementValue ∷ SearchValue ∷ [];
+  own = own.Nothing;
+  relationships = codes "success" ∷ codes "failure" ∷ [];
+}
+row_of ExtractText = record {
+  name = codes "ExtractText";
+  source = false;
+  properties = [];
+  own = own.AttributePatterns;
+  relationships = codes "matched" ∷ codes "unmatched" ∷ [];
+}
+row_of RouteOnContent = record {
+  name = codes "RouteOnContent";
+  source = false;
+  properties = Requirement ∷ [];
+  own = own.RelationshipPatterns;
+  relationships = codes "unmatched" ∷ [];
+}
+row_of MergeContent = record {
+  name = codes "MergeContent";
+  source = false;
+  properties = MaximumEntries ∷ MergeStrategy ∷ MinimumEntries ∷ [];
+  own = own.Nothing;
+  relationships = codes "merged" ∷ codes "original" ∷ codes "failure" ∷ [];
+}
+row_of SegmentContent = record {
+  name = codes "SegmentContent";
+  source = false;
+  properties = SegmentSize ∷ [];
+  own = own.Nothing;
+  relationships = codes "segments" ∷ codes "original" ∷ codes "failure" ∷ [];
+}
+row_of ModifyBytes = record {
+  name = codes "ModifyBytes";
+  source = false;
+  properties = EndOffset ∷ StartOffset ∷ [];
+  own = own.Nothing;
+  relationships = codes "success" ∷ [];
+}
 
 pub record PropertyRow : Type 0 where
   pub name : List ℕ
@@ -105,6 +156,39 @@ property_row Copies = record {
   form = form.Number 1 COPIES_MAX;
   default = Some (codes "100");
 }
+property_row LineSplitCount = record { name = codes "Line Split Count"; form = form.Number 1 LINES_MAX; default = None }
+property_row ReplacementStrategy = record {
+  name = codes "Replacement Strategy";
+  form = form.ReplaceStrategy;
+  default = Some (codes "Regex Replace");
+}
+property_row ReplacementValue = record { name = codes "Replacement Value"; form = form.Text; default = None }
+property_row SearchValue = record { name = codes "Search Value"; form = form.Search; default = None }
+property_row Requirement = record {
+  name = codes "Match Requirement";
+  form = form.Requirement;
+  default = Some (codes "content must match exactly");
+}
+property_row MergeStrategy = record {
+  name = codes "Merge Strategy";
+  form = form.MergeStrategy;
+  default = Some (codes "Bin-Packing Algorithm");
+}
+property_row MinimumEntries = record {
+  name = codes "Minimum Number of Entries";
+  form = form.Number 1 TAKEN_MAX;
+  default = Some (codes "1");
+}
+property_row MaximumEntries = record {
+  name = codes "Maximum Number of Entries";
+  form = form.Number 1 TAKEN_MAX;
+  default = Some (codes "1000");
+}
+property_row SegmentSize = record { name = codes "Segment Size"; form = form.Number 1 CONTENT_MAX; default = None }
+property_row StartOffset =
+    record { name = codes "Start Offset"; form = form.Number 0 CONTENT_MAX; default = Some (codes "0") }
+property_row EndOffset =
+    record { name = codes "End Offset"; form = form.Number 0 CONTENT_MAX; default = Some (codes "0") }
 
 abbrev pub is_source : ProcessorType → Bool
 is_source type = (row_of type).source
@@ -126,7 +210,8 @@ abbrev pub type_named : List ℕ → Option ProcessorType
 type_named name =
     find (λ type. bytes_eq (type_name type) name)
     (GetFile ∷ GenerateFlowFile ∷ PutFile ∷ UpdateAttribute ∷ RouteOnAttribute ∷ AttributesToJson ∷ DuplicateFlowFile
-    ∷ CryptographicHashContent ∷ [])
+    ∷ CryptographicHashContent ∷ SplitText ∷ ReplaceText ∷ ExtractText ∷ RouteOnContent ∷ MergeContent
+    ∷ SegmentContent ∷ ModifyBytes ∷ [])
 
 abbrev pub property_name : Property → List ℕ
 property_name property = (property_row property).name

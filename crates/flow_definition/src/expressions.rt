@@ -1,11 +1,12 @@
 //! Reading the expressions of a processor's own properties.
 ghost use Rattle.std.specs.Prelude.{◌≡◌, IfOk, MatchOption};
 ghost use Rattle.serde_json.specs.View.{view, members_view};
-ghost use Rattle.flow_definition.specs.Looks.{member_list, own_texts_in, texts_of};
+ghost use Rattle.flow_definition.specs.Looks.{member_list, others, own_texts_in, texts_of};
 ghost use Rattle.flow_definition.specs.Made.{AreOwnMade, IsNoExpression};
 ghost use Rattle.flow_definition.specs.Reading.{IsOwnOf};
 
-use crate::look::{own_properties, text_of};
+use crate::look::{is_fixed, own_properties, properties_in, text_of};
+use crate::processor_type::Property;
 use expr_lang::{ExprError, parse};
 use flowfile_record::{Sequence, Text};
 use machine_model::{OwnExpression, OwnExpressionList};
@@ -25,19 +26,26 @@ pub(crate) fn make_own(alloc: Global, processor: &Value) -> Result<MadeOwn, Allo
     ensures { IfOk result (AreOwnMade (own_texts_in (view processor.now))) }
 {
     match own_properties(processor) {
-        Some(members) => make_members(alloc, members),
+        Some(members) => make_members(alloc, properties_in(processor), members),
         None => Ok(MadeOwn::Read(Sequence::new(alloc))),
     }
 }
 
-fn make_members(alloc: Global, members: &Map<String, Value>) -> Result<MadeOwn, AllocError>
-    ensures { IfOk result (AreOwnMade (texts_of (member_list (members_view members.now.entries)))) }
+fn make_members(
+    alloc: Global,
+    properties: &[Property],
+    members: &Map<String, Value>,
+) -> Result<MadeOwn, AllocError>
+    ensures { IfOk result
+        (AreOwnMade (texts_of (others properties.now (member_list (members_view members.now.entries))))) }
 {
     let mut list = Vec::new(alloc);
     'members: for (name, value) in members {
-        match own_expression(alloc, name.as_str(), text_of(value))? {
-            Some(own) => list.push(own)?,
-            None => return Ok(MadeOwn::Unread(Text::from_str(alloc, name.as_str())?)),
+        if !is_fixed(name.as_str(), properties) {
+            match own_expression(alloc, name.as_str(), text_of(value))? {
+                Some(own) => list.push(own)?,
+                None => return Ok(MadeOwn::Unread(Text::from_str(alloc, name.as_str())?)),
+            }
         }
     }
     Ok(MadeOwn::Read(Sequence::from(list)))

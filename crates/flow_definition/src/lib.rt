@@ -1,6 +1,7 @@
 //! The text of a flow: its rules, and the flow that it stands for.
 #![tactic(auto)]
 
+mod building;
 mod error;
 mod expressions;
 mod field;
@@ -8,6 +9,7 @@ mod limits;
 mod listed;
 mod look;
 mod made;
+mod own_patterns;
 mod patterns;
 mod place;
 mod pointer;

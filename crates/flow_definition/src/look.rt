@@ -4,7 +4,7 @@ ghost use Rattle.machine_model.specs.Kinds.{is_among};
 ghost use Rattle.std.specs.List.{list_all};
 ghost use Rattle.std.specs.Option.{option_map, option_map_or};
 ghost use Rattle.serde_json.specs.View.{view, members_view};
-ghost use Rattle.flow_definition.specs.Looks.{value_at, is_text, text_of, text_at, has_text, items_of, items_at, names_in, names_at, type_of, properties_in, fixed_relationships_in, processor_named, member_list, given_in, given_at, given_text, own_in, own_properties_in, own_relationships_in, names_of};
+ghost use Rattle.flow_definition.specs.Looks.{value_at, is_text, text_of, text_at, has_text, items_of, items_at, names_in, names_at, type_of, properties_in, fixed_relationships_in, processor_named, member_list, given_in, given_at, given_text, own_in, is_fixed, others, own_properties_in, own_relationships_in, names_of};
 
 use crate::field::Field;
 use crate::processor_type::{Own, ProcessorType, Property};
@@ -175,28 +175,39 @@ pub(crate) fn own_in(processor: &Value) -> Own
     }
 }
 
-/// The properties of a processor's own, where it may have some.
+/// What a processor gives, where those beside the properties of its type are its own.
 pub(crate) fn own_properties(processor: &Value) -> Option<&Map<String, Value>>
-    ensures { option_map_or (λ members. member_list (members_view members.now.entries)) result []
-        ≡ own_properties_in (view processor.now) }
+    ensures { option_map_or (λ members. others (properties_in (view processor.now))
+        (member_list (members_view members.now.entries))) result [] ≡ own_properties_in (view processor.now) }
 {
     match own_in(processor) {
         Own::Nothing => None,
         Own::Attributes => given(processor),
         Own::Relationships => given(processor),
+        Own::AttributePatterns => given(processor),
+        Own::RelationshipPatterns => given(processor),
     }
 }
 
-/// The properties of a processor's own that make relationships, where it may have such.
+/// What a processor gives, where those beside the properties of its type make relationships.
 pub(crate) fn own_relationships(processor: &Value) -> Option<&Map<String, Value>>
-    ensures { option_map_or (λ members. names_of (member_list (members_view members.now.entries))) result []
-        ≡ own_relationships_in (view processor.now) }
+    ensures { option_map_or (λ members. names_of (others (properties_in (view processor.now))
+        (member_list (members_view members.now.entries)))) result [] ≡ own_relationships_in (view processor.now) }
 {
     match own_in(processor) {
         Own::Nothing => None,
         Own::Attributes => None,
         Own::Relationships => given(processor),
+        Own::AttributePatterns => None,
+        Own::RelationshipPatterns => given(processor),
     }
+}
+
+/// Whether a property of the type has this name.
+pub(crate) fn is_fixed(name: &str, properties: &[Property]) -> bool
+    ensures { result ≡ is_fixed properties.now name.now }
+{
+    properties.iter().any(|property| property.name() == name)
 }
 
 /// Whether a name is among some names.

@@ -1,29 +1,33 @@
 //! Making the processors of a text: building their patterns and reading their expressions.
 ghost use Rattle.std.specs.Prelude.{◌≡◌, ◌==◌, ◌≤◌, map, option_map, Some, IfOk};
-ghost use Rattle.machine_model.specs.Sound.{to_match_whole};
 ghost use Rattle.serde_json.specs.View.{view};
 ghost use Rattle.flow_definition.specs.Looks.{type_of};
 ghost use Rattle.flow_definition.specs.Made.{IsMade, AreMade, IsMadeKind, count_all, count_kind, count_made, rule_of, part_of, refused_by, first_refused, processor_in};
 ghost use Rattle.std.specs.List.{filter_map};
-ghost use Rattle.flow_definition.specs.Reading.{IsKindOf, IsProcessorOf};
-ghost use Rattle.flow_definition.specs.Patterns.{HasRisen, IsUnread};
+ghost use Rattle.flow_definition.specs.Reading.{IsKindOf, IsProcessorOf, replace_strategy_in};
+ghost use Rattle.flow_definition.specs.Patterns.{HasRisen};
 ghost use Rattle.flow_definition.specs.Places.{part_path, place_path};
 
+use crate::building::{Built, build, whole};
 use crate::expressions::{MadeOwn, make_own};
 use crate::field::Field;
 use crate::listed::listed_names;
 use crate::look::type_of;
-use crate::patterns::{PatternError, Patterns};
+use crate::own_patterns::{
+    AttemptList, MadePatterns, make_own_patterns, name_refused, rule_broken,
+};
+use crate::patterns::Patterns;
 use crate::place::{Part, Place};
-use crate::processor_type::{ProcessorType, Property};
+use crate::processor_type::{ProcessorType, Property, ReplaceStrategy};
 use crate::reading::{
-    conflict_in, copies_in, count_in, destination_in, id_at, penalty_at, property_text, tasks_at,
-    texts_at,
+    conflict_in, copies_in, count_in, destination_in, id_at, lines_in, maximum_in,
+    merge_strategy_in, minimum_in, number_by, penalty_at, property_text, replace_strategy_in,
+    requirement_in, tasks_at, texts_at,
 };
 use crate::rule::Rule;
 use expr_lang::{ExprError, parse};
 use flowfile_record::Text;
-use machine_model::{Kind, Pattern, Processor};
+use machine_model::{Kind, Processor, Replacement};
 use serde_json::Value;
 use std::alloc::{AllocError, Global};
 
@@ -47,6 +51,8 @@ pub enum Refusal {
     NoExpression(Property),
     /// The text of an own property, of this name, is no expression.
     NoOwnExpression(Text),
+    /// Patterns of its own can't be read, nest too deep, or are refused as too large.
+    NoOwnPatterns(AttemptList),
 }
 
 impl Refusal {
@@ -59,6 +65,7 @@ impl Refusal {
             Refusal::TooBig(_) => Rule::PatternTooBig,
             Refusal::NoExpression(_) => Rule::BadExpression,
             Refusal::NoOwnExpression(_) => Rule::BadExpression,
+            Refusal::NoOwnPatterns(attempts) => rule_broken(attempts.as_slice()),
         }
     }
 
@@ -71,6 +78,7 @@ impl Refusal {
             Refusal::TooBig(property) => Part::Property(property.name()),
             Refusal::NoExpression(property) => Part::Property(property.name()),
             Refusal::NoOwnExpression(name) => Part::Property(name.as_str()),
+            Refusal::NoOwnPatterns(attempts) => Part::Property(name_refused(attempts.as_slice())),
         }
     }
 }
@@ -152,6 +160,24 @@ fn make_kind<P: Patterns>(
         Some(ProcessorType::CryptographicHashContent) => {
             Ok(MadeKind::Kind(Kind::CryptographicHashContent))
         }
+        Some(ProcessorType::SplitText) => Ok(MadeKind::Kind(Kind::SplitText {
+            lines: lines_in(processor),
+        })),
+        Some(ProcessorType::ReplaceText) => make_replacer(alloc, processor, patterns),
+        Some(ProcessorType::ExtractText) => make_extractor(alloc, processor, patterns),
+        Some(ProcessorType::RouteOnContent) => make_content_router(alloc, processor, patterns),
+        Some(ProcessorType::MergeContent) => Ok(MadeKind::Kind(Kind::MergeContent {
+            strategy: merge_strategy_in(processor),
+            minimum: minimum_in(processor),
+            maximum: maximum_in(processor),
+        })),
+        Some(ProcessorType::SegmentContent) => Ok(MadeKind::Kind(Kind::SegmentContent {
+            size: number_by(Property::SegmentSize, processor),
+        })),
+        Some(ProcessorType::ModifyBytes) => Ok(MadeKind::Kind(Kind::ModifyBytes {
+            start: number_by(Property::StartOffset, processor),
+            end: number_by(Property::EndOffset, processor),
+        })),
         None => Ok(MadeKind::Refused(Refusal::NoType)),
     }
 }
@@ -215,25 +241,105 @@ fn make_get_file<P: Patterns>(
     ensures each { IfOk result (λ made. P.faults patterns.new ≡ count_kind (P.faults patterns.old) made) }
 {
     let text = whole(alloc, property_text(Property::FileFilter, processor))?;
-    match patterns.build(alloc, text.as_str()) {
-        Ok(regex) => {
-            let filter = Pattern::from_regex(alloc, text, regex)?;
-            Ok(MadeKind::Kind(Kind::GetFile {
-                filter: Some(filter),
-            }))
-        }
-        Err(PatternError::Syntax) => Ok(MadeKind::Refused(Refusal::Unread(Property::FileFilter))),
-        Err(PatternError::TooBig) => Ok(MadeKind::Refused(Refusal::TooBig(Property::FileFilter))),
-        Err(PatternError::Memory) => Err(AllocError),
+    match build(alloc, text, patterns)? {
+        Built::Pattern(filter) => Ok(MadeKind::Kind(Kind::GetFile {
+            filter: Some(filter),
+        })),
+        Built::Unread => Ok(MadeKind::Refused(Refusal::Unread(Property::FileFilter))),
+        Built::TooBig => Ok(MadeKind::Refused(Refusal::TooBig(Property::FileFilter))),
     }
 }
 
-/// The pattern that matches a whole text where this one does.
-fn whole(alloc: Global, pattern: &str) -> Result<Text, AllocError>
-    ensures { IfOk result (λ text. text ≡ to_match_whole pattern.now) }
+fn make_replacer<P: Patterns>(
+    alloc: Global,
+    processor: &Value,
+    patterns: &mut P,
+) -> Result<MadeKind, AllocError>
+    requires { type_of (view processor.now) ≡ Some ProcessorType.ReplaceText }
+    ensures made { IfOk result
+        (IsMadeKind (HasRisen (P.faults patterns.old) (P.faults patterns.new)) (view processor.now)) }
+    ensures count { P.faults patterns.old ≤ P.faults patterns.new }
+    ensures each { IfOk result (λ made. P.faults patterns.new ≡ count_kind (P.faults patterns.old) made) }
 {
-    let text = format!(in alloc; "\\A(?:{pattern})\\z")?;
-    Ok(Text::from(text))
+    match replace_strategy_in(processor) {
+        ReplaceStrategy::Regex => make_regex_replacer(alloc, processor, patterns),
+        ReplaceStrategy::Literal => make_literal_replacer(alloc, processor),
+    }
+}
+
+fn make_regex_replacer<P: Patterns>(
+    alloc: Global,
+    processor: &Value,
+    patterns: &mut P,
+) -> Result<MadeKind, AllocError>
+    requires named { type_of (view processor.now) ≡ Some ProcessorType.ReplaceText }
+    requires strategy { replace_strategy_in (view processor.now) ≡ ReplaceStrategy.Regex }
+    ensures made { IfOk result
+        (IsMadeKind (HasRisen (P.faults patterns.old) (P.faults patterns.new)) (view processor.now)) }
+    ensures count { P.faults patterns.old ≤ P.faults patterns.new }
+    ensures each { IfOk result (λ made. P.faults patterns.new ≡ count_kind (P.faults patterns.old) made) }
+{
+    let text = Text::from_str(alloc, property_text(Property::SearchValue, processor))?;
+    match build(alloc, text, patterns)? {
+        Built::Pattern(search) => {
+            let value = property_text(Property::ReplacementValue, processor);
+            let template = Text::from_str(alloc, value)?;
+            Ok(MadeKind::Kind(Kind::ReplaceText {
+                replacement: Replacement::Regex { search, template },
+            }))
+        }
+        Built::Unread => Ok(MadeKind::Refused(Refusal::Unread(Property::SearchValue))),
+        Built::TooBig => Ok(MadeKind::Refused(Refusal::TooBig(Property::SearchValue))),
+    }
+}
+
+fn make_literal_replacer(alloc: Global, processor: &Value) -> Result<MadeKind, AllocError>
+    requires named { type_of (view processor.now) ≡ Some ProcessorType.ReplaceText }
+    requires strategy { replace_strategy_in (view processor.now) ≡ ReplaceStrategy.Literal }
+    ensures { IfOk result (IsMadeKind ⊥ (view processor.now)) }
+{
+    let search = Text::from_str(alloc, property_text(Property::SearchValue, processor))?;
+    let value = Text::from_str(alloc, property_text(Property::ReplacementValue, processor))?;
+    Ok(MadeKind::Kind(Kind::ReplaceText {
+        replacement: Replacement::Literal { search, value },
+    }))
+}
+
+fn make_extractor<P: Patterns>(
+    alloc: Global,
+    processor: &Value,
+    patterns: &mut P,
+) -> Result<MadeKind, AllocError>
+    requires { type_of (view processor.now) ≡ Some ProcessorType.ExtractText }
+    ensures made { IfOk result
+        (IsMadeKind (HasRisen (P.faults patterns.old) (P.faults patterns.new)) (view processor.now)) }
+    ensures count { P.faults patterns.old ≤ P.faults patterns.new }
+    ensures each { IfOk result (λ made. P.faults patterns.new ≡ count_kind (P.faults patterns.old) made) }
+{
+    match make_own_patterns(alloc, processor, patterns)? {
+        MadePatterns::Read(own) => Ok(MadeKind::Kind(Kind::ExtractText { own })),
+        MadePatterns::Refused(attempts) => Ok(MadeKind::Refused(Refusal::NoOwnPatterns(attempts))),
+    }
+}
+
+fn make_content_router<P: Patterns>(
+    alloc: Global,
+    processor: &Value,
+    patterns: &mut P,
+) -> Result<MadeKind, AllocError>
+    requires { type_of (view processor.now) ≡ Some ProcessorType.RouteOnContent }
+    ensures made { IfOk result
+        (IsMadeKind (HasRisen (P.faults patterns.old) (P.faults patterns.new)) (view processor.now)) }
+    ensures count { P.faults patterns.old ≤ P.faults patterns.new }
+    ensures each { IfOk result (λ made. P.faults patterns.new ≡ count_kind (P.faults patterns.old) made) }
+{
+    match make_own_patterns(alloc, processor, patterns)? {
+        MadePatterns::Read(own) => Ok(MadeKind::Kind(Kind::RouteOnContent {
+            requirement: requirement_in(processor),
+            own,
+        })),
+        MadePatterns::Refused(attempts) => Ok(MadeKind::Refused(Refusal::NoOwnPatterns(attempts))),
+    }
 }
 
 /// The first processor that was refused by a rule, and where.

@@ -3,7 +3,8 @@ ghost use Rattle.std.specs.Prelude.{◌≡◌, map};
 ghost use Rattle.std.specs.Option.{option_map};
 ghost use Rattle.flow_definition.specs.Types.{type_named, type_name, is_source, properties_of, own_of, relationships_of, property_name, form_of, default_of};
 
-use machine_model::{COPIES_MAX, GENERATED_MAX};
+use flowfile_record::{CONTENT_MAX, TAKEN_MAX};
+use machine_model::{COPIES_MAX, GENERATED_MAX, LINES_MAX};
 
 /// A type of processor that a flow may name.
 #[derive(Clone, Copy, Debug, PartialEq, Eq)]
@@ -16,6 +17,13 @@ pub enum ProcessorType {
     AttributesToJson,
     DuplicateFlowFile,
     CryptographicHashContent,
+    SplitText,
+    ReplaceText,
+    ExtractText,
+    RouteOnContent,
+    MergeContent,
+    SegmentContent,
+    ModifyBytes,
 }
 
 /// A property of a type of processor.
@@ -28,9 +36,20 @@ pub enum Property {
     AttributesList,
     JsonDestination,
     Copies,
+    LineSplitCount,
+    ReplacementStrategy,
+    ReplacementValue,
+    SearchValue,
+    Requirement,
+    MergeStrategy,
+    MinimumEntries,
+    MaximumEntries,
+    SegmentSize,
+    StartOffset,
+    EndOffset,
 }
 
-/// What the properties of a processor's own are. A type that has such has no other ones.
+/// What the properties of a processor's own are.
 #[derive(Clone, Copy, Debug, PartialEq, Eq)]
 pub enum Own {
     /// There may be none.
@@ -39,6 +58,10 @@ pub enum Own {
     Attributes,
     /// Relationships: their names, and expressions of which files go there.
     Relationships,
+    /// Attributes: their names, and patterns of what they are set to.
+    AttributePatterns,
+    /// Relationships: their names, and patterns of which files go there.
+    RelationshipPatterns,
 }
 
 /// What a property may hold, as a text.
@@ -56,9 +79,28 @@ pub enum Form {
     Names,
     /// One of the places where attributes are written.
     Destination,
+    /// One of the ways to replace.
+    ReplaceStrategy,
+    /// What is replaced: a pattern, or a text that isn't empty, as the processor's way to replace has it.
+    Search,
+    /// Any text.
+    Text,
+    /// One of the ways to match a pattern.
+    Requirement,
+    /// One of the ways to find the files that are joined.
+    MergeStrategy,
 }
 
-const ALL: [ProcessorType; 8] = [
+/// How a ReplaceText replaces.
+#[derive(Clone, Copy, Debug, PartialEq, Eq)]
+pub enum ReplaceStrategy {
+    /// What a pattern finds.
+    Regex,
+    /// Each place of a text.
+    Literal,
+}
+
+const ALL: [ProcessorType; 15] = [
     ProcessorType::GetFile,
     ProcessorType::GenerateFlowFile,
     ProcessorType::PutFile,
@@ -67,6 +109,13 @@ const ALL: [ProcessorType; 8] = [
     ProcessorType::AttributesToJson,
     ProcessorType::DuplicateFlowFile,
     ProcessorType::CryptographicHashContent,
+    ProcessorType::SplitText,
+    ProcessorType::ReplaceText,
+    ProcessorType::ExtractText,
+    ProcessorType::RouteOnContent,
+    ProcessorType::MergeContent,
+    ProcessorType::SegmentContent,
+    ProcessorType::ModifyBytes,
 ];
 
 impl ProcessorType {
@@ -90,6 +139,13 @@ impl ProcessorType {
             ProcessorType::AttributesToJson => "AttributesToJSON",
             ProcessorType::DuplicateFlowFile => "DuplicateFlowFile",
             ProcessorType::CryptographicHashContent => "CryptographicHashContent",
+            ProcessorType::SplitText => "SplitText",
+            ProcessorType::ReplaceText => "ReplaceText",
+            ProcessorType::ExtractText => "ExtractText",
+            ProcessorType::RouteOnContent => "RouteOnContent",
+            ProcessorType::MergeContent => "MergeContent",
+            ProcessorType::SegmentContent => "SegmentContent",
+            ProcessorType::ModifyBytes => "ModifyBytes",
         }
     }
 
@@ -118,6 +174,21 @@ impl ProcessorType {
             }
             ProcessorType::DuplicateFlowFile => &[Property::Copies],
             ProcessorType::CryptographicHashContent => &[],
+            ProcessorType::SplitText => &[Property::LineSplitCount],
+            ProcessorType::ReplaceText => &[
+                Property::ReplacementStrategy,
+                Property::ReplacementValue,
+                Property::SearchValue,
+            ],
+            ProcessorType::ExtractText => &[],
+            ProcessorType::RouteOnContent => &[Property::Requirement],
+            ProcessorType::MergeContent => &[
+                Property::MaximumEntries,
+                Property::MergeStrategy,
+                Property::MinimumEntries,
+            ],
+            ProcessorType::SegmentContent => &[Property::SegmentSize],
+            ProcessorType::ModifyBytes => &[Property::EndOffset, Property::StartOffset],
         }
     }
 
@@ -128,6 +199,8 @@ impl ProcessorType {
         match self {
             ProcessorType::UpdateAttribute => Own::Attributes,
             ProcessorType::RouteOnAttribute => Own::Relationships,
+            ProcessorType::ExtractText => Own::AttributePatterns,
+            ProcessorType::RouteOnContent => Own::RelationshipPatterns,
             _ => Own::Nothing,
         }
     }
@@ -138,11 +211,17 @@ impl ProcessorType {
     {
         match self {
             ProcessorType::GetFile | ProcessorType::GenerateFlowFile => &["success"],
-            ProcessorType::DuplicateFlowFile => &["success"],
-            ProcessorType::RouteOnAttribute => &["unmatched"],
+            ProcessorType::DuplicateFlowFile | ProcessorType::ModifyBytes => &["success"],
+            ProcessorType::RouteOnAttribute | ProcessorType::RouteOnContent => &["unmatched"],
+            ProcessorType::ExtractText => &["matched", "unmatched"],
             ProcessorType::PutFile | ProcessorType::UpdateAttribute => &["success", "failure"],
             ProcessorType::AttributesToJson => &["success", "failure"],
-            ProcessorType::CryptographicHashContent => &["success", "failure"],
+            ProcessorType::CryptographicHashContent | ProcessorType::ReplaceText => {
+                &["success", "failure"]
+            }
+            ProcessorType::SplitText => &["original", "splits", "failure"],
+            ProcessorType::MergeContent => &["merged", "original", "failure"],
+            ProcessorType::SegmentContent => &["segments", "original", "failure"],
         }
     }
 }
@@ -159,6 +238,17 @@ impl Property {
             Property::AttributesList => "Attributes List",
             Property::JsonDestination => "Destination",
             Property::Copies => "Number of Copies",
+            Property::LineSplitCount => "Line Split Count",
+            Property::ReplacementStrategy => "Replacement Strategy",
+            Property::ReplacementValue => "Replacement Value",
+            Property::SearchValue => "Search Value",
+            Property::Requirement => "Match Requirement",
+            Property::MergeStrategy => "Merge Strategy",
+            Property::MinimumEntries => "Minimum Number of Entries",
+            Property::MaximumEntries => "Maximum Number of Entries",
+            Property::SegmentSize => "Segment Size",
+            Property::StartOffset => "Start Offset",
+            Property::EndOffset => "End Offset",
         }
     }
 
@@ -179,6 +269,27 @@ impl Property {
                 least: 1,
                 most: COPIES_MAX,
             },
+            Property::LineSplitCount => Form::Number {
+                least: 1,
+                most: LINES_MAX,
+            },
+            Property::ReplacementStrategy => Form::ReplaceStrategy,
+            Property::ReplacementValue => Form::Text,
+            Property::SearchValue => Form::Search,
+            Property::Requirement => Form::Requirement,
+            Property::MergeStrategy => Form::MergeStrategy,
+            Property::MinimumEntries | Property::MaximumEntries => Form::Number {
+                least: 1,
+                most: TAKEN_MAX,
+            },
+            Property::SegmentSize => Form::Number {
+                least: 1,
+                most: CONTENT_MAX,
+            },
+            Property::StartOffset | Property::EndOffset => Form::Number {
+                least: 0,
+                most: CONTENT_MAX,
+            },
         }
     }
 
@@ -194,6 +305,14 @@ impl Property {
             Property::AttributesList => Some(""),
             Property::JsonDestination => Some("flowfile-attribute"),
             Property::Copies => Some("100"),
+            Property::LineSplitCount | Property::SegmentSize => None,
+            Property::ReplacementStrategy => Some("Regex Replace"),
+            Property::ReplacementValue | Property::SearchValue => None,
+            Property::Requirement => Some("content must match exactly"),
+            Property::MergeStrategy => Some("Bin-Packing Algorithm"),
+            Property::MinimumEntries => Some("1"),
+            Property::MaximumEntries => Some("1000"),
+            Property::StartOffset | Property::EndOffset => Some("0"),
         }
     }
 }

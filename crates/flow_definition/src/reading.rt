@@ -3,16 +3,20 @@ ghost use Rattle.std.specs.Prelude.{◌≡◌, ◌≤◌, ◌<◌, position, map
 ghost use Rattle.std.specs.List.{filter_map};
 ghost use Rattle.serde_json.specs.View.{view};
 ghost use Rattle.flow_definition.specs.Looks.{text_of, has_text, names_at, property_text, items_at};
-ghost use Rattle.flow_definition.specs.Reading.{number_or, number_of, number_at, id_at, count_in, conflict_in, copies_in, destination_in, place_below, place_at, connection_of};
+ghost use Rattle.flow_definition.specs.Reading.{number_or, number_of, number_at, id_at, count_in, conflict_in, copies_in, destination_in, number_held, number_by, replace_strategy_in, requirement_in, merge_strategy_in, place_below, place_at, connection_of};
 ghost use Rattle.flow_definition.specs.Shapes.{prioritizer_named};
 
 use crate::field::{Field, Shape};
 use crate::look::{given_text, has_text, items_at, names_at, text_at, text_of, value_at};
-use crate::processor_type::Property;
-use crate::shape::{conflict_named, destination_named, is_within, number_in, prioritizer_named};
+use crate::processor_type::{Form, Property, ReplaceStrategy};
+use crate::shape::{
+    conflict_named, destination_named, is_within, merge_strategy_named, number_in,
+    prioritizer_named, replace_strategy_named, requirement_named,
+};
 use flowfile_record::{Text, TextList};
 use machine_model::{
-    COPIES_MAX, Conflict, Connection, Destination, GENERATED_MAX, PROCESSORS_MAX, QueueLimits,
+    COPIES_MAX, Conflict, Connection, Destination, GENERATED_MAX, MatchRequirement, MergeStrategy,
+    PROCESSORS_MAX, QueueLimits,
 };
 use prioritizer::{Order, Prioritizer};
 use serde_json::Value;
@@ -134,12 +138,79 @@ pub(crate) fn copies_in(processor: &Value) -> u16
     ) as u16
 }
 
+/// The number that a property holds.
+pub(crate) fn number_by(property: Property, processor: &Value) -> u64
+    ensures { result ≡ number_by property (view processor.now) }
+{
+    number_held(
+        property.form(),
+        number_in(property_text(property, processor)),
+    )
+}
+
+fn number_held(form: Form, given: Option<u64>) -> u64
+    ensures { result ≡ number_held form given }
+{
+    match form {
+        Form::Number { least, most } => match given {
+            Some(number) if is_within(least, number, most) => number,
+            _ => least,
+        },
+        _ => 0,
+    }
+}
+
+/// How many lines a part of a text has.
+pub(crate) fn lines_in(processor: &Value) -> u32
+    ensures { result ≡ number_by Property.LineSplitCount (view processor.now) }
+{
+    number_by(Property::LineSplitCount, processor) as u32
+}
+
 pub(crate) fn destination_in(processor: &Value) -> Destination
     ensures { result ≡ destination_in (view processor.now) }
 {
     destination_named(property_text(Property::JsonDestination, processor)).unwrap_or(
         Destination::Attribute,
     )
+}
+
+pub(crate) fn replace_strategy_in(processor: &Value) -> ReplaceStrategy
+    ensures { result ≡ replace_strategy_in (view processor.now) }
+{
+    replace_strategy_named(property_text(Property::ReplacementStrategy, processor)).unwrap_or(
+        ReplaceStrategy::Regex,
+    )
+}
+
+pub(crate) fn requirement_in(processor: &Value) -> MatchRequirement
+    ensures { result ≡ requirement_in (view processor.now) }
+{
+    requirement_named(property_text(Property::Requirement, processor)).unwrap_or(
+        MatchRequirement::Exactly,
+    )
+}
+
+pub(crate) fn merge_strategy_in(processor: &Value) -> MergeStrategy
+    ensures { result ≡ merge_strategy_in (view processor.now) }
+{
+    merge_strategy_named(property_text(Property::MergeStrategy, processor)).unwrap_or(
+        MergeStrategy::BinPacking,
+    )
+}
+
+/// How many files are joined at least.
+pub(crate) fn minimum_in(processor: &Value) -> u32
+    ensures { result ≡ number_by Property.MinimumEntries (view processor.now) }
+{
+    number_by(Property::MinimumEntries, processor) as u32
+}
+
+/// How many files are joined at most.
+pub(crate) fn maximum_in(processor: &Value) -> u32
+    ensures { result ≡ number_by Property.MaximumEntries (view processor.now) }
+{
+    number_by(Property::MaximumEntries, processor) as u32
 }
 
 /// The place of the processor with the id in a field.

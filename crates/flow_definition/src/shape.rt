@@ -6,12 +6,12 @@ ghost use Rattle.std.specs.Str.Parse.{digits_value};
 ghost use Rattle.serde_json.specs.View.{view};
 ghost use Rattle.machine_model.specs.Sound.{is_id, are_distinct_texts, is_id_byte, within};
 ghost use Rattle.flow_definition.specs.Looks.{is_object, items_of, text_of};
-ghost use Rattle.flow_definition.specs.Shapes.{has_shape, is_in_range, is_list_of_texts, are_prioritizers, is_prioritizer, is_of_set, number_in, is_number_text, conflict_named, conflict_name, destination_named, destination_name, prioritizer_named};
+ghost use Rattle.flow_definition.specs.Shapes.{has_shape, is_in_range, is_list_of_texts, are_prioritizers, is_prioritizer, is_of_set, number_in, is_number_text, conflict_named, conflict_name, destination_named, destination_name, replace_strategy_named, replace_strategy_name, requirement_named, requirement_name, merge_strategy_named, merge_strategy_name, prioritizer_named};
 
 use crate::field::Shape;
 use crate::look::{are_texts, is_among, items_of, names_in, text_of};
-use crate::processor_type::Form;
-use machine_model::{Conflict, Destination};
+use crate::processor_type::{Form, ReplaceStrategy};
+use machine_model::{Conflict, Destination, MatchRequirement, MergeStrategy};
 use prioritizer::Prioritizer;
 use serde_json::Value;
 
@@ -146,6 +146,9 @@ pub(crate) fn is_of_set(form: Form, text: &str) -> bool
     match form {
         Form::Conflict => conflict_named(text).is_some(),
         Form::Destination => destination_named(text).is_some(),
+        Form::ReplaceStrategy => replace_strategy_named(text).is_some(),
+        Form::Requirement => requirement_named(text).is_some(),
+        Form::MergeStrategy => merge_strategy_named(text).is_some(),
         _ => true,
     }
 }
@@ -190,6 +193,69 @@ fn destination_name(destination: Destination) -> &'static str
     match destination {
         Destination::Attribute => "flowfile-attribute",
         Destination::Content => "flowfile-content",
+    }
+}
+
+/// The way to replace that has this name.
+pub(crate) fn replace_strategy_named(name: &str) -> Option<ReplaceStrategy>
+    ensures { result ≡ replace_strategy_named name.now }
+{
+    REPLACE_STRATEGIES
+        .iter()
+        .copied()
+        .find(|strategy| replace_strategy_name(*strategy) == name)
+}
+
+const REPLACE_STRATEGIES: [ReplaceStrategy; 2] = [ReplaceStrategy::Regex, ReplaceStrategy::Literal];
+
+fn replace_strategy_name(strategy: ReplaceStrategy) -> &'static str
+    ensures { result.now ≡ replace_strategy_name strategy }
+{
+    match strategy {
+        ReplaceStrategy::Regex => "Regex Replace",
+        ReplaceStrategy::Literal => "Literal Replace",
+    }
+}
+
+/// The way to match a pattern that has this name.
+pub(crate) fn requirement_named(name: &str) -> Option<MatchRequirement>
+    ensures { result ≡ requirement_named name.now }
+{
+    REQUIREMENTS
+        .iter()
+        .copied()
+        .find(|requirement| requirement_name(*requirement) == name)
+}
+
+const REQUIREMENTS: [MatchRequirement; 2] = [MatchRequirement::Exactly, MatchRequirement::Contains];
+
+fn requirement_name(requirement: MatchRequirement) -> &'static str
+    ensures { result.now ≡ requirement_name requirement }
+{
+    match requirement {
+        MatchRequirement::Exactly => "content must match exactly",
+        MatchRequirement::Contains => "content must contain match",
+    }
+}
+
+/// The way to find the files that are joined that has this name.
+pub(crate) fn merge_strategy_named(name: &str) -> Option<MergeStrategy>
+    ensures { result ≡ merge_strategy_named name.now }
+{
+    MERGE_STRATEGIES
+        .iter()
+        .copied()
+        .find(|strategy| merge_strategy_name(*strategy) == name)
+}
+
+const MERGE_STRATEGIES: [MergeStrategy; 2] = [MergeStrategy::BinPacking, MergeStrategy::Defragment];
+
+fn merge_strategy_name(strategy: MergeStrategy) -> &'static str
+    ensures { result.now ≡ merge_strategy_name strategy }
+{
+    match strategy {
+        MergeStrategy::BinPacking => "Bin-Packing Algorithm",
+        MergeStrategy::Defragment => "Defragment",
     }
 }
 

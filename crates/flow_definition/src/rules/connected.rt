@@ -4,14 +4,14 @@ ghost use Rattle.std.specs.List.{list_any};
 ghost use Rattle.std.specs.Option.{option_map};
 ghost use Rattle.machine_model.specs.Kinds.{is_among};
 ghost use Rattle.serde_json.specs.View.{view, members_view};
-ghost use Rattle.flow_definition.specs.Looks.{text_of, names_of, member_list, own_relationships_in, relationships_in};
+ghost use Rattle.flow_definition.specs.Looks.{text_of, names_of, member_list, others, others_in, own_relationships_in, properties_in, relationships_in};
 ghost use Rattle.flow_definition.specs.Places.{part_path};
 ghost use Rattle.flow_definition.specs.Rules.{leaves, carries, is_connected, is_loose, in_item, is_wrong, wrong_name, wrong_item, unconnected, not_of_source};
 
 use crate::field::Field;
 use crate::look::{
-    fixed_relationships, given_at, has_text, is_among, is_one_of, items_at, names_at, own_in,
-    own_relationships, processor_named, text_at, text_of, type_of,
+    fixed_relationships, given_at, has_text, is_among, is_fixed, is_one_of, items_at, names_at,
+    own_in, own_relationships, processor_named, properties_in, text_at, text_of, type_of,
 };
 use crate::place::Part;
 use crate::processor_type::Own;
@@ -57,11 +57,11 @@ fn has_loose_own(top: &Value, processor: &Value) -> bool
 
 fn any_own_loose(top: &Value, processor: &Value, members: &Map<String, Value>) -> bool
     ensures { result ≡ list_any (is_loose (view top.now) (view processor.now))
-        (names_of (member_list (members_view members.now.entries))) }
+        (names_of (others (properties_in (view processor.now)) (member_list (members_view members.now.entries)))) }
 {
-    members
-        .keys()
-        .any(|name| is_loose(top, processor, name.as_str()))
+    let fixed = properties_in(processor);
+    members.keys().any(|name| !is_fixed(name.as_str(), fixed)
+        && is_loose(top, processor, name.as_str()))
 }
 
 fn any_loose(top: &Value, processor: &Value, names: &[&'static str]) -> bool
@@ -159,12 +159,21 @@ fn is_relationship(name: &str, processor: &Value) -> bool
     is_own_relationship(name, processor) || is_one_of(name, fixed_relationships(processor))
 }
 
+/// Whether a processor gives a property of this name that is none of its type.
+fn is_other(name: &str, processor: &Value) -> bool
+    ensures { result ≡ is_among name.now (names_of (others_in (view processor.now))) }
+{
+    !is_fixed(name, properties_in(processor)) && given_at(name, processor).is_some()
+}
+
 fn is_own_relationship(name: &str, processor: &Value) -> bool
     ensures { result ≡ is_among name.now (own_relationships_in (view processor.now)) }
 {
     match own_in(processor) {
         Own::Nothing => false,
         Own::Attributes => false,
-        Own::Relationships => given_at(name, processor).is_some(),
+        Own::Relationships => is_other(name, processor),
+        Own::AttributePatterns => false,
+        Own::RelationshipPatterns => is_other(name, processor),
     }
 }

@@ -1,16 +1,19 @@
 //! Too many processors, connections, connections of one relationship, or properties of a processor's own.
-ghost use Rattle.std.specs.Prelude.{◌≡◌, count_by, length, map};
+ghost use Rattle.std.specs.Prelude.{◌≡◌, ◌&&◌, not, count_by, length, map};
 ghost use Rattle.std.specs.List.{list_any};
 ghost use Rattle.std.specs.Option.{option_map};
 ghost use Rattle.serde_json.specs.View.{view, members_view};
-ghost use Rattle.flow_definition.specs.Looks.{own_relationships_in, own_properties_in, names_of, member_list};
+ghost use Rattle.flow_definition.specs.Looks.{is_fixed, others, own_relationships_in, own_properties_in, properties_in, names_of, member_list};
 ghost use Rattle.flow_definition.specs.Places.{part_path};
 ghost use Rattle.flow_definition.specs.Rules.{too_many, too_many_own, are_connections_too_many, is_crowded, carries, has_crowded};
 
 use super::connected::carries;
 use crate::field::Field;
-use crate::look::{fixed_relationships, items_at, own_properties, own_relationships};
+use crate::look::{
+    fixed_relationships, is_fixed, items_at, own_properties, own_relationships, properties_in,
+};
 use crate::place::Part;
+use crate::processor_type::Property;
 use machine_model::{CONNECTIONS_MAX, FAN_OUT_MAX, OWN_PROPERTIES_MAX, PROCESSORS_MAX};
 use serde_json::{Map, Value};
 
@@ -42,9 +45,18 @@ fn own_count(processor: &Value) -> u64
     ensures { result ≡ length (own_properties_in (view processor.now)) }
 {
     match own_properties(processor) {
-        Some(members) => members.len() as u64,
+        Some(members) => count_others(properties_in(processor), members),
         None => 0,
     }
+}
+
+fn count_others(properties: &[Property], members: &Map<String, Value>) -> u64
+    ensures { result ≡ length (others properties.now (member_list (members_view members.now.entries))) }
+{
+    members
+        .keys()
+        .filter(|name| !is_fixed(name.as_str(), properties))
+        .count() as u64
 }
 
 fn are_connections_too_many(top: &Value) -> bool
@@ -80,11 +92,17 @@ fn has_crowded_own(top: &Value, processor: &Value) -> bool
 
 fn any_own_crowded(top: &Value, processor: &Value, members: &Map<String, Value>) -> bool
     ensures { result ≡ list_any (is_crowded (view top.now) (view processor.now))
-        (names_of (member_list (members_view members.now.entries))) }
+        (names_of (others (properties_in (view processor.now)) (member_list (members_view members.now.entries)))) }
 {
-    members
-        .keys()
-        .any(|name| is_crowded(top, processor, name.as_str()))
+    let fixed = properties_in(processor);
+    members.keys().any(|name| is_other_crowded(top, processor, fixed, name.as_str()))
+}
+
+/// Whether a name that is no property's is that of a relationship with too many connections.
+fn is_other_crowded(top: &Value, processor: &Value, fixed: &[Property], name: &str) -> bool
+    ensures { result ≡ (not (is_fixed fixed.now name.now) && is_crowded (view top.now) (view processor.now) name.now) }
+{
+    !is_fixed(name, fixed) && is_crowded(top, processor, name)
 }
 
 fn any_crowded(top: &Value, processor: &Value, names: &[&'static str]) -> bool

@@ -3,10 +3,10 @@ ghost use Rattle.std.specs.Prelude.{◌≡◌, bytes_eq, false, find, map, not};
 ghost use Rattle.std.specs.Option.{option_map, option_map_or};
 ghost use Rattle.serde_json.specs.Find.{as_str};
 ghost use Rattle.serde_json.specs.View.{view, members_view};
-ghost use Rattle.flow_definition.specs.Looks.{member_list};
+ghost use Rattle.flow_definition.specs.Looks.{given_text, member_list};
 ghost use Rattle.flow_definition.specs.Places.{part_path};
-ghost use Rattle.flow_definition.specs.Rules.{unknown_type, may_give, is_missing_property, missing_property, is_bad_property, is_own_property, may_be_own, bad_property, is_bad_number_property, bad_number_property, in_property};
-ghost use Rattle.flow_definition.specs.Shapes.{is_of_set};
+ghost use Rattle.flow_definition.specs.Rules.{unknown_type, may_give, is_missing_property, missing_property, is_bad_property, is_empty_search, may_hold, is_own_property, may_be_own, bad_property, is_above, is_above_most, is_bad_number_property, bad_number_property, in_property};
+ghost use Rattle.flow_definition.specs.Shapes.{is_number_text};
 ghost use Rattle.flow_definition.specs.Types.{property_name, form_of};
 
 use crate::field::Field;
@@ -15,9 +15,10 @@ use crate::look::{
     type_of, value_at,
 };
 use crate::place::Part;
-use crate::processor_type::{Own, Property};
+use crate::processor_type::{Form, Own, Property, ReplaceStrategy};
+use crate::reading::{merge_strategy_in, number_by, replace_strategy_in};
 use crate::shape::{is_number_text, is_of_set, is_within};
-use machine_model::OWN_NAME_MAX;
+use machine_model::{MergeStrategy, OWN_NAME_MAX};
 use serde_json::{Map, Value};
 
 /// A type that there isn't.
@@ -101,17 +102,35 @@ fn is_bad_property(processor: &Value, name: &str, value: &Value) -> bool
     ensures { result ≡ is_bad_property (view processor.now) (name.now, view value.now) }
 {
     match property_named(name, properties_in(processor)) {
-        Some(property) => is_bad_value(value, property),
+        Some(property) => is_bad_value(processor, value, property),
         None => !is_own_property(processor, name, value),
     }
 }
 
-fn is_bad_value(value: &Value, property: Property) -> bool
-    ensures { result ≡ not (option_map_or (is_of_set (form_of property)) (as_str (view value.now)) false) }
+fn is_bad_value(processor: &Value, value: &Value, property: Property) -> bool
+    ensures { result
+        ≡ not (option_map_or (may_hold (view processor.now) property) (as_str (view value.now)) false) }
 {
     match value.as_str() {
-        Some(text) => !is_of_set(property.form(), text),
+        Some(text) => !may_hold(processor, property, text),
         None => true,
+    }
+}
+
+fn may_hold(processor: &Value, property: Property, text: &str) -> bool
+    ensures { result ≡ may_hold (view processor.now) property text.now }
+{
+    is_of_set(property.form(), text)
+        && !is_empty_search(replace_strategy_in(processor), property.form(), text)
+}
+
+/// Whether nothing is sought as it stands.
+fn is_empty_search(strategy: ReplaceStrategy, form: Form, text: &str) -> bool
+    ensures { result ≡ is_empty_search strategy form text.now }
+{
+    match (strategy, form) {
+        (ReplaceStrategy::Literal, Form::Search) => text.is_empty(),
+        _ => false,
     }
 }
 
@@ -129,8 +148,8 @@ fn may_be_own(own: Own, fixed: &[&'static str], name: &str) -> bool
 {
     match own {
         Own::Nothing => false,
-        Own::Attributes => true,
-        Own::Relationships => !is_one_of(name, fixed),
+        Own::Attributes | Own::AttributePatterns => true,
+        Own::Relationships | Own::RelationshipPatterns => !is_one_of(name, fixed),
     }
 }
 
@@ -162,8 +181,38 @@ fn first_bad_number(processor: &Value, properties: &[Property]) -> Option<Proper
 fn is_bad_number_property(processor: &Value, property: Property) -> bool
     ensures { result ≡ is_bad_number_property (view processor.now) property }
 {
+    is_no_number(processor, property) || is_above_most(processor, property)
+}
+
+fn is_no_number(processor: &Value, property: Property) -> bool
+    ensures { result ≡ option_map_or (λ text. not (is_number_text (form_of property) text))
+        (given_text property (view processor.now)) false }
+{
     match given_text(property, processor) {
         Some(text) => !is_number_text(property.form(), text),
         None => false,
+    }
+}
+
+/// Whether of files that are joined by number the least is above the most.
+fn is_above_most(processor: &Value, property: Property) -> bool
+    ensures { result ≡ is_above_most (view processor.now) property }
+{
+    match property {
+        Property::MinimumEntries => is_above(
+            merge_strategy_in(processor),
+            number_by(Property::MinimumEntries, processor),
+            number_by(Property::MaximumEntries, processor),
+        ),
+        _ => false,
+    }
+}
+
+fn is_above(strategy: MergeStrategy, minimum: u64, maximum: u64) -> bool
+    ensures { result ≡ is_above strategy minimum maximum }
+{
+    match strategy {
+        MergeStrategy::BinPacking => maximum < minimum,
+        MergeStrategy::Defragment => false,
     }
 }

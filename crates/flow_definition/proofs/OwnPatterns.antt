@@ -1,0 +1,112 @@
+-- The patterns of a processor's own properties.
+use Rattle.std.proofs.Common.{◌≡◌, ℕ, Bool, true, false, List, [], ◌∷◌, ◌++◌, map, All, None, refl, sym, ap, ◌∙◌}
+use Rattle.std.specs.List.{list_all, filter_map}
+use Rattle.std.proofs.lemmas.Bool.{false≢true, true≢false}
+use Rattle.std.proofs.lemmas.List.Elements.{All-nil, All-cons}
+use Rattle.std.proofs.lemmas.Option.{none-some}
+use Rattle.serde_json.specs.Data.{Data}
+use Rattle.machine_model.specs.Sound.{MatchesWhole}
+use Rattle.machine_model.specs.declared.kind.OwnPattern.{OwnPattern}
+use Rattle.flow_definition.specs.declared.own_patterns.Attempt.{Attempt}
+use Rattle.flow_definition.specs.declared.own_patterns.Attempt.TheVariants.{Read, Unread, TooBig}
+use Rattle.flow_definition.specs.Looks.{names_of, own_properties_in, own_texts_in}
+use Rattle.flow_definition.specs.OwnPatterns.{IsAttempt, AreAttempts, is_read, read_in, unread_in, count_attempt, count_attempts}
+use Rattle.flow_definition.specs.Reading.{own_patterns, patterns_of, patterns_in, is_whole_in}
+use Rattle.flow_definition.proofs.OwnProperties.{texts_named}
+
+-- ---- one more
+
+pub attempt_push : (R : Type 0) (whole : Bool) (ts : List (List ℕ × List ℕ)) (list : List Attempt) (t : List ℕ × List ℕ) (x : Attempt)
+    → AreAttempts R whole ts list → IsAttempt R whole t x → AreAttempts R whole (ts ++ t ∷ []) (list ++ x ∷ [])
+attempt_push R whole [] [] t x each one = (one, tt)
+attempt_push R whole [] (y ∷ list) t x each one = absurd each
+attempt_push R whole (s ∷ ts) [] t x each one = absurd each
+attempt_push R whole (s ∷ ts) (y ∷ list) t x each one = (each.0, attempt_push R whole ts list t x each.1 one)
+
+pub attempts_counted : (n : ℕ) (list : List Attempt) (x : Attempt) → count_attempts n (list ++ x ∷ []) ≡ count_attempt (count_attempts n list) x
+attempts_counted n [] x = refl
+attempts_counted n (y ∷ list) x = attempts_counted (count_attempt n y) list x
+
+pub attempt_later : (R S : Type 0) (whole : Bool) (t : List ℕ × List ℕ) (x : Attempt) → (R → S) → IsAttempt R whole t x → IsAttempt S whole t x
+attempt_later R S whole t (Read own) f h = h
+attempt_later R S whole t (Unread name) f h = h
+attempt_later R S whole t (TooBig name) f h = (h.0, f h.1)
+
+pub attempts_later : (R S : Type 0) (whole : Bool) (ts : List (List ℕ × List ℕ)) (list : List Attempt) → (R → S) → AreAttempts R whole ts list
+    → AreAttempts S whole ts list
+attempts_later R S whole [] [] f each = tt
+attempts_later R S whole [] (x ∷ list) f each = absurd each
+attempts_later R S whole (t ∷ ts) [] f each = absurd each
+attempts_later R S whole (t ∷ ts) (x ∷ list) f each = (attempt_later R S whole t x f each.0, attempts_later R S whole ts list f each.1)
+
+-- ---- each is read
+
+pub all_read : (R : Type 0) (whole : Bool) (ts : List (List ℕ × List ℕ)) (list : List Attempt) → AreAttempts R whole ts list
+    → list_all is_read list ≡ true → own_patterns (filter_map read_in list) ≡ patterns_of whole ts
+all_read R whole [] [] each read = refl
+all_read R whole [] (x ∷ list) each read = absurd each
+all_read R whole (t ∷ ts) [] each read = absurd each
+all_read R whole (t ∷ ts) (Read own ∷ list) each read =
+    let later = all_read R whole ts list each.1 read in
+    λ i. (each.0.0 i, each.0.1 i) ∷ later i
+all_read R whole (t ∷ ts) (Unread name ∷ list) each read = absurd (false≢true read)
+all_read R whole (t ∷ ts) (TooBig name ∷ list) each read = absurd (false≢true read)
+
+pub none_counted : (n : ℕ) (list : List Attempt) → list_all is_read list ≡ true → count_attempts n list ≡ n
+none_counted n [] read = refl
+none_counted n (Read own ∷ list) read = none_counted n list read
+none_counted n (Unread name ∷ list) read = absurd (false≢true read)
+none_counted n (TooBig name ∷ list) read = absurd (false≢true read)
+
+-- where the count didn't rise, none is too big
+pub none_big : (n : ℕ) (whole : Bool) (ts : List (List ℕ × List ℕ)) (list : List Attempt) → AreAttempts ⊥ whole ts list → count_attempts n list ≡ n
+none_big n whole [] [] each = refl
+none_big n whole [] (x ∷ list) each = absurd each
+none_big n whole (t ∷ ts) [] each = absurd each
+none_big n whole (t ∷ ts) (Read own ∷ list) each = none_big n whole ts list each.1
+none_big n whole (t ∷ ts) (Unread name ∷ list) each = none_big n whole ts list each.1
+none_big n whole (t ∷ ts) (TooBig name ∷ list) each = absurd each.0.1
+
+-- where none is unread and not each is read, one is too big
+pub some_big : (R : Type 0) (whole : Bool) (ts : List (List ℕ × List ℕ)) (list : List Attempt) → AreAttempts R whole ts list
+    → list_all is_read list ≡ false → unread_in list ≡ None → R
+some_big R whole [] [] each read none = absurd (true≢false read)
+some_big R whole [] (x ∷ list) each read none = absurd each
+some_big R whole (t ∷ ts) [] each read none = absurd each
+some_big R whole (t ∷ ts) (Read own ∷ list) each read none = some_big R whole ts list each.1 read none
+some_big R whole (t ∷ ts) (Unread name ∷ list) each read none = absurd (none-some _ (sym none))
+some_big R whole (t ∷ ts) (TooBig name ∷ list) each read none = each.0.1
+
+-- ---- the patterns as they are read
+
+names_by_pairs : (list : List OwnPattern) → map (λ property. property.name) list ≡ map (λ t. t.0) (own_patterns list)
+names_by_pairs [] = refl
+names_by_pairs (x ∷ list) = ap (λ names. x.name ∷ names) (names_by_pairs list)
+
+names_by_texts : (whole : Bool) (ts : List (List ℕ × List ℕ)) → map (λ t. t.0) (patterns_of whole ts) ≡ map (λ t. t.0) ts
+names_by_texts whole [] = refl
+names_by_texts whole (t ∷ ts) = ap (λ names. t.0 ∷ names) (names_by_texts whole ts)
+
+pub pattern_names : (d : Data) (list : List OwnPattern) → own_patterns list ≡ patterns_in d
+    → map (λ property. property.name) list ≡ names_of (own_properties_in d)
+pattern_names d list is =
+    names_by_pairs list ∙ ap (map (λ t. t.0)) is ∙ names_by_texts (is_whole_in d) (own_texts_in d) ∙ texts_named (own_properties_in d)
+
+abbrev head_or : List (List ℕ × List ℕ) → List ℕ × List ℕ
+head_or [] = ([], [])
+head_or (x ∷ xs) = x
+
+abbrev tail_of : List (List ℕ × List ℕ) → List (List ℕ × List ℕ)
+tail_of [] = []
+tail_of (x ∷ xs) = xs
+
+match_all : (ts : List (List ℕ × List ℕ)) (list : List OwnPattern) → own_patterns list ≡ patterns_of true ts
+    → All (λ property. MatchesWhole property.pattern) list
+match_all ts [] is = All-nil (λ property. MatchesWhole property.pattern)
+match_all [] (x ∷ list) is = absurd (cc)
+match_all (t ∷ ts) (x ∷ list) is =
+    All-cons (λ property. MatchesWhole property.pattern) x list (t.1, ap (λ ps. (head_or ps).1) is) (match_all ts list (ap tail_of is))
+
+pub whole_matched : (d : Data) (list : List OwnPattern) → is_whole_in d ≡ true → own_patterns list ≡ patterns_in d
+    → All (λ property. MatchesWhole property.pattern) list
+whole_matched d list whole is = match_all (own_texts_in d) list (is ∙ ap (λ b. patterns_of b (own_texts_in d)) whole)

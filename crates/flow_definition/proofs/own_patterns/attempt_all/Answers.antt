@@ -1,0 +1,46 @@
+use Rattle.std.proofs.Common.{◌≡◌, ℕ, false, List, [], ◌∷◌, ◌++◌, string_bytes, ap, sym, ◌∙◌, subst, arith}
+use Rattle.std.specs.Map.Iter.{deref_pair}
+use Rattle.std.proofs.lemmas.Map.Iter.{rest_more}
+use Rattle.serde_json.specs.View.{view}
+use Rattle.flow_definition.specs.declared.processor_type.Property.{Property}
+use Rattle.flow_definition.specs.Looks.{is_fixed, text_of}
+use Rattle.flow_definition.specs.OwnPatterns.{IsAttempt, AreAttempts, count_attempt, count_attempts}
+use Rattle.flow_definition.specs.Patterns.{HasRisen}
+use Rattle.flow_definition.proofs.Others.{texts_left, texts_more}
+use Rattle.flow_definition.proofs.OwnPatterns.{attempt_push, attempts_counted, attempts_later, attempt_later}
+use Rattle.flow_definition.proofs.Verdicts.{risen_before, risen_after}
+use Rattle.flow_definition.proofs.own_patterns.attempt_all.Goals as goal
+
+pub members-preserved-in_ok-push : goal.members-preserved-in_ok-push
+members-preserved-in_ok-push g c =
+    let first = g.P.Patterns.faults c.args.patterns.now in
+    let middle = g.P.Patterns.faults c.members.patterns in
+    let last = g.P.Patterns.faults c.try_pattern.new.patterns in
+    let whole = c.args.is_whole in
+    let ps : List Property = c.args.properties.now in
+    let name : List ℕ = string_bytes c.in-Some.name.now in
+    let text : List ℕ = text_of (view c.in-Some.value.now) in
+    let front : List (List ℕ × List ℕ) = c.members.invariant.made.0 in
+    let made = c.in_ok-try_pattern.field-0 in
+    let other : is_fixed ps name ≡ false =
+    sym (c.is_fixed.ensures ∙ ap (is_fixed ps) c.as_str.ensures.value) ∙ c.if-not-is_fixed.true in
+    let more = rest_more deref_pair c.members.name-iterator c.next.new.self c.next.result (c.in-Some.name, c.in-Some.value) c.in-Some.is c.next.ensures.steps in
+    let before = attempts_later (HasRisen first middle) (HasRisen first last) whole front c.members.list.items
+    (risen_before first middle last c.try_pattern.ensures.count) c.members.invariant.made.2 in
+    let read : IsAttempt (HasRisen middle last) whole (name, text) made =
+    subst (λ t. IsAttempt (HasRisen middle last) whole (name, t) made) c.text_of.ensures
+    (subst (λ n. IsAttempt (HasRisen middle last) whole (n, c.text_of.result.now) made) c.as_str-then-not-is_fixed.ensures.value c.in_ok-try_pattern.ensures.made) in
+    let one = attempt_later (HasRisen middle last) (HasRisen first last) whole (name, text) made
+    (risen_after first middle last c.members.invariant.count) read in
+    record {
+      made = (
+        front ++ (name, text) ∷ [],
+        c.members.invariant.made.1 ∙ ap (λ es. front ++ texts_left ps es) more
+            ∙ texts_more ps front c.in-Some.name.now c.in-Some.value.now c.next.new.self other,
+        subst (AreAttempts (HasRisen first last) whole (front ++ (name, text) ∷ [])) (sym c.in_ok-push.ensures.items)
+            (attempt_push (HasRisen first last) whole front c.members.list.items (name, text) made before one),
+      );
+      count = omega (arith, c.members.invariant.count, c.try_pattern.ensures.count);
+      each = c.in_ok-try_pattern.ensures.each ∙ ap (λ n. count_attempt n made) c.members.invariant.each
+          ∙ sym (attempts_counted first c.members.list.items made) ∙ ap (count_attempts first) (sym c.in_ok-push.ensures.items);
+    }

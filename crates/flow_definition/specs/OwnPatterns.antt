@@ -1,0 +1,81 @@
+-- Patterns of a processor's own properties, and what becomes of them.
+use Rattle.std.specs.Prelude.{◌≡◌, ℕ, Bool, true, false, List, [], ◌∷◌, Option, Some, None, unwrap_or}
+use Rattle.std.specs.List.{list_all}
+use Rattle.std.specs.Option.{option_or}
+use Rattle.disk_trait.specs.Count.{one_more}
+use Rattle.machine_model.specs.declared.kind.OwnPattern.{OwnPattern}
+use Rattle.flow_definition.specs.declared.own_patterns.Attempt.{Attempt}
+use Rattle.flow_definition.specs.declared.own_patterns.Attempt.TheVariants.{Read, Unread, TooBig}
+use Rattle.flow_definition.specs.declared.own_patterns.MadePatterns.{MadePatterns}
+use Rattle.flow_definition.specs.declared.own_patterns.MadePatterns.TheVariants as made
+use Rattle.flow_definition.specs.declared.rule.Rule.{Rule}
+use Rattle.flow_definition.specs.declared.rule.Rule.TheVariants.{BadPattern, PatternTooBig}
+use Rattle.flow_definition.specs.Patterns.{IsUnread}
+use Rattle.flow_definition.specs.Reading.{own_patterns, pattern_of, patterns_of}
+
+-- what becomes of an own property's text. The builder may call any pattern too big where its count of such refusals rose
+abbrev pub IsAttempt : (Risen : Type 0) → (whole : Bool) → List ℕ × List ℕ → Attempt → Type 0
+IsAttempt Risen whole (name, text) (Read own) = (own.name ≡ name) × (own.pattern.text ≡ pattern_of whole text)
+IsAttempt Risen whole (name, text) (Unread other) = (other ≡ name) × IsUnread (pattern_of whole text)
+IsAttempt Risen whole (name, text) (TooBig other) = (other ≡ name) × Risen
+
+abbrev pub AreAttempts : (Risen : Type 0) → (whole : Bool) → List (List ℕ × List ℕ) → List Attempt → Type 0
+AreAttempts Risen whole [] [] = Unit {0}
+AreAttempts Risen whole (given ∷ more) (attempt ∷ rest) =
+    IsAttempt Risen whole given attempt × AreAttempts Risen whole more rest
+AreAttempts Risen whole [] (attempt ∷ rest) = ⊥
+AreAttempts Risen whole (given ∷ more) [] = ⊥
+
+abbrev pub is_read : Attempt → Bool
+is_read (Read own) = true
+is_read (Unread name) = false
+is_read (TooBig name) = false
+
+abbrev pub read_in : Attempt → Option OwnPattern
+read_in (Read own) = Some own
+read_in (Unread name) = None
+read_in (TooBig name) = None
+
+-- not each is read
+abbrev pub AreRefused : (Risen : Type 0) → (whole : Bool) → List (List ℕ × List ℕ) → List Attempt → Type 0
+AreRefused Risen whole texts attempts = AreAttempts Risen whole texts attempts × (list_all is_read attempts ≡ false)
+
+abbrev pub AreOwnBuilt : (Risen : Type 0) → (whole : Bool) → List (List ℕ × List ℕ) → MadePatterns → Type 0
+AreOwnBuilt Risen whole texts (made.Read list) = own_patterns list ≡ patterns_of whole texts
+AreOwnBuilt Risen whole texts (made.Refused attempts) = AreRefused Risen whole texts attempts
+
+-- ---- the rule that is broken, and by which: the first that is unread, else the first that is too big
+
+abbrev pub unread_in : List Attempt → Option (List ℕ)
+unread_in [] = None
+unread_in (Read own ∷ rest) = unread_in rest
+unread_in (Unread name ∷ rest) = Some name
+unread_in (TooBig name ∷ rest) = unread_in rest
+
+abbrev pub too_big_in : List Attempt → Option (List ℕ)
+too_big_in [] = None
+too_big_in (Read own ∷ rest) = too_big_in rest
+too_big_in (Unread name ∷ rest) = too_big_in rest
+too_big_in (TooBig name ∷ rest) = Some name
+
+abbrev pub rule_by : (unread : Option (List ℕ)) → Rule
+rule_by (Some name) = BadPattern
+rule_by None = PatternTooBig
+
+abbrev pub name_refused : List Attempt → List ℕ
+name_refused attempts = unwrap_or (option_or (unread_in attempts) (too_big_in attempts)) []
+
+-- ---- a builder's count behind them: one more for each that was refused for its size
+
+abbrev pub count_attempt : ℕ → Attempt → ℕ
+count_attempt count (Read own) = count
+count_attempt count (Unread name) = count
+count_attempt count (TooBig name) = one_more count
+
+abbrev pub count_attempts : ℕ → List Attempt → ℕ
+count_attempts count [] = count
+count_attempts count (attempt ∷ rest) = count_attempts (count_attempt count attempt) rest
+
+abbrev pub count_patterns : ℕ → MadePatterns → ℕ
+count_patterns count (made.Read list) = count
+count_patterns count (made.Refused attempts) = count_attempts count attempts
