@@ -29,6 +29,14 @@ pub fn truth(value: &Value) -> Result<bool> {
     value.as_bool().context("no truth value")
 }
 
+/// Bytes: those of a text, or an object with their hexadecimal digits.
+pub fn bytes(alloc: Global, value: &Value) -> Result<Vec<u8>> {
+    match value.get("hex") {
+        Some(digits) => Ok(hex::decode(alloc, word(digits)?)?),
+        None => Ok(text(alloc, value)?.into_bytes()),
+    }
+}
+
 /// A text: one, or a list of parts. A part is a text, or a list of a text, how often it stands there, and how often all
 /// of that does.
 pub fn text(alloc: Global, value: &Value) -> Result<String> {

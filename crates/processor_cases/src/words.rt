@@ -62,7 +62,12 @@ fn origin_in_words(alloc: Global, origin: &Origin) -> Result<String> {
         Origin::Created => Ok(String::from_str(alloc, "created")?),
         Origin::Received => Ok(String::from_str(alloc, "received")?),
         Origin::Cloned(place) => Ok(format!(in alloc; "a clone of {place}")?),
-        _ => Ok(String::from_str(alloc, "a child")?),
+        Origin::Part(place) => Ok(format!(in alloc; "a part of {place}")?),
+        Origin::Forked(place) => Ok(format!(in alloc; "a child of {place}")?),
+        Origin::Joined(places) => {
+            let count = places.len();
+            Ok(format!(in alloc; "joined of {count}")?)
+        }
     }
 }
 
@@ -85,10 +90,20 @@ fn body_in_words(alloc: Global, body: &Body) -> Result<String> {
         Body::Part { of, offset, size } => {
             Ok(format!(in alloc; "{size} bytes of {of} from {offset}")?)
         }
-        Body::New(bytes) => match std::str::from_utf8(bytes.as_slice()) {
-            Ok(text) => text_in_words(alloc, text),
-            Err(_) => bail!("a content that is no text"),
-        },
+        Body::New(bytes) => bytes_in_words(alloc, bytes.as_slice()),
+    }
+}
+
+// Bytes that are no text are told by their digits.
+fn bytes_in_words(alloc: Global, bytes: &[u8]) -> Result<String> {
+    let size = bytes.len();
+    match std::str::from_utf8(bytes) {
+        Ok(text) => text_in_words(alloc, text),
+        Err(_) if size > LONG => Ok(format!(in alloc; "{size} bytes that are no text")?),
+        Err(_) => {
+            let digits = hex::encode(alloc, bytes)?;
+            Ok(format!(in alloc; "bytes {digits}")?)
+        }
     }
 }
 

@@ -6,13 +6,15 @@ ghost use Rattle.processor_api.specs.Acts.{IsGivenTo, MayBeHanded};
 
 use crate::case;
 use anyhow::{Result, bail};
-use flowfile_record::Outcome;
+use flowfile_record::{Outcome, TAKEN_MAX};
 use machine_model::{Given, Kind, TakeRule};
 use proc_attribute::{
     AttributesToJson, CryptographicHashContent, DuplicateFlowFile, RouteOnAttribute,
     UpdateAttribute,
 };
+use proc_merge::MergeContent;
 use proc_source::{GenerateFlowFile, GetFile, PutFile};
+use proc_text::{ExtractText, ModifyBytes, ReplaceText, RouteOnContent, SegmentContent, SplitText};
 use process_session::TakenList;
 use processor_api::work_on;
 use serde_json::Value;
@@ -36,14 +38,15 @@ pub fn outcome_of(alloc: Global, case: &Value) -> Result<Outcome> {
     worked(alloc, kind, taken, &mut given)
 }
 
-/// Whether a rule takes so many files. The rules of several files are nobody's here.
+/// Whether a rule may take so many files.
 fn may_take(rule: TakeRule, count: u64) -> bool
     ensures { IsTrue result → MayTake rule count }
 {
     match rule {
         TakeRule::Source => count == 0,
         TakeRule::One => count == 1,
-        TakeRule::Bin { .. } | TakeRule::Defragment => false,
+        TakeRule::Bin { max, .. } => count >= 1 && count <= max as u64,
+        TakeRule::Defragment => count >= 1 && count <= TAKEN_MAX,
     }
 }
 
@@ -85,6 +88,40 @@ fn worked(alloc: Global, kind: &Kind, taken: TakenList, given: &mut Given) -> Re
     }
     if let Some(hash) = CryptographicHashContent::of(kind) {
         return Ok(work_on(alloc, &hash, 2, taken, given)?.0);
+    }
+    worked_on_text(alloc, kind, taken, given)
+}
+
+/// The same of the processors of texts, and of the one that joins contents.
+fn worked_on_text(
+    alloc: Global,
+    kind: &Kind,
+    taken: TakenList,
+    given: &mut Given,
+) -> Result<Outcome>
+    requires { MayBeHanded kind.now taken given.old }
+{
+    if let Some(replace) = ReplaceText::of(kind) {
+        return Ok(work_on(alloc, &replace, 2, taken, given)?.0);
+    }
+    if let Some(route) = RouteOnContent::of(kind) {
+        let relationships = route.own.len() as u16 + 1;
+        return Ok(work_on(alloc, &route, relationships, taken, given)?.0);
+    }
+    if let Some(extract) = ExtractText::of(kind) {
+        return Ok(work_on(alloc, &extract, 2, taken, given)?.0);
+    }
+    if let Some(modify) = ModifyBytes::of(kind) {
+        return Ok(work_on(alloc, &modify, 1, taken, given)?.0);
+    }
+    if let Some(split) = SplitText::of(kind) {
+        return Ok(work_on(alloc, &split, 3, taken, given)?.0);
+    }
+    if let Some(segment) = SegmentContent::of(kind) {
+        return Ok(work_on(alloc, &segment, 3, taken, given)?.0);
+    }
+    if let Some(merge) = MergeContent::of(kind) {
+        return Ok(work_on(alloc, &merge, 3, taken, given)?.0);
     }
     bail!("no processor of this type")
 }
