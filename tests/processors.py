@@ -149,14 +149,18 @@ class Cases:
                     processor("p", "DuplicateFlowFile", {"Number of Copies": "1000"}, ["success"]),
                     processor("p", "AttributesToJSON", {"Destination": "content"}, BOTH),
                     processor("p", "CryptographicHashContent", {"a": "x"}, BOTH)):
-            with work_folder(self.parent, flow([source("get"), one], [queue("c", "get", "p")])) as folder:
-                write_files(folder / "in", {"a": b"one"})
-                self.run(folder, REFUSED)
-                before = photo(folder)
-                self.run(folder, REFUSED)
-                need(photo(folder) == before, f"the run of {one} changed something")
-                need(read_files(folder / "in") == {"a": b"one"}, f"the run of {one} took a file")
-                need(not names(folder / "out"), f"the run of {one} delivered {names(folder / 'out')}")
+            self.refuses_one(one)
+
+    def refuses_one(self, one):
+        """A flow with this processor is refused, and the run of it changes nothing."""
+        with work_folder(self.parent, flow([source("get"), one], [queue("c", "get", "p")])) as folder:
+            write_files(folder / "in", {"a": b"one"})
+            self.run(folder, REFUSED)
+            before = photo(folder)
+            self.run(folder, REFUSED)
+            need(photo(folder) == before, f"the run of {one} changed something")
+            need(read_files(folder / "in") == {"a": b"one"}, f"the run of {one} took a file")
+            need(not names(folder / "out"), f"the run of {one} delivered {names(folder / 'out')}")
 
     def killed(self):
         """All of them in one flow: at the end all is delivered, and the events tell of each file."""
@@ -176,6 +180,10 @@ class Cases:
         for name, content in files.items():
             if name.endswith("0"):
                 out[f"{name}.json"] = compact({"content_SHA-256": hashlib.sha256(content).hexdigest()}).encode()
+        self.delivers_under_kills(text, files, out)
+
+    def delivers_under_kills(self, text, files, out):
+        """Runs that are killed at random moments deliver all at the end."""
         kills = 0
         while kills < self.count:
             with work_folder(self.parent, text) as folder:

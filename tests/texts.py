@@ -6,15 +6,13 @@ is killed at random moments and started again until it ends by itself.
 """
 
 import random
-import subprocess
 
-import store_format
-from flow_texts import flow, generator, let_go, processor, queue, source, state_of, told
-from processors import kinds, state_of_any, through
+import processors
+from flow_texts import flow, generator, let_go, processor, queue, source, told
+from processors import kinds, through
 from store_format import (ATTRIBUTES_MODIFIED, CLONE, CONTENT_MODIFIED, CREATE, DROP, FORK, JOIN, RECEIVE, ROUTE,
                           SEND)
-from support import (DONE, REFUSED, Report, find_program, in_memory, names, need, need_status, options, parse_seeded,
-                     photo, read_files, run, start, work_folder, write_files)
+from support import Report, find_program, in_memory, need, options, parse_seeded
 
 # What MergeContent and SplitText let go beside what they make.
 REST = ["original", "failure"]
@@ -29,22 +27,7 @@ def merger(**properties):
     return processor("merge", "MergeContent", named, REST)
 
 
-class Cases:
-    def __init__(self, program, parent, count):
-        self.program = program
-        self.parent = parent
-        self.count = count
-
-    def ends(self, text, files, out):
-        """Runs a flow over these files to its end, and gives what its store tells."""
-        with work_folder(self.parent, text) as folder:
-            write_files(folder / "in", files)
-            need_status(run(self.program, folder), DONE)
-            need(read_files(folder / "out") == out, f"out holds {names(folder / 'out')[:8]}, or other bytes")
-            state = state_of(folder)
-            need(not state.files, f"the store holds {state.files}")
-            return state
-
+class Cases(processors.Cases):
     def log_pipeline(self):
         """Errors out of a log: split into lines, routed by a pattern, merged, named."""
         text = flow([source("get"), splitter(1),
@@ -173,14 +156,7 @@ class Cases:
                     processor("p", "RouteOnContent", {"Match Requirement": "any", "a": "a"}, ["a", "unmatched"]),
                     processor("p", "MergeContent", {"Minimum Number of Entries": "3",
                                                     "Maximum Number of Entries": "2"}, ["merged", *REST])):
-            with work_folder(self.parent, flow([source("get"), one], [queue("c", "get", "p")])) as folder:
-                write_files(folder / "in", {"a": b"one"})
-                need_status(run(self.program, folder), REFUSED)
-                before = photo(folder)
-                need_status(run(self.program, folder), REFUSED)
-                need(photo(folder) == before, f"the run of {one} changed something")
-                need(read_files(folder / "in") == {"a": b"one"}, f"the run of {one} took a file")
-                need(not names(folder / "out"), f"the run of {one} delivered {names(folder / 'out')}")
+            self.refuses_one(one)
 
     def fragments_of_many(self):
         """Fragments of many wholes that stand in one queue, in turns: each whole is joined by itself."""
@@ -210,29 +186,7 @@ class Cases:
         files = {str(n): "".join(one).encode() for n, one in enumerate(lines)}
         out = {str(n): "".join(line if int(line) % 2 else "#" * (len(line) - 1) + "\n" for line in one).encode()
                for n, one in enumerate(lines)}
-        kills = 0
-        while kills < self.count:
-            with work_folder(self.parent, text) as folder:
-                write_files(folder / "in", files)
-                kills += self.kill_until_done(folder)
-                need(read_files(folder / "out") == out, f"out holds {names(folder / 'out')[:8]}, or other bytes")
-                need(not names(folder / "in"), f"in holds {names(folder / 'in')}")
-                need(not state_of(folder).files, "the store holds files")
-
-    def kill_until_done(self, folder):
-        kills = 0
-        while True:
-            child = start(self.program, folder)
-            try:
-                status = child.wait(timeout=random.uniform(0, 0.08))
-            except subprocess.TimeoutExpired:
-                child.kill()
-                child.wait()
-                kills += 1
-                state_of_any(folder)
-                continue
-            need(status == DONE, f"a run ended with {status}")
-            return kills
+        self.delivers_under_kills(text, files, out)
 
 
 def main():
