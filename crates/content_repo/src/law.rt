@@ -1,11 +1,20 @@
 //! What follows of slots where a content was appended, or a count changed.
-ghost use Rattle.std.specs.Prelude.{ℕ, ◌<◌, ◌≤◌, List};
+ghost use Rattle.std.specs.Prelude.{◌≡◌, ℕ, ◌<◌, ◌≤◌, ◌-◌, ◌^◌, List};
 ghost use Rattle.disk_trait.specs.Files.{Files};
 ghost use Rattle.flowfile_record.specs.declared.content.ContentRef.{ContentRef as TheRef};
 ghost use Rattle.content_repo.specs.Append.{IsAppended};
 ghost use Rattle.content_repo.specs.Claims.{HasSizes};
 ghost use Rattle.content_repo.specs.Slots.{count_of, size_of, end_of, with_count};
 ghost use Rattle.content_repo.specs.declared.slot.Slot.{Slot as TheSlot};
+
+use crate::{HELD_MAX, LIVE_MAX, OPEN_SIZE};
+
+/// The limits of claims as numbers.
+pub fn limits_of_claims()
+    ensures open { OPEN_SIZE ≡ 2 ^ 20 }
+    ensures held { HELD_MAX ≡ 2 ^ 26 - 1 }
+    ensures live { LIVE_MAX ≡ 2 ^ 20 }
+{}
 
 /// A reference to a content that was appended is held, and the content ends within its claim.
 pub fn appended_contents_are_held()

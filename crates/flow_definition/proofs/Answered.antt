@@ -108,12 +108,12 @@ pub behind_counted : (before now : ℕ) (top : Data) (ms : List Made) (b : Rule 
     → AreMade (HasRisen before now) (items_at Processors top) ms → now ≡ count_all before ms → first_behind top ms ≡ Some b → IsError b e
     → IsCountedIn before now top (Err e)
 behind_counted before now top ms b error.Memory each count found is = tt
-behind_counted before now top ms b (error.Rule rule place) each count found is = λ big. record {
+behind_counted before now top ms b (error.Rule rule place) each count found is = λ passed. record {
   made = ms;
   each = each;
   count = count;
   path = b.1;
-  first = big_first top ms b found (sym is.0 ∙ big);
+  first = found ∙ ap (λ r. Some (r, b.1)) (sym is.0);
   stands = is.1;
 }
 

@@ -99,19 +99,21 @@ broken_in (Some top) = first_of first_rules top
 abbrev pub broken_before : List ℕ → Option (Rule × Path)
 broken_before bytes = if nat_lt TEXT_MAX (length bytes) then Some (TooMany, []) else broken_in (object_in bytes)
 
--- of the patterns of a text as many were refused for their size as the count rose, and the first of these stands here
-pub record IsFirstTooBig (before now : ℕ) (top : Data) (place : List ℕ) : Type 0 where
+-- behind the first rules a text breaks this one first, and it stands here. As many patterns of the text were refused
+-- for their size as the count rose
+pub record IsFirstBehind (before now : ℕ) (top : Data) (rule : Rule) (place : List ℕ) : Type 0 where
   pub made : List Made
   pub each : AreMade (HasRisen before now) (items_at Processors top) made
   pub count : now ≡ count_all before made
   pub path : Path
-  pub first : first_refused PatternTooBig 0 made ≡ Some path
+  pub first : first_behind top made ≡ Some (rule, path)
   pub stands : place ≡ pointer_of path
 
 -- where a text is accepted, none of its patterns was refused for its size
 abbrev pub IsCountedIn : (before now : ℕ) → Data → Result Flow FlowError → Type 0
 IsCountedIn before now top (Ok flow) = now ≡ before
-IsCountedIn before now top (Err (error.Rule rule place)) = rule ≡ PatternTooBig → IsFirstTooBig before now top place
+IsCountedIn before now top (Err (error.Rule rule place)) =
+    first_of first_rules top ≡ None → IsFirstBehind before now top rule place
 IsCountedIn before now top (Err error.Memory) = Unit {0}
 
 abbrev pub IsCounted : (before now : ℕ) → List ℕ → Result Flow FlowError → Type 0

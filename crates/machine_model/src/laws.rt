@@ -4,8 +4,8 @@ ghost use Rattle.machine_model.specs.Laws.{ViewsCountAll, NoneGoesBeforeItself, 
 
 use crate::{
     CONNECTIONS_MAX, COPIES_MAX, EXTRACTED_MAX, FAN_OUT_MAX, GENERATED_MAX, ID_MAX, LINES_MAX,
-    OWN_NAME_MAX, OWN_PROPERTIES_MAX, PENALTY_MAX, PROCESSORS_MAX, QUEUE_LIMIT_MAX, SWAP_MAX,
-    SWAP_MIN, TASKS_MAX,
+    OWN_NAME_MAX, OWN_PROPERTIES_MAX, PENALTY_MAX, PROCESSORS_MAX, QUEUE_LIMIT_MAX,
+    RECLAIM_ENTRIES, SWAP_MAX, SWAP_MIN, TASKS_MAX,
 };
 
 /// The limits of a flow as numbers.
@@ -25,6 +25,11 @@ pub fn limits_of_a_flow()
     ensures copies { COPIES_MAX ≡ 999 }
     ensures lines { LINES_MAX ≡ 10 ^ 9 }
     ensures extracted { EXTRACTED_MAX ≡ 1024 }
+{}
+
+/// How many entries stand between two reclaims, as a number.
+pub fn limit_of_entries()
+    ensures { RECLAIM_ENTRIES ≡ 2 ^ 8 }
 {}
 
 /// The order of a queue is a total one of files whose arrivals differ.

@@ -1,5 +1,5 @@
 //! The command that the words say.
-ghost use Rattle.std.specs.Prelude.{◌≡◌, ◌⊎◌, ◌↔◌, ◌+◌, true, false, IsTrue};
+ghost use Rattle.std.specs.Prelude.{◌≡◌, ◌⊎◌, ◌↔◌, ◌+◌, ◌^◌, true, false, IsTrue};
 ghost use Rattle.disk_trait.specs.Faults.{CountsFaults};
 ghost use Rattle.flowfile_record.specs.Encoding.{IsDigest};
 ghost use Rattle.machine_model.specs.Sound.{IsSound};
@@ -38,6 +38,12 @@ pub const MAX_COMMITS: u64 = 1_048_576;
 
 /// With how many entries in a log a new one begins, behind a snapshot.
 pub const CHECKPOINT_ENTRIES: u64 = 4_096;
+
+/// The limits of a run as numbers. This function does nothing: its contract is the law.
+pub fn limits_of_a_run()
+    ensures commits { MAX_COMMITS ≡ 2 ^ 20 }
+    ensures checkpoint { CHECKPOINT_ENTRIES ≡ 2 ^ 12 }
+{}
 
 /// Runs the command that the words say, and answers its status.
 ///
