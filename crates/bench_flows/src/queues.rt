@@ -1,0 +1,97 @@
+//! What a queue of fragments picks.
+ghost use Rattle.std.specs.Prelude.{◌≡◌, IfOk};
+
+use crate::measured::{Compared, Measured, processor_time, since};
+use anyhow::{Result, bail};
+use flow_queue::{Queue, QueueLimits, TakeRule};
+use flowfile_record::{Attributes, ContentRef, DIGEST_SIZE, FlowFile};
+use prioritizer::Order;
+use std::alloc::{Alloc, Global};
+use std::fs::Files;
+
+/// How many wholes there are.
+const WHOLES: u32 = 100;
+
+/// Fragments stand as far from one another as this number tells. It has no divisor with their number.
+const STRIDE: u64 = 7_919;
+
+/// How often the same whole is picked.
+const PICKS: u32 = 10;
+
+const LIMITS: QueueLimits = QueueLimits {
+    expiration: 0,
+    objects: 0,
+    bytes: 0,
+    swap: 20_000,
+};
+
+/// Picks a whole of so many fragments of 100 wholes, ten times. The fragments that it picks are counted.
+pub fn measure<R: Files + Alloc<A = Global>>(
+    rt: &R,
+    alloc: Global,
+    fragments: u32,
+) -> Result<Compared> {
+    let queue = queue(alloc, fragments)?;
+    let start = processor_time(rt);
+    let count = pick_often(alloc, &queue)?;
+    let took = since(rt, start);
+    Ok(Compared {
+        engine: Measured { count, took },
+        plain: None,
+    })
+}
+
+fn pick_often(alloc: Global, queue: &Queue) -> Result<u64> {
+    let mut count = 0u64;
+    for _ in 0..PICKS {
+        let mut numbers = Vec::new(alloc);
+        if !queue.pick(TakeRule::Defragment, 1, &mut numbers)? {
+            bail!("no whole is there");
+        }
+        count = count.saturating_add(numbers.len() as u64);
+    }
+    Ok(count)
+}
+
+// A queue of so many fragments, which don't stand in turn.
+fn queue(alloc: Global, fragments: u32) -> Result<Queue> {
+    let mut queue = Queue::new(alloc, Order::new(Vec::new(alloc)), LIMITS);
+    for place in 0..fragments {
+        let file = fragment(alloc, u64::from(place), u64::from(fragments))?;
+        queue.reserve(1)?;
+        queue.put(file);
+    }
+    Ok(queue)
+}
+
+// The fragment at a place. Its number and its arrival are the place.
+fn fragment(alloc: Global, place: u64, fragments: u64) -> Result<FlowFile>
+    ensures number { IfOk result (λ file. file.number ≡ place) }
+    ensures arrival { IfOk result (λ file. file.arrival ≡ place) }
+{
+    let wholes = u64::from(WHOLES);
+    let shuffled = place.wrapping_mul(STRIDE) % fragments.max(1);
+    let whole = shuffled % wholes;
+    let index = shuffled / wholes + 1;
+    let count = fragments / wholes;
+    let mut attributes = Attributes::new(alloc);
+    attributes.put("fragment.count", format!(in alloc; "{count}")?.as_str())?;
+    attributes.put(
+        "fragment.identifier",
+        format!(in alloc; "whole-{whole}")?.as_str(),
+    )?;
+    attributes.put("fragment.index", format!(in alloc; "{index}")?.as_str())?;
+    Ok(FlowFile {
+        number: place,
+        attributes,
+        content: ContentRef {
+            slot: 0,
+            offset: 0,
+            size: 1,
+            digest: [0; DIGEST_SIZE],
+        },
+        entered: 1,
+        penalty_end: 0,
+        arrival: place,
+    })
+}
