@@ -1,42 +1,21 @@
 //! Processors that work on contents, each beside a plain loop over the same bytes.
-ghost use Rattle.machine_model.specs.Sound.{IsSound};
+ghost use Rattle.machine_model.specs.Sound.{IsSoundKind};
 ghost use Rattle.processor_api.specs.Acts.{AreRead};
 
 use crate::files::taken;
+use crate::kinds::{self, LINES, VALUE};
 use crate::loops;
 use crate::measured::{Compared, Measured, processor_time, since};
-use crate::processors::{count_to, flow, size_to, work};
+use crate::processors::{count_to, size_to, work};
 use crate::texts::{LINE_SIZE, text};
 use anyhow::{Result, bail};
 use flowfile_record::Outcome;
-use machine_model::{Flow, Kind, Replacement};
+use machine_model::{Kind, Replacement};
 use process_session::TakenList;
 use regex::Regex;
 use std::alloc::{Alloc, Global};
 use std::fs::Files;
 use std::str;
-
-/// How many lines a part has.
-const LINES: u32 = 10_000;
-
-const SPLIT: &str = r#"{"processors": [{"id": "p", "type": "SplitText",
-    "properties": {"Line Split Count": "10000"},
-    "terminated": ["original", "splits", "failure"]}], "connections": []}"#;
-
-/// What stands in place of each match.
-const VALUE: &str = "worker";
-
-const REPLACE: &str = r#"{"processors": [{"id": "p", "type": "ReplaceText",
-    "properties": {"Search Value": "[a-z]+-[0-9]+", "Replacement Value": "worker"},
-    "terminated": ["success", "failure"]}], "connections": []}"#;
-
-const ROUTE: &str = r#"{"processors": [{"id": "p", "type": "RouteOnContent",
-    "properties": {"Match Requirement": "content must contain match", "given": "[a-z]+-[0-9]+ gave"},
-    "terminated": ["given", "unmatched"]}], "connections": []}"#;
-
-const MERGE: &str = r#"{"processors": [{"id": "p", "type": "MergeContent",
-    "properties": {"Maximum Number of Entries": "1000"},
-    "terminated": ["merged", "original", "failure"]}], "connections": []}"#;
 
 /// Splits a text of lines into parts of so many lines. The parts are counted.
 pub fn measure_split<R: Files + Alloc<A = Global>>(
@@ -44,10 +23,10 @@ pub fn measure_split<R: Files + Alloc<A = Global>>(
     alloc: Global,
     lines: u32,
 ) -> Result<Compared> {
-    let flow = flow(alloc, SPLIT)?;
+    let kind = kinds::split();
     let content = text(alloc, lines)?;
     let taken = taken(alloc, vec![in alloc; content.clone()?]?)?;
-    let (outcome, took) = timed(rt, alloc, &flow, taken)?;
+    let (outcome, took) = timed(rt, alloc, &kind, taken)?;
     let engine = Measured {
         count: count_to(&outcome, 1),
         took,
@@ -70,15 +49,15 @@ pub fn measure_replace<R: Files + Alloc<A = Global>>(
     alloc: Global,
     lines: u32,
 ) -> Result<Compared> {
-    let flow = flow(alloc, REPLACE)?;
+    let kind = kinds::replace(alloc)?;
     let content = text(alloc, lines)?;
     let taken = taken(alloc, vec![in alloc; content.clone()?]?)?;
-    let (outcome, took) = timed(rt, alloc, &flow, taken)?;
+    let (outcome, took) = timed(rt, alloc, &kind, taken)?;
     let engine = Measured {
         count: size_to(&outcome, 0),
         took,
     };
-    let search = pattern(&flow)?;
+    let search = pattern(&kind)?;
     let text = str::from_utf8(content.as_slice())?;
     let start = processor_time(rt);
     let replaced = loops::replace(alloc, search, VALUE, text)?;
@@ -98,15 +77,15 @@ pub fn measure_route<R: Files + Alloc<A = Global>>(
     alloc: Global,
     lines: u32,
 ) -> Result<Compared> {
-    let flow = flow(alloc, ROUTE)?;
+    let kind = kinds::route(alloc)?;
     let content = text(alloc, lines)?;
     let taken = taken(alloc, vec![in alloc; content.clone()?]?)?;
-    let (outcome, took) = timed(rt, alloc, &flow, taken)?;
+    let (outcome, took) = timed(rt, alloc, &kind, taken)?;
     let engine = Measured {
         count: count_to(&outcome, 0),
         took,
     };
-    let search = pattern(&flow)?;
+    let search = pattern(&kind)?;
     let text = str::from_utf8(content.as_slice())?;
     let start = processor_time(rt);
     let found = loops::matches(alloc, search, text)?;
@@ -126,10 +105,10 @@ pub fn measure_merge<R: Files + Alloc<A = Global>>(
     alloc: Global,
     lines: u32,
 ) -> Result<Compared> {
-    let flow = flow(alloc, MERGE)?;
+    let kind = kinds::merge();
     let parts = parts(alloc, lines)?;
     let taken = taken(alloc, parts.clone()?)?;
-    let (outcome, took) = timed(rt, alloc, &flow, taken)?;
+    let (outcome, took) = timed(rt, alloc, &kind, taken)?;
     let engine = Measured {
         count: size_to(&outcome, 0),
         took,
@@ -150,24 +129,21 @@ pub fn measure_merge<R: Files + Alloc<A = Global>>(
 fn timed<R: Files + Alloc<A = Global>>(
     rt: &R,
     alloc: Global,
-    flow: &Flow,
+    kind: &Kind,
     taken: TakenList,
 ) -> Result<(Outcome, u64)>
-    requires sound { IsSound flow.now }
+    requires sound { IsSoundKind kind.now }
     requires read { AreRead taken }
 {
     let start = processor_time(rt);
-    let outcome = work(alloc, flow, taken)?;
+    let outcome = work(alloc, kind, taken)?;
     let took = since(rt, start);
     Ok((outcome, took))
 }
 
-// The pattern of a flow's first processor.
-fn pattern(flow: &Flow) -> Result<&Regex> {
-    let Some(processor) = flow.processors.as_slice().first() else {
-        bail!("there is no processor");
-    };
-    match &processor.kind {
+// The pattern of a processor.
+fn pattern(kind: &Kind) -> Result<&Regex> {
+    match kind {
         Kind::ReplaceText {
             replacement: Replacement::Regex { search, .. },
         } => Ok(&search.regex),

@@ -2,7 +2,7 @@
 ghost use Rattle.std.specs.Prelude.{◌≡◌, ◌≤◌, length, All, IfOk, IsTrue};
 ghost use Rattle.flowfile_record.specs.declared.TheConstants.{CONTENT_MAX};
 ghost use Rattle.processor_api.specs.Acts.{AreRead, fit_a_content};
-ghost use Rattle.bench_flows.specs.Files.{IsReadFile};
+ghost use Rattle.bench_flows.specs.Reading.{IsReadFile};
 
 use anyhow::{Result, bail};
 use flowfile_record::{Attributes, Bytes, CONTENT_MAX, Text};

@@ -4,11 +4,13 @@
 
 mod contents;
 mod files;
+mod kinds;
 mod loops;
 mod measured;
 mod processors;
 mod queues;
 mod texts;
+mod updates;
 
 use anyhow::{Result, bail};
 use measured::Compared;
@@ -17,12 +19,13 @@ use std::env;
 use std::fs::Files;
 
 /// What is measured, and how much of it there is where the word is `check`.
-const PARTS: [(&str, u32); 5] = [
+const PARTS: [(&str, u32); 6] = [
     ("split", 20_000),
     ("replace", 20_000),
     ("route", 20_000),
     ("merge", 20_000),
     ("picks", 200),
+    ("update", 3),
 ];
 
 fn main(rt: HostRuntime) -> Result<()> {
@@ -56,6 +59,7 @@ fn measure<R: Files + Alloc<A = Global>>(
         "route" => contents::measure_route(rt, alloc, much),
         "merge" => contents::measure_merge(rt, alloc, much),
         "picks" => queues::measure(rt, alloc, much),
+        "update" => updates::measure(rt, alloc, much),
         _ => bail!("`{part}` measures nothing"),
     }
 }

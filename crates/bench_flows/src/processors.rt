@@ -1,14 +1,12 @@
 //! Sessions of processors.
-ghost use Rattle.std.specs.Prelude.{◌≤◌, length, IfOk, IsTrue};
-ghost use Rattle.flowfile_record.specs.declared.limits.TheConstants.{TAKEN_MAX};
+ghost use Rattle.std.specs.Prelude.{IsTrue};
 ghost use Rattle.machine_model.specs.Laws.{MayTake};
-ghost use Rattle.machine_model.specs.Sound.{IsSound};
+ghost use Rattle.machine_model.specs.Sound.{IsSoundKind};
 ghost use Rattle.processor_api.specs.Acts.{AreRead, IsGivenTo, MayBeHanded};
 
 use anyhow::{Result, bail};
-use flow_definition::{Builder, FlowError, read_flow};
 use flowfile_record::{Body, End, Outcome, TAKEN_MAX};
-use machine_model::{Flow, Given, Kind, TakeRule};
+use machine_model::{Given, Kind, TakeRule};
 use proc_attribute::UpdateAttribute;
 use proc_merge::MergeContent;
 use proc_text::{ReplaceText, RouteOnContent, SplitText};
@@ -16,27 +14,11 @@ use process_session::TakenList;
 use processor_api::work_on;
 use std::alloc::Global;
 
-/// The flow of a text.
-pub fn flow(alloc: Global, text: &str) -> Result<Flow>
-    ensures { IfOk result IsSound }
-{
-    let mut patterns = Builder::new(Vec::new(alloc));
-    match read_flow(alloc, text.as_bytes(), &mut patterns) {
-        Ok(flow) => Ok(flow),
-        Err(FlowError::Rule { rule, .. }) => bail!("rule {} is broken", rule.number()),
-        Err(FlowError::Memory) => bail!("out of memory"),
-    }
-}
-
-/// What the first processor of a flow makes of these files.
-pub fn work(alloc: Global, flow: &Flow, taken: TakenList) -> Result<Outcome>
-    requires sound { IsSound flow.now }
+/// What a processor of this kind makes of these files.
+pub fn work(alloc: Global, kind: &Kind, taken: TakenList) -> Result<Outcome>
+    requires sound { IsSoundKind kind.now }
     requires read { AreRead taken }
 {
-    let Some(processor) = flow.processors.as_slice().first() else {
-        bail!("there is no processor");
-    };
-    let kind = &processor.kind;
     let mut given = Given {
         moment: 0,
         index: 0,

@@ -1,7 +1,7 @@
 use Rattle.std.proofs.Common.{sym, subst}
 use Rattle.std.specs.Prelude.{All}
-use Rattle.bench_flows.specs.Files.{IsReadFile}
-use Rattle.bench_flows.proofs.Files.{one-more}
+use Rattle.bench_flows.specs.Reading.{IsReadFile}
+use Rattle.bench_flows.proofs.Reading.{one-more}
 use Rattle.bench_flows.proofs.files.files.Goals as goal
 
 pub loop-content-preserved : goal.loop-content-preserved

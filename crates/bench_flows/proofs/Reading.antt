@@ -6,7 +6,7 @@ use Rattle.flowfile_record.specs.declared.TheConstants.{CONTENT_MAX}
 use Rattle.process_session.specs.Bench.{IsWhole}
 use Rattle.process_session.specs.declared.file.Taken.{Taken}
 use Rattle.processor_api.specs.Acts.{AreRead, fit_a_content}
-use Rattle.bench_flows.specs.Files.{IsReadFile}
+use Rattle.bench_flows.specs.Reading.{IsReadFile}
 
 pub one-more : (files : List Taken) (file : Taken) → All IsReadFile files → IsReadFile file → All IsReadFile (files ++ file ∷ [])
 one-more files file all one = All-append IsReadFile files (file ∷ []) all (All-cons IsReadFile file [] one (All-nil IsReadFile))
