@@ -3,7 +3,7 @@ use anyhow::Result;
 use flowfile_record::Text;
 use machine_model::{
     Conflict, Connection, Destination, Flow, Kind, MatchRequirement, MergeStrategy, OwnExpression,
-    OwnPattern, Processor, Replacement,
+    OwnPattern, Pattern, Processor, Replacement,
 };
 use std::alloc::Global;
 
@@ -41,26 +41,14 @@ fn processor_told(alloc: Global, processor: &Processor) -> Result<String> {
 
 fn kind_told(alloc: Global, kind: &Kind) -> Result<String> {
     match kind {
-        Kind::GetFile { filter } => match filter {
-            Some(pattern) => {
-                let pattern = pattern.text.as_str();
-                Ok(format!(in alloc; "GetFile {pattern}")?)
-            }
-            None => Ok(String::from_str(alloc, "GetFile")?),
-        },
+        Kind::GetFile { filter } => get_file_told(alloc, filter),
         Kind::GenerateFlowFile { count, .. } => Ok(format!(in alloc; "GenerateFlowFile {count}")?),
         Kind::PutFile { conflict } => {
             let conflict = conflict_told(*conflict);
             Ok(format!(in alloc; "PutFile {conflict}")?)
         }
-        Kind::UpdateAttribute { own } => {
-            let own = own_told(alloc, own.as_slice())?;
-            Ok(format!(in alloc; "UpdateAttribute{own}")?)
-        }
-        Kind::RouteOnAttribute { own } => {
-            let own = own_told(alloc, own.as_slice())?;
-            Ok(format!(in alloc; "RouteOnAttribute{own}")?)
-        }
+        Kind::UpdateAttribute { own } => own_told(alloc, "UpdateAttribute", own.as_slice()),
+        Kind::RouteOnAttribute { own } => own_told(alloc, "RouteOnAttribute", own.as_slice()),
         Kind::AttributesToJson { destination, names } => {
             let destination = destination_told(*destination);
             let names = listed_told(alloc, names.as_slice())?;
@@ -72,14 +60,11 @@ fn kind_told(alloc: Global, kind: &Kind) -> Result<String> {
         }
         Kind::SplitText { lines } => Ok(format!(in alloc; "SplitText {lines}")?),
         Kind::ReplaceText { replacement } => replacement_told(alloc, replacement),
-        Kind::ExtractText { own } => {
-            let own = patterns_told(alloc, own.as_slice())?;
-            Ok(format!(in alloc; "ExtractText{own}")?)
-        }
+        Kind::ExtractText { own } => patterns_told(alloc, "ExtractText", own.as_slice()),
         Kind::RouteOnContent { requirement, own } => {
             let requirement = requirement_told(*requirement);
-            let own = patterns_told(alloc, own.as_slice())?;
-            Ok(format!(in alloc; "RouteOnContent {requirement}{own}")?)
+            let name = format!(in alloc; "RouteOnContent {requirement}")?;
+            patterns_told(alloc, name.as_str(), own.as_slice())
         }
         Kind::MergeContent {
             strategy,
@@ -91,6 +76,16 @@ fn kind_told(alloc: Global, kind: &Kind) -> Result<String> {
         }
         Kind::SegmentContent { size } => Ok(format!(in alloc; "SegmentContent {size}")?),
         Kind::ModifyBytes { start, end } => Ok(format!(in alloc; "ModifyBytes {start} {end}")?),
+    }
+}
+
+fn get_file_told(alloc: Global, filter: &Option<Pattern>) -> Result<String> {
+    match filter {
+        Some(pattern) => {
+            let pattern = pattern.text.as_str();
+            Ok(format!(in alloc; "GetFile {pattern}")?)
+        }
+        None => Ok(String::from_str(alloc, "GetFile")?),
     }
 }
 
@@ -109,9 +104,9 @@ fn replacement_told(alloc: Global, replacement: &Replacement) -> Result<String> 
     }
 }
 
-/// The name of each own property in brackets, behind a space, and its pattern behind another one.
-fn patterns_told(alloc: Global, own: &[OwnPattern]) -> Result<String> {
-    let mut text = String::new(alloc);
+/// A kind, and the name of each own property in brackets, behind a space, and its pattern behind another one.
+fn patterns_told(alloc: Global, kind: &str, own: &[OwnPattern]) -> Result<String> {
+    let mut text = String::from_str(alloc, kind)?;
     for property in own {
         push_bracketed(&mut text, property.name.as_str())?;
         text.push(' ')?;
@@ -134,9 +129,9 @@ fn strategy_told(strategy: MergeStrategy) -> &'static str {
     }
 }
 
-/// The name of each own property in brackets, behind a space.
-fn own_told(alloc: Global, own: &[OwnExpression]) -> Result<String> {
-    let mut text = String::new(alloc);
+/// A kind, and the name of each own property in brackets, behind a space.
+fn own_told(alloc: Global, kind: &str, own: &[OwnExpression]) -> Result<String> {
+    let mut text = String::from_str(alloc, kind)?;
     for property in own {
         push_bracketed(&mut text, property.name.as_str())?;
     }

@@ -14,16 +14,16 @@ use Rattle.flow_definition.specs.declared.made.Made.{Made}
 use Rattle.flow_definition.specs.declared.rule.Rule.{Rule}
 use Rattle.flow_definition.specs.declared.rule.Rule.TheVariants.{UnknownType, BadPattern, BadExpression, PatternTooBig}
 use Rattle.machine_model.specs.declared.flow.Flow.{Flow}
-use Rattle.flow_definition.specs.Made.{AreMade, AreAllMade, count_all, first_refused, processor_in}
-use Rattle.flow_definition.specs.Patterns.{HasRisen}
+use Rattle.flow_definition.specs.Made.{AreMade, AreAllMade, told_all, first_refused, processor_in}
+use Rattle.flow_definition.specs.Patterns.{HasRisen, Told}
 use Rattle.flow_definition.specs.Looks.{items_at}
 use Rattle.flow_definition.specs.Reading.{AreProcessorsOf, IsFlowOf, connection_of}
 use Rattle.sha2.specs.Sha256.{sha256}
 use Rattle.flow_definition.specs.Rules.{Path}
-use Rattle.flow_definition.specs.Verdict.{object_only, object_in, refused, first_behind, IsError, Refuses, Accepts, IsAnswerBehind, IsPatternTooBig, IsCountedIn}
+use Rattle.flow_definition.specs.Verdict.{object_only, object_in, refused, first_behind, IsError, Refuses, Accepts, IsAnswerBehind, IsPatternTooBig, IsToldIn}
 use Rattle.flow_definition.specs.Walk.{first_place, first_of, last_rules}
 use Rattle.flow_definition.proofs.Passed.{none_or, none_map}
-use Rattle.flow_definition.proofs.Verdicts.{all_made, count_none, processors_made, risen}
+use Rattle.flow_definition.proofs.Verdicts.{all_made, told_none, processors_made, risen}
 
 -- ---- the text
 
@@ -102,16 +102,16 @@ pub big_rises : (R : Type 0) (top : Data) (ds : List Data) (ms : List Made) (b :
     → first_behind top ms ≡ Some b → b.0 ≡ PatternTooBig → R
 big_rises R top ds ms b each e big = risen R ds ms 0 b.1 each (big_first top ms b e big)
 
--- ---- what the count says of an answer
+-- ---- what the builder tells behind an answer
 
-pub behind_counted : (before now : ℕ) (top : Data) (ms : List Made) (b : Rule × Path) (e : FlowError)
-    → AreMade (HasRisen before now) (items_at Processors top) ms → now ≡ count_all before ms → first_behind top ms ≡ Some b → IsError b e
-    → IsCountedIn before now top (Err e)
-behind_counted before now top ms b error.Memory each count found is = tt
-behind_counted before now top ms b (error.Rule rule place) each count found is = λ passed. record {
+pub behind_told : (before now : Told) (top : Data) (ms : List Made) (b : Rule × Path) (e : FlowError)
+    → AreMade (HasRisen before.count now.count) (items_at Processors top) ms → now ≡ told_all before (items_at Processors top) ms
+    → first_behind top ms ≡ Some b → IsError b e → IsToldIn before now top (Err e)
+behind_told before now top ms b error.Memory each told found is = tt
+behind_told before now top ms b (error.Rule rule place) each told found is = λ passed. record {
   made = ms;
   each = each;
-  count = count;
+  told = told;
   path = b.1;
   first = found ∙ ap (λ r. Some (r, b.1)) (sym is.0);
   stands = is.1;
@@ -129,8 +129,9 @@ none_behind top ms e =
     λ rule. none_map {Y = Rule × Path} (λ path. (rule, path)) (first_refused rule 0 ms) in
     all_made ms 0 (none UnknownType typed.0) (none BadPattern read.0) (none BadExpression expressed.0) (none PatternTooBig last.1)
 
-pub accepted_counted : (before now : ℕ) (top : Data) (ms : List Made) → now ≡ count_all before ms → first_behind top ms ≡ None → now ≡ before
-accepted_counted before now top ms count found = count ∙ count_none before ms (none_behind top ms found)
+pub accepted_told : (before now : Told) (top : Data) (ms : List Made) → now ≡ told_all before (items_at Processors top) ms
+    → first_behind top ms ≡ None → now ≡ before
+accepted_told before now top ms told found = told ∙ told_none before (items_at Processors top) ms (none_behind top ms found)
 
 -- ---- answers
 

@@ -10,7 +10,8 @@ use Rattle.machine_model.specs.declared.kind.OwnPattern.{OwnPattern}
 use Rattle.flow_definition.specs.declared.own_patterns.Attempt.{Attempt}
 use Rattle.flow_definition.specs.declared.own_patterns.Attempt.TheVariants.{Read, Unread, TooBig}
 use Rattle.flow_definition.specs.Looks.{names_of, own_properties_in, own_texts_in}
-use Rattle.flow_definition.specs.OwnPatterns.{IsAttempt, AreAttempts, is_read, read_in, unread_in, count_attempt, count_attempts}
+use Rattle.flow_definition.specs.OwnPatterns.{IsAttempt, AreAttempts, is_read, read_in, unread_in, told_attempt, told_attempts}
+use Rattle.flow_definition.specs.Patterns.{Told}
 use Rattle.flow_definition.specs.Reading.{own_patterns, patterns_of, patterns_in, is_whole_in}
 use Rattle.flow_definition.proofs.OwnProperties.{texts_named}
 
@@ -23,9 +24,12 @@ attempt_push R whole [] (y ∷ list) t x each one = absurd each
 attempt_push R whole (s ∷ ts) [] t x each one = absurd each
 attempt_push R whole (s ∷ ts) (y ∷ list) t x each one = (each.0, attempt_push R whole ts list t x each.1 one)
 
-pub attempts_counted : (n : ℕ) (list : List Attempt) (x : Attempt) → count_attempts n (list ++ x ∷ []) ≡ count_attempt (count_attempts n list) x
-attempts_counted n [] x = refl
-attempts_counted n (y ∷ list) x = attempts_counted (count_attempt n y) list x
+pub attempts_told : (R : Type 0) (whole : Bool) (n : Told) (ts : List (List ℕ × List ℕ)) (list : List Attempt) (t : List ℕ × List ℕ) (x : Attempt)
+    → AreAttempts R whole ts list → told_attempts whole n (ts ++ t ∷ []) (list ++ x ∷ []) ≡ told_attempt whole (told_attempts whole n ts list) t x
+attempts_told R whole n [] [] t x each = refl
+attempts_told R whole n [] (y ∷ list) t x each = absurd each
+attempts_told R whole n (s ∷ ts) [] t x each = absurd each
+attempts_told R whole n (s ∷ ts) (y ∷ list) t x each = attempts_told R whole (told_attempt whole n s y) ts list t x each.1
 
 pub attempt_later : (R S : Type 0) (whole : Bool) (t : List ℕ × List ℕ) (x : Attempt) → (R → S) → IsAttempt R whole t x → IsAttempt S whole t x
 attempt_later R S whole t (Read own) f h = h
@@ -52,14 +56,17 @@ all_read R whole (t ∷ ts) (Read own ∷ list) each read =
 all_read R whole (t ∷ ts) (Unread name ∷ list) each read = absurd (false≢true read)
 all_read R whole (t ∷ ts) (TooBig name ∷ list) each read = absurd (false≢true read)
 
-pub none_counted : (n : ℕ) (list : List Attempt) → list_all is_read list ≡ true → count_attempts n list ≡ n
-none_counted n [] read = refl
-none_counted n (Read own ∷ list) read = none_counted n list read
-none_counted n (Unread name ∷ list) read = absurd (false≢true read)
-none_counted n (TooBig name ∷ list) read = absurd (false≢true read)
+pub none_told : (n : Told) (whole : Bool) (ts : List (List ℕ × List ℕ)) (list : List Attempt) → list_all is_read list ≡ true
+    → told_attempts whole n ts list ≡ n
+none_told n whole [] list read = refl
+none_told n whole (t ∷ ts) [] read = refl
+none_told n whole (t ∷ ts) (Read own ∷ list) read = none_told n whole ts list read
+none_told n whole (t ∷ ts) (Unread name ∷ list) read = absurd (false≢true read)
+none_told n whole (t ∷ ts) (TooBig name ∷ list) read = absurd (false≢true read)
 
 -- where the count didn't rise, none is too big
-pub none_big : (n : ℕ) (whole : Bool) (ts : List (List ℕ × List ℕ)) (list : List Attempt) → AreAttempts ⊥ whole ts list → count_attempts n list ≡ n
+pub none_big : (n : Told) (whole : Bool) (ts : List (List ℕ × List ℕ)) (list : List Attempt) → AreAttempts ⊥ whole ts list
+    → told_attempts whole n ts list ≡ n
 none_big n whole [] [] each = refl
 none_big n whole [] (x ∷ list) each = absurd each
 none_big n whole (t ∷ ts) [] each = absurd each

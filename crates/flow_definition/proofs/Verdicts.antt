@@ -18,8 +18,8 @@ use Rattle.flow_definition.specs.Looks.{type_of, properties_in, own_texts_in}
 use Rattle.flow_definition.specs.Numbers.{number_of}
 use Rattle.flow_definition.specs.OwnPatterns.{name_refused, rule_by, unread_in}
 use Rattle.flow_definition.specs.Types.{properties_of}
-use Rattle.flow_definition.specs.Made.{IsRefusal, IsMade, IsMadeKind, count_kind, AreMade, AreAllMade, count_all, count_made, first_refused, processor_in}
-use Rattle.flow_definition.specs.Patterns.{HasRisen}
+use Rattle.flow_definition.specs.Made.{IsRefusal, IsMade, IsMadeKind, told_kind, AreMade, AreAllMade, told_all, told_made, first_refused, processor_in}
+use Rattle.flow_definition.specs.Patterns.{HasRisen, Told}
 use Rattle.flow_definition.specs.Reading.{AreProcessorsOf, is_whole_in}
 use Rattle.flow_definition.specs.Rules.{Path, in_property}
 use Rattle.flow_definition.specs.Walk.{in_list_item}
@@ -71,17 +71,21 @@ risen R (d ∷ ds) (made.Refused (NoOwnPatterns list) ∷ ms) k path each found 
     risen_own R k (unread_in list) (in_property (name_refused list)) path (first_refused PatternTooBig (suc k) ms)
     (some_big R (is_whole_in d) (own_texts_in d) list each.0.1.0 each.0.1.1) (risen R ds ms (suc k) path each.1) found
 
--- where each was made, the count stays
-pub count_none : (n : ℕ) (ms : List Made) → AreAllMade ms → count_all n ms ≡ n
-count_none n [] all = refl
-count_none n (made.Processor p ∷ ms) all = count_none n ms all.1
-count_none n (made.Refused r ∷ ms) all = absurd all.0
+-- where each was made, no text was refused for its size
+pub told_none : (n : Told) (ds : List Data) (ms : List Made) → AreAllMade ms → told_all n ds ms ≡ n
+told_none n [] ms all = refl
+told_none n (d ∷ ds) [] all = refl
+told_none n (d ∷ ds) (made.Processor p ∷ ms) all = told_none n ds ms all.1
+told_none n (d ∷ ds) (made.Refused r ∷ ms) all = absurd all.0
 
 -- ---- one more processor
 
-pub count_push : (n : ℕ) (ms : List Made) (m : Made) → count_all n (ms ++ m ∷ []) ≡ count_made (count_all n ms) m
-count_push n [] m = refl
-count_push n (x ∷ ms) m = count_push (count_made n x) ms m
+pub told_push : (R : Type 0) (n : Told) (ds : List Data) (ms : List Made) (d : Data) (m : Made) → AreMade R ds ms
+    → told_all n (ds ++ d ∷ []) (ms ++ m ∷ []) ≡ told_made (told_all n ds ms) d m
+told_push R n [] [] d m each = refl
+told_push R n [] (x ∷ ms) d m each = absurd each
+told_push R n (e ∷ ds) [] d m each = absurd each
+told_push R n (e ∷ ds) (x ∷ ms) d m each = told_push R (told_made n e x) ds ms d m each.1
 
 pub made_push : (R : Type 0) (ds : List Data) (ms : List Made) (d : Data) (m : Made) → AreMade R ds ms → IsMade R d m → AreMade R (ds ++ d ∷ []) (ms ++ m ∷ [])
 made_push R [] [] d m each last = (last, tt)
@@ -107,18 +111,18 @@ pub answer_later : {E : Type 0} (S : Type 0) (d : Data) (r : Result MadeKind E) 
 answer_later S d (Ok m) h = kind_later S d m h
 answer_later S d (Err e) h = tt
 
-kind_uncounted : (n : ℕ) (d : Data) (m : MadeKind) → IsMadeKind ⊥ d m → n ≡ count_kind n m
-kind_uncounted n d (kind.Kind k) h = refl
-kind_uncounted n d (kind.Refused NoType) h = refl
-kind_uncounted n d (kind.Refused (Unread p)) h = refl
-kind_uncounted n d (kind.Refused (TooBig p)) h = absurd h.1
-kind_uncounted n d (kind.Refused (NoExpression p)) h = refl
-kind_uncounted n d (kind.Refused (NoOwnExpression name)) h = refl
-kind_uncounted n d (kind.Refused (NoOwnPatterns list)) h = sym (none_big n (is_whole_in d) (own_texts_in d) list h.1.0)
+kind_untold : (n : Told) (d : Data) (m : MadeKind) → IsMadeKind ⊥ d m → n ≡ told_kind n d m
+kind_untold n d (kind.Kind k) h = refl
+kind_untold n d (kind.Refused NoType) h = refl
+kind_untold n d (kind.Refused (Unread p)) h = refl
+kind_untold n d (kind.Refused (TooBig p)) h = absurd h.1
+kind_untold n d (kind.Refused (NoExpression p)) h = refl
+kind_untold n d (kind.Refused (NoOwnExpression name)) h = refl
+kind_untold n d (kind.Refused (NoOwnPatterns list)) h = sym (none_big n (is_whole_in d) (own_texts_in d) list h.1.0)
 
-pub answer_uncounted : {E : Type 0} (n : ℕ) (d : Data) (r : Result MadeKind E) → IfOk r (IsMadeKind ⊥ d) → IfOk r (λ m. n ≡ count_kind n m)
-answer_uncounted n d (Ok m) h = kind_uncounted n d m h
-answer_uncounted n d (Err e) h = tt
+pub answer_untold : {E : Type 0} (n : Told) (d : Data) (r : Result MadeKind E) → IfOk r (IsMadeKind ⊥ d) → IfOk r (λ m. n ≡ told_kind n d m)
+answer_untold n d (Ok m) h = kind_untold n d m h
+answer_untold n d (Err e) h = tt
 
 pub made_later : (R S : Type 0) (ds : List Data) (ms : List Made) → (R → S) → AreMade R ds ms → AreMade S ds ms
 made_later R S [] [] f each = tt

@@ -1,6 +1,5 @@
 -- Patterns of a processor: the texts that they are built from, and what becomes of them.
 use Rattle.std.specs.Prelude.{◌≡◌, ℕ, List, Contains}
-use Rattle.disk_trait.specs.Count.{one_more}
 use Rattle.serde_json.specs.Data.{Data}
 use Rattle.machine_model.specs.Sound.{to_match_whole}
 use Rattle.flow_definition.specs.declared.building.Built.{Built}
@@ -10,7 +9,7 @@ use Rattle.flow_definition.specs.declared.processor_type.Form.TheVariants as for
 use Rattle.flow_definition.specs.declared.processor_type.Property.{Property}
 use Rattle.flow_definition.specs.declared.processor_type.ReplaceStrategy.TheVariants.{Regex}
 use Rattle.flow_definition.specs.Looks.{properties_in, property_text}
-use Rattle.flow_definition.specs.Patterns.{IsUnread}
+use Rattle.flow_definition.specs.Patterns.{IsUnread, Told, refuse}
 use Rattle.flow_definition.specs.Reading.{replace_strategy_in}
 use Rattle.flow_definition.specs.Types.{form_of}
 
@@ -54,8 +53,8 @@ IsBuilt Risen text (built.Pattern pattern) = pattern.text ≡ text
 IsBuilt Risen text built.Unread = IsUnread text
 IsBuilt Risen text built.TooBig = Risen
 
--- a builder's count behind it: one more where the pattern was refused for its size
-abbrev pub count_built : ℕ → Built → ℕ
-count_built count (built.Pattern pattern) = count
-count_built count built.Unread = count
-count_built count built.TooBig = one_more count
+-- what a builder tells behind it
+abbrev pub told_built : Told → List ℕ → Built → Told
+told_built before text (built.Pattern pattern) = before
+told_built before text built.Unread = before
+told_built before text built.TooBig = refuse before text

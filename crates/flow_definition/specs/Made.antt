@@ -1,7 +1,6 @@
 -- What becomes of a processor of the text: it is made, or why it isn't, and where.
 use Rattle.std.specs.Prelude.{◌≡◌, ℕ, suc, ◌==◌, true, List, [], ◌∷◌, ◌++◌, All, Option, Some, None, option_map, Contains, if◌then◌else◌}
 use Rattle.std.specs.Option.{option_or}
-use Rattle.disk_trait.specs.Count.{one_more}
 use Rattle.expr_lang.specs.Grammar.{IsText}
 use Rattle.expr_lang.specs.Tree.{Tree}
 use Rattle.serde_json.specs.Data.{Data}
@@ -22,8 +21,8 @@ use Rattle.flow_definition.specs.declared.rule.Rule.TheVariants.{UnknownType, Ba
 use Rattle.flow_definition.specs.Building.{IsPattern, pattern_text}
 use Rattle.flow_definition.specs.Looks.{type_of, properties_in, property_text, own_in, own_texts_in, hold_expressions, hold_patterns}
 use Rattle.flow_definition.specs.Numbers.{number_of}
-use Rattle.flow_definition.specs.OwnPatterns.{AreRefused, count_attempts, name_refused, rule_by, unread_in}
-use Rattle.flow_definition.specs.Patterns.{IsUnread}
+use Rattle.flow_definition.specs.OwnPatterns.{AreRefused, told_attempts, name_refused, rule_by, unread_in}
+use Rattle.flow_definition.specs.Patterns.{IsUnread, Told, refuse}
 use Rattle.flow_definition.specs.Reading.{AreOwnOf, IsKindOf, IsProcessorOf, is_whole_in}
 use Rattle.flow_definition.specs.Rules.{Path, in_field, in_property}
 use Rattle.flow_definition.specs.Types.{form_of, property_name}
@@ -114,24 +113,25 @@ abbrev pub processor_in : Made → Option Processor
 processor_in (made.Processor processor) = Some processor
 processor_in (made.Refused refusal) = None
 
--- ---- a builder's count behind what it was before: one more for each pattern that was refused for its size
+-- ---- what a builder tells behind what it told before: it refused one more text for each pattern that is too big
 
-abbrev pub count_refused : ℕ → Refusal → ℕ
-count_refused count (TooBig property) = one_more count
-count_refused count NoType = count
-count_refused count (Unread property) = count
-count_refused count (NoExpression property) = count
-count_refused count (NoOwnExpression name) = count
-count_refused count (NoOwnPatterns attempts) = count_attempts count attempts
+abbrev pub told_refusal : Told → Data → Refusal → Told
+told_refusal before d (TooBig property) = refuse before (pattern_text property d)
+told_refusal before d NoType = before
+told_refusal before d (Unread property) = before
+told_refusal before d (NoExpression property) = before
+told_refusal before d (NoOwnExpression name) = before
+told_refusal before d (NoOwnPatterns attempts) = told_attempts (is_whole_in d) before (own_texts_in d) attempts
 
-abbrev pub count_made : ℕ → Made → ℕ
-count_made count (made.Processor processor) = count
-count_made count (made.Refused refusal) = count_refused count refusal
+abbrev pub told_kind : Told → Data → MadeKind → Told
+told_kind before d (kind.Kind kind) = before
+told_kind before d (kind.Refused refusal) = told_refusal before d refusal
 
-abbrev pub count_kind : ℕ → MadeKind → ℕ
-count_kind count (kind.Kind kind) = count
-count_kind count (kind.Refused refusal) = count_refused count refusal
+abbrev pub told_made : Told → Data → Made → Told
+told_made before d (made.Processor processor) = before
+told_made before d (made.Refused refusal) = told_refusal before d refusal
 
-abbrev pub count_all : ℕ → List Made → ℕ
-count_all count [] = count
-count_all count (made ∷ more) = count_all (count_made count made) more
+abbrev pub told_all : Told → List Data → List Made → Told
+told_all before [] made = before
+told_all before (d ∷ ds) [] = before
+told_all before (d ∷ ds) (made ∷ more) = told_all (told_made before d made) ds more

@@ -2,7 +2,6 @@
 use Rattle.std.specs.Prelude.{◌≡◌, ℕ, Bool, true, false, List, [], ◌∷◌, Option, Some, None, unwrap_or}
 use Rattle.std.specs.List.{list_all}
 use Rattle.std.specs.Option.{option_or}
-use Rattle.disk_trait.specs.Count.{one_more}
 use Rattle.machine_model.specs.declared.kind.OwnPattern.{OwnPattern}
 use Rattle.flow_definition.specs.declared.own_patterns.Attempt.{Attempt}
 use Rattle.flow_definition.specs.declared.own_patterns.Attempt.TheVariants.{Read, Unread, TooBig}
@@ -10,7 +9,7 @@ use Rattle.flow_definition.specs.declared.own_patterns.MadePatterns.{MadePattern
 use Rattle.flow_definition.specs.declared.own_patterns.MadePatterns.TheVariants as made
 use Rattle.flow_definition.specs.declared.rule.Rule.{Rule}
 use Rattle.flow_definition.specs.declared.rule.Rule.TheVariants.{BadPattern, PatternTooBig}
-use Rattle.flow_definition.specs.Patterns.{IsUnread}
+use Rattle.flow_definition.specs.Patterns.{IsUnread, Told, refuse}
 use Rattle.flow_definition.specs.Reading.{own_patterns, pattern_of, patterns_of}
 
 -- what becomes of an own property's text. The builder may call any pattern too big where its count of such refusals rose
@@ -65,17 +64,19 @@ rule_by None = PatternTooBig
 abbrev pub name_refused : List Attempt → List ℕ
 name_refused attempts = unwrap_or (option_or (unread_in attempts) (too_big_in attempts)) []
 
--- ---- a builder's count behind them: one more for each that was refused for its size
+-- ---- what a builder tells behind them: it refused one more text for each that is too big
 
-abbrev pub count_attempt : ℕ → Attempt → ℕ
-count_attempt count (Read own) = count
-count_attempt count (Unread name) = count
-count_attempt count (TooBig name) = one_more count
+abbrev pub told_attempt : (whole : Bool) → Told → List ℕ × List ℕ → Attempt → Told
+told_attempt whole before given (Read own) = before
+told_attempt whole before given (Unread name) = before
+told_attempt whole before given (TooBig name) = refuse before (pattern_of whole given.1)
 
-abbrev pub count_attempts : ℕ → List Attempt → ℕ
-count_attempts count [] = count
-count_attempts count (attempt ∷ rest) = count_attempts (count_attempt count attempt) rest
+abbrev pub told_attempts : (whole : Bool) → Told → List (List ℕ × List ℕ) → List Attempt → Told
+told_attempts whole before [] attempts = before
+told_attempts whole before (given ∷ more) [] = before
+told_attempts whole before (given ∷ more) (attempt ∷ rest) =
+    told_attempts whole (told_attempt whole before given attempt) more rest
 
-abbrev pub count_patterns : ℕ → MadePatterns → ℕ
-count_patterns count (made.Read list) = count
-count_patterns count (made.Refused attempts) = count_attempts count attempts
+abbrev pub told_patterns : (whole : Bool) → Told → List (List ℕ × List ℕ) → MadePatterns → Told
+told_patterns whole before texts (made.Read list) = before
+told_patterns whole before texts (made.Refused attempts) = told_attempts whole before texts attempts

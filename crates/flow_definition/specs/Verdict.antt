@@ -13,8 +13,8 @@ use Rattle.flow_definition.specs.declared.made.Made.{Made}
 use Rattle.flow_definition.specs.declared.rule.Rule.{Rule}
 use Rattle.flow_definition.specs.declared.rule.Rule.TheVariants.{NotJson, UnknownType, BadPattern, BadExpression, TooMany, PatternTooBig}
 use Rattle.flow_definition.specs.Looks.{items_at, is_object}
-use Rattle.flow_definition.specs.Made.{AreMade, first_refused, count_all}
-use Rattle.flow_definition.specs.Patterns.{HasRisen}
+use Rattle.flow_definition.specs.Made.{AreMade, first_refused, told_all}
+use Rattle.flow_definition.specs.Patterns.{HasRisen, Told}
 use Rattle.flow_definition.specs.Pointers.{pointer_of}
 use Rattle.flow_definition.specs.Reading.{IsFlowOf}
 use Rattle.flow_definition.specs.Rules.{Path}
@@ -89,7 +89,7 @@ IsPatternTooBig (Err (error.Rule rule place)) = rule ≡ PatternTooBig
 IsPatternTooBig (Err error.Memory) = ⊥
 IsPatternTooBig (Ok flow) = ⊥
 
--- ---- what the builder's count says
+-- ---- what the builder tells
 
 -- the rule that a text breaks before any pattern is built, and where
 abbrev pub broken_in : Option Data → Option (Rule × Path)
@@ -99,22 +99,24 @@ broken_in (Some top) = first_of first_rules top
 abbrev pub broken_before : List ℕ → Option (Rule × Path)
 broken_before bytes = if nat_lt TEXT_MAX (length bytes) then Some (TooMany, []) else broken_in (object_in bytes)
 
--- behind the first rules a text breaks this one first, and it stands here. As many patterns of the text were refused
--- for their size as the count rose
-pub record IsFirstBehind (before now : ℕ) (top : Data) (rule : Rule) (place : List ℕ) : Type 0 where
+-- behind the first rules a text breaks this one first, and it stands here. Behind the call the builder tells just the
+-- texts of the patterns that are too big as refused for their size, in turn
+pub record IsFirstBehind (before now : Told) (top : Data) (rule : Rule) (place : List ℕ) : Type 0 where
   pub made : List Made
-  pub each : AreMade (HasRisen before now) (items_at Processors top) made
-  pub count : now ≡ count_all before made
+  pub each : AreMade (HasRisen before.count now.count) (items_at Processors top) made
+  pub told : now ≡ told_all before (items_at Processors top) made
   pub path : Path
   pub first : first_behind top made ≡ Some (rule, path)
   pub stands : place ≡ pointer_of path
 
--- where a text is accepted, none of its patterns was refused for its size
-abbrev pub IsCountedIn : (before now : ℕ) → Data → Result Flow FlowError → Type 0
-IsCountedIn before now top (Ok flow) = now ≡ before
-IsCountedIn before now top (Err (error.Rule rule place)) =
+-- where a text is accepted, the builder refused none for its size
+abbrev pub IsToldIn : (before now : Told) → Data → Result Flow FlowError → Type 0
+IsToldIn before now top (Ok flow) = now ≡ before
+IsToldIn before now top (Err (error.Rule rule place)) =
     first_of first_rules top ≡ None → IsFirstBehind before now top rule place
-IsCountedIn before now top (Err error.Memory) = Unit {0}
+IsToldIn before now top (Err error.Memory) = Unit {0}
 
-abbrev pub IsCounted : (before now : ℕ) → List ℕ → Result Flow FlowError → Type 0
-IsCounted before now bytes answer = (top : Data) → object_in bytes ≡ Some top → IsCountedIn before now top answer
+abbrev pub IsTold : (before now : Told) → List ℕ → Result Flow FlowError → Type 0
+IsTold before now bytes answer =
+    MatchBool (nat_lt TEXT_MAX (length bytes)) (Unit {0})
+    ((top : Data) → object_in bytes ≡ Some top → IsToldIn before now top answer)

@@ -1,8 +1,8 @@
 //! Building the patterns of a processor.
 ghost use Rattle.std.specs.Prelude.{◌≡◌, ◌≤◌, IfOk};
 ghost use Rattle.machine_model.specs.Sound.{to_match_whole};
-ghost use Rattle.flow_definition.specs.Building.{IsBuilt, count_built};
-ghost use Rattle.flow_definition.specs.Patterns.{HasRisen};
+ghost use Rattle.flow_definition.specs.Building.{IsBuilt, told_built};
+ghost use Rattle.flow_definition.specs.Patterns.{HasRisen, told};
 
 use crate::patterns::{PatternError, Patterns};
 use flowfile_record::Text;
@@ -27,7 +27,8 @@ pub(crate) fn build<P: Patterns>(
 ) -> Result<Built, AllocError>
     ensures built { IfOk result (IsBuilt (HasRisen (P.faults patterns.old) (P.faults patterns.new)) text) }
     ensures count { P.faults patterns.old ≤ P.faults patterns.new }
-    ensures each { IfOk result (λ built. P.faults patterns.new ≡ count_built (P.faults patterns.old) built) }
+    ensures told { IfOk result (λ built. told P.faults P.refused patterns.new
+        ≡ told_built (told P.faults P.refused patterns.old) text built) }
 {
     match patterns.build(alloc, text.as_str()) {
         Ok(regex) => Ok(Built::Pattern(Pattern::from_regex(alloc, text, regex)?)),

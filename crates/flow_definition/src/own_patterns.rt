@@ -3,8 +3,8 @@ ghost use Rattle.std.specs.Prelude.{◌≡◌, ◌≤◌, IfOk, option_map};
 ghost use Rattle.std.specs.List.{filter_map, list_all};
 ghost use Rattle.serde_json.specs.View.{view, members_view};
 ghost use Rattle.flow_definition.specs.Looks.{member_list, others, own_texts_in, texts_of};
-ghost use Rattle.flow_definition.specs.OwnPatterns.{AreAttempts, AreOwnBuilt, IsAttempt, count_attempt, count_attempts, count_patterns, is_read, name_refused, read_in, rule_by, too_big_in, unread_in};
-ghost use Rattle.flow_definition.specs.Patterns.{HasRisen};
+ghost use Rattle.flow_definition.specs.OwnPatterns.{AreAttempts, AreOwnBuilt, IsAttempt, is_read, name_refused, read_in, rule_by, told_attempt, told_attempts, told_patterns, too_big_in, unread_in};
+ghost use Rattle.flow_definition.specs.Patterns.{HasRisen, told};
 ghost use Rattle.flow_definition.specs.Reading.{is_whole_in, pattern_of};
 
 use crate::building::{Built, build, whole};
@@ -48,7 +48,9 @@ pub(crate) fn make_own_patterns<P: Patterns>(
     ensures made { IfOk result (AreOwnBuilt (HasRisen (P.faults patterns.old) (P.faults patterns.new))
         (is_whole_in (view processor.now)) (own_texts_in (view processor.now))) }
     ensures count { P.faults patterns.old ≤ P.faults patterns.new }
-    ensures each { IfOk result (λ made. P.faults patterns.new ≡ count_patterns (P.faults patterns.old) made) }
+    ensures told { IfOk result (λ made. told P.faults P.refused patterns.new
+        ≡ told_patterns (is_whole_in (view processor.now)) (told P.faults P.refused patterns.old)
+        (own_texts_in (view processor.now)) made) }
 {
     let attempts = attempt_own(alloc, processor, patterns)?;
     if are_read(attempts.as_slice()) {
@@ -67,7 +69,9 @@ fn attempt_own<P: Patterns>(
     ensures made { IfOk result (λ list. AreAttempts (HasRisen (P.faults patterns.old) (P.faults patterns.new))
         (is_whole_in (view processor.now)) (own_texts_in (view processor.now)) list.items) }
     ensures count { P.faults patterns.old ≤ P.faults patterns.new }
-    ensures each { IfOk result (λ list. P.faults patterns.new ≡ count_attempts (P.faults patterns.old) list.items) }
+    ensures told { IfOk result (λ list. told P.faults P.refused patterns.new
+        ≡ told_attempts (is_whole_in (view processor.now)) (told P.faults P.refused patterns.old)
+        (own_texts_in (view processor.now)) list.items) }
 {
     let is_whole = is_whole_in(processor);
     match own_properties(processor) {
@@ -101,7 +105,9 @@ fn attempt_all<P: Patterns>(
     ensures made { IfOk result (λ list. AreAttempts (HasRisen (P.faults patterns.old) (P.faults patterns.new)) is_whole
         (texts_of (others properties.now (member_list (members_view members.now.entries)))) list.items) }
     ensures count { P.faults patterns.old ≤ P.faults patterns.new }
-    ensures each { IfOk result (λ list. P.faults patterns.new ≡ count_attempts (P.faults patterns.old) list.items) }
+    ensures told { IfOk result (λ list. told P.faults P.refused patterns.new
+        ≡ told_attempts is_whole (told P.faults P.refused patterns.old)
+        (texts_of (others properties.now (member_list (members_view members.now.entries)))) list.items) }
 {
     let mut list = Vec::new(alloc);
     'members: for (name, value) in members {
@@ -122,7 +128,8 @@ fn try_pattern<P: Patterns>(
     ensures made { IfOk result
         (IsAttempt (HasRisen (P.faults patterns.old) (P.faults patterns.new)) is_whole (name.now, text.now)) }
     ensures count { P.faults patterns.old ≤ P.faults patterns.new }
-    ensures each { IfOk result (λ made. P.faults patterns.new ≡ count_attempt (P.faults patterns.old) made) }
+    ensures told { IfOk result (λ made. told P.faults P.refused patterns.new
+        ≡ told_attempt is_whole (told P.faults P.refused patterns.old) (name.now, text.now) made) }
 {
     let name = Text::from_str(alloc, name)?;
     let text = pattern_of(alloc, is_whole, text)?;

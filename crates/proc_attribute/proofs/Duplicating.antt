@@ -19,8 +19,8 @@ use Rattle.process_session.specs.declared.file.Taken.{Taken}
 use Rattle.processor_api.specs.Acts.{Begins, EndsAs, IsTakenAs}
 use Rattle.processor_api.proofs.Began.{one-acts}
 use Rattle.processor_api.specs.Sessions.{EndsWith}
-use Rattle.proc_attribute.specs.Cloning.{with_ended}
-use Rattle.proc_attribute.proofs.Clones.{IsClone, ends-with, passed-is, took-one}
+use Rattle.processor_api.specs.Cloning.{with_ended}
+use Rattle.processor_api.proofs.Clones.{IsClone, ends-with, passed-is, took-one}
 
 abbrev pub clones_of : ℕ → AttributeMap → List Worked
 clones_of n attributes = replicate n (clone_of 0 attributes 0)

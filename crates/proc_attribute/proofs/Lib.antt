@@ -1,4 +1,3 @@
-pub mod Clones
 pub mod Duplicating
 pub mod Hashing
 pub mod Json

@@ -1,4 +1,3 @@
-pub mod Cloning
 pub mod Json
 pub mod Kinds
 pub mod Passing

@@ -13,12 +13,12 @@ ghost use Rattle.proc_attribute.specs.Json.{found_pair, replaced_with, with_text
 
 use crate::passing::{note, pass};
 use crate::taken::{Taken, file_of};
-use crate::{FAILURE, FILE, SUCCESS};
+use crate::{FAILURE, SUCCESS};
 use expr_lang::Subject;
 use flowfile_record::{ATTRIBUTES_MAX, Attributes, Text, TextList};
 use machine_model::{Destination, Kind};
 use process_session::Session;
-use processor_api::{Acts, Given, TakeRule};
+use processor_api::{Acts, FILE, Given, TakeRule};
 use serde_json::{Map, Value, put};
 use std::alloc::{AllocError, Global};
 

@@ -2,11 +2,10 @@
 ghost use Rattle.std.specs.Prelude.{◌≡◌, IfSome, is_some};
 ghost use Rattle.proc_attribute.specs.Kinds.{is_cryptographic_hash_content};
 
-use crate::FILE;
 use crate::passing::note;
 use machine_model::Kind;
 use process_session::Session;
-use processor_api::{Acts, Given, TakeRule};
+use processor_api::{Acts, FILE, Given, TakeRule};
 use sha2::{Digest, Sha256};
 use std::alloc::{AllocError, Global};
 

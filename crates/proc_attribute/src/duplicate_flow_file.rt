@@ -4,14 +4,13 @@ ghost use Rattle.machine_model.specs.declared.limits.TheConstants.{COPIES_MAX};
 ghost use Rattle.machine_model.specs.Making.{clone_of};
 ghost use Rattle.process_session.specs.Bench.{attributes_at};
 ghost use Rattle.processor_api.specs.Sessions.{BeganWithOne};
-ghost use Rattle.proc_attribute.specs.Cloning.{may_be_cloned, with_ended};
+ghost use Rattle.processor_api.specs.Cloning.{may_be_cloned, with_ended};
 ghost use Rattle.proc_attribute.specs.Kinds.{is_duplicate_flow_file};
 
-use crate::cloning::{add_clone, may_be_cloned};
-use crate::{FILE, SUCCESS};
+use crate::SUCCESS;
 use machine_model::Kind;
 use process_session::Session;
-use processor_api::{Acts, Given, TakeRule};
+use processor_api::{Acts, FILE, Given, TakeRule, add_clone, may_be_cloned};
 use std::alloc::{AllocError, Global};
 
 /// Makes clones of the file that it took, to success like the file itself. A file that may not be cloned goes there

@@ -2,7 +2,6 @@
 #![tactic(auto)]
 
 mod attributes_to_json;
-mod cloning;
 mod cryptographic_hash_content;
 mod duplicate_flow_file;
 mod passing;
@@ -20,6 +19,3 @@ pub use update_attribute::UpdateAttribute;
 const SUCCESS: u16 = 0;
 
 const FAILURE: u16 = 1;
-
-/// The place of the file that each of them takes.
-const FILE: u32 = 0;

@@ -7,8 +7,9 @@ ghost use Rattle.process_session.specs.Bench.{attributes_at};
 ghost use Rattle.processor_api.specs.Sessions.{TookOne, HasOneOpen, EndsWith};
 ghost use Rattle.proc_attribute.specs.Passing.{all_to, passed_with};
 
-use crate::{FAILURE, FILE, SUCCESS};
+use crate::{FAILURE, SUCCESS};
 use process_session::{Session, SessionError};
+use processor_api::FILE;
 use std::alloc::AllocError;
 
 /// Passes the file on as it is now.

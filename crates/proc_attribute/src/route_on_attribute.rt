@@ -1,23 +1,16 @@
 //! Files by what expressions over their attributes are worth.
-ghost use Rattle.std.specs.Prelude.{◌≡◌, ◌<◌, ◌≤◌, ◌==◌, ◌||◌, length, map, true, All, IfOk, IfSome, OnOk, is_some};
-ghost use Rattle.flowfile_record.specs.declared.worked.End.TheVariants.{To};
+ghost use Rattle.std.specs.Prelude.{◌≡◌, ◌≤◌, length, IfOk, IfSome, is_some};
 ghost use Rattle.machine_model.specs.declared.limits.TheConstants.{OWN_PROPERTIES_MAX};
-ghost use Rattle.machine_model.specs.Making.{TakenFile};
-ghost use Rattle.machine_model.specs.RouteOnAttribute.{is_true_of, routed, routed_clone, true_places};
-ghost use Rattle.process_session.specs.Bench.{attributes_at};
-ghost use Rattle.process_session.specs.Changes.{with_end, with_route};
-ghost use Rattle.processor_api.specs.Sessions.{HasTaken, BeganWithOne, EndsWith};
-ghost use Rattle.proc_attribute.specs.Cloning.{may_be_cloned, with_ended};
+ghost use Rattle.machine_model.specs.RouteOnAttribute.{is_true_of, true_places};
+ghost use Rattle.processor_api.specs.Sessions.{BeganWithOne};
 ghost use Rattle.proc_attribute.specs.Kinds.{is_route_on_attribute};
 ghost use Rattle.proc_attribute.specs.Routing.{found_of};
 
-use crate::FILE;
-use crate::cloning::{add_routed_clone, may_be_cloned};
 use crate::taken::Taken;
 use expr_lang::{EvalError, Subject, value};
 use machine_model::{Kind, OwnExpression, OwnExpressionList};
 use process_session::Session;
-use processor_api::{Acts, Given, TakeRule};
+use processor_api::{Acts, FILE, Given, TakeRule, route};
 use std::alloc::{AllocError, Global};
 
 /// Sends the file that it took to each of its own relationships whose expression is true over the file: the file
@@ -110,60 +103,4 @@ fn is_true<S: Subject>(
         Err(EvalError::Memory) => Err(AllocError),
         Err(_) => Ok(false),
     }
-}
-
-/// The taken file to the relationship at the first of these places and a clone to each other one, or to `unmatched`.
-fn route(session: &mut Session, unmatched: u16, places: &[u16]) -> Result<(), AllocError>
-    requires one { BeganWithOne session.old }
-    requires unmatched { unmatched < session.old.relationships }
-    requires there { All (λ place. place < session.old.relationships) places.now }
-    requires few { length places.now ≤ OWN_PROPERTIES_MAX }
-    ensures { OnOk result ((file : TakenFile) → file.attributes ≡ attributes_at session.old FILE
-        → EndsWith session.old session.new (routed unmatched file places.now)) }
-{
-    let Some((first, others)) = places.split_first() else {
-        route_taken(session, unmatched);
-        return Ok(());
-    };
-    if may_be_routed(session, others) {
-        add_routed_clones(session, others)?;
-        route_taken(session, *first);
-    } else {
-        session.transfer(FILE, unmatched).unwrap();
-    }
-    Ok(())
-}
-
-/// Whether the taken file may have a clone for each of these. A session takes nothing back: that is known before the
-/// first clone.
-fn may_be_routed(session: &Session, others: &[u16]) -> bool
-    requires { HasTaken session.now }
-    ensures { result ≡ ((length others.now == 0) || may_be_cloned session.now) }
-{
-    others.is_empty() || may_be_cloned(session)
-}
-
-/// A clone of the taken file to each of these relationships.
-fn add_routed_clones(session: &mut Session, relationships: &[u16]) -> Result<(), AllocError>
-    requires one { BeganWithOne session.old }
-    requires there { All (λ relationship. relationship < session.old.relationships) relationships.now }
-    requires few { length relationships.now ≤ OWN_PROPERTIES_MAX }
-    requires may { 0 < length relationships.now → may_be_cloned session.old ≡ true }
-    ensures { OnOk result (session.new ≡ with_ended session.old
-        (map (routed_clone (attributes_at session.old FILE)) relationships.now)) }
-{
-    for relationship in relationships {
-        add_routed_clone(session, *relationship)?;
-    }
-    Ok(())
-}
-
-/// The taken file itself to a relationship.
-fn route_taken(session: &mut Session, relationship: u16)
-    requires taken { HasTaken session.old }
-    requires there { relationship < session.old.relationships }
-    ensures { session.new ≡ with_end (with_route session.old FILE relationship) FILE (To relationship) }
-{
-    session.route(FILE, relationship).unwrap();
-    session.transfer(FILE, relationship).unwrap();
 }

@@ -4,10 +4,10 @@ ghost use Rattle.std.specs.Option.{option_map};
 ghost use Rattle.process_session.specs.Bench.{attributes_at};
 ghost use Rattle.processor_api.specs.Sessions.{TookOne};
 
-use crate::FILE;
 use expr_lang::Subject;
 use flowfile_record::Attributes;
 use process_session::Session;
+use processor_api::FILE;
 
 /// The attributes of a taken file and its uuid, which expressions find under the name `uuid`.
 #[derive(Clone, Copy)]

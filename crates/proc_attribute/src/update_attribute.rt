@@ -15,12 +15,12 @@ ghost use Rattle.proc_attribute.specs.Setting.{have_keys, set_by};
 
 use crate::passing::pass;
 use crate::taken::{Taken, file_of};
-use crate::{FAILURE, FILE, SUCCESS};
+use crate::{FAILURE, SUCCESS};
 use expr_lang::{EvalError, Expr, value};
 use flowfile_record::{AttrError, Attributes};
 use machine_model::{Kind, OwnExpression, OwnExpressionList};
 use process_session::Session;
-use processor_api::{Acts, Given, TakeRule, or_no_memory};
+use processor_api::{Acts, FILE, Given, TakeRule, or_no_memory};
 use std::alloc::{AllocError, Global};
 
 /// Sets attributes to what its own properties are worth over the attributes as they came.

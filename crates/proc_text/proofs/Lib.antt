@@ -1,5 +1,4 @@
 pub mod Began
-pub mod Clones
 pub mod Cutting
 pub mod Extracts
 pub mod ExtractsSet
@@ -11,7 +10,6 @@ pub mod PartsOf
 pub mod PartsOwed
 pub mod Passed
 pub mod Replacing
-pub mod Routed
 pub mod Routes
 pub mod Telling
 pub mod Texts

@@ -22,9 +22,9 @@ use Rattle.process_session.specs.Reasons.{not_accounted_from}
 use Rattle.process_session.specs.Refusals.{refusal_of_finish, refusal_of_remove, refusal_of_transfer}
 use Rattle.process_session.proofs.Refusing.{no_refusal}
 use Rattle.processor_api.specs.Sessions.{BeganWithOne, EndsWith}
-use Rattle.proc_text.specs.Cloning.{ended}
+use Rattle.processor_api.specs.Cloning.{ended}
 use Rattle.proc_text.specs.Parting.{AddsParts, HasOpen, IsPart, behind_first, ended_as, first_ended, opened, parts_of, taken_in, with_files, with_first_ended}
-use Rattle.proc_text.proofs.Clones.{change-first, known, next, starts, still_open, taken_names, taken_stays, transfer-free}
+use Rattle.processor_api.proofs.Clones.{change-first, known, next, starts, still_open, taken_names, taken_stays, transfer-free}
 
 -- ---- one part after another ends
 

@@ -13,7 +13,7 @@ use Rattle.proc_text.specs.declared.parting.Whole.{Whole}
 use Rattle.proc_text.specs.declared.pieces.Piece.{Piece as CutPiece}
 use Rattle.proc_text.specs.Parting.{IsRead, TellsOf, fragments_by, taken_in}
 use Rattle.proc_text.specs.Pieces.{lines_told, piece_of}
-use Rattle.proc_text.proofs.Clones.{known, next, none_holds}
+use Rattle.processor_api.proofs.Clones.{known, next, none_holds}
 use Rattle.proc_text.proofs.Cutting.{size_of}
 
 -- ---- the pieces, one after another

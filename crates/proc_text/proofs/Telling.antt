@@ -31,7 +31,7 @@ use Rattle.process_session.proofs.Refusing.{no_refusal, one, pass}
 use Rattle.processor_api.specs.Sessions.{HasTaken}
 use Rattle.proc_text.specs.declared.parting.Told.{Told}
 use Rattle.proc_text.specs.Parting.{AddsPart, IsAnswered, ended_as, may_be_keys, part_file, told_by}
-use Rattle.proc_text.proofs.Clones.{at-end, changed-end, clone-is, known, next, none_holds, still_open, with_file}
+use Rattle.processor_api.proofs.Clones.{at-end, changed-end, clone-is, known, next, none_holds, still_open, with_file}
 
 abbrev pub Pair : Type 0
 Pair = List ℕ × List ℕ

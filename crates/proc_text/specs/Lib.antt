@@ -1,4 +1,3 @@
-pub mod Cloning
 pub mod Extracting
 pub mod Finding
 pub mod Kinds

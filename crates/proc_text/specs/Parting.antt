@@ -18,7 +18,7 @@ use Rattle.process_session.specs.declared.error.SessionError.{SessionError}
 use Rattle.process_session.specs.declared.error.SessionError.TheVariants.{Memory}
 use Rattle.process_session.specs.declared.file.File.{File}
 use Rattle.process_session.specs.declared.file.Source.{Source}
-use Rattle.proc_text.specs.Cloning.{ended}
+use Rattle.processor_api.specs.Cloning.{ended}
 use Rattle.proc_text.specs.declared.parting.Told.{Told}
 use Rattle.proc_text.specs.declared.parting.Whole.{Whole}
 

@@ -11,13 +11,11 @@ ghost use Rattle.regex.specs.Strings.{match_bytes};
 ghost use Rattle.proc_text.specs.Extracting.{found_by, group_pairs, matched_with, pair_of, with_named};
 ghost use Rattle.proc_text.specs.Kinds.{is_extract_text};
 
-use crate::FILE;
-use crate::cloning::pass;
 use crate::passing::attributes_of;
 use flowfile_record::{AttrError, Attributes};
 use machine_model::{EXTRACTED_MAX, Kind, OwnPattern, OwnPatternList};
 use process_session::Session;
-use processor_api::{Acts, Given, TakeRule, or_no_memory};
+use processor_api::{Acts, FILE, Given, TakeRule, or_no_memory, pass};
 use regex::{Captures, Match};
 use std::alloc::{AllocError, Global};
 use std::str;

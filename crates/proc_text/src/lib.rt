@@ -1,7 +1,6 @@
 //! The processors of texts: each takes one file, and works on its content.
 #![tactic(auto)]
 
-mod cloning;
 mod extract_text;
 mod modify_bytes;
 mod parting;
@@ -18,9 +17,6 @@ pub use replace_text::ReplaceText;
 pub use route_on_content::RouteOnContent;
 pub use segment_content::SegmentContent;
 pub use split_text::SplitText;
-
-/// The place of the file that each of them takes.
-const FILE: u32 = 0;
 
 /// The place of the relationship that some of them name first.
 const SUCCESS: u16 = 0;

@@ -3,12 +3,11 @@ ghost use Rattle.std.specs.Prelude.{◌≡◌, IfSome, is_some};
 ghost use Rattle.machine_model.specs.ModifyBytes.{without_ends};
 ghost use Rattle.proc_text.specs.Kinds.{is_modify_bytes};
 
-use crate::FILE;
 use crate::passing::replace;
 use flowfile_record::Bytes;
 use machine_model::Kind;
 use process_session::Session;
-use processor_api::{Acts, Given, TakeRule};
+use processor_api::{Acts, FILE, Given, TakeRule};
 use std::alloc::{AllocError, Global};
 
 /// Drops so many bytes at a content's start and at its end.

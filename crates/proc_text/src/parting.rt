@@ -10,11 +10,10 @@ ghost use Rattle.processor_api.specs.Sessions.{BeganWithOne, EndsWith, HasTaken}
 ghost use Rattle.proc_text.specs.Parting.{AddsPart, AddsParts, HasOpen, IsAnswered, IsRead, TellsOf, end_of, fragments_by, may_be_keys, taken_in, told_by, with_first_ended};
 ghost use Rattle.proc_text.specs.Pieces.{cut_size, lines_told, piece_of, pieces_in};
 
-use crate::FILE;
-use crate::cloning::pass;
 use crate::passing::attributes_of;
 use crate::pieces::{Cut, Piece, pieces_of};
 use process_session::{Session, SessionError};
+use processor_api::{FILE, pass};
 use std::alloc::{AllocError, Global};
 
 /// The place of the relationship to which a file goes as it was where a session hasn't room for all of its parts.

@@ -6,9 +6,10 @@ ghost use Rattle.machine_model.specs.Making.{alone};
 ghost use Rattle.process_session.specs.Bench.{attributes_at};
 ghost use Rattle.processor_api.specs.Sessions.{BeganWithOne, EndsWith};
 
-use crate::{FILE, SUCCESS};
+use crate::SUCCESS;
 use flowfile_record::{ATTRIBUTES_MAX, Attributes};
 use process_session::Session;
+use processor_api::FILE;
 
 /// The attributes of the taken file.
 pub(crate) fn attributes_of(session: &Session) -> &Attributes

@@ -9,13 +9,12 @@ ghost use Rattle.machine_model.specs.ReplaceText.{replaced_content, template_at,
 ghost use Rattle.machine_model.specs.Sound.{is_replacement_sound};
 ghost use Rattle.proc_text.specs.Kinds.{is_replace_text};
 
-use crate::cloning::pass;
+use crate::FAILURE;
 use crate::passing::replace;
-use crate::{FAILURE, FILE};
 use flowfile_record::CONTENT_MAX;
 use machine_model::{Kind, Pattern, Replacement};
 use process_session::Session;
-use processor_api::{Acts, Given, TakeRule};
+use processor_api::{Acts, FILE, Given, TakeRule, pass};
 use regex::Template;
 use std::alloc::{AllocError, Global};
 use std::str;

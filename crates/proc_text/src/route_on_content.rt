@@ -6,11 +6,9 @@ ghost use Rattle.machine_model.specs.RouteOnContent.{found_places};
 ghost use Rattle.proc_text.specs.Finding.{finds};
 ghost use Rattle.proc_text.specs.Kinds.{is_route_on_content};
 
-use crate::FILE;
-use crate::cloning::route;
 use machine_model::{Kind, MatchRequirement, OwnPattern, OwnPatternList};
 use process_session::Session;
-use processor_api::{Acts, Given, TakeRule};
+use processor_api::{Acts, FILE, Given, TakeRule, route};
 use std::alloc::{AllocError, Global};
 use std::str;
 

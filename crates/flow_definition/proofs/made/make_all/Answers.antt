@@ -1,8 +1,8 @@
 use Rattle.std.proofs.Common.{[], ◌∷◌, ◌++◌, map, take, sym, ap, ◌∙◌, subst, arith}
 use Rattle.serde_json.specs.View.{view}
-use Rattle.flow_definition.specs.Made.{AreMade, count_all, count_made}
-use Rattle.flow_definition.specs.Patterns.{HasRisen}
-use Rattle.flow_definition.proofs.Verdicts.{count_push, made_push, made_later, one_later, risen_before, risen_after}
+use Rattle.flow_definition.specs.Made.{AreMade, told_all, told_made}
+use Rattle.flow_definition.specs.Patterns.{HasRisen, Told, told}
+use Rattle.flow_definition.proofs.Verdicts.{told_push, made_push, made_later, one_later, risen_before, risen_after}
 use Rattle.flow_definition.proofs.Walks.{front_at}
 use Rattle.flow_definition.proofs.made.make_all.Goals as goal
 
@@ -23,11 +23,15 @@ items-preserved g c =
     let one = one_later (HasRisen middle last) (HasRisen first last) (view item) made
     (risen_after first middle last c.items.invariant.count) c.in_ok-make.ensures.made in
     let more = made_push (HasRisen first last) front c.items.list.items (view item) made before one in
+    let earlier : Told = told g.P.Patterns.faults g.P.Patterns.refused c.args.patterns.now in
+    let is_more = front_at view items c.items.item-index item c.items-test.true c.item-item.is in
     record {
       made = subst (λ ds. AreMade (HasRisen first last) ds c.push.new.self.items)
-          (sym (front_at view items c.items.item-index item c.items-test.true c.item-item.is))
+          (sym is_more)
           (subst (λ ms. AreMade (HasRisen first last) (front ++ view item ∷ []) ms) (sym c.in_ok-push.ensures.items) more);
       count = omega (arith, c.items.invariant.count, c.make.ensures.count);
-      each = c.in_ok-make.ensures.each ∙ ap (λ n. count_made n made) c.items.invariant.each
-          ∙ sym (count_push first c.items.list.items made) ∙ ap (count_all first) (sym c.in_ok-push.ensures.items);
+      told = c.in_ok-make.ensures.told ∙ ap (λ n. told_made n (view item) made) c.items.invariant.told
+          ∙ sym (told_push (HasRisen first last) earlier front c.items.list.items (view item) made before)
+          ∙ ap (told_all earlier (front ++ view item ∷ [])) (sym c.in_ok-push.ensures.items)
+          ∙ ap (λ ds. told_all earlier ds c.push.new.self.items) (sym is_more);
     }

@@ -4,10 +4,10 @@ use Rattle.std.proofs.lemmas.Map.Iter.{rest_more}
 use Rattle.serde_json.specs.View.{view}
 use Rattle.flow_definition.specs.declared.processor_type.Property.{Property}
 use Rattle.flow_definition.specs.Looks.{is_fixed, text_of}
-use Rattle.flow_definition.specs.OwnPatterns.{IsAttempt, AreAttempts, count_attempt, count_attempts}
-use Rattle.flow_definition.specs.Patterns.{HasRisen}
+use Rattle.flow_definition.specs.OwnPatterns.{IsAttempt, AreAttempts, told_attempt, told_attempts}
+use Rattle.flow_definition.specs.Patterns.{HasRisen, Told, told}
 use Rattle.flow_definition.proofs.Others.{texts_left, texts_more}
-use Rattle.flow_definition.proofs.OwnPatterns.{attempt_push, attempts_counted, attempts_later, attempt_later}
+use Rattle.flow_definition.proofs.OwnPatterns.{attempt_push, attempts_told, attempts_later, attempt_later}
 use Rattle.flow_definition.proofs.Verdicts.{risen_before, risen_after}
 use Rattle.flow_definition.proofs.own_patterns.attempt_all.Goals as goal
 
@@ -32,6 +32,12 @@ members-preserved-in_ok-push g c =
     (subst (λ n. IsAttempt (HasRisen middle last) whole (n, c.text_of.result.now) made) c.as_str-then-not-is_fixed.ensures.value c.in_ok-try_pattern.ensures.made) in
     let one = attempt_later (HasRisen middle last) (HasRisen first last) whole (name, text) made
     (risen_after first middle last c.members.invariant.count) read in
+    let earlier : Told = told g.P.Patterns.faults g.P.Patterns.refused c.args.patterns.now in
+    let between : Told = told g.P.Patterns.faults g.P.Patterns.refused c.members.patterns in
+    let later : Told = told g.P.Patterns.faults g.P.Patterns.refused c.try_pattern.new.patterns in
+    let named : later ≡ told_attempt whole between (name, text) made =
+    subst (λ t. later ≡ told_attempt whole between (name, t) made) c.text_of.ensures
+    (subst (λ n. later ≡ told_attempt whole between (n, c.text_of.result.now) made) c.as_str-then-not-is_fixed.ensures.value c.in_ok-try_pattern.ensures.told) in
     record {
       made = (
         front ++ (name, text) ∷ [],
@@ -39,8 +45,9 @@ members-preserved-in_ok-push g c =
             ∙ texts_more ps front c.in-Some.name.now c.in-Some.value.now c.next.new.self other,
         subst (AreAttempts (HasRisen first last) whole (front ++ (name, text) ∷ [])) (sym c.in_ok-push.ensures.items)
             (attempt_push (HasRisen first last) whole front c.members.list.items (name, text) made before one),
+        named ∙ ap (λ n. told_attempt whole n (name, text) made) c.members.invariant.made.3
+            ∙ sym (attempts_told (HasRisen first last) whole earlier front c.members.list.items (name, text) made before)
+            ∙ ap (told_attempts whole earlier (front ++ (name, text) ∷ [])) (sym c.in_ok-push.ensures.items),
       );
       count = omega (arith, c.members.invariant.count, c.try_pattern.ensures.count);
-      each = c.in_ok-try_pattern.ensures.each ∙ ap (λ n. count_attempt n made) c.members.invariant.each
-          ∙ sym (attempts_counted first c.members.list.items made) ∙ ap (count_attempts first) (sym c.in_ok-push.ensures.items);
     }

@@ -1,13 +1,13 @@
-use Rattle.std.proofs.Common.{sym, ap, ◌∙◌, subst}
+use Rattle.std.proofs.Common.{◌≡◌, sym, ap, ◌∙◌, subst}
 use Rattle.serde_json.specs.View.{view}
 use Rattle.machine_model.specs.declared.flow.Flow.{Flow}
 use Rattle.flow_definition.specs.declared.field.Field.TheVariants.{Processors}
 use Rattle.flow_definition.specs.Looks.{items_at}
-use Rattle.flow_definition.specs.Made.{AreMade}
-use Rattle.flow_definition.specs.Patterns.{HasRisen}
+use Rattle.flow_definition.specs.Made.{AreMade, told_all}
+use Rattle.flow_definition.specs.Patterns.{HasRisen, told}
 use Rattle.flow_definition.specs.Places.{broken_path}
 use Rattle.flow_definition.specs.Verdict.{first_behind}
-use Rattle.flow_definition.proofs.Answered.{accepted_counted, behind_counted, big_rises, named_big, behind_accepted, flow_made}
+use Rattle.flow_definition.proofs.Answered.{accepted_told, behind_told, big_rises, named_big, behind_accepted, flow_made}
 use Rattle.flow_definition.proofs.text.read_behind.Goals as goal
 
 pub returns-in-Some-clause-count : goal.returns-in-Some-clause-count
@@ -38,18 +38,23 @@ returns-in_ok-connections-in-None-clause-answer g c =
     (c.from.ensures ∙ c.in_ok-processors-in-None.ensures)
     (c.from-in-None.ensures ∙ c.in_ok-connections-in-None.ensures) c.digest_of.ensures)
 
-pub returns-in-Some-clause-counted : goal.returns-in-Some-clause-counted
-returns-in-Some-clause-counted g c =
-    let before = g.P.Patterns.faults c.args.patterns.now in
-    let now = g.P.Patterns.faults c.make_all.new.patterns in
+pub returns-in-Some-clause-told : goal.returns-in-Some-clause-told
+returns-in-Some-clause-told g c =
+    let before = told g.P.Patterns.faults g.P.Patterns.refused c.args.patterns.now in
+    let now = told g.P.Patterns.faults g.P.Patterns.refused c.make_all.new.patterns in
     let top = view c.args.top.now in
     let made = c.in_ok-made.made.items in
-    let each = subst (λ ds. AreMade (HasRisen before now) ds made) c.items_at.ensures c.in_ok-made.ensures.made in
+    let each = subst (λ ds. AreMade (HasRisen before.count now.count) ds made) c.items_at.ensures c.in_ok-made.ensures.made in
+    let refused = subst (λ ds. now ≡ told_all before ds made) c.items_at.ensures c.in_ok-made.ensures.told in
     let found = sym (c.in-Some.ensures ∙ ap (first_behind top) c.as_slice.ensures.value) in
-    behind_counted before now top made (broken_path c.in-Some.broken) c.error_of.result each c.in_ok-made.ensures.each found c.error_of.ensures
+    behind_told before now top made (broken_path c.in-Some.broken) c.error_of.result each refused found c.error_of.ensures
 
-pub returns-in_ok-connections-in-None-clause-counted : goal.returns-in_ok-connections-in-None-clause-counted
-returns-in_ok-connections-in-None-clause-counted g c =
-    let found = sym (c.in-None.ensures ∙ ap (first_behind (view c.args.top.now)) c.as_slice.ensures.value) in
-    accepted_counted (g.P.Patterns.faults c.args.patterns.now) (g.P.Patterns.faults c.make_all.new.patterns) (view c.args.top.now)
-    c.in_ok-made.made.items c.in_ok-made.ensures.each found
+pub returns-in_ok-connections-in-None-clause-told : goal.returns-in_ok-connections-in-None-clause-told
+returns-in_ok-connections-in-None-clause-told g c =
+    let before = told g.P.Patterns.faults g.P.Patterns.refused c.args.patterns.now in
+    let now = told g.P.Patterns.faults g.P.Patterns.refused c.make_all.new.patterns in
+    let top = view c.args.top.now in
+    let made = c.in_ok-made.made.items in
+    let refused = subst (λ ds. now ≡ told_all before ds made) c.items_at.ensures c.in_ok-made.ensures.told in
+    let found = sym (c.in-None.ensures ∙ ap (first_behind top) c.as_slice.ensures.value) in
+    accepted_told before now top made refused found

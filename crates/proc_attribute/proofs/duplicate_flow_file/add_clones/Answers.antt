@@ -4,7 +4,7 @@ use Rattle.machine_model.specs.Making.{clone_of}
 use Rattle.process_session.specs.Bench.{attributes_at}
 use Rattle.process_session.specs.Refusals.{refusal_of_clone}
 use Rattle.processor_api.specs.Sessions.{HasTaken}
-use Rattle.proc_attribute.proofs.Clones.{cloned-has, took-free}
+use Rattle.processor_api.proofs.Clones.{cloned-has, took-free}
 use Rattle.proc_attribute.proofs.Duplicating.{are-clones, clones_of}
 use Rattle.proc_attribute.proofs.duplicate_flow_file.add_clones.Goals as goal
 

@@ -1,7 +1,7 @@
 use Rattle.std.proofs.Common.{◌≡◌, replicate}
 use Rattle.machine_model.specs.Making.{clone_of}
 use Rattle.process_session.specs.Bench.{attributes_at}
-use Rattle.proc_attribute.specs.Cloning.{with_ended}
+use Rattle.processor_api.specs.Cloning.{with_ended}
 use Rattle.proc_attribute.proofs.duplicate_flow_file.add_clones.Given as goal
 
 abbrev pub invariant-loop : goal.invariant-loop

@@ -1,6 +1,6 @@
 use Rattle.std.proofs.Common.{◌<◌, [], ◌∷◌, ◌++◌, length, sym, ◌∙◌, ap, arith}
 use Rattle.proc_text.specs.Finding.{finds}
-use Rattle.proc_text.proofs.Routes.{step-fails, step-passes}
+use Rattle.processor_api.proofs.Places.{step-fails, step-passes}
 use Rattle.proc_text.proofs.route_on_content.places_in.Goals as goal
 use Rattle.proc_text.proofs.route_on_content.places_in.Goals.{then-branch+in_ok-push, else-branch}
 

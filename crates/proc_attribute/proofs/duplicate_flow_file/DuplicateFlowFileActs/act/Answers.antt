@@ -4,8 +4,8 @@ use Rattle.machine_model.specs.declared.kind.Kind.TheVariants.{DuplicateFlowFile
 use Rattle.process_session.specs.Bench.{attributes_at}
 use Rattle.process_session.specs.Changes.{with_end}
 use Rattle.processor_api.proofs.Answered.{changed_so, never_refused}
-use Rattle.proc_attribute.specs.Cloning.{may_be_cloned, with_ended}
-use Rattle.proc_attribute.proofs.Clones.{cloned-transfer, took-has, took-one, took-relationships}
+use Rattle.processor_api.specs.Cloning.{may_be_cloned, with_ended}
+use Rattle.processor_api.proofs.Clones.{cloned-transfer, took-has, took-one, took-relationships}
 use Rattle.proc_attribute.proofs.Duplicating.{clones_of, duplicate-acts}
 use Rattle.proc_attribute.proofs.duplicate_flow_file.DuplicateFlowFileActs.act.Goals as goal
 use Rattle.proc_attribute.proofs.duplicate_flow_file.DuplicateFlowFileActs.act.Goals.{then-may_be_cloned, else-may_be_cloned}

@@ -3,8 +3,9 @@ use Rattle.std.specs.Result.{OnOk}
 use Rattle.machine_model.specs.RouteOnAttribute.{true_places}
 use Rattle.machine_model.specs.declared.kind.Kind.TheVariants.{RouteOnAttribute}
 use Rattle.proc_attribute.specs.Routing.{found_of}
-use Rattle.proc_attribute.proofs.Clones.{took-one}
-use Rattle.proc_attribute.proofs.Routing.{EndsRouted, places-few, places-there, route-acts}
+use Rattle.processor_api.proofs.Clones.{took-one}
+use Rattle.processor_api.proofs.Routed.{EndsRouted}
+use Rattle.proc_attribute.proofs.Routing.{places-few, places-there, route-acts}
 use Rattle.proc_attribute.proofs.route_on_attribute.RouteOnAttributeActs.act.Goals as goal
 
 pub places_over-requires-clause-one : goal.places_over-requires-clause-one

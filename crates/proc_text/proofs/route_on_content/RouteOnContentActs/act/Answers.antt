@@ -7,8 +7,8 @@ use Rattle.machine_model.specs.declared.kind.Kind.TheVariants.{RouteOnContent}
 use Rattle.process_session.specs.declared.error.SessionError.{SessionError}
 use Rattle.processor_api.proofs.Answered.{never_refused}
 use Rattle.processor_api.proofs.Began.{content-free}
-use Rattle.proc_text.proofs.Clones.{took-one}
-use Rattle.proc_text.proofs.Routed.{EndsRouted}
+use Rattle.processor_api.proofs.Clones.{took-one}
+use Rattle.processor_api.proofs.Routed.{EndsRouted}
 use Rattle.proc_text.proofs.Routes.{few-found, places-there, route-acts}
 use Rattle.proc_text.proofs.route_on_content.RouteOnContentActs.act.Goals as goal
 

@@ -1,7 +1,7 @@
 use Rattle.process_session.specs.Changes.{with_route}
 use Rattle.processor_api.proofs.Answered.{changed_so, never_refused}
-use Rattle.proc_text.proofs.Clones.{first-route, routed-transfer}
-use Rattle.proc_text.proofs.cloning.route_taken.Goals as goal
+use Rattle.processor_api.proofs.Clones.{first-route, routed-transfer}
+use Rattle.processor_api.proofs.cloning.route_taken.Goals as goal
 
 pub unwrap-requires : goal.unwrap-requires
 unwrap-requires c = never_refused _ _ c.route.ensures.refusal (first-route c.args.session.now c.args.relationship c.requires.taken c.requires.there)

@@ -1,8 +1,8 @@
 use Rattle.std.proofs.Common.{◌≡◌, length, refl, ◌∙◌}
 use Rattle.process_session.specs.Bench.{attributes_at}
 use Rattle.processor_api.proofs.Answered.{answer_of, changed_so, never_refused, only_memory}
-use Rattle.proc_attribute.proofs.Clones.{clone-is, clone_made, end-ended, end-transfer, with_file}
-use Rattle.proc_attribute.proofs.cloning.add_clone.Goals as goal
+use Rattle.processor_api.proofs.Clones.{clone-is, clone_made, end-ended, end-transfer, with_file}
+use Rattle.processor_api.proofs.cloning.add_clone.Goals as goal
 
 pub or_no_memory-requires : goal.or_no_memory-requires
 or_no_memory-requires c = only_memory _ _ c.clone_file.ensures.refusal c.requires.free

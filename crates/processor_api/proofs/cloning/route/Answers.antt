@@ -6,9 +6,9 @@ use Rattle.process_session.specs.Bench.{attributes_at}
 use Rattle.process_session.specs.Changes.{with_end, with_route}
 use Rattle.processor_api.proofs.Answered.{changed_so, never_refused}
 use Rattle.processor_api.specs.Sessions.{HasTaken}
-use Rattle.proc_attribute.proofs.Clones.{cloned-has, first-transfer, took-has}
-use Rattle.proc_attribute.proofs.Routing.{no_places, none-routed, routed_clones, some-routed, up-routed}
-use Rattle.proc_attribute.proofs.route_on_attribute.route.Goals as goal
+use Rattle.processor_api.proofs.Clones.{cloned-has, first-transfer, took-has}
+use Rattle.processor_api.proofs.Routed.{no_places, none-routed, routed_clones, some-routed, up-routed}
+use Rattle.processor_api.proofs.cloning.route.Goals as goal
 
 pub route_taken-requires-clause-taken : goal.route_taken-requires-clause-taken
 route_taken-requires-clause-taken c = took-has c.args.session.now c.requires.one

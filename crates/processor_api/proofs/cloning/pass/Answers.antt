@@ -1,7 +1,7 @@
 use Rattle.processor_api.proofs.Answered.{changed_so, never_refused}
-use Rattle.proc_text.proofs.Clones.{first-transfer, took-has}
-use Rattle.proc_text.proofs.Routed.{gives-up}
-use Rattle.proc_text.proofs.cloning.pass.Goals as goal
+use Rattle.processor_api.proofs.Clones.{first-transfer, took-has}
+use Rattle.processor_api.proofs.Routed.{gives-up}
+use Rattle.processor_api.proofs.cloning.pass.Goals as goal
 
 pub unwrap-requires : goal.unwrap-requires
 unwrap-requires c = never_refused _ _ c.transfer.ensures.refusal (first-transfer c.args.session.now c.args.relationship (took-has c.args.session.now c.requires.one) c.requires.there)

@@ -4,9 +4,9 @@ use Rattle.machine_model.specs.RouteOnAttribute.{routed_clone}
 use Rattle.process_session.specs.Bench.{attributes_at}
 use Rattle.process_session.specs.Refusals.{refusal_of_clone}
 use Rattle.processor_api.specs.Sessions.{HasTaken}
-use Rattle.proc_text.proofs.Clones.{cloned-has, took-free}
-use Rattle.proc_text.proofs.Routed.{are-clones, routed_clones}
-use Rattle.proc_text.proofs.cloning.add_routed_clones.Goals as goal
+use Rattle.processor_api.proofs.Clones.{cloned-has, took-free}
+use Rattle.processor_api.proofs.Routed.{are-clones, routed_clones}
+use Rattle.processor_api.proofs.cloning.add_routed_clones.Goals as goal
 
 pub add_routed_clone-requires-clause-taken : goal.add_routed_clone-requires-clause-taken
 add_routed_clone-requires-clause-taken c =

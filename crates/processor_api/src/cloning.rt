@@ -1,23 +1,22 @@
-//! A taken file that is passed on or routed, with its clones.
+//! The file that a session took, passed on, cloned or routed.
 ghost use Rattle.std.specs.Prelude.{◌≡◌, ◌∷◌, [], ◌<◌, ◌≤◌, ◌==◌, ◌||◌, false, length, map, true, All, None, OnOk};
 ghost use Rattle.flowfile_record.specs.declared.worked.End.TheVariants.{To};
 ghost use Rattle.machine_model.specs.declared.limits.TheConstants.{OWN_PROPERTIES_MAX};
-ghost use Rattle.machine_model.specs.Making.{TakenFile, alone, passed_on};
+ghost use Rattle.machine_model.specs.Making.{TakenFile, alone, clone_of, passed_on};
 ghost use Rattle.machine_model.specs.RouteOnAttribute.{routed, routed_clone};
 ghost use Rattle.process_session.specs.Bench.{attributes_at, made_size};
 ghost use Rattle.process_session.specs.Changes.{with_end, with_route};
 ghost use Rattle.process_session.specs.Refusals.{refusal_of_clone};
 ghost use Rattle.processor_api.specs.Sessions.{HasTaken, BeganWithOne, EndsWith};
-ghost use Rattle.proc_text.specs.Cloning.{may_be_cloned, with_ended};
+ghost use Rattle.processor_api.specs.Cloning.{may_be_cloned, with_ended};
 
-use crate::FILE;
+use crate::{FILE, or_no_memory};
 use flowfile_record::{ATTRIBUTES_MAX, Attributes};
 use process_session::{FILENAME_SIZE, Session};
-use processor_api::or_no_memory;
 use std::alloc::AllocError;
 
 /// The taken file, as it is, to a relationship.
-pub(crate) fn pass(session: &mut Session, relationship: u16)
+pub fn pass(session: &mut Session, relationship: u16)
     requires one { BeganWithOne session.old }
     requires there { relationship < session.old.relationships }
     ensures { EndsWith session.old session.new
@@ -27,7 +26,7 @@ pub(crate) fn pass(session: &mut Session, relationship: u16)
 }
 
 /// The taken file to the relationship at the first of these places and a clone to each other one, or to `unmatched`.
-pub(crate) fn route(session: &mut Session, unmatched: u16, places: &[u16]) -> Result<(), AllocError>
+pub fn route(session: &mut Session, unmatched: u16, places: &[u16]) -> Result<(), AllocError>
     requires one { BeganWithOne session.old }
     requires unmatched { unmatched < session.old.relationships }
     requires there { All (λ place. place < session.old.relationships) places.now }
@@ -58,7 +57,7 @@ fn may_be_routed(session: &Session, others: &[u16]) -> bool
 }
 
 /// Whether a clone of the taken file may have its attributes.
-fn may_be_cloned(session: &Session) -> bool
+pub fn may_be_cloned(session: &Session) -> bool
     requires { HasTaken session.now }
     ensures { result ≡ may_be_cloned session.now }
 {
@@ -78,6 +77,19 @@ fn made_size(attributes: &Attributes) -> u64
     } else {
         size
     }
+}
+
+/// One more clone of the taken file, which goes to a relationship.
+pub fn add_clone(session: &mut Session, relationship: u16) -> Result<(), AllocError>
+    requires taken { HasTaken session.old }
+    requires free { refusal_of_clone session.old FILE ≡ None }
+    requires there { relationship < session.old.relationships }
+    ensures { OnOk result (session.new ≡ with_ended session.old
+        (clone_of FILE (attributes_at session.old FILE) relationship ∷ [])) }
+{
+    let clone = or_no_memory(session.clone_file(FILE))?;
+    session.transfer(clone, relationship).unwrap();
+    Ok(())
 }
 
 /// A clone of the taken file to each of these relationships.

@@ -38,7 +38,7 @@ use Rattle.machine_model.specs.declared.kind.TakeRule.TheVariants.{One}
 use Rattle.processor_api.specs.Acts.{Begins}
 use Rattle.processor_api.proofs.Began.{one-begins}
 use Rattle.processor_api.specs.Sessions.{HasTaken, BeganWithOne, EndsWith}
-use Rattle.proc_text.specs.Cloning.{ended, with_ended}
+use Rattle.processor_api.specs.Cloning.{ended, with_ended}
 
 -- ---- the file at the end of a list
 

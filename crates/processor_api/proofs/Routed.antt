@@ -14,8 +14,8 @@ use Rattle.machine_model.specs.RouteOnAttribute.{routed, routed_clone, routed_fi
 use Rattle.process_session.specs.Bench.{Bench, attributes_at}
 use Rattle.process_session.specs.Changes.{with_end, with_route}
 use Rattle.processor_api.specs.Sessions.{BeganWithOne, EndsWith}
-use Rattle.proc_text.specs.Cloning.{with_ended}
-use Rattle.proc_text.proofs.Clones.{IsClone, ends-with, no-clones, passed-is, routed-is}
+use Rattle.processor_api.specs.Cloning.{with_ended}
+use Rattle.processor_api.proofs.Clones.{IsClone, ends-with, no-clones, passed-is, routed-is}
 
 abbrev pub routed_clones : AttributeMap → List ℕ → List Worked
 routed_clones attributes others = map (routed_clone attributes) others

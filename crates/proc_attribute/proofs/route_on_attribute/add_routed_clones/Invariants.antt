@@ -1,8 +1,0 @@
-use Rattle.std.proofs.Common.{◌≡◌, map, take}
-use Rattle.machine_model.specs.RouteOnAttribute.{routed_clone}
-use Rattle.process_session.specs.Bench.{attributes_at}
-use Rattle.proc_attribute.specs.Cloning.{with_ended}
-use Rattle.proc_attribute.proofs.route_on_attribute.add_routed_clones.Given as goal
-
-abbrev pub invariant-loop-relationship : goal.invariant-loop-relationship
-invariant-loop-relationship l = l.session ≡ with_ended l.fn.session (map (routed_clone (attributes_at l.fn.session 0)) (take l.relationship-index l.relationships))
