@@ -1,10 +1,9 @@
 #!/usr/bin/env python3
-"""What processors cost beside plain loops over the same bytes, and what a queue's picking and expressions cost, measured
-by the program `bench_flows`.
+"""What processors cost beside plain loops over the same bytes, what expressions cost a flow that runs in memory, and what
+a queue's picking costs, measured by the program `bench_flows`.
 
-It prints how long the processor worked for each part and for the loop, the first as a ratio to the second. Then it
-prints what it costs to pick a whole from ten times as many fragments, and to update files by three expressions and by
-none.
+It prints how long the processor worked for each part and for what stands beside it, the first as a ratio to the second.
+Then it prints what it costs to pick a whole from ten times as many fragments.
 
 Figures depend on the machine: this is no test, and isn't run by one.
 """
@@ -28,20 +27,21 @@ CRATE = ROOT / "crates" / "bench_flows"
 LINES = 262_143
 
 # The word, and what it measures.
-CONTENTS = [
-    ("split", "a text split into parts of 10,000 lines"),
-    ("replace", "what a pattern finds in each line replaced"),
-    ("route", "a text routed by what a pattern finds in its last line"),
-    ("merge", "parts of 10,000 lines joined"),
+FILES = 10_000
+
+# The word, how much there is, what it measures, and what stands beside it.
+COMPARED = [
+    ("split", LINES, "a text split into parts of 10,000 lines", "by a loop"),
+    ("replace", LINES, "what a pattern finds in each line replaced", "by a loop"),
+    ("route", LINES, "a text routed by what a pattern finds in its last line", "by a search"),
+    ("merge", LINES, "parts of 10,000 lines joined", "by a loop"),
+    ("update", FILES, "10,000 files made and updated by three expressions", "by none"),
 ]
 
-# The word, what it measures, and the two counts.
-COUNTS = [
-    ("picks", "ten picks of a whole, by the fragments of 100 wholes", 1_000, 10_000),
-    ("update", "10,000 files updated, by the expressions", 0, 3),
-]
+# How many fragments of 100 wholes are queued.
+FRAGMENTS = [1_000, 10_000]
 
-SAID = re.compile(rb"\w+ \d+: (\d+) in (\d+) microseconds(?:, by a loop (\d+) in (\d+))?\n")
+SAID = re.compile(rb"\w+ \d+: (\d+) in (\d+) microseconds(?:, beside it (\d+) in (\d+))?\n")
 
 
 def built():
@@ -52,19 +52,19 @@ def built():
 
 
 def said(program, folder, word, count):
-    """The microseconds of the processor of a part, and of the loop where there is one."""
+    """The microseconds of the processor of a part, and of what stands beside it where there is something."""
     ended = run(program, folder, (word, str(count)))
     need_status(ended, 0)
     match = SAID.fullmatch(ended.said)
     need(match is not None, f"it printed {ended.said!r}")
-    done, took, by_loop, loop_took = match.groups()
-    need(by_loop is None or done == by_loop, f"the loop did something else: {ended.said!r}")
+    done, took, other, other_took = match.groups()
+    need(other is None or done == other, f"they did something else: {ended.said!r}")
     need(int(took) > 0, "the system doesn't tell how long the processor worked")
-    return int(took), int(loop_took or 0)
+    return int(took), int(other_took or 0)
 
 
 def least(program, folder, word, count, times):
-    """The least of some runs, of the part and of the loop."""
+    """The least of some runs, of the part and of what stands beside it."""
     runs = [said(program, folder, word, count) for _ in range(times)]
     return min(took for took, _ in runs), min(took for _, took in runs)
 
@@ -84,14 +84,12 @@ def main():
     print(machine())
     print(f"bench/flows.py --times {given.times}")
     with new_folder(given.folder) as folder:
-        for word, text in CONTENTS:
-            took, by_loop = least(program, folder, word, LINES, given.times)
-            print(f"{text}: {took:,} microseconds, by a loop {by_loop:,}; ratio {took / max(by_loop, 1):.2f}", flush=True)
-        for word, text, once, more in COUNTS:
-            one, _ = least(program, folder, word, once, given.times)
-            two, _ = least(program, folder, word, more, given.times)
-            print(f"{text}: {once:,} {one:,} microseconds, {more:,} {two:,} microseconds; ratio {two / one:.2f}",
-                  flush=True)
+        for word, much, text, other in COMPARED:
+            took, beside = least(program, folder, word, much, given.times)
+            print(f"{text}: {took:,} microseconds, {other} {beside:,}; ratio {took / max(beside, 1):.2f}", flush=True)
+        once, more = (least(program, folder, "picks", count, given.times)[0] for count in FRAGMENTS)
+        print(f"ten picks of a whole, from {FRAGMENTS[0]:,} fragments of 100 wholes {once:,} microseconds, from "
+              f"{FRAGMENTS[1]:,} {more:,}; ratio {more / once:.2f}", flush=True)
 
 
 main()

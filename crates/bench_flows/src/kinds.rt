@@ -1,13 +1,11 @@
 //! The processors that are measured, with their properties.
-ghost use Rattle.std.specs.Prelude.{◌≡◌, IfOk};
-ghost use Rattle.machine_model.specs.Sound.{HasText, IsSoundKind};
+ghost use Rattle.std.specs.Prelude.{IfOk};
+ghost use Rattle.machine_model.specs.Sound.{IsSoundKind};
 
 use anyhow::{Result, bail};
-use expr_lang::parse;
 use flowfile_record::Text;
 use machine_model::{
-    Kind, MatchRequirement, MergeStrategy, OwnExpression, OwnExpressionList, OwnPattern,
-    OwnPatternList, Pattern, Replacement,
+    Kind, MatchRequirement, MergeStrategy, OwnPattern, OwnPatternList, Pattern, Replacement,
 };
 use std::alloc::Global;
 
@@ -68,40 +66,6 @@ pub fn merge() -> Kind
         minimum: 1,
         maximum: ENTRIES,
     }
-}
-
-/// An UpdateAttribute with three expressions of its own, or none.
-pub fn update(alloc: Global, expressions: u32) -> Result<Kind>
-    ensures { IfOk result IsSoundKind }
-{
-    match expressions {
-        0 => Ok(Kind::UpdateAttribute {
-            own: OwnExpressionList::new(alloc),
-        }),
-        3 => update_three(alloc),
-        _ => bail!("it has 0 or 3 expressions"),
-    }
-}
-
-fn update_three(alloc: Global) -> Result<Kind>
-    ensures { IfOk result IsSoundKind }
-{
-    let first = own(alloc, "a", "${filename:append('-1'):toUpper()}")?;
-    let second = own(alloc, "b", "${filename:append('-2'):toUpper()}")?;
-    let third = own(alloc, "c", "${filename:append('-3'):toUpper()}")?;
-    let own = OwnExpressionList::from(vec![in alloc; first, second, third]?);
-    Ok(Kind::UpdateAttribute { own })
-}
-
-fn own(alloc: Global, name: &str, text: &str) -> Result<OwnExpression>
-    ensures name { IfOk result (λ own. own.name ≡ name.now) }
-    ensures text { IfOk result (λ own. HasText own.expression) }
-{
-    let Ok(expression) = parse(alloc, text) else {
-        bail!("no expression: {text}");
-    };
-    let name = Text::from_str(alloc, name)?;
-    Ok(OwnExpression { name, expression })
 }
 
 fn pattern(alloc: Global, text: &str) -> Result<Pattern> {

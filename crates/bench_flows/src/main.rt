@@ -1,5 +1,5 @@
-//! Measures what processors do with contents, and what a queue picks: behind a word that says which stands how much of
-//! it there is.
+//! Measures what processors do with contents, what a queue picks, and what expressions cost a flow: behind a word that
+//! says which stands how much of it there is.
 #![tactic(auto)]
 
 mod contents;
@@ -25,7 +25,7 @@ const PARTS: [(&str, u32); 6] = [
     ("route", 20_000),
     ("merge", 20_000),
     ("picks", 200),
-    ("update", 3),
+    ("update", 20),
 ];
 
 fn main(rt: HostRuntime) -> Result<()> {
@@ -68,7 +68,7 @@ fn measure<R: Files + Alloc<A = Global>>(
 fn counts(alloc: Global, compared: &Compared) -> Result<String> {
     let count = compared.engine.count;
     match compared.plain {
-        Some(plain) => Ok(format!(in alloc; "{count}, by a loop {}", plain.count)?),
+        Some(plain) => Ok(format!(in alloc; "{count}, beside it {}", plain.count)?),
         None => Ok(format!(in alloc; "{count}")?),
     }
 }
@@ -79,9 +79,9 @@ fn times(alloc: Global, compared: &Compared) -> Result<String> {
     let microseconds = compared.engine.took / 1_000;
     match compared.plain {
         Some(plain) => {
-            let by_loop = plain.took / 1_000;
+            let beside = plain.took / 1_000;
             Ok(format!(in alloc;
-                "{count} in {microseconds} microseconds, by a loop {} in {by_loop}",
+                "{count} in {microseconds} microseconds, beside it {} in {beside}",
                 plain.count
             )?)
         }

@@ -12,7 +12,8 @@ pub struct Measured {
     pub took: u64,
 }
 
-/// What a part of the engine did, and where there is one, what a plain loop did of the same.
+/// What a part of the engine did, and where there is something beside it, what that did: a plain loop over the same bytes,
+/// or the same flow without expressions.
 #[derive(Clone, Copy, Drop)]
 pub struct Compared {
     pub engine: Measured,

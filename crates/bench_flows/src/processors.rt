@@ -7,7 +7,6 @@ ghost use Rattle.processor_api.specs.Acts.{AreRead, IsGivenTo, MayBeHanded};
 use anyhow::{Result, bail};
 use flowfile_record::{Body, End, Outcome, TAKEN_MAX};
 use machine_model::{Given, Kind, TakeRule};
-use proc_attribute::UpdateAttribute;
 use proc_merge::MergeContent;
 use proc_text::{ReplaceText, RouteOnContent, SplitText};
 use process_session::TakenList;
@@ -66,9 +65,6 @@ fn worked(alloc: Global, kind: &Kind, taken: TakenList, given: &mut Given) -> Re
     }
     if let Some(merge) = MergeContent::of(kind) {
         return Ok(work_on(alloc, &merge, 3, taken, given)?.0);
-    }
-    if let Some(update) = UpdateAttribute::of(kind) {
-        return Ok(work_on(alloc, &update, 2, taken, given)?.0);
     }
     bail!("no processor that is measured")
 }

@@ -1,47 +1,83 @@
-//! Sessions of an UpdateAttribute.
-ghost use Rattle.machine_model.specs.Sound.{IsSoundKind};
-
-use crate::files::taken;
-use crate::kinds::update;
+//! A flow whose files go through an UpdateAttribute, over devices in memory.
 use crate::measured::{Compared, Measured, processor_time, since};
-use crate::processors::{count_to, work};
-use anyhow::Result;
-use machine_model::Kind;
+use anyhow::{Result, bail};
+use disk_trait::MemoryDisk;
+use flow_definition::Builder;
+use run_top::{DONE, run};
 use std::alloc::{Alloc, Global};
 use std::fs::Files;
+use world_io::{FreeGate, MemoryClock, MemoryInbox, MemoryOutbox, MemorySink, MemorySource};
 
-/// How many files there are.
-const FILES: u32 = 10_000;
+/// The text of the flow: what stands in front of how many files it makes, then in front of the expressions, and behind
+/// them.
+const FLOW: [&str; 3] = [
+    r#"{"processors": [
+        {"id": "make", "type": "GenerateFlowFile", "properties": {"Custom Text": "x", "Count": ""#,
+    r#""}},
+        {"id": "update", "type": "UpdateAttribute", "terminated": ["success", "failure"], "properties": {"#,
+    r#"}}
+    ], "connections": [{"id": "made", "from": "make", "to": "update", "relationships": ["success"]}]}"#,
+];
 
-/// How many bytes the content of each has.
-const SIZE: usize = 100;
+/// Three expressions over a file's name.
+const EXPRESSIONS: &str = r#"
+    "first": "${filename:append('-1'):toUpper()}",
+    "second": "${filename:append('-2'):toUpper()}",
+    "third": "${filename:append('-3'):toUpper()}""#;
 
-/// Updates files by so many expressions, 0 or 3, each file in a session of its own. The files that go to success are
-/// counted.
+/// Makes so many files and updates them by three expressions, and in the place of a loop by none. The calls that
+/// change the disk are counted.
 pub fn measure<R: Files + Alloc<A = Global>>(
     rt: &R,
     alloc: Global,
-    expressions: u32,
+    files: u32,
 ) -> Result<Compared> {
-    let kind = update(alloc, expressions)?;
-    let start = processor_time(rt);
-    let count = update_all(alloc, &kind)?;
-    let took = since(rt, start);
+    let engine = updated(rt, alloc, files, EXPRESSIONS)?;
+    let plain = updated(rt, alloc, files, "")?;
     Ok(Compared {
-        engine: Measured { count, took },
-        plain: None,
+        engine,
+        plain: Some(plain),
     })
 }
 
-fn update_all(alloc: Global, kind: &Kind) -> Result<u64>
-    requires { IsSoundKind kind.now }
-{
-    let mut count = 0u64;
-    for _ in 0..FILES {
-        let content = [b'x'; SIZE].to_vec(alloc)?;
-        let taken = taken(alloc, vec![in alloc; content]?)?;
-        let outcome = work(alloc, kind, taken)?;
-        count = count.saturating_add(count_to(&outcome, 0));
+// A run of the flow from its text to its end, over a new store.
+fn updated<R: Files + Alloc<A = Global>>(
+    rt: &R,
+    alloc: Global,
+    files: u32,
+    expressions: &str,
+) -> Result<Measured> {
+    let [head, middle, tail] = FLOW;
+    let text = format!(in alloc; "{head}{files}{middle}{expressions}{tail}")?;
+    let words = vec![in alloc; String::from_str(alloc, "run")?]?;
+    let mut disk = MemoryDisk::new(Vec::new(alloc));
+    let mut inbox = MemoryInbox::new(Vec::new(alloc), Vec::new(alloc));
+    let mut outbox = MemoryOutbox::new(Vec::new(alloc), Vec::new(alloc));
+    let mut flow = MemorySource::new(text.into_bytes(), Vec::new(alloc));
+    let mut patterns = Builder::new(Vec::new(alloc));
+    let mut sink = MemorySink::new(Vec::new(alloc));
+    let mut clock = MemoryClock::new(1000, 0);
+    let start = processor_time(rt);
+    let status = run(
+        &(),
+        alloc,
+        words.as_slice(),
+        0,
+        &mut disk,
+        &mut inbox,
+        &mut outbox,
+        &mut flow,
+        &mut patterns,
+        &mut sink,
+        &mut clock,
+        &FreeGate,
+    );
+    let took = since(rt, start);
+    if status != DONE {
+        bail!("the run ended with status {status}");
     }
-    Ok(count)
+    Ok(Measured {
+        count: disk.calls().len() as u64,
+        took,
+    })
 }
