@@ -58,15 +58,15 @@ def said(program, folder, word, count):
     match = SAID.fullmatch(ended.said)
     need(match is not None, f"it printed {ended.said!r}")
     done, took, other, other_took = match.groups()
-    need(other is None or done == other, f"they did something else: {ended.said!r}")
-    need(int(took) > 0, "the system doesn't tell how long the processor worked")
+    # With three expressions a checkpoint has more bytes, and so more writes.
+    need(other is None or done == other or word == "update", f"they did something else: {ended.said!r}")
     return int(took), int(other_took or 0)
 
 
-def least(program, folder, word, count, times):
-    """The least of some runs, of the part and of what stands beside it."""
+def mean(program, folder, word, count, times):
+    """The mean of some runs, of the part and of what stands beside it: the system counts in steps of some milliseconds."""
     runs = [said(program, folder, word, count) for _ in range(times)]
-    return min(took for took, _ in runs), min(took for _, took in runs)
+    return sum(took for took, _ in runs) // times, sum(took for _, took in runs) // times
 
 
 def machine():
@@ -78,16 +78,16 @@ def machine():
 
 def main():
     parser = options(__doc__)
-    parser.add_argument("--times", type=int, default=3, help="runs of each, the least counts (default 3)")
+    parser.add_argument("--times", type=int, default=20, help="runs of each, of which the mean is printed (default 20)")
     given = parser.parse_args()
     program = str(pathlib.Path(given.program).resolve()) if given.program else built()
     print(machine())
     print(f"bench/flows.py --times {given.times}")
     with new_folder(given.folder) as folder:
         for word, much, text, other in COMPARED:
-            took, beside = least(program, folder, word, much, given.times)
+            took, beside = mean(program, folder, word, much, given.times)
             print(f"{text}: {took:,} microseconds, {other} {beside:,}; ratio {took / max(beside, 1):.2f}", flush=True)
-        once, more = (least(program, folder, "picks", count, given.times)[0] for count in FRAGMENTS)
+        once, more = (mean(program, folder, "picks", count, given.times)[0] for count in FRAGMENTS)
         print(f"ten picks of a whole, from {FRAGMENTS[0]:,} fragments of 100 wholes {once:,} microseconds, from "
               f"{FRAGMENTS[1]:,} {more:,}; ratio {more / once:.2f}", flush=True)
 
