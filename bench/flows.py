@@ -10,15 +10,14 @@ Figures depend on the machine: this is no test, and isn't run by one.
 
 import os
 import pathlib
-import platform
 import re
 import subprocess
 import sys
-import time
 
 sys.path.insert(0, str(pathlib.Path(__file__).resolve().parent.parent / "tests"))
 sys.dont_write_bytecode = True
 
+from machine import machine
 from support import ROOT, need, need_status, new_folder, options, run
 
 CRATE = ROOT / "crates" / "bench_flows"
@@ -26,7 +25,7 @@ CRATE = ROOT / "crates" / "bench_flows"
 # A text of 16 MiB: so many lines, and the last one.
 LINES = 262_143
 
-# The word, and what it measures.
+# How many files the flow makes.
 FILES = 10_000
 
 # The word, how much there is, what it measures, and what stands beside it.
@@ -58,7 +57,8 @@ def said(program, folder, word, count):
     match = SAID.fullmatch(ended.said)
     need(match is not None, f"it printed {ended.said!r}")
     done, took, other, other_took = match.groups()
-    # With three expressions a checkpoint has more bytes, and so more writes.
+    # A session with expressions has two events, which take two writes where they stand at the end of one file and the
+    # start of the next.
     need(other is None or done == other or word == "update", f"they did something else: {ended.said!r}")
     return int(took), int(other_took or 0)
 
@@ -67,13 +67,6 @@ def mean(program, folder, word, count, times):
     """The mean of some runs, of the part and of what stands beside it: the system counts in steps of some milliseconds."""
     runs = [said(program, folder, word, count) for _ in range(times)]
     return sum(took for took, _ in runs) // times, sum(took for _, took in runs) // times
-
-
-def machine():
-    model = re.search(r"^model name\s*: (.*)$", pathlib.Path("/proc/cpuinfo").read_text(), re.MULTILINE)
-    return (f"{time.strftime('%Y-%m-%d %H:%M')}, {os.cpu_count()} processors"
-            f"{' ' + model.group(1) if model else ''}, Linux {platform.release()}, "
-            f"load {os.getloadavg()[0]:.0f}")
 
 
 def main():

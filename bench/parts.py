@@ -10,7 +10,6 @@ Figures depend on the machine: this is no test, and isn't run by one.
 
 import os
 import pathlib
-import platform
 import re
 import subprocess
 import sys
@@ -19,6 +18,7 @@ import time
 sys.path.insert(0, str(pathlib.Path(__file__).resolve().parent.parent / "tests"))
 sys.dont_write_bytecode = True
 
+from machine import machine
 from support import ROOT, need, need_status, new_folder, options, run
 
 CRATE = ROOT / "crates" / "bench_parts"
@@ -55,13 +55,6 @@ def least(program, folder, words, times):
         seconds.append(int(said.group(2)) / 1e6)
         peaks.append(ended.peak)
     return min(seconds), min(peaks)
-
-
-def machine():
-    model = re.search(r"^model name\s*: (.*)$", pathlib.Path("/proc/cpuinfo").read_text(), re.MULTILINE)
-    return (f"{time.strftime('%Y-%m-%d %H:%M')}, {os.cpu_count()} processors"
-            f"{' ' + model.group(1) if model else ''}, Linux {platform.release()}, "
-            f"load {os.getloadavg()[0]:.0f}")
 
 
 def main():
