@@ -1,6 +1,6 @@
 #!/usr/bin/env python3
-"""What processors cost beside plain loops over the same bytes, what expressions cost a flow that runs in memory, and what
-a queue's picking costs, measured by the program `bench_flows`.
+"""What processors cost beside plain loops over the same bytes, and what a queue's picking costs, by the program
+`bench_flows`; and what expressions cost a flow, by the built program over folders in memory.
 
 It prints how long the processor worked for each part and for what stands beside it, the first as a ratio to the second.
 Then it prints what it costs to pick a whole from ten times as many fragments.
@@ -17,16 +17,14 @@ import sys
 sys.path.insert(0, str(pathlib.Path(__file__).resolve().parent.parent / "tests"))
 sys.dont_write_bytecode = True
 
+from flow_texts import flow, generator, processor, queue
 from machine import machine
-from support import ROOT, need, need_status, new_folder, options, run
+from support import DONE, ROOT, find_program, in_memory, need, need_status, new_folder, options, run, work_folder
 
 CRATE = ROOT / "crates" / "bench_flows"
 
 # A text of 16 MiB: so many lines, and the last one.
 LINES = 262_143
-
-# How many files the flow makes.
-FILES = 10_000
 
 # The word, how much there is, what it measures, and what stands beside it.
 COMPARED = [
@@ -34,11 +32,15 @@ COMPARED = [
     ("replace", LINES, "what a pattern finds in each line replaced", "by a loop"),
     ("route", LINES, "a text routed by what a pattern finds in its last line", "by a search"),
     ("merge", LINES, "parts of 10,000 lines joined", "by a loop"),
-    ("update", FILES, "10,000 files made and updated by three expressions", "by none"),
 ]
 
 # How many fragments of 100 wholes are queued.
 FRAGMENTS = [1_000, 10_000]
+
+# How many files the flow makes, and three expressions over a file's name.
+FILES = 10_000
+EXPRESSIONS = {name: f"${{filename:append('-{number}'):toUpper()}}"
+               for number, name in enumerate(("first", "second", "third"), 1)}
 
 SAID = re.compile(rb"\w+ \d+: (\d+) in (\d+) microseconds(?:, beside it (\d+) in (\d+))?\n")
 
@@ -57,30 +59,52 @@ def said(program, folder, word, count):
     match = SAID.fullmatch(ended.said)
     need(match is not None, f"it printed {ended.said!r}")
     done, took, other, other_took = match.groups()
-    # A session with expressions has two events, which take two writes where they stand at the end of one file and the
-    # start of the next.
-    need(other is None or done == other or word == "update", f"they did something else: {ended.said!r}")
+    need(other is None or done == other, f"they did something else: {ended.said!r}")
     return int(took), int(other_took or 0)
 
 
-def mean(program, folder, word, count, times):
-    """The mean of some runs, of the part and of what stands beside it: the system counts in steps of some milliseconds."""
-    runs = [said(program, folder, word, count) for _ in range(times)]
+def flow_time(program, parent, expressions):
+    """The microseconds of the processor of a flow that makes files and updates each of them by these expressions."""
+    text = flow([generator("make", FILES, "x"),
+                 processor("update", "UpdateAttribute", expressions, ("success", "failure"))],
+                [queue("made", "make", "update")])
+    with work_folder(parent, text) as folder:
+        ended = run(program, folder)
+        need_status(ended, DONE)
+        return round(ended.busy * 1e6)
+
+
+def updated(program, parent):
+    """The same of the three expressions, and of none."""
+    return flow_time(program, parent, EXPRESSIONS), flow_time(program, parent, {})
+
+
+def mean(times, measure, *given):
+    """The mean of some runs, of a part and of what stands beside it. The system counts in steps of milliseconds."""
+    runs = [measure(*given) for _ in range(times)]
     return sum(took for took, _ in runs) // times, sum(took for _, took in runs) // times
+
+
+def tell(text, took, other, beside):
+    print(f"{text}: {took:,} microseconds, {other} {beside:,}; ratio {took / max(beside, 1):.2f}", flush=True)
 
 
 def main():
     parser = options(__doc__)
+    parser.add_argument("--flow", help="the built program that runs flows (default: built where that is due)")
     parser.add_argument("--times", type=int, default=20, help="runs of each, of which the mean is printed (default 20)")
     given = parser.parse_args()
+    times, runner = given.times, find_program(given.flow)
     program = str(pathlib.Path(given.program).resolve()) if given.program else built()
     print(machine())
-    print(f"bench/flows.py --times {given.times}")
+    print(f"bench/flows.py --times {times}")
     with new_folder(given.folder) as folder:
         for word, much, text, other in COMPARED:
-            took, beside = mean(program, folder, word, much, given.times)
-            print(f"{text}: {took:,} microseconds, {other} {beside:,}; ratio {took / max(beside, 1):.2f}", flush=True)
-        once, more = (mean(program, folder, "picks", count, given.times)[0] for count in FRAGMENTS)
+            took, beside = mean(times, said, program, folder, word, much)
+            tell(text, took, other, beside)
+        took, beside = mean(times, updated, runner, in_memory(given.folder))
+        tell(f"{FILES:,} files made and updated by three expressions", took, "by none", beside)
+        once, more = (mean(times, said, program, folder, "picks", count)[0] for count in FRAGMENTS)
         print(f"ten picks of a whole, from {FRAGMENTS[0]:,} fragments of 100 wholes {once:,} microseconds, from "
               f"{FRAGMENTS[1]:,} {more:,}; ratio {more / once:.2f}", flush=True)
 

@@ -1,21 +1,36 @@
-//! Processors that work on contents, each beside a plain loop over the same bytes.
-ghost use Rattle.machine_model.specs.Sound.{IsSoundKind};
-ghost use Rattle.processor_api.specs.Acts.{AreRead};
+//! Processors that work on contents, each beside a plain loop over the same texts.
+ghost use Rattle.std.specs.Prelude.{◌≡◌, ◌∷◌, [], codes, map, IfOk, IsTrue};
+ghost use Rattle.machine_model.specs.Sound.{is_replacement_sound};
 
-use crate::files::taken;
-use crate::kinds::{self, LINES, VALUE};
 use crate::loops;
 use crate::measured::{Compared, Measured, processor_time, since};
-use crate::processors::{count_to, size_to, work};
-use crate::texts::{LINE_SIZE, text};
+use crate::processors::{count_to, size_to, timed};
+use crate::texts::{LINES, parts, text};
 use anyhow::{Result, bail};
-use flowfile_record::Outcome;
-use machine_model::{Kind, Replacement};
-use process_session::TakenList;
-use regex::Regex;
+use flowfile_record::Text;
+use machine_model::{
+    MatchRequirement, MergeStrategy, OwnPattern, OwnPatternList, Pattern, Replacement,
+};
+use proc_merge::MergeContent;
+use proc_text::{ReplaceText, RouteOnContent, SplitText};
 use std::alloc::{Alloc, Global};
 use std::fs::Files;
-use std::str;
+use std::slice;
+
+/// What is looked for in each line but the last.
+const NAME: &str = "[a-z]+-[0-9]+";
+
+/// What stands in its place.
+const VALUE: &str = "worker";
+
+/// What the last line alone has.
+const GIVEN: &str = "[a-z]+-[0-9]+ gave";
+
+/// The greatest size of a pattern's tables, in bytes.
+const PATTERN_SIZE: u64 = 10 << 20;
+
+/// How many files a MergeContent joins at most.
+const ENTRIES: u32 = 1_000;
 
 /// Splits a text of lines into parts of so many lines. The parts are counted.
 pub fn measure_split<R: Files + Alloc<A = Global>>(
@@ -23,24 +38,17 @@ pub fn measure_split<R: Files + Alloc<A = Global>>(
     alloc: Global,
     lines: u32,
 ) -> Result<Compared> {
-    let kind = kinds::split();
-    let content = text(alloc, lines)?;
-    let taken = taken(alloc, vec![in alloc; content.clone()?]?)?;
-    let (outcome, took) = timed(rt, alloc, &kind, taken)?;
-    let engine = Measured {
-        count: count_to(&outcome, 1),
-        took,
-    };
+    let split = SplitText { lines: LINES };
+    let text = text(alloc, lines)?;
+    let (outcome, took) = timed(rt, alloc, &split, 3, slice::from_ref(&text))?;
+    let count = count_to(&outcome, 1);
+    let engine = Measured { count, took };
     let start = processor_time(rt);
-    let ends = loops::split(alloc, content.as_slice(), LINES)?;
-    let plain = Measured {
-        took: since(rt, start),
-        count: ends.len() as u64,
-    };
-    Ok(Compared {
-        engine,
-        plain: Some(plain),
-    })
+    let ends = loops::split(alloc, text.as_str(), LINES)?;
+    let took = since(rt, start);
+    let count = ends.len() as u64;
+    let plain = Some(Measured { count, took });
+    Ok(Compared { engine, plain })
 }
 
 /// Replaces what a pattern finds in each line but the last. The bytes of the result are counted.
@@ -49,26 +57,21 @@ pub fn measure_replace<R: Files + Alloc<A = Global>>(
     alloc: Global,
     lines: u32,
 ) -> Result<Compared> {
-    let kind = kinds::replace(alloc)?;
-    let content = text(alloc, lines)?;
-    let taken = taken(alloc, vec![in alloc; content.clone()?]?)?;
-    let (outcome, took) = timed(rt, alloc, &kind, taken)?;
-    let engine = Measured {
-        count: size_to(&outcome, 0),
-        took,
+    let replacement = replacement(alloc)?;
+    let replace = ReplaceText {
+        replacement: &replacement,
     };
-    let search = pattern(&kind)?;
-    let text = str::from_utf8(content.as_slice())?;
+    let text = text(alloc, lines)?;
+    let (outcome, took) = timed(rt, alloc, &replace, 2, slice::from_ref(&text))?;
+    let count = size_to(&outcome, 0);
+    let engine = Measured { count, took };
+    let search = pattern(alloc, NAME)?;
     let start = processor_time(rt);
-    let replaced = loops::replace(alloc, search, VALUE, text)?;
-    let plain = Measured {
-        took: since(rt, start),
-        count: replaced.len() as u64,
-    };
-    Ok(Compared {
-        engine,
-        plain: Some(plain),
-    })
+    let replaced = loops::replace(alloc, &search.regex, VALUE, text.as_str())?;
+    let took = since(rt, start);
+    let count = replaced.len() as u64;
+    let plain = Some(Measured { count, took });
+    Ok(Compared { engine, plain })
 }
 
 /// Routes a text of which a pattern finds something in the last line alone. The files that it routes are counted.
@@ -77,26 +80,22 @@ pub fn measure_route<R: Files + Alloc<A = Global>>(
     alloc: Global,
     lines: u32,
 ) -> Result<Compared> {
-    let kind = kinds::route(alloc)?;
-    let content = text(alloc, lines)?;
-    let taken = taken(alloc, vec![in alloc; content.clone()?]?)?;
-    let (outcome, took) = timed(rt, alloc, &kind, taken)?;
-    let engine = Measured {
-        count: count_to(&outcome, 0),
-        took,
+    let own = own_pattern(alloc)?;
+    let route = RouteOnContent {
+        requirement: MatchRequirement::Contains,
+        own: &own,
     };
-    let search = pattern(&kind)?;
-    let text = str::from_utf8(content.as_slice())?;
+    let text = text(alloc, lines)?;
+    let (outcome, took) = timed(rt, alloc, &route, 2, slice::from_ref(&text))?;
+    let count = count_to(&outcome, 0);
+    let engine = Measured { count, took };
+    let search = pattern(alloc, GIVEN)?;
     let start = processor_time(rt);
-    let found = loops::matches(alloc, search, text)?;
-    let plain = Measured {
-        took: since(rt, start),
-        count: u64::from(found),
-    };
-    Ok(Compared {
-        engine,
-        plain: Some(plain),
-    })
+    let found = loops::matches(alloc, &search.regex, text.as_str())?;
+    let took = since(rt, start);
+    let count = u64::from(found);
+    let plain = Some(Measured { count, took });
+    Ok(Compared { engine, plain })
 }
 
 /// Joins the parts of a text. The bytes of the result are counted.
@@ -105,62 +104,46 @@ pub fn measure_merge<R: Files + Alloc<A = Global>>(
     alloc: Global,
     lines: u32,
 ) -> Result<Compared> {
-    let kind = kinds::merge();
-    let parts = parts(alloc, lines)?;
-    let taken = taken(alloc, parts.clone()?)?;
-    let (outcome, took) = timed(rt, alloc, &kind, taken)?;
-    let engine = Measured {
-        count: size_to(&outcome, 0),
-        took,
+    let merge = MergeContent {
+        strategy: MergeStrategy::BinPacking,
+        minimum: 1,
+        maximum: ENTRIES,
     };
+    let parts = parts(alloc, lines)?;
+    let (outcome, took) = timed(rt, alloc, &merge, 3, parts.as_slice())?;
+    let count = size_to(&outcome, 0);
+    let engine = Measured { count, took };
     let start = processor_time(rt);
     let joined = loops::join(alloc, parts.as_slice())?;
-    let plain = Measured {
-        took: since(rt, start),
-        count: joined.len() as u64,
-    };
-    Ok(Compared {
-        engine,
-        plain: Some(plain),
-    })
-}
-
-// What a processor makes of these files, and how long that took.
-fn timed<R: Files + Alloc<A = Global>>(
-    rt: &R,
-    alloc: Global,
-    kind: &Kind,
-    taken: TakenList,
-) -> Result<(Outcome, u64)>
-    requires sound { IsSoundKind kind.now }
-    requires read { AreRead taken }
-{
-    let start = processor_time(rt);
-    let outcome = work(alloc, kind, taken)?;
     let took = since(rt, start);
-    Ok((outcome, took))
+    let count = joined.len() as u64;
+    let plain = Some(Measured { count, took });
+    Ok(Compared { engine, plain })
 }
 
-// The pattern of a processor.
-fn pattern(kind: &Kind) -> Result<&Regex> {
-    match kind {
-        Kind::ReplaceText {
-            replacement: Replacement::Regex { search, .. },
-        } => Ok(&search.regex),
-        Kind::RouteOnContent { own, .. } => match own.as_slice().first() {
-            Some(own) => Ok(&own.pattern.regex),
-            None => bail!("there is no pattern"),
-        },
-        _ => bail!("it has no pattern"),
-    }
+// What a ReplaceText replaces, and by what.
+fn replacement(alloc: Global) -> Result<Replacement>
+    ensures { IfOk result (λ replacement. IsTrue (is_replacement_sound replacement)) }
+{
+    let search = pattern(alloc, NAME)?;
+    let template = Text::from_str(alloc, VALUE)?;
+    Ok(Replacement::Regex { search, template })
 }
 
-// A text in parts of so many lines.
-fn parts(alloc: Global, lines: u32) -> Result<Vec<Vec<u8>>> {
-    let text = text(alloc, lines)?;
-    let mut parts = Vec::new(alloc);
-    for part in text.chunks(LINES as usize * LINE_SIZE as usize) {
-        parts.push(part.to_vec(alloc)?)?;
+// The one property of a RouteOnContent.
+fn own_pattern(alloc: Global) -> Result<OwnPatternList>
+    ensures { IfOk result (λ own. map (λ property. property.name) own ≡ codes "given" ∷ []) }
+{
+    let name = Text::from_str(alloc, "given")?;
+    let pattern = pattern(alloc, GIVEN)?;
+    let own = vec![in alloc; OwnPattern { name, pattern }]?;
+    Ok(OwnPatternList::from(own))
+}
+
+fn pattern(alloc: Global, text: &str) -> Result<Pattern> {
+    let text = Text::from_str(alloc, text)?;
+    match Pattern::new(alloc, text, PATTERN_SIZE) {
+        Ok(pattern) => Ok(pattern),
+        Err(_) => bail!("no such pattern"),
     }
-    Ok(parts)
 }

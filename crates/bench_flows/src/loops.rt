@@ -1,14 +1,14 @@
-//! What the processors of texts do, as plain loops over the same bytes.
-use anyhow::Result;
+//! What the processors of texts do, as plain loops over the same texts.
 use regex::Regex;
-use std::alloc::Global;
+use std::alloc::{AllocError, Global};
 
 /// Where the parts of so many lines end, the last of which may have fewer.
-pub fn split(alloc: Global, text: &[u8], lines: u32) -> Result<Vec<usize>> {
+pub fn split(alloc: Global, text: &str, lines: u32) -> Result<Vec<usize>, AllocError> {
     let mut ends = Vec::new(alloc);
     let mut seen = 0u32;
-    for (place, byte) in text.iter().enumerate() {
-        if *byte == b'\n' {
+    let bytes = text.as_bytes();
+    for place in 0..bytes.len() {
+        if bytes[place] == b'\n' {
             seen = seen.saturating_add(1);
         }
         if seen == lines {
@@ -23,29 +23,36 @@ pub fn split(alloc: Global, text: &[u8], lines: u32) -> Result<Vec<usize>> {
 }
 
 /// The text with a value in the place of each match.
-pub fn replace(alloc: Global, search: &Regex, value: &str, text: &str) -> Result<String> {
+pub fn replace(
+    alloc: Global,
+    search: &Regex,
+    value: &str,
+    text: &str,
+) -> Result<String, AllocError> {
     let mut matcher = search.matcher(alloc)?;
     let mut replaced = String::new(alloc);
-    for (place, between) in matcher.split(text).enumerate() {
-        if place > 0 {
+    let mut is_first = true;
+    for between in matcher.split(text) {
+        if !is_first {
             replaced.push_str(value)?;
         }
         replaced.push_str(between)?;
+        is_first = false;
     }
     Ok(replaced)
 }
 
 /// Whether there is a match.
-pub fn matches(alloc: Global, search: &Regex, text: &str) -> Result<bool> {
+pub fn matches(alloc: Global, search: &Regex, text: &str) -> Result<bool, AllocError> {
     let mut matcher = search.matcher(alloc)?;
     Ok(matcher.is_match(text))
 }
 
-/// All contents in a row.
-pub fn join(alloc: Global, contents: &[Vec<u8>]) -> Result<Vec<u8>> {
-    let mut joined = Vec::new(alloc);
-    for content in contents {
-        joined.extend_from_slice(content.as_slice())?;
+/// All texts in a row.
+pub fn join(alloc: Global, texts: &[String]) -> Result<String, AllocError> {
+    let mut joined = String::new(alloc);
+    for text in texts {
+        joined.push_str(text.as_str())?;
     }
     Ok(joined)
 }

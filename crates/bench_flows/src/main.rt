@@ -1,16 +1,14 @@
-//! Measures what processors do with contents, what a queue picks, and what expressions cost a flow: behind a word that
-//! says which stands how much of it there is.
+//! Measures what processors do with contents and what a queue picks: behind a word that says which stands how much of it
+//! there is.
 #![tactic(auto)]
 
 mod contents;
 mod files;
-mod kinds;
 mod loops;
 mod measured;
 mod processors;
 mod queues;
 mod texts;
-mod updates;
 
 use anyhow::{Result, bail};
 use measured::Compared;
@@ -19,29 +17,29 @@ use std::env;
 use std::fs::Files;
 
 /// What is measured, and how much of it there is where the word is `check`.
-const PARTS: [(&str, u32); 6] = [
+const PARTS: [(&str, u32); 5] = [
     ("split", 20_000),
     ("replace", 20_000),
     ("route", 20_000),
     ("merge", 20_000),
     ("picks", 200),
-    ("update", 20),
 ];
 
 fn main(rt: HostRuntime) -> Result<()> {
     let alloc = rt.alloc();
-    let words: Vec<String> = env::args(&rt)?.skip(1).collect(alloc)?;
-    let Some(word) = words.first() else {
+    let mut words = env::args(&rt)?;
+    let _program = words.next();
+    let Some(word) = words.next() else {
         bail!("the words are `check`, or a part and a count");
     };
     if word.as_str() == "check" {
-        for (part, few) in PARTS {
-            let compared = measure(&rt, alloc, part, few)?;
+        for (part, few) in &PARTS {
+            let compared = measure(&rt, alloc, part, *few)?;
             println!(rt; "{part} {few}: {}", counts(alloc, &compared)?)?;
         }
         return Ok(());
     }
-    let much = read_count(word.as_str(), words.get(1))?;
+    let much = read_count(word.as_str(), words.next())?;
     let compared = measure(&rt, alloc, word.as_str(), much)?;
     println!(rt; "{word} {much}: {}", times(alloc, &compared)?)?;
     Ok(())
@@ -59,7 +57,6 @@ fn measure<R: Files + Alloc<A = Global>>(
         "route" => contents::measure_route(rt, alloc, much),
         "merge" => contents::measure_merge(rt, alloc, much),
         "picks" => queues::measure(rt, alloc, much),
-        "update" => updates::measure(rt, alloc, much),
         _ => bail!("`{part}` measures nothing"),
     }
 }
@@ -90,7 +87,7 @@ fn times(alloc: Global, compared: &Compared) -> Result<String> {
 }
 
 // How much there is of a part, of these words.
-fn read_count(part: &str, count: Option<&String>) -> Result<u32> {
+fn read_count(part: &str, count: Option<String>) -> Result<u32> {
     let Some(count) = count else {
         bail!("`{part}` needs a count");
     };

@@ -1,21 +1,51 @@
 //! Sessions of processors.
-ghost use Rattle.std.specs.Prelude.{IsTrue};
+ghost use Rattle.std.specs.Prelude.{◌≡◌, length, IsTrue};
+ghost use Rattle.machine_model.specs.Kinds.{relationships_of};
 ghost use Rattle.machine_model.specs.Laws.{MayTake};
 ghost use Rattle.machine_model.specs.Sound.{IsSoundKind};
-ghost use Rattle.processor_api.specs.Acts.{AreRead, IsGivenTo, MayBeHanded};
+ghost use Rattle.machine_model.specs.declared.given.Given.{Given as GivenTo};
+ghost use Rattle.processor_api.specs.Acts.{AreRead, IsGivenTo};
 
+use crate::files::taken;
+use crate::measured::{processor_time, since};
 use anyhow::{Result, bail};
 use flowfile_record::{Body, End, Outcome, TAKEN_MAX};
-use machine_model::{Given, Kind, TakeRule};
-use proc_merge::MergeContent;
-use proc_text::{ReplaceText, RouteOnContent, SplitText};
+use machine_model::{Given, TakeRule};
 use process_session::TakenList;
-use processor_api::work_on;
-use std::alloc::Global;
+use processor_api::{Acts, work_on};
+use std::alloc::{Alloc, Global};
+use std::fs::Files;
 
-/// What a processor of this kind makes of these files.
-pub fn work(alloc: Global, kind: &Kind, taken: TakenList) -> Result<Outcome>
-    requires sound { IsSoundKind kind.now }
+/// What a processor makes of these texts, each the content of a file, and how much time that took. It needs nothing
+/// beside its files.
+pub fn timed<R: Files + Alloc<A = Global>, P: Acts>(
+    rt: &R,
+    alloc: Global,
+    processor: &P,
+    relationships: u16,
+    texts: &[String],
+) -> Result<(Outcome, u64)>
+    requires relationships { relationships ≡ length (relationships_of (P.kind processor.now)) }
+    requires sound { IsSoundKind (P.kind processor.now) }
+    requires alone { (given : GivenTo) → IsGivenTo (P.kind processor.now) given }
+{
+    let taken = taken(alloc, texts)?;
+    let start = processor_time(rt);
+    let outcome = work(alloc, processor, relationships, taken)?;
+    let took = since(rt, start);
+    Ok((outcome, took))
+}
+
+// What a processor makes of these files.
+fn work<P: Acts>(
+    alloc: Global,
+    processor: &P,
+    relationships: u16,
+    taken: TakenList,
+) -> Result<Outcome>
+    requires relationships { relationships ≡ length (relationships_of (P.kind processor.now)) }
+    requires sound { IsSoundKind (P.kind processor.now) }
+    requires alone { (given : GivenTo) → IsGivenTo (P.kind processor.now) given }
     requires read { AreRead taken }
 {
     let mut given = Given {
@@ -25,10 +55,10 @@ pub fn work(alloc: Global, kind: &Kind, taken: TakenList) -> Result<Outcome>
         file: None,
         bytes: None,
     };
-    if !may_take(kind.take_rule(), taken.len()) || !is_given(kind, &given) {
-        bail!("it takes other files");
+    if !may_take(processor.takes(), taken.len()) {
+        bail!("it takes another number of files");
     }
-    worked(alloc, kind, taken, &mut given)
+    Ok(work_on(alloc, processor, relationships, taken, &mut given)?.0)
 }
 
 // Whether a rule may take so many files.
@@ -41,32 +71,6 @@ fn may_take(rule: TakeRule, count: u64) -> bool
         TakeRule::Bin { max, .. } => count >= 1 && count <= max as u64,
         TakeRule::Defragment => count >= 1 && count <= TAKEN_MAX,
     }
-}
-
-// Whether it may be given that. What takes files of the inbox isn't measured.
-fn is_given(kind: &Kind, given: &Given) -> bool
-    ensures { IsTrue result → IsGivenTo kind.now given.now }
-{
-    !matches!(kind, Kind::GetFile { .. })
-}
-
-fn worked(alloc: Global, kind: &Kind, taken: TakenList, given: &mut Given) -> Result<Outcome>
-    requires { MayBeHanded kind.now taken given.old }
-{
-    if let Some(split) = SplitText::of(kind) {
-        return Ok(work_on(alloc, &split, 3, taken, given)?.0);
-    }
-    if let Some(replace) = ReplaceText::of(kind) {
-        return Ok(work_on(alloc, &replace, 2, taken, given)?.0);
-    }
-    if let Some(route) = RouteOnContent::of(kind) {
-        let relationships = route.own.len() as u16 + 1;
-        return Ok(work_on(alloc, &route, relationships, taken, given)?.0);
-    }
-    if let Some(merge) = MergeContent::of(kind) {
-        return Ok(work_on(alloc, &merge, 3, taken, given)?.0);
-    }
-    bail!("no processor that is measured")
 }
 
 /// How many files go to a relationship.

@@ -10,7 +10,7 @@ use std::alloc::{Alloc, Global};
 use std::fs::Files;
 
 /// How many wholes there are.
-const WHOLES: u32 = 100;
+const WHOLES: u64 = 100;
 
 /// Fragments stand as far from one another as this number tells. It has no divisor with their number.
 const STRIDE: u64 = 7_919;
@@ -69,29 +69,51 @@ fn fragment(alloc: Global, place: u64, fragments: u64) -> Result<FlowFile>
     ensures number { IfOk result (λ file. file.number ≡ place) }
     ensures arrival { IfOk result (λ file. file.arrival ≡ place) }
 {
-    let wholes = u64::from(WHOLES);
-    let shuffled = place.wrapping_mul(STRIDE) % fragments.max(1);
-    let whole = shuffled % wholes;
-    let index = shuffled / wholes + 1;
-    let count = fragments / wholes;
-    let mut attributes = Attributes::new(alloc);
-    attributes.put("fragment.count", format!(in alloc; "{count}")?.as_str())?;
-    attributes.put(
-        "fragment.identifier",
-        format!(in alloc; "whole-{whole}")?.as_str(),
-    )?;
-    attributes.put("fragment.index", format!(in alloc; "{index}")?.as_str())?;
+    let attributes = attributes(alloc, place, fragments)?;
+    let content = ContentRef {
+        slot: 0,
+        offset: 0,
+        size: 1,
+        digest: [0; DIGEST_SIZE],
+    };
     Ok(FlowFile {
         number: place,
         attributes,
-        content: ContentRef {
-            slot: 0,
-            offset: 0,
-            size: 1,
-            digest: [0; DIGEST_SIZE],
-        },
+        content,
         entered: 1,
         penalty_end: 0,
         arrival: place,
     })
+}
+
+// What tells of which whole it is a fragment.
+fn attributes(alloc: Global, place: u64, fragments: u64) -> Result<Attributes> {
+    let shuffled = place.wrapping_mul(STRIDE) % fragments.max(1);
+    let whole = shuffled % WHOLES;
+    let index = shuffled / WHOLES + 1;
+    let count = fragments / WHOLES;
+    let mut attributes = Attributes::new(alloc);
+    put(alloc, &mut attributes, "fragment.count", "", count)?;
+    put(
+        alloc,
+        &mut attributes,
+        "fragment.identifier",
+        "whole-",
+        whole,
+    )?;
+    put(alloc, &mut attributes, "fragment.index", "", index)?;
+    Ok(attributes)
+}
+
+// A word and a number behind it, under a key.
+fn put(
+    alloc: Global,
+    attributes: &mut Attributes,
+    key: &str,
+    word: &str,
+    number: u64,
+) -> Result<()> {
+    let text = format!(in alloc; "{word}{number}")?;
+    attributes.put(key, text.as_str())?;
+    Ok(())
 }

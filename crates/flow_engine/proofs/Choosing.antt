@@ -3,7 +3,7 @@ use Rattle.std.proofs.Common.{◌≡◌, ℕ, zero, suc, Bool, true, false, List
 use Rattle.std.proofs.lemmas.Bool.{and_parts}
 use Rattle.std.proofs.lemmas.List.{length-map}
 use Rattle.std.proofs.lemmas.List.Elements.{All-head, All-tail}
-use Rattle.std.specs.Prelude.{All, IsTrue, Option, None, Some, IfSome, nat_le, slice_get, slice_index}
+use Rattle.std.specs.Prelude.{All, Option, None, Some, IfSome, nat_le, slice_get, slice_index}
 use Rattle.std.specs.Option.{option_map, option_map_or}
 use Rattle.disk_trait.specs.Files.{Files}
 use Rattle.flowfile_record.specs.NamedFile.{bytes_of}
@@ -12,9 +12,7 @@ use Rattle.flowfile_record.specs.declared.worked.Origin.TheVariants.{Received}
 use Rattle.flowfile_record.specs.declared.worked.Outcome.{Outcome}
 use Rattle.checkpoint_store.specs.Consistent.{IsConsistent}
 use Rattle.content_repo.specs.Claims.{content_in}
-use Rattle.machine_model.specs.declared.flow.Connection.{Connection}
 use Rattle.machine_model.specs.declared.flow.Flow.{Flow}
-use Rattle.machine_model.specs.declared.flow.Processor.{Processor}
 use Rattle.machine_model.specs.declared.given.Given.{Given}
 use Rattle.machine_model.specs.declared.journal.Step.{Step}
 use Rattle.machine_model.specs.declared.journal.Step.TheVariants.{Session}
@@ -59,7 +57,8 @@ use Rattle.engine_choice.specs.declared.choice.Taking.{Taking}
 use Rattle.engine_choice.specs.declared.choice.Taking.TheVariants as taking
 use Rattle.engine_session.specs.Steps.{SessionsAreSteps}
 use Rattle.flow_run.specs.Run.{IsStateOf}
-use Rattle.flow_engine.specs.Driving.{ShowsState, choice_in}
+use Rattle.flow_engine.specs.Checkout.{choice_in}
+use Rattle.flow_engine.specs.Driving.{ShowsState}
 use Rattle.flow_engine.specs.Engine.{AreBuilt, EngineState}
 
 -- ---- what may be chosen from

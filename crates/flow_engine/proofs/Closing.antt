@@ -1,8 +1,7 @@
 -- How a run over an opened store begins, and how it ends once the store was closed.
-use Rattle.std.proofs.Common.{◌≡◌, ◌⊎◌, inl, inr, ⊎_elim, ℕ, ◌+◌, ◌-◌, ◌^◌, ◌<◌, ◌≤◌, Bool, true, false, IsTrue, List, [], refl, sym, ◌∙◌, ap, subst, arith}
+use Rattle.std.proofs.Common.{◌≡◌, ◌⊎◌, inl, inr, ⊎_elim, ℕ, ◌≤◌, Bool, true, false, IsTrue, List, [], refl, sym, ◌∙◌, ap, subst, arith}
 use Rattle.std.proofs.lemmas.Bool.{false≢true}
-use Rattle.std.specs.Prelude.{Option, Result, Ok, Err, IsErrOf}
-use Rattle.disk_trait.specs.Faults.{CountsFaults}
+use Rattle.std.specs.Prelude.{Option, Result, Ok, Err}
 use Rattle.disk_trait.specs.Files.{Files}
 use Rattle.disk_trait.specs.Images.{After, Since}
 use Rattle.disk_trait.specs.declared.damage.Damage.{Damage as TheDamage}
@@ -30,7 +29,7 @@ use Rattle.engine_choice.specs.declared.choice.Ending.TheVariants.{Blocked, Quie
 use Rattle.flow_run.specs.Ending.{EndsOnFaults, IsLimitMet, journal_full}
 use Rattle.flow_run.specs.Going.{IsRunningAt, IsSpared}
 use Rattle.flow_run.specs.Laws.{BlockedRunsEnd, FaultsEnd, LimitedRunsEnd, QuietRunsEnd}
-use Rattle.flow_run.specs.Run.{HasRun, IsTidied, StandsFor, machine_at}
+use Rattle.flow_run.specs.Run.{HasRun, IsTidied, StandsFor}
 use Rattle.flow_run.specs.Work.{IsAtWork, IsRefused}
 use Rattle.flow_run.specs.declared.ended.Ended.{Ended}
 use Rattle.flow_run.specs.declared.ended.Ended.TheVariants as ended

@@ -1,13 +1,15 @@
 -- How an engine ends where no session comes.
-use Rattle.std.proofs.Common.{◌≡◌, ◌⊎◌, inl, inr, ℕ, ◌+◌, ◌-◌, ◌*◌, ◌^◌, ◌<◌, ◌≤◌, min, Bool, true, false, cond, List, [], ◌∷◌, refl, sym, ◌∙◌, ap, subst, arith}
-use Rattle.std.proofs.lemmas.Bool.{ltb-true}
-use Rattle.std.specs.Prelude.{filter, nat_lt, Option, None, Some}
-use Rattle.std.specs.List.{fold, reduce}
+use Rattle.std.proofs.Common.{◌≡◌, ℕ, ◌<◌, ◌≤◌, Bool, true, false, cond, List, refl, sym, ◌∙◌, ap, subst}
+use Rattle.std.proofs.lemmas.Bool.{ltb-true, ltb-false}
+use Rattle.std.specs.Prelude.{nat_le, nat_lt, Option, None, Some, is_some}
 use Rattle.disk_trait.specs.Files.{Files}
 use Rattle.flowfile_record.specs.NamedFile.{NamedFile}
+use Rattle.kept_state.specs.declared.limit.Limit.{Limit as TheLimit}
+use Rattle.machine_model.specs.declared.journal.TheConstants.{RECLAIM_ENTRIES}
+use Rattle.machine_model.specs.Due.{due_expiry}
 use Rattle.machine_model.specs.Files.{queues_of}
 use Rattle.machine_model.specs.State.{Machine}
-use Rattle.engine_choice.specs.Choice.{coming_of, ending_by, ending_of, first_blocking, first_penalty_end, next_choice}
+use Rattle.engine_choice.specs.Choice.{coming_of, ending_of, next_choice}
 use Rattle.engine_choice.specs.Laws.{EndsAreMachineEnds, IsEndAt, IsMachineEnd}
 use Rattle.engine_choice.specs.declared.choice.Choice.{Choice}
 use Rattle.engine_choice.specs.declared.choice.Ending.{Ending}
@@ -15,45 +17,81 @@ use Rattle.engine_choice.specs.declared.choice.Ending.TheVariants.{Blocked, Quie
 use Rattle.engine_queues.specs.Laws.{SeesTheSame}
 use Rattle.engine_queues.specs.Queues.{queue_seen}
 use Rattle.store_core.specs.Store.{kept_by}
-use Rattle.flow_engine.specs.Driving.{GoesOn, IsEnded, IsNoneExpired, IsTurned, choice_in, ending_in, to_go}
+use Rattle.flow_run.specs.Ending.{journal_full}
+use Rattle.flow_engine.specs.Checkout.{choice_in, ended_as, ending_in, next_of}
+use Rattle.flow_engine.specs.Driving.{IsEnded, IsTurned}
 use Rattle.flow_engine.specs.Engine.{EngineState}
 use Rattle.flow_engine.specs.Running.{IsRunning}
+use Rattle.flow_engine.specs.Tending.{due_in, first_of, is_log_due}
+use Rattle.flow_engine.specs.declared.checkout.Checkout.TheVariants as next
+use Rattle.flow_engine.specs.declared.tending.Tended.TheVariants.{Nothing}
 
--- ---- a rest ends later
+-- ---- what comes next
 
-folds_above : (low n : ℕ) (ns : List ℕ) → low < n → low < fold min n (filter (nat_lt low) ns)
-folds_above low n [] above = above
-folds_above low n (m ∷ ns) above = by_test (nat_lt low m) refl (λ k so. folds_above low k ns so)
+-- where nothing is due, no file has expired
+abbrev pub IsNoneExpired : EngineState → (moment : ℕ) → Type 0
+IsNoneExpired e moment = due_expiry e.flow (queue_seen e.queues) moment ≡ None
+
+none_by : {A : Type 0} (o : Option A) (log claims : Bool) → first_of (is_some o) log claims ≡ Nothing → o ≡ None
+none_by None log claims is = refl
+none_by (Some a) log claims is = absurd cc
+
+pub none_expired : (e : EngineState) (moment : ℕ) → due_in e moment ≡ Nothing → IsNoneExpired e moment
+none_expired e moment is = none_by (due_expiry e.flow (queue_seen e.queues) moment) (is_log_due e.checkpoint e.store) (nat_le RECLAIM_ENTRIES e.since_reclaim) is
+
+same_end : (one other : Ending) → ended_as one ≡ ended_as other → one ≡ other
+same_end (Rest until) (Rest later) is = let same : until ≡ later = cc in ap (λ (n : ℕ). Rest n) same
+same_end (Rest until) (Blocked connection) is = absurd cc
+same_end (Rest until) Quiet is = absurd cc
+same_end (Blocked connection) (Rest until) is = absurd cc
+same_end (Blocked connection) (Blocked other) is = let same : connection ≡ other = cc in ap (λ (n : ℕ). Blocked n) same
+same_end (Blocked connection) Quiet is = absurd cc
+same_end Quiet (Rest until) is = absurd cc
+same_end Quiet (Blocked connection) is = absurd cc
+same_end Quiet Quiet is = refl
+
+no_end : (room : Bool) (choice : Choice) (limit : TheLimit) (answer : Ending) → cond room (next.Session choice) (next.Limit limit) ≡ ended_as answer → ⊥
+no_end true choice limit (Rest until) is = cc
+no_end true choice limit (Blocked connection) is = cc
+no_end true choice limit Quiet is = cc
+no_end false choice limit (Rest until) is = cc
+no_end false choice limit (Blocked connection) is = cc
+no_end false choice limit Quiet is = cc
+
+-- it ends so, where no session comes
+pub ends_as : (entries most : ℕ) (choice : Option Choice) (end answer : Ending) → next_of entries most choice end ≡ ended_as answer → (choice ≡ None) × (answer ≡ end)
+ends_as entries most None end answer is = (refl, sym (same_end end answer is))
+ends_as entries most (Some choice) end answer is = absurd (no_end (nat_lt entries most) choice (journal_full most) answer is)
+
+not_session : (end : Ending) (one : Choice) → ended_as end ≡ next.Session one → ⊥
+not_session (Rest until) one is = cc
+not_session (Blocked connection) one is = cc
+not_session Quiet one is = cc
+
+not_limit : (end : Ending) (limit : TheLimit) → ended_as end ≡ next.Limit limit → ⊥
+not_limit (Rest until) limit is = cc
+not_limit (Blocked connection) limit is = cc
+not_limit Quiet limit is = cc
+
+-- a session comes, and the journal has room for its entry
+pub goes_as : (entries most : ℕ) (choice : Option Choice) (end : Ending) (one : Choice) → next_of entries most choice end ≡ next.Session one → (choice ≡ Some one) × (entries < most)
+goes_as entries most None end one is = absurd (not_session end one is)
+goes_as entries most (Some choice) end one is = by (nat_lt entries most) refl is
   where
-    by_test : (b : Bool) → nat_lt low m ≡ b → ((k : ℕ) → low < k → low < fold min k (filter (nat_lt low) ns)) → low < fold min n (cond b (m ∷ filter (nat_lt low) ns) (filter (nat_lt low) ns))
-    by_test true is rest = let more : low < m = ltb-true low m is in rest (min n m) (omega arith)
-    by_test false is rest = rest n above
+    by : (b : Bool) → nat_lt entries most ≡ b → cond b (next.Session choice) (next.Limit (journal_full most)) ≡ next.Session one → (◌≡◌ {A = Option Choice} (Some choice) (Some one)) × (entries < most)
+    by true room is = let same : choice ≡ one = cc in (ap (λ (c : Choice). Some c) same, ltb-true entries most room)
+    by false room is = absurd cc
 
-least_above : (low least : ℕ) (ns : List ℕ) → reduce min (filter (nat_lt low) ns) ≡ Some least → low < least
-least_above low least [] is = cc
-least_above low least (n ∷ ns) is = by_test (nat_lt low n) refl is (λ later. least_above low least ns later)
+-- a session comes, and the journal has none
+pub full_as : (entries most : ℕ) (choice : Option Choice) (end : Ending) (limit : TheLimit) → next_of entries most choice end ≡ next.Limit limit
+    → (one : Choice) × (choice ≡ Some one) × (limit ≡ journal_full most) × (most ≤ entries)
+full_as entries most None end limit is = absurd (not_limit end limit is)
+full_as entries most (Some choice) end limit is = by (nat_lt entries most) refl is
   where
-    by_test : (b : Bool) → nat_lt low n ≡ b → reduce min (cond b (n ∷ filter (nat_lt low) ns) (filter (nat_lt low) ns)) ≡ Some least → (reduce min (filter (nat_lt low) ns) ≡ Some least → low < least) → low < least
-    by_test true more is rest =
-        let same : fold min n (filter (nat_lt low) ns) ≡ least = cc in
-        subst (λ (k : ℕ). low < k) same (folds_above low n ns (ltb-true low n more))
-    by_test false more is rest = rest is
-
-rests_until : (rest blocked : Option ℕ) (until : ℕ) → ending_by rest blocked ≡ Rest until → rest ≡ Some until
-rests_until (Some end) blocked until is = let same : end ≡ until = cc in ap (λ (n : ℕ). Some n) same
-rests_until None (Some connection) until is = cc
-rests_until None None until is = cc
-
-pub rests_later : (e : EngineState) (moment until : ℕ) → ending_in e moment ≡ Rest until → moment < until
-rests_later e moment until is =
-    least_above moment until _
-    (rests_until (first_penalty_end e.flow (queue_seen e.queues) moment) (first_blocking e.flow (queue_seen e.queues) (kept_by e.store).counts e.listing.names moment) until is)
-
--- a turn that ends makes no entry, and a rest ends later
-pub goes_on_at_end : (e : EngineState) (moment : ℕ) (ending : Ending) → ending ≡ ending_in e moment → GoesOn e e moment (Some ending)
-goes_on_at_end e moment (Rest until) is = (refl, rests_later e moment until (sym is))
-goes_on_at_end e moment (Blocked connection) is = tt
-goes_on_at_end e moment Quiet is = tt
+    by : (b : Bool) → nat_lt entries most ≡ b → cond b (next.Session choice) (next.Limit (journal_full most)) ≡ next.Limit limit
+        → (one : Choice) × (◌≡◌ {A = Option Choice} (Some choice) (Some one)) × (limit ≡ journal_full most) × (most ≤ entries)
+    by true room is = absurd cc
+    by false room is = let same : journal_full most ≡ limit = cc in (choice, refl, sym same, ltb-false entries most room)
 
 -- ---- the end is the machine's
 

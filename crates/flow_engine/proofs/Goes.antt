@@ -30,6 +30,7 @@ use Rattle.flow_run.specs.declared.ended.Ended.TheVariants as ending
 use Rattle.flow_run.specs.declared.ended.Fault.{Fault}
 use Rattle.flow_run.specs.declared.ended.Fault.TheVariants as fault
 use Rattle.flow_engine.specs.Change.{IsSentFrom, IsStepOf, names_without, step_of, with_sending, without_received}
+use Rattle.flow_engine.specs.Commit.{HasEntry}
 use Rattle.flow_engine.specs.Committing.{IsLeftBySend, with_room}
 use Rattle.flow_engine.specs.Engine.{EngineState}
 use Rattle.flow_engine.specs.Running.{IsRunning, Stops}
@@ -37,7 +38,7 @@ use Rattle.flow_engine.specs.declared.change.Changed.{Changed}
 use Rattle.flow_engine.specs.declared.change.Sending.{Sending}
 use Rattle.flow_engine.specs.declared.error.EngineError.{EngineError}
 use Rattle.flow_engine.specs.declared.job.Job.{Job}
-use Rattle.flow_engine.proofs.Committed.{work_roomy}
+use Rattle.flow_engine.proofs.Commits.{work_roomy}
 
 abbrev pub IsNoLimit : EngineError → Type 0
 IsNoLimit error = (limit : Limit) → error ≡ EngineError.Limit limit → ⊥
@@ -162,19 +163,17 @@ module _ (tells : Bool) {D : Type 0} (held : D → Files) (moment : D → ℕ) (
               }));
         }
 
-    -- a step
-    pub goes_on : SteppedRunsGoOn moment images → (contents : ContentRef → List ℕ) (job : Job) (changed : Changed) (s : IsStepOf e.flow contents run.reached job changed)
+    -- a step: the journal has one entry more
+    pub enters : SteppedRunsGoOn moment images → (contents : ContentRef → List ℕ) (job : Job) (changed : Changed) (s : IsStepOf e.flow contents run.reached job changed)
         → IsStepped e.flow moment images e.store.lot run.reached s.after old new
         → (now_left : List NamedFile) → now_left ≡ without_received job.given.file left
         → (now_standing : List ℕ → Option (List ℕ)) → now_standing ≡ with_sending changed.sending standing
         → f.entries ≡ e.entries + 1 → f.listing.names ≡ names_without job.given.file e.listing.names
-        → IsRunning moment images f opened first new now_left now_standing
-    goes_on law contents job changed s stepped now_left lies now_standing stands entries names =
-        let entry : Entry = record { step = step_of job; acked = Some (moment new) } in
-        record {
-          journal = run.journal ++ entry ∷ [];
-          reached = s.after;
-          to = record {
+        → HasEntry (step_of job) (moment new) moment images f opened first new now_left now_standing run.journal
+    enters law contents job changed s stepped now_left lies now_standing stands entries names =
+        let entry : Entry = record { step = step_of job; acked = Some (moment new) } in (
+          s.after,
+          record {
             run = subst (λ (fl : Flow). IsRunningAt fl moment images f.store.lot opened first new (run.journal ++ entry ∷ []) s.after now_left now_standing) (sym flow_is)
                 (subst (λ (lot : ℕ). IsRunningAt e.flow moment images lot opened first new (run.journal ++ entry ∷ []) s.after now_left now_standing) (sym lot_is)
                 (law e.flow e.store.lot opened run.reached s.after first old new run.journal (step_of job) left now_left standing now_standing run.to.run s.goes s.first stepped
@@ -182,8 +181,8 @@ module _ (tells : Bool) {D : Type 0} (held : D → Files) (moment : D → ℕ) (
                 (stands ∙ ap (with_sending changed.sending) run.to.run.stands ∙ sym s.outbox)));
             count = length-append run.journal (entry ∷ []) ∙ ap (λ n. n + 1) run.to.count ∙ sym entries;
             coming = s.coming ∙ ap (names_without job.given.file) run.to.coming ∙ sym names;
-          };
-        }
+          },
+        )
 
   -- an error of the commit
   module _ (e f : EngineState) (opened : Machine) (first mid new : D) (left : List NamedFile) (standing now_standing : List ℕ → Option (List ℕ)) (run : IsRunning moment images e opened first mid left standing)

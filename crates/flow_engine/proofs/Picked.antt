@@ -1,6 +1,6 @@
 -- What a rule picks of the live files of a connection: some of them, each once, as many as it takes.
-use Rattle.std.proofs.Common.{◌≡◌, ◌≢◌, inl, inr, ℕ, zero, suc, ◌+◌, ◌-◌, ◌<◌, ◌≤◌, ◌==◌, ◌&&◌, Bool, true, false, cond, List, [], ◌∷◌, length, map, refl, sym, ap, subst, ◌∙◌, arith}
-use Rattle.std.specs.Prelude.{◌||◌, nat_le, nat_lt, All, Option, None, Some, IfSome, filter, option_map, slice_get}
+use Rattle.std.proofs.Common.{◌≡◌, ◌≢◌, inl, inr, ℕ, zero, suc, ◌-◌, ◌<◌, ◌≤◌, ◌==◌, ◌&&◌, Bool, true, false, cond, List, [], ◌∷◌, length, refl, sym, ap, subst, ◌∙◌, arith}
+use Rattle.std.specs.Prelude.{◌||◌, nat_le, nat_lt, All, Option, None, Some, IfSome, filter, option_map}
 use Rattle.std.specs.List.{enumerate_from}
 use Rattle.std.proofs.lemmas.Bool.{and_from, and_parts, cases_eq, ltb-true, ne_eqb}
 use Rattle.std.proofs.lemmas.List.{length-map}
@@ -24,7 +24,7 @@ use Rattle.machine_model.specs.Kinds.{take_rule_of}
 use Rattle.machine_model.specs.Laws.{MayTake}
 use Rattle.machine_model.specs.Order.{eligible_files, goes_before, in_order, is_eligible, put_in_order}
 use Rattle.machine_model.specs.Taking.{filling, first_whole, next_would_pass, picks}
-use Rattle.machine_model.specs.View.{FileView, QueueView}
+use Rattle.machine_model.specs.View.{FileView}
 use Rattle.machine_model.proofs.Among.{Among, contains_among, is_made, kept_by}
 use Rattle.machine_model.proofs.Fragments.{ArePicked, first-whole-picked}
 use Rattle.machine_model.proofs.Keyed.{differ_from_once, none_from_apart, same_key}

@@ -1,6 +1,6 @@
 -- What a session sends, by its processor's kind: a PutFile may send the one file that it took, and no other kind sends.
 use Rattle.std.proofs.Common.{◌≡◌, ◌⊎◌, inl, inr, ⊎_elim, ℕ, Bool, true, false, List, [], ◌∷◌, map, length, refl, sym, ◌∙◌, ap, subst}
-use Rattle.std.specs.Prelude.{All, Option, None, Some, IfSome, ◌==◌, ◌&&◌, ◌||◌, ◌++◌, cond, codes, nat_lt, option_and_then, option_map, replicate, slice_get}
+use Rattle.std.specs.Prelude.{All, Option, None, Some, IfSome, ◌==◌, ◌&&◌, ◌||◌, ◌++◌, cond, codes, nat_lt, option_map, replicate, slice_get}
 use Rattle.std.specs.List.{range_with_len}
 use Rattle.std.specs.Str.{is_utf8}
 use Rattle.std.proofs.lemmas.List.Elements.{All-cons, All-nil}
@@ -11,7 +11,6 @@ use Rattle.flowfile_record.specs.declared.limits.TheConstants.{FILES_MAX}
 use Rattle.flowfile_record.specs.declared.worked.Origin.TheVariants.{Taken, Cloned, Joined}
 use Rattle.flowfile_record.specs.declared.worked.Outcome.{Outcome}
 use Rattle.flowfile_record.specs.declared.worked.Sent.{Sent}
-use Rattle.flowfile_record.specs.declared.worked.Worked.{Worked}
 use Rattle.machine_model.specs.declared.given.Given.{Given}
 use Rattle.machine_model.specs.declared.kind.Conflict.{Conflict}
 use Rattle.machine_model.specs.declared.kind.Conflict.TheVariants.{Replace, Ignore, Fail}
@@ -30,12 +29,12 @@ use Rattle.machine_model.specs.DuplicateFlowFile.{duplicate, duplicated}
 use Rattle.machine_model.specs.CryptographicHashContent.{hash_content, hashed}
 use Rattle.machine_model.specs.SplitText.{split, lines_of, lines_together}
 use Rattle.machine_model.specs.ReplaceText.{replace_text, replaced_content}
-use Rattle.machine_model.specs.ExtractText.{extract_text, extracted, any_finds, as_named, found_pairs}
+use Rattle.machine_model.specs.ExtractText.{extract_text, extracted, any_finds}
 use Rattle.machine_model.specs.RouteOnContent.{route_by_content, found_places}
 use Rattle.machine_model.specs.MergeContent.{merge, joined, joined_attributes, joined_content, may_join}
 use Rattle.machine_model.specs.SegmentContent.{segment, bytes_together}
 use Rattle.machine_model.specs.ModifyBytes.{modify}
-use Rattle.machine_model.specs.Parts.{Piece, groups_of, parted, parts_from}
+use Rattle.machine_model.specs.Parts.{Piece, groups_of, parted}
 use Rattle.machine_model.proofs.Options.{if_and_then, if_map, if_where}
 use Rattle.process_session.specs.declared.file.Source.{Source}
 use Rattle.settlement.specs.Contents.{IsBodyWithin}

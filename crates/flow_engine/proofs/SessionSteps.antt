@@ -41,9 +41,11 @@ use Rattle.engine_session.specs.Working.{IsWorkAt, MayWork}
 use Rattle.flow_run.specs.Laws.{OtherSessionsLoseNone, OtherSessionsPutNone, PutsSendTheTakenBytes, ReceivingSessionsLoseAFile}
 use Rattle.flow_run.specs.Run.{IsStateOf}
 use Rattle.flow_engine.specs.Change.{IsSentFrom, IsStepOf, MakesStep, step_of, with_sending, without_bytes}
+use Rattle.flow_engine.specs.Done.{IsWorkOn}
 use Rattle.flow_engine.specs.Job.{MayHand, StandsIn}
 use Rattle.flow_engine.specs.Sending.{sending_of, sources_left}
 use Rattle.flow_engine.specs.declared.change.Changed.{Changed}
+use Rattle.flow_engine.specs.declared.done.Done.{Done}
 use Rattle.flow_engine.specs.declared.job.Job.{Job}
 use Rattle.flow_engine.proofs.Names.{coming_behind, inbox_behind}
 use Rattle.flow_engine.proofs.Outbox.{IsPutOf, alone, is_sent}
@@ -269,12 +271,33 @@ module _ (flow : Flow) (k : Kept) (job : Job) (taken : List Taken) (done : Outco
       })
       (sends ∙ ap (λ (e : Ended). sending_of e.outcome.sent e.sources) is.whole_is ∙ ap (sending_of done.0.sent) sources_are)
 
--- what was taken, by the store's id and the files that the call was handed
-pub taken_as_of : (k : Kept) (job : Job) (store : ℕ) (files : List FlowFile) (taken : List Taken) → taken ≡ taken_from store files job.contents → files ≡ job.files → store ≡ k.store → taken ≡ taken_of k job
-taken_as_of k job store files taken is same id = is ∙ (λ i. taken_from (id i) (same i) job.contents)
+-- ---- the work on a job
 
--- the processor may work on what was taken
-pub may_work_on : TakenFilesMayBeHanded → (flow : Flow) (k : Kept) (job : Job) (taken : List Taken) → IsSound flow → IsConsistent k → MayHand flow k job → taken ≡ taken_of k job
-    → MayWork flow job.processor taken job.given
-may_work_on law flow k job taken sound consistent hand is =
-    subst (λ (t : List Taken). MayWork flow job.processor t job.given) (sym is) (may_work law flow k job sound consistent hand)
+module _ (flow : Flow) (k : Kept) (job : Job) (done : Done) (whole ended : Ended) (sound : IsSound flow) (consistent : IsConsistent k) (hand : MayHand flow k job) (work : IsWorkOn flow k.store job done)
+    (whole_is : whole ≡ record { processor = done.processor; connection = done.connection; taken = done.files; sources = done.sources; outcome = done.outcome })
+    (ended_is : ended ≡ record whole { sources = sources_left whole.outcome.sent whole.sources }) where
+  pub worked_on : IsWorked flow k job (taken_of k job) (done.outcome, done.sources) done.given whole ended
+  worked_on = record {
+    sound = sound;
+    consistent = consistent;
+    hand = hand;
+    taken_is = refl;
+    work = work.work;
+    keeps = work.given;
+    whole_is = whole_is ∙ (λ i. record { processor = work.processor i; connection = work.connection i; taken = work.files i; sources = done.sources; outcome = done.outcome });
+    ended_is = ended_is;
+  }
+
+  pub may_settle_on : TakenFilesMayBeHanded → TakenFilesAreTheMachines
+      → ((flow : Flow) (kept : Kept) (given left : Given) → MayEnd flow kept given done.processor done.connection done.files (done.outcome, done.sources) → KeepsGiven given left → MayCommit flow left kept whole)
+      → MayCommit flow done.given k ended
+  may_settle_on handed machine may =
+      may_settle flow k job (taken_of k job) (done.outcome, done.sources) done.given whole ended worked_on handed machine
+      (λ fl kept given left ends. may fl kept given left
+      (subst (λ (place : ℕ). MayEnd fl kept given place done.connection done.files (done.outcome, done.sources)) (sym work.processor)
+      (subst (λ (place : ℕ). MayEnd fl kept given job.processor place done.files (done.outcome, done.sources)) (sym work.connection)
+      (subst (λ (files : List FlowFile). MayEnd fl kept given job.processor job.connection files (done.outcome, done.sources)) (sym work.files) ends))))
+
+  pub makes_step_on : Laws → (changed : Changed) → LeavesState flow done.given ended k changed.settled → changed.sending ≡ sending_of whole.outcome.sent whole.sources → MakesStep flow k job changed
+  makes_step_on laws changed leaves sends =
+      settled_makes_step flow k job (taken_of k job) (done.outcome, done.sources) done.given whole ended worked_on laws changed leaves sends

@@ -1,6 +1,8 @@
 -- How long the log is behind the calls of a store, and where a run ends.
 use Rattle.std.proofs.Common.{◌≡◌, ◌⊎◌, inl, inr, ℕ, ◌-◌, ◌^◌, ◌<◌, ◌≤◌, Bool, true, false, List, [], ◌∷◌, length, refl, sym, ◌∙◌, ap, subst, arith}
-use Rattle.std.specs.Prelude.{Option, Some, Ok, min, nat_le, nat_lt, ◌&&◌}
+use Rattle.std.proofs.lemmas.Bool.{ltb-false}
+use Rattle.std.specs.Prelude.{Option, Some, min, nat_le, nat_lt, ◌&&◌}
+use Rattle.std.specs.Option.{option_map_or}
 use Rattle.disk_trait.specs.Files.{Files}
 use Rattle.disk_trait.specs.Images.{After, Since}
 use Rattle.disk_trait.proofs.Moments.{at_the_end}
@@ -17,6 +19,7 @@ use Rattle.flow_run.specs.declared.ended.Ended.{Ended}
 use Rattle.flow_run.specs.declared.ended.Ended.TheVariants as ended
 use Rattle.flow_run.specs.declared.ended.Fault.TheVariants as fault
 use Rattle.flow_engine.specs.Errors.{ended_by}
+use Rattle.flow_engine.specs.Tending.{is_log_due}
 use Rattle.flow_engine.specs.declared.error.EngineError.{EngineError}
 use Rattle.flow_engine.specs.declared.error.EngineError.TheVariants.{Damaged, Disk, Inbox, Outbox, Limit, Memory}
 
@@ -54,6 +57,19 @@ just_begun checkpoint s files none has =
       current = has.ready.ready.current;
       short = inl (none_left log.entries (2 ^ 64 - 1) (omega arith) (sym none ∙ has.entries log has.ready.ready.current));
     }
+
+no_entries : (entries : ℕ) → nat_lt 0 entries ≡ false → entries ≡ 0
+no_entries entries none = let most : entries ≤ 0 = ltb-false 0 entries none in omega (arith, most)
+
+-- no new log is due
+pub no_log_due : (checkpoint : ℕ) (s : StoreState) (files : Files) → checkpoint < 2 ^ 64 → is_log_due checkpoint s ≡ false → HasLog s files → HasShortLog checkpoint files
+no_log_due checkpoint s files fits none has = by (nat_lt 0 s.entries) refl none
+  where
+    by : (b : Bool) → nat_lt 0 s.entries ≡ b → (b && option_map_or (λ number. is_checkpoint_due checkpoint s.entries number) s.log.number false) ≡ false → HasShortLog checkpoint files
+    by false empty none = just_begun checkpoint s files (no_entries s.entries empty) has
+    by true some none =
+        not_due checkpoint s files fits
+        (λ number is. sym none ∙ ap (λ (o : Option ℕ). option_map_or (λ number. is_checkpoint_due checkpoint s.entries number) o false) is) has
 
 -- ---- of a disk
 

@@ -28,7 +28,7 @@ use Rattle.flow_engine.specs.Running.{IsRunning}
 use Rattle.flow_engine.specs.declared.change.Changed.{Changed}
 use Rattle.flow_engine.specs.declared.job.Job.{Job}
 use Rattle.flow_engine.proofs.Chosen.{IsNext, next_takes}
-use Rattle.flow_engine.proofs.Committed.{work_read}
+use Rattle.flow_engine.proofs.Commits.{work_read}
 use Rattle.flow_engine.proofs.Stands.{stands_in}
 
 module _ (tells : Bool) {D : Type 0} (held : D → Files) (moment : D → ℕ) (images : D → ℕ → Files → Type 0) (e : EngineState) (disk : D) (ready : IsReady tells held moment images e disk)

@@ -1,21 +1,15 @@
 -- What holds from turn to turn of an engine, and how a turn stops.
-use Rattle.std.proofs.Common.{◌≡◌, ◌⊎◌, inl, inr, ⊎_elim, ℕ, ◌+◌, ◌-◌, ◌^◌, ◌<◌, ◌≤◌, Bool, List, length, refl, sym, ◌∙◌, ap, subst, arith}
-use Rattle.std.specs.Prelude.{Option, Ok, Result, IsErrOf, IsTrue}
+use Rattle.std.proofs.Common.{◌≡◌, ◌⊎◌, inr, ℕ, ◌≤◌, Bool, List, refl, sym, ◌∙◌, ap, subst, arith}
+use Rattle.std.specs.Prelude.{Option, Ok, Result, IsErrOf}
 use Rattle.disk_trait.specs.Faults.{CountsFaults}
 use Rattle.disk_trait.specs.Files.{Files}
-use Rattle.disk_trait.proofs.Moments.{nothing, wider}
 use Rattle.flowfile_record.specs.NamedFile.{NamedFile}
 use Rattle.kept_state.specs.declared.limit.Limit.{Limit as TheLimit}
 use Rattle.machine_model.specs.declared.flow.Flow.{Flow}
 use Rattle.machine_model.specs.State.{Machine}
 use Rattle.flow_run.specs.Ending.{journal_full}
-use Rattle.flow_run.specs.Going.{IsSpared}
-use Rattle.flow_run.specs.Laws.{FaultsEnd}
-use Rattle.flow_run.specs.Run.{HasRun, StandsFor}
+use Rattle.flow_run.specs.Run.{HasRun}
 use Rattle.flow_run.specs.Work.{IsAtWork, IsReadDamaged, IsRefused}
-use Rattle.flow_run.specs.declared.ended.Ended.TheVariants as ended
-use Rattle.flow_run.specs.declared.ended.Fault.{Fault}
-use Rattle.flow_run.specs.declared.ended.Fault.TheVariants as fault
 use Rattle.flow_engine.specs.Engine.{EngineState, IsOfSameRun}
 use Rattle.flow_engine.specs.Errors.{CountsEachFault, ended_by}
 use Rattle.flow_engine.specs.Running.{IsLimited, IsRunning, Stops}

@@ -1,5 +1,5 @@
 -- Which files an engine's end changes.
-use Rattle.std.proofs.Common.{inl, inr, ℕ}
+use Rattle.std.proofs.Common.{inl, ℕ}
 use Rattle.std.specs.Prelude.{Option}
 use Rattle.disk_trait.specs.Files.{Files}
 use Rattle.disk_trait.specs.Images.{After, Since}

@@ -1,5 +1,5 @@
 -- What an engine has in memory, and what holds of it between two steps on any devices.
-use Rattle.std.specs.Prelude.{◌≡◌, ℕ, ◌≤◌, ◌<◌, ◌^◌, Bool, List, Option, All, IsTrue, length}
+use Rattle.std.specs.Prelude.{◌≡◌, ℕ, ◌≤◌, Bool, List, Option, All, IsTrue, length}
 use Rattle.std.specs.Option.{IsSomeAnd}
 use Rattle.disk_trait.specs.Files.{Files}
 use Rattle.flowfile_record.specs.NamedFile.{NamedFile, bytes_of}
@@ -15,7 +15,7 @@ use Rattle.flow_run.specs.Work.{IsAtWork}
 
 -- The flow that it runs; the store and the queues of what it keeps; the names of the inbox that are to come; the
 -- processor that got the last session; how many entries the journal has, and how many it may have; with how many entries
--- in its log the store makes a checkpoint.
+-- in its log the store makes a checkpoint; how many entries came since claims were last reclaimed.
 pub record EngineState : Type 0 where
   pub flow : Flow
   pub store : StoreState
@@ -25,6 +25,7 @@ pub record EngineState : Type 0 where
   pub entries : ℕ
   pub most : ℕ
   pub checkpoint : ℕ
+  pub since_reclaim : ℕ
 
 -- there are processors of each kind of the flow
 abbrev pub AreBuilt : Flow → Type 0

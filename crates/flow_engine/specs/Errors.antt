@@ -1,5 +1,5 @@
 -- What an engine's errors mean for a run.
-use Rattle.std.specs.Prelude.{◌≡◌, ⊤, ℕ, Result, Ok, Err, IsErrOf}
+use Rattle.std.specs.Prelude.{ℕ, Result, IsErrOf}
 use Rattle.disk_trait.specs.Faults.{CountsFaults}
 use Rattle.flow_run.specs.declared.ended.Ended.{Ended}
 use Rattle.flow_run.specs.declared.ended.Ended.TheVariants as ended

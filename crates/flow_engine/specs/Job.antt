@@ -1,6 +1,7 @@
 -- What a session is handed.
-use Rattle.std.specs.Prelude.{◌≡◌, ℕ, ◌<◌, List, None, Some, length, map, IsTrue, slice_get}
+use Rattle.std.specs.Prelude.{◌≡◌, ℕ, ◌<◌, List, Option, None, Some, length, map, IsTrue, slice_get}
 use Rattle.std.specs.Option.{option_to_list}
+use Rattle.flowfile_record.specs.NamedFile.{NamedFile}
 use Rattle.flowfile_record.specs.Stored.{Kept}
 use Rattle.flowfile_record.specs.declared.content.ContentRef.{ContentRef}
 use Rattle.flowfile_record.specs.declared.limits.TheConstants.{NUMBER_LIMIT}
@@ -13,9 +14,14 @@ use Rattle.machine_model.specs.Laws.{MayTake, received_name}
 use Rattle.machine_model.specs.State.{Machine}
 use Rattle.machine_model.specs.Stepping.{given_in, taken_files}
 use Rattle.processor_api.specs.Acts.{IsGivenTo}
+use Rattle.store_core.specs.Store.{kept_by}
+use Rattle.engine_choice.specs.declared.choice.Choice.{Choice}
 use Rattle.engine_session.specs.Handing.{AreTaken}
 use Rattle.engine_session.specs.Working.{is_built}
 use Rattle.flow_run.specs.Journal.{TakesFirst}
+use Rattle.flow_engine.specs.Checkout.{choice_in}
+use Rattle.flow_engine.specs.Engine.{EngineState}
+use Rattle.flow_engine.specs.Handing.{IsHanded, IsHandedAs}
 use Rattle.flow_engine.specs.declared.job.Job.{Job}
 
 -- The processor at its place may be handed this: as many files as its rule takes, live ones of one connection, read
@@ -44,3 +50,13 @@ pub record StandsIn (flow : Flow) (k : Kept) (contents : ContentRef → List ℕ
         (record job.given { bytes = None }) ≡ Some job.given
     pub first : TakesFirst flow before
         (Session job.processor job.numbers job.given.moment (record job.given { bytes = None }))
+
+-- It is the job of the session that comes next at the moment, as that is handed it; where the devices tell, by what they
+-- hold.
+pub record IsNextJob (telling : Type 0) (e : EngineState) (contents : ContentRef → List ℕ) (left : List NamedFile)
+    (standing : List ℕ → Option (List ℕ)) (moment : ℕ) (job : Job) : Type 0 where
+  pub choice : Choice
+  pub chosen : choice_in e moment ≡ Some choice
+  pub handed : IsHanded (kept_by e.store) moment choice job
+  pub told : telling → IsHandedAs (kept_by e.store) contents left standing choice job
+  pub may : MayHand e.flow (kept_by e.store) job

@@ -1,5 +1,8 @@
 pub mod Change
+pub mod Checkout
+pub mod Commit
 pub mod Committing
+pub mod Done
 pub mod Driving
 pub mod Engine
 pub mod Errors

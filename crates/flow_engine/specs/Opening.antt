@@ -1,5 +1,5 @@
 -- An engine before its first step.
-use Rattle.std.specs.Prelude.{◌≡◌, ℕ, nat_le, Bool, false, List, length}
+use Rattle.std.specs.Prelude.{◌≡◌, ℕ, nat_le, Bool, false, List, None, length}
 use Rattle.std.specs.Option.{option_map_or}
 use Rattle.flowfile_record.specs.NamedFile.{NamedFile, bytes_of}
 use Rattle.flowfile_record.specs.declared.TheConstants.{CONTENT_MAX}
@@ -17,6 +17,8 @@ pub record IsOpened (flow : Flow) (store : StoreState) (most : ℕ) (e : EngineS
   pub listing : e.listing.flow ≡ flow
   pub distinct : AreDistinct e.listing.names
   pub entries : e.entries ≡ 0
+  pub last : e.last ≡ None
+  pub since : e.since_reclaim ≡ 0
   pub most_is : e.most ≡ most
 
 -- the file of this name is no longer than any content

@@ -8,12 +8,14 @@ ghost use Rattle.store_core.specs.Flow.{flow_in};
 ghost use Rattle.store_core.specs.Store.{kept_by};
 ghost use Rattle.engine_core.specs.Committing.{identity_of};
 ghost use Rattle.flow_engine.specs.Change.{MakesStep};
+ghost use Rattle.flow_engine.specs.Done.{IsWorkOn};
 ghost use Rattle.flow_engine.specs.Job.{MayHand};
+ghost use Rattle.flow_engine.specs.declared.job.Job.{Job as TheJob};
 ghost use Rattle.flow_engine.specs.Sending.{sending_of, sources_left, without_first_bytes};
 
-use crate::job::Job;
+use crate::done::Done;
 use engine_core::settle_session;
-use engine_session::{end_session, sessions_are_steps, taken_files_are_handed, taken_from, work};
+use engine_session::{end_session, sessions_are_steps, taken_files_are_handed};
 use flow_run::worlds_follow_steps;
 use flowfile_record::{ActiveList, Bytes, Settled};
 use machine_model::Flow;
@@ -39,40 +41,42 @@ pub struct Changed {
     pub sending: Option<Sending>,
 }
 
-/// What a session changes and sends: the work of its processor, settled over what the store keeps.
+/// What a session changes and sends: the work on its job, settled over what the store keeps.
 pub fn session_change(
     alloc: Global,
     flow: &Flow,
     store: &Store,
-    job: Job,
+    done: Done,
 ) -> Result<Changed, AllocError>
     requires sound { IsSound flow.now }
     requires identity { flow_in (kept_by store.now) ≡ identity_of flow.now }
-    requires job { MayHand flow.now (kept_by store.now) job }
+    requires done { (job : TheJob) × MayHand flow.now (kept_by store.now) job
+        × IsWorkOn flow.now (kept_by store.now).store job done }
     // The store may be changed so, and the files that are gone were in this connection.
     ensures may { IfOk result (λ changed. MayChange (kept_by store.now) changed.settled) }
     ensures live { IfOk result (λ changed. HasLiveContents store.now changed.settled) }
     ensures gone { IfOk result (λ changed.
         are_active_in (kept_by store.now).files changed.connection changed.settled.gone ≡ true) }
     // It is a step of the machine.
-    ensures step { IfOk result (MakesStep flow.now (kept_by store.now) job) }
+    ensures step { IfOk result (λ changed. (job : TheJob) → MayHand flow.now (kept_by store.now) job
+        → IsWorkOn flow.now (kept_by store.now).store job done
+        → MakesStep flow.now (kept_by store.now) job changed) }
 {
     what_is_kept_is_a_state();
     taken_files_are_handed();
     sessions_are_steps();
     worlds_follow_steps();
     let stored = store.state();
-    let Job {
+    let Done {
         processor,
         connection,
         numbers: _,
         files,
-        contents,
-        mut given,
-    } = job;
-    let taken = taken_from(alloc, stored.store, files.as_slice(), contents)?;
-    let done = work(alloc, flow, processor, taken, &mut given)?;
-    let mut ended = end_session(processor, connection, files, done);
+        given,
+        outcome,
+        sources,
+    } = done;
+    let mut ended = end_session(processor, connection, files, (outcome, sources));
     let sending = take_sending(alloc, &mut ended)?;
     let settled = settle_session(alloc, flow, store, &given, ended)?;
     let connection = connection_of(&stored.files, settled.gone.as_slice());

@@ -1,32 +1,34 @@
 //! An engine goes on until nothing is left to do.
-ghost use Rattle.std.specs.Prelude.{◌≡◌, ◌⊎◌, ℕ, ◌+◌, ◌-◌, ◌^◌, ◌<◌, List, Option, Some, Ok, IfOk, OnOk, IsErrOf, IsTrue};
+ghost use Rattle.std.specs.Prelude.{◌≡◌, ◌⊎◌, ℕ, ◌-◌, ◌^◌, ◌<◌, List, Option, Some, IfOk, OnOk, IsErrOf, IsTrue};
 ghost use Rattle.disk_trait.specs.declared.damage.Damage.{Damage as TheDamage};
 ghost use Rattle.kept_state.specs.declared.limit.Limit.{Limit as TheLimit};
 ghost use Rattle.machine_model.specs.State.{Machine};
-ghost use Rattle.engine_choice.specs.Choice.{MayChoose};
 ghost use Rattle.engine_choice.specs.declared.choice.Ending.{Ending as TheEnding};
-ghost use Rattle.store_core.specs.Store.{kept_by};
-ghost use Rattle.flow_engine.specs.Driving.{choice_in, ending_in, GoesOn, IsEnded, IsNoneExpired, IsTurned, ShowsState};
+ghost use Rattle.flow_engine.specs.Checkout.{choice_in};
+ghost use Rattle.flow_engine.specs.Driving.{IsEnded, IsTurned, ShowsState};
 ghost use Rattle.flow_run.specs.Run.{StandsFor};
 ghost use Rattle.flowfile_wal.specs.Calls.{InEach};
 ghost use Rattle.flow_run.specs.Ending.{journal_full};
 ghost use Rattle.flow_engine.specs.Engine.{AreTakeable, IsOfSameRun, IsReady};
 ghost use Rattle.flow_engine.specs.Errors.{CountsEachFault};
 ghost use Rattle.flow_engine.specs.Running.{IsRunning, Stops};
+ghost use Rattle.flow_engine.specs.Tending.{due_in};
 ghost use Rattle.flow_run.specs.Work.{IsAtWork, IsNoEarlier, IsReadDamaged, IsRefused, IsShortOn, WritesLog};
 ghost use Rattle.flow_engine.specs.declared.error.EngineError.{EngineError as TheError};
+ghost use Rattle.flow_engine.specs.declared.tending.Tended.TheVariants.{Nothing};
 
 use crate::EngineError;
+use crate::checkout::Checkout;
+use crate::done::work;
 use crate::engine::Engine;
 use crate::tending::Tended;
 use crate::tied::holds_its_state;
 use disk_trait::Disk;
-use engine_choice::{Choice, Ending, choices_are_sessions, choose, ending, ends_are_machine_ends};
+use engine_choice::{Choice, Ending, choices_are_sessions, ends_are_machine_ends};
 use engine_queues::what_is_kept_is_seen;
 use engine_session::sessions_are_steps;
-use flow_run::faults_end_a_run;
-use std::alloc::{AllocError, Global};
-use store_core::{Limit, Which};
+use flow_run::{faults_end_a_run, run_goes_on};
+use std::alloc::Global;
 use world_io::{Clock, Inbox, Outbox};
 
 impl Engine<'_> {
@@ -69,7 +71,8 @@ impl Engine<'_> {
         ensures cause { CountsEachFault result (D.faults disk.old) (D.faults disk.new)
             (I.faults inbox.old) (I.faults inbox.new) (O.faults outbox.old) (O.faults outbox.new) }
     {
-        loop {
+        faults_end_a_run::<D>();
+        for _turn in 0..u64::MAX {
             let moment = clock.now();
             match self.turn(alloc, disk, inbox, outbox, moment)? {
                 None => {}
@@ -78,6 +81,8 @@ impl Engine<'_> {
                 Some(Ending::Quiet) => return Ok(Ending::Quiet),
             }
         }
+        // No machine takes so many turns.
+        Err(EngineError::Memory)
     }
 
     // Tends what is due, or else runs the next session. Where none comes, it tells how it ends.
@@ -97,7 +102,6 @@ impl Engine<'_> {
             → IsRunning D.moment D.images self.old opened first disk.old (I.left inbox.old) (O.standing outbox.old)
             → IsTurned D.moment D.images self.new opened first disk.new (I.left inbox.new) (O.standing outbox.new)
             moment ending) }
-        ensures goes_on { IfOk result (GoesOn self.old self.new moment) }
         ensures short { IfOk result (λ ending. (end : TheEnding) → ending ≡ Some end
             → IsShortOn D.moment D.images self.new.checkpoint disk.new) }
         ensures stopped { (error : TheError) → IsErrOf result error → IsTrue D.tells → IsTrue I.tells → IsTrue O.tells
@@ -120,8 +124,8 @@ impl Engine<'_> {
             (I.faults inbox.old) (I.faults inbox.new) (O.faults outbox.old) (O.faults outbox.new) }
     {
         match self.tend(alloc, disk, moment)? {
-            Tended::Expired => Ok(None),
             Tended::Nothing => self.go_on(alloc, disk, inbox, outbox, moment),
+            Tended::Expired | Tended::Checkpointed | Tended::Reclaimed => Ok(None),
         }
     }
 
@@ -136,7 +140,7 @@ impl Engine<'_> {
     ) -> Result<Option<Ending>, EngineError>
         requires ready { IsReady D.tells D.held D.moment D.images self.old disk.old }
         requires left { IsTrue I.tells → AreTakeable (I.left inbox.old) self.old.listing.names }
-        requires none_expired { IsNoneExpired self.old moment }
+        requires tended { due_in self.old moment ≡ Nothing }
         requires short { IsShortOn D.moment D.images self.old.checkpoint disk.old }
         requires most { self.old.most < 2 ^ 64 - 1 }
         ensures turned { IfOk result (λ ending. IsTrue D.tells → IsTrue I.tells → IsTrue O.tells
@@ -144,7 +148,6 @@ impl Engine<'_> {
             → IsRunning D.moment D.images self.old opened first disk.old (I.left inbox.old) (O.standing outbox.old)
             → IsTurned D.moment D.images self.new opened first disk.new (I.left inbox.new) (O.standing outbox.new)
             moment ending) }
-        ensures goes_on { IfOk result (GoesOn self.old self.new moment) }
         ensures short { IfOk result (λ ending. (end : TheEnding) → ending ≡ Some end
             → IsShortOn D.moment D.images self.new.checkpoint disk.new) }
         ensures stopped { (error : TheError) → IsErrOf result error → IsTrue D.tells → IsTrue I.tells → IsTrue O.tells
@@ -167,19 +170,25 @@ impl Engine<'_> {
             (I.faults inbox.old) (I.faults inbox.new) (O.faults outbox.old) (O.faults outbox.new) }
     {
         self.shows_its_state(disk);
+        choices_are_sessions();
+        sessions_are_steps();
         ends_are_machine_ends();
         faults_end_a_run::<D>();
-        match self.next_choice(alloc, moment)? {
-            Some(choice) => {
-                self.run_next(alloc, disk, inbox, outbox, moment, choice)?;
+        match self.checkout(alloc, moment)? {
+            Checkout::Session(choice) => {
+                self.run_session(alloc, disk, inbox, outbox, moment, choice)?;
                 Ok(None)
             }
-            None => Ok(Some(self.ending(alloc, moment)?)),
+            Checkout::Limit(limit) => Err(EngineError::Limit(limit)),
+            Checkout::Rest { until } => Ok(Some(Ending::Rest { until })),
+            Checkout::Blocked(connection) => Ok(Some(Ending::Blocked(connection))),
+            Checkout::Quiet => Ok(Some(Ending::Quiet)),
         }
     }
 
-    // Runs the session that comes next, where the journal has room for its entry.
-    fn run_next<D: Disk, I: Inbox, O: Outbox>(
+    // Runs the session that comes next: its job is read, worked on and committed. Where the job has changed, nothing is
+    // done.
+    fn run_session<D: Disk, I: Inbox, O: Outbox>(
         &mut self,
         alloc: Global,
         disk: &mut D,
@@ -189,15 +198,13 @@ impl Engine<'_> {
         choice: Choice,
     ) -> Result<(), EngineError>
         requires ready { IsReady D.tells D.held D.moment D.images self.old disk.old }
+        requires room { self.old.entries < self.old.most }
         requires chosen { choice_in self.old moment ≡ Some choice }
-        requires short { IsShortOn D.moment D.images self.old.checkpoint disk.old }
         requires left { IsTrue I.tells → AreTakeable (I.left inbox.old) self.old.listing.names }
-        requires most { self.old.most < 2 ^ 64 - 1 }
         ensures goes_on { OnOk result (IsTrue D.tells → IsTrue I.tells → IsTrue O.tells
             → (opened : Machine) (first : D)
             → IsRunning D.moment D.images self.old opened first disk.old (I.left inbox.old) (O.standing outbox.old)
             → IsRunning D.moment D.images self.new opened first disk.new (I.left inbox.new) (O.standing outbox.new)) }
-        ensures entries { OnOk result (self.new.entries ≡ self.old.entries + 1) }
         ensures stopped { (error : TheError) → IsErrOf result error → IsTrue D.tells → IsTrue I.tells → IsTrue O.tells
             → (opened : Machine) (first : D)
             → IsRunning D.moment D.images self.old opened first disk.old (I.left inbox.old) (O.standing outbox.old)
@@ -209,25 +216,18 @@ impl Engine<'_> {
         ensures log { self.new.store.log.number ≡ self.old.store.log.number }
         ensures alone { WritesLog D.moment D.images self.old.store.log.number disk.old disk.new }
         ensures refused { (limit : TheLimit) → IsErrOf result (EngineError.Limit limit)
-            → IsRefused self.old.flow D.tells D.held D.moment D.images limit self.new.store disk.new
-            ⊎ ((limit ≡ journal_full self.old.most)
-            × IsAtWork self.old.flow D.tells D.held D.moment D.images self.new.store disk.new) }
+            → IsRefused self.old.flow D.tells D.held D.moment D.images limit self.new.store disk.new }
         ensures damaged { (damage : TheDamage) → IsErrOf result (EngineError.Damaged damage)
             → IsReadDamaged self.old.flow D.tells D.held D.moment D.images self.old.store.lot disk.new }
         ensures cause { CountsEachFault result (D.faults disk.old) (D.faults disk.new)
             (I.faults inbox.old) (I.faults inbox.new) (O.faults outbox.old) (O.faults outbox.new) }
     {
-        if self.entries >= self.most {
-            self.shows_its_state(disk);
-            choices_are_sessions();
-            sessions_are_steps();
-            return Err(EngineError::Limit(Limit {
-                which: Which::Journal,
-                number: self.most,
-                wanted: self.most + 1,
-            }));
-        }
-        self.run_session(alloc, disk, inbox, outbox, moment, choice)
+        run_goes_on::<D>();
+        faults_end_a_run::<D>();
+        let job = self.read(alloc, disk, inbox, outbox, moment, choice)?;
+        let done = work(alloc, self.flow, self.store.state().store, job)?;
+        self.commit(alloc, disk, inbox, outbox, done)?;
+        Ok(())
     }
 
     // It does nothing: where the disk tells, the engine shows the machine's state.
@@ -240,38 +240,5 @@ impl Engine<'_> {
         holds_its_state(&self.store, disk);
         what_is_kept_is_seen();
         let _stored = self.store.state();
-    }
-
-    // The session that comes next.
-    fn next_choice(&self, alloc: Global, moment: u64) -> Result<Option<Choice>, AllocError>
-        requires { MayChoose self.now.flow self.now.queues (kept_by self.now.store).counts self.now.listing }
-        ensures { IfOk result (λ choice. choice ≡ choice_in self.now moment) }
-    {
-        let counts = self.store.state().counts.as_slice();
-        choose(
-            alloc,
-            self.flow,
-            &self.queues,
-            counts,
-            &self.listing,
-            self.last,
-            moment,
-        )
-    }
-
-    // How it ends where no session comes.
-    fn ending(&self, alloc: Global, moment: u64) -> Result<Ending, AllocError>
-        requires { MayChoose self.now.flow self.now.queues (kept_by self.now.store).counts self.now.listing }
-        ensures { IfOk result (λ ending. ending ≡ ending_in self.now moment) }
-    {
-        let counts = self.store.state().counts.as_slice();
-        ending(
-            alloc,
-            self.flow,
-            &self.queues,
-            counts,
-            &self.listing,
-            moment,
-        )
     }
 }

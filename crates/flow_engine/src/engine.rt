@@ -28,15 +28,15 @@ use world_io::{CONTENT_MAX, Inbox, Name};
 /// each call takes those that it needs.
 #[derive(Drop)]
 pub struct Engine<'f> {
-    pub flow: &'f Flow,
-    pub store: Store,
-    pub queues: Queues,
-    pub listing: Listing<'f>,
-    pub last: Option<u16>,
-    pub entries: u64,
-    pub most: u64,
-    pub checkpoint: u64,
-    pub since_reclaim: u64,
+    pub(crate) flow: &'f Flow,
+    pub(crate) store: Store,
+    pub(crate) queues: Queues,
+    pub(crate) listing: Listing<'f>,
+    pub(crate) last: Option<u16>,
+    pub(crate) entries: u64,
+    pub(crate) most: u64,
+    pub(crate) checkpoint: u64,
+    pub(crate) since_reclaim: u64,
 }
 
 impl<'f> Model for Engine<'f> {
@@ -58,6 +58,7 @@ impl<'f> Model for Engine<'f> {
       entries = engine.entries;
       most = engine.most;
       checkpoint = engine.checkpoint;
+      since_reclaim = engine.since_reclaim;
     } };
 }
 
@@ -65,7 +66,7 @@ impl<'f> Engine<'f> {
     /// An engine that is to run a flow over a store of it, until the journal has `most` entries, with a checkpoint where
     /// the log has `checkpoint` entries. The inbox is listed once: files that come later aren't seen, and those that are
     /// larger than a content may be are left there.
-    pub fn open<I: Inbox>(
+    pub fn new<I: Inbox>(
         alloc: Global,
         flow: &'f Flow,
         store: Store,

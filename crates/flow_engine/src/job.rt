@@ -12,15 +12,22 @@ ghost use Rattle.kept_state.specs.declared.limit.Limit.{Limit as TheLimit};
 ghost use Rattle.machine_model.specs.Acting.{name_in};
 ghost use Rattle.machine_model.specs.declared.flow.Flow.{Flow as TheFlow};
 ghost use Rattle.store_core.specs.Store.{kept_by};
+ghost use Rattle.flow_engine.specs.Checkout.{choice_in};
+ghost use Rattle.flow_engine.specs.Done.{MayWorkOn};
+ghost use Rattle.flow_engine.specs.Engine.{AreTakeable, IsOfSameRun, IsReady};
 ghost use Rattle.flow_engine.specs.Errors.{CountsEachFault};
 ghost use Rattle.flow_engine.specs.Handing.{IsHanded, IsHandedAs, MayBeReceived, MayBeTaken};
+ghost use Rattle.flow_engine.specs.Job.{IsNextJob};
 ghost use Rattle.flow_run.specs.Work.{IsAtWork, IsReadDamaged};
 
 use crate::EngineError;
+use crate::engine::Engine;
 use crate::reading::read_contents;
+use crate::tied::holds_its_state;
 use disk_trait::Disk;
 use engine_choice::{Choice, Taking};
-use engine_session::{ReadList, live_files};
+use engine_queues::what_is_kept_is_seen;
+use engine_session::{ReadList, live_files, taken_files_are_handed};
 use flowfile_record::{Attributes, Bytes, FileList, FlowFile, NameError, Numbers};
 use machine_model::Given;
 use std::alloc::Global;
@@ -40,8 +47,46 @@ pub struct Job {
     pub given: Given,
 }
 
-/// What the session that was chosen is handed.
-pub fn hand<D: Disk, I: Inbox, O: Outbox>(
+impl Engine<'_> {
+    /// Reads the job of a session that comes next: the contents of the files that it takes, or the file of the inbox,
+    /// and whether the outbox has the file's name.
+    pub fn read<D: Disk, I: Inbox, O: Outbox>(
+        &mut self,
+        alloc: Global,
+        disk: &mut D,
+        inbox: &mut I,
+        outbox: &mut O,
+        moment: u64,
+        choice: Choice,
+    ) -> Result<Job, EngineError>
+        requires ready { IsReady D.tells D.held D.moment D.images self.old disk.old }
+        requires chosen { choice_in self.old moment ≡ Some choice }
+        requires left { IsTrue I.tells → AreTakeable (I.left inbox.old) self.old.listing.names }
+        ensures job { IfOk result (IsNextJob (IsTrue D.tells × IsTrue I.tells × IsTrue O.tells) self.old
+            (content_in (D.held disk.old)) (I.left inbox.old) (O.standing outbox.old) moment) }
+        ensures may { IfOk result (MayWorkOn self.old.flow (kept_by self.old.store).store) }
+        ensures unchanged { OnOk result (self.new ≡ self.old) }
+        ensures same { IsOfSameRun self.old self.new }
+        ensures log { self.new.store.log.number ≡ self.old.store.log.number }
+        // Nothing is written.
+        ensures stays { Stays D.held D.moment D.images disk.old disk.new }
+        ensures left { I.left inbox.new ≡ I.left inbox.old }
+        ensures standing { O.standing outbox.new ≡ O.standing outbox.old }
+        ensures unlimited { (limit : TheLimit) → IsErrOf result (EngineError.Limit limit) → ⊥ }
+        ensures damaged { (damage : TheDamage) → IsErrOf result (EngineError.Damaged damage)
+            → IsReadDamaged self.old.flow D.tells D.held D.moment D.images self.old.store.lot disk.new }
+        ensures cause { CountsEachFault result (D.faults disk.old) (D.faults disk.new)
+            (I.faults inbox.old) (I.faults inbox.new) (O.faults outbox.old) (O.faults outbox.new) }
+    {
+        holds_its_state(&self.store, disk);
+        what_is_kept_is_seen();
+        taken_files_are_handed();
+        hand(alloc, &mut self.store, disk, inbox, outbox, moment, choice)
+    }
+}
+
+// What the session that was chosen is handed.
+fn hand<D: Disk, I: Inbox, O: Outbox>(
     alloc: Global,
     store: &mut Store,
     disk: &mut D,

@@ -2,6 +2,9 @@
 #![tactic(auto)]
 
 mod change;
+mod checkout;
+mod commit;
+mod done;
 mod driving;
 mod engine;
 mod error;
@@ -12,5 +15,11 @@ mod session;
 mod tending;
 mod tied;
 
+pub use checkout::Checkout;
+pub use commit::Committed;
+pub use done::{Done, work};
+pub use engine::Engine;
 pub use error::EngineError;
+pub use job::Job;
 pub use run::run_flow;
+pub use tending::Tended;

@@ -68,45 +68,48 @@ pub fn run_flow<D: Disk, I: Inbox, O: Outbox, C: Clock>(
 {
     faults_end_a_run::<D>();
     run_ends::<D>();
-    let mut engine = match Engine::open(alloc, flow, store, most, checkpoint, inbox) {
+    let mut engine = match Engine::new(alloc, flow, store, most, checkpoint, inbox) {
         Ok(engine) => engine,
         Err(error) => return error.ended(),
     };
     match engine.drive(alloc, disk, inbox, outbox, clock) {
-        Ok(Ending::Blocked(connection)) => {
-            close(&mut engine.store, disk, Ended::Blocked(connection))
-        }
-        Ok(Ending::Quiet) => close(&mut engine.store, disk, Ended::Quiet),
+        Ok(Ending::Blocked(connection)) => { engine.close(disk, Ended::Blocked(connection)) }
+        Ok(Ending::Quiet) => engine.close(disk, Ended::Quiet),
         Ok(Ending::Rest { .. }) => unreachable!(),
         Err(error) => {
             let EngineError::Limit(limit) = error else {
                 return error.ended();
             };
-            close(&mut engine.store, disk, Ended::Limit(limit))
+            engine.close(disk, Ended::Limit(limit))
         }
     }
 }
 
-// Closes the store of a run that is to end so. Whatever a stop leaves stands for the same state.
-fn close<D: Disk>(store: &mut Store, disk: &mut D, ended: Ended) -> Ended
-    requires kept { IsKeptOn D.tells D.held D.moment D.images store.old disk.old }
-    requires works { store.old.failed ≡ false }
-    requires ended { ended ≡ Ended.Fault Disk → ⊥ }
-    ensures told { (result ≡ ended) ⊎ (result ≡ Ended.Fault Disk) }
-    ensures states { (state : State)
-        → EachStandsFor (flow_in (kept_by store.old)) store.old.lot state (D.images disk.old (D.moment disk.old))
-        → Since D.moment D.images disk.old disk.new
-        (λ c. stands_for (flow_in (kept_by store.old)) store.old.lot c ≡ Ok state) }
-    ensures tidied { result ≡ ended → (flow : TheFlow) → flow_in (kept_by store.old) ≡ identity_of flow
-        → IsTrue D.tells → IsTidied flow store.old.lot (D.held disk.new) }
-    ensures short { (checkpoint : ℕ) → IsShortOn D.moment D.images checkpoint disk.old
-        → IsShortOn D.moment D.images checkpoint disk.new }
-    ensures alone { Since D.moment D.images disk.old disk.new
-        (After (Frees (live_in store.old)) (D.images disk.old (D.moment disk.old))) }
-    ensures cause { CountsFaults (D.faults disk.old) (D.faults disk.new) (result ≡ Ended.Fault Disk) }
-{
-    match store.close(disk) {
-        Ok(()) => ended,
-        Err(_) => Ended::Fault(Fault::Disk),
+impl Engine<'_> {
+    /// Closes the store of a run that is to end so: claims without references are emptied, and the disk is synced. Whatever
+    /// a stop leaves stands for the same state. It answers how the run ended: so, or by a fault of the disk.
+    pub fn close<D: Disk>(&mut self, disk: &mut D, ended: Ended) -> Ended
+        requires kept { IsKeptOn D.tells D.held D.moment D.images self.old.store disk.old }
+        requires works { self.old.store.failed ≡ false }
+        requires ended { ended ≡ Ended.Fault Disk → ⊥ }
+        ensures told { (result ≡ ended) ⊎ (result ≡ Ended.Fault Disk) }
+        ensures states { (state : State)
+            → EachStandsFor (flow_in (kept_by self.old.store)) self.old.store.lot state
+            (D.images disk.old (D.moment disk.old))
+            → Since D.moment D.images disk.old disk.new
+            (λ c. stands_for (flow_in (kept_by self.old.store)) self.old.store.lot c ≡ Ok state) }
+        ensures tidied { result ≡ ended → (flow : TheFlow)
+            → flow_in (kept_by self.old.store) ≡ identity_of flow
+            → IsTrue D.tells → IsTidied flow self.old.store.lot (D.held disk.new) }
+        ensures short { (checkpoint : ℕ) → IsShortOn D.moment D.images checkpoint disk.old
+            → IsShortOn D.moment D.images checkpoint disk.new }
+        ensures alone { Since D.moment D.images disk.old disk.new
+            (After (Frees (live_in self.old.store)) (D.images disk.old (D.moment disk.old))) }
+        ensures cause { CountsFaults (D.faults disk.old) (D.faults disk.new) (result ≡ Ended.Fault Disk) }
+    {
+        match self.store.close(disk) {
+            Ok(()) => ended,
+            Err(_) => Ended::Fault(Fault::Disk),
+        }
     }
 }

@@ -1,11 +1,8 @@
-//! One session of a flow, from the choice of it to its end.
-ghost use Rattle.std.specs.Prelude.{◌≡◌, ◌⊎◌, ◌+◌, ◌<◌, true, Option, Some, IfOk, OnOk, IfErr, IsErrOf, IsTrue, IsSome, IfSome, length, slice_get};
+//! How the change of a session becomes part of the outbox, the store and the inbox.
+ghost use Rattle.std.specs.Prelude.{◌≡◌, ◌⊎◌, ◌<◌, true, Some, IfOk, OnOk, IfErr, IsErrOf, IsTrue, IsSome, IfSome, length, slice_get};
 ghost use Rattle.disk_trait.specs.Faults.{CountsFaults};
-ghost use Rattle.disk_trait.specs.declared.damage.Damage.{Damage as TheDamage};
 ghost use Rattle.content_repo.specs.Claims.{content_in};
-ghost use Rattle.engine_choice.specs.Choice.{next_choice};
 ghost use Rattle.engine_choice.specs.Listing.{first_passed};
-ghost use Rattle.engine_queues.specs.Queues.{queue_seen};
 ghost use Rattle.flowfile_record.specs.NamedFile.{bytes_of};
 ghost use Rattle.flowfile_wal.specs.Calls.{InEach};
 ghost use Rattle.kept_state.specs.Fits.{are_active_in};
@@ -18,126 +15,30 @@ ghost use Rattle.store_core.specs.Change.{HasLiveContents, IsLimitOf, MayChange}
 ghost use Rattle.store_core.specs.Store.{kept_by};
 ghost use Rattle.flow_engine.specs.Change.{names_without, with_sending, without_received};
 ghost use Rattle.flow_engine.specs.Committing.{IsLeftBySend, IsQueued, with_room};
-ghost use Rattle.flow_engine.specs.Engine.{AreTakeable, IsOfSameRun, IsReady};
-ghost use Rattle.flow_engine.specs.Errors.{CountsEachFault};
-ghost use Rattle.flow_engine.specs.Handing.{received_in};
-ghost use Rattle.flow_engine.specs.Running.{IsRunning, Stops};
 ghost use Rattle.flow_run.specs.Going.{IsBetween, IsStepped};
 ghost use Rattle.flow_run.specs.Run.{StandsFor};
-ghost use Rattle.flow_run.specs.Work.{IsAtWork, IsReadDamaged, IsRefused, IsShortOn, WritesLog};
+ghost use Rattle.flow_run.specs.Work.{IsAtWork, WritesLog};
 ghost use Rattle.flow_engine.specs.declared.error.EngineError.{EngineError as TheError};
 
 use crate::EngineError;
-use crate::change::{Changed, Sending, session_change};
-use crate::engine::Engine;
-use crate::job::hand;
+use crate::change::{Changed, Sending};
 use crate::tied::holds_its_state;
 use disk_trait::Disk;
-use engine_choice::{Choice, Listing, Taking, choices_are_sessions};
-use engine_queues::{Queues, what_is_kept_is_seen};
-use engine_session::taken_files_are_live;
-use flow_run::{faults_end_a_run, run_goes_on};
-use std::alloc::{AllocError, Global};
+use engine_choice::Listing;
+use engine_queues::Queues;
 use store_core::Store;
 use world_io::{Inbox, Name, Outbox};
 
-impl Engine<'_> {
-    /// Runs the session that comes next: its processor works on what it is handed, what it sends is put into the
-    /// outbox, its change is committed, and then the file that it received is removed from the inbox.
-    pub fn run_session<D: Disk, I: Inbox, O: Outbox>(
-        &mut self,
-        alloc: Global,
-        disk: &mut D,
-        inbox: &mut I,
-        outbox: &mut O,
-        moment: u64,
-        choice: Choice,
-    ) -> Result<(), EngineError>
-        requires ready { IsReady D.tells D.held D.moment D.images self.old disk.old }
-        requires room { self.old.entries < self.old.most }
-        requires chosen { next_choice self.old.flow (queue_seen self.old.queues) (kept_by self.old.store).counts
-            self.old.listing.names moment self.old.last ≡ Some choice }
-        // No session comes where a checkpoint is due.
-        requires short { IsShortOn D.moment D.images self.old.checkpoint disk.old }
-        requires left { IsTrue I.tells → AreTakeable (I.left inbox.old) self.old.listing.names }
-        // The run goes on by one step, or it is stopped.
-        ensures goes_on { OnOk result (IsTrue D.tells → IsTrue I.tells → IsTrue O.tells
-            → (opened : Machine) (first : D)
-            → IsRunning D.moment D.images self.old opened first disk.old (I.left inbox.old) (O.standing outbox.old)
-            → IsRunning D.moment D.images self.new opened first disk.new (I.left inbox.new) (O.standing outbox.new)) }
-        ensures stopped { (error : TheError) → IsErrOf result error → IsTrue D.tells → IsTrue I.tells → IsTrue O.tells
-            → (opened : Machine) (first : D)
-            → IsRunning D.moment D.images self.old opened first disk.old (I.left inbox.old) (O.standing outbox.old)
-            → Stops error D.tells D.held D.moment D.images self.new opened first disk.new (I.left inbox.new)
-            (O.standing outbox.new) }
-        // On any devices.
-        ensures ready { OnOk result (IsReady D.tells D.held D.moment D.images self.new disk.new) }
-        ensures left { OnOk result (IsTrue I.tells → AreTakeable (I.left inbox.new) self.new.listing.names) }
-        ensures entries { OnOk result (self.new.entries ≡ self.old.entries + 1) }
-        ensures same { IsOfSameRun self.old self.new }
-        ensures log { self.new.store.log.number ≡ self.old.store.log.number }
-        ensures alone { WritesLog D.moment D.images self.old.store.log.number disk.old disk.new }
-        ensures refused { (limit : TheLimit) → IsErrOf result (EngineError.Limit limit)
-            → IsRefused self.old.flow D.tells D.held D.moment D.images limit self.new.store disk.new }
-        ensures damaged { (damage : TheDamage) → IsErrOf result (EngineError.Damaged damage)
-            → IsReadDamaged self.old.flow D.tells D.held D.moment D.images self.old.store.lot disk.new }
-        ensures cause { CountsEachFault result (D.faults disk.old) (D.faults disk.new)
-            (I.faults inbox.old) (I.faults inbox.new) (O.faults outbox.old) (O.faults outbox.new) }
-    {
-        holds_its_state(&self.store, disk);
-        choices_are_sessions();
-        taken_files_are_live();
-        what_is_kept_is_seen();
-        run_goes_on::<D>();
-        faults_end_a_run::<D>();
-        let processor = choice.processor;
-        let received = received(&choice.taking)?;
-        let job = hand(alloc, &mut self.store, disk, inbox, outbox, moment, choice)?;
-        let changed = session_change(alloc, self.flow, &self.store, job)?;
-        let connection = changed.connection;
-        commit(
-            &mut self.store,
-            &mut self.queues,
-            disk,
-            outbox,
-            connection,
-            changed,
-        )?;
-        self.last = Some(processor);
-        self.entries = one_more(self.entries, self.most);
-        self.since_reclaim = self.since_reclaim.saturating_add(1);
-        remove(&mut self.listing, inbox, processor, &received)
-    }
-}
-
-// One more entry than there are, which are fewer than there may be.
-fn one_more(entries: u64, most: u64) -> u64
-    requires { entries < most }
-    ensures { result ≡ entries + 1 }
-{
-    let _ = most;
-    entries + 1
-}
-
-// The name of the file that a session receives.
-fn received(taking: &Taking) -> Result<Option<Name>, AllocError>
-    ensures { IfOk result (λ name. name ≡ received_in taking.now) }
-{
-    match taking {
-        Taking::Receive { name } => Ok(Some(name.clone()?)),
-        _ => Ok(None),
-    }
-}
-
-// Puts what a session sends into the outbox, and then commits its change. All memory is taken before.
-fn commit<D: Disk, O: Outbox>(
+/// Puts what a session sends into the outbox, and then commits its change. All memory is taken before. It answers the
+/// moment of the acknowledgement.
+pub fn commit<D: Disk, O: Outbox>(
     store: &mut Store,
     queues: &mut Queues,
     disk: &mut D,
     outbox: &mut O,
     connection: u16,
     changed: Changed,
-) -> Result<(), EngineError>
+) -> Result<u64, EngineError>
     requires work { (flow : TheFlow) × IsQueued flow D.tells D.held D.moment D.images store.old queues.old disk.old }
     requires may { MayChange (kept_by store.old) changed.settled }
     requires live { HasLiveContents store.old changed.settled }
@@ -152,6 +53,7 @@ fn commit<D: Disk, O: Outbox>(
         → InEach (D.images disk.old (D.moment disk.old)) (StandsFor flow store.old.lot before)
         → state_after (content_in (D.held disk.old)) before.state changed.settled ≡ after.state
         → IsBetween flow D.moment D.images store.old.lot before after disk.old disk.new }
+    ensures moment { IfOk result (λ moment. moment ≡ D.moment disk.new) }
     ensures sent { OnOk result (IsTrue O.tells
         → O.standing outbox.new ≡ with_sending changed.sending (O.standing outbox.old)) }
     ensures sent_before { IsErrOf result EngineError.Disk → IsTrue O.tells
@@ -185,9 +87,9 @@ fn commit<D: Disk, O: Outbox>(
     let prepared = store.prepare(&settled)?;
     queues.reserve(&settled)?;
     send(outbox, &sending)?;
-    store.commit(disk, prepared)?;
+    let moment = store.commit(disk, prepared)?;
     queues.settle(connection, settled, store.state());
-    Ok(())
+    Ok(moment)
 }
 
 // Puts what is sent.
@@ -207,8 +109,8 @@ fn send<O: Outbox>(outbox: &mut O, sending: &Option<Sending>) -> Result<(), Engi
     Ok(())
 }
 
-// The file that a session received, if any, is no longer to come, and is removed from the inbox.
-fn remove<I: Inbox>(
+/// The file that a session received, if any, is no longer to come, and is removed from the inbox.
+pub fn remove<I: Inbox>(
     listing: &mut Listing<'_>,
     inbox: &mut I,
     processor: u16,

@@ -1,5 +1,5 @@
 //! What an engine does between two sessions: files expire, a new log begins, and claims are reclaimed.
-ghost use Rattle.std.specs.Prelude.{◌≡◌, ◌⊎◌, ℕ, ◌+◌, ◌-◌, ◌^◌, ◌<◌, List, Option, Some, Ok, IfOk, OnOk, IfErr, IsErrOf, IsTrue};
+ghost use Rattle.std.specs.Prelude.{◌≡◌, ◌⊎◌, ℕ, ◌+◌, ◌-◌, ◌^◌, ◌<◌, nat_le, true, false, List, Option, Some, Ok, is_some, IfOk, OnOk, IfErr, IsErrOf, IsTrue};
 ghost use Rattle.disk_trait.specs.Faults.{CountsFaults};
 ghost use Rattle.flowfile_record.specs.Encoding.{IsNumber};
 ghost use Rattle.flowfile_record.specs.NamedFile.{NamedFile};
@@ -8,7 +8,8 @@ ghost use Rattle.kept_state.specs.declared.limit.Limit.{Limit as TheLimit};
 ghost use Rattle.machine_model.specs.declared.flow.Flow.{Flow as TheFlow};
 ghost use Rattle.machine_model.specs.declared.journal.Entry.{Entry as TheEntry};
 ghost use Rattle.machine_model.specs.declared.journal.Step.TheVariants.{Expire};
-ghost use Rattle.machine_model.specs.Due.{due_expiry, is_checkpoint_due};
+ghost use Rattle.machine_model.specs.declared.journal.TheConstants.{RECLAIM_ENTRIES};
+ghost use Rattle.machine_model.specs.Due.{due_expiry};
 ghost use Rattle.machine_model.specs.Sound.{IsSound};
 ghost use Rattle.machine_model.specs.State.{Machine};
 ghost use Rattle.store_core.specs.Change.{HasLiveContents, MayExpire};
@@ -18,16 +19,15 @@ ghost use Rattle.engine_core.specs.Committing.{identity_of};
 ghost use Rattle.engine_core.specs.Expiring.{MayExpireIn};
 ghost use Rattle.engine_queues.specs.Queues.{AreQueuesOf, queue_seen};
 ghost use Rattle.engine_queues.specs.Views.{kept_queues};
-ghost use Rattle.flow_engine.specs.Driving.{IsNoneExpired};
 ghost use Rattle.flow_run.specs.Ending.{journal_full};
 ghost use Rattle.flow_run.specs.Going.{IsSpared};
 ghost use Rattle.flow_run.specs.Run.{IsAtLimit, StandsFor};
 ghost use Rattle.flow_engine.specs.Engine.{IsOfSameRun, IsReady};
 ghost use Rattle.flow_engine.specs.Running.{IsRunning, Stops};
-ghost use Rattle.flow_engine.specs.Tending.{IsCheckpointed, IsCutOff, IsDone, MakesExpiry};
+ghost use Rattle.flow_engine.specs.Tending.{AreReclaimed, IsCheckpointed, IsCutOff, IsDone, MakesExpiry, due_in, is_log_due, counted_on};
 ghost use Rattle.flow_run.specs.Work.{IsAtWork, IsNoEarlier, IsRefused, IsShortOn, WritesLog};
 ghost use Rattle.flow_engine.specs.declared.error.EngineError.{EngineError as TheError};
-ghost use Rattle.flow_engine.specs.declared.tending.Tended.TheVariants.{Expired, Nothing};
+ghost use Rattle.flow_engine.specs.declared.tending.Tended.TheVariants.{Checkpointed, Expired, Nothing, Reclaimed};
 
 use crate::EngineError;
 use crate::engine::Engine;
@@ -39,18 +39,23 @@ use flow_run::{faults_end_a_run, run_goes_on, worlds_follow_steps};
 use flowfile_record::NUMBER_LIMIT;
 use machine_model::{Flow, RECLAIM_ENTRIES};
 use std::alloc::{AllocError, Global};
-use store_core::{Limit, SettledExpiry, Store, Which};
+use store_core::{SettledExpiry, Store};
 
-/// What expired: files of a connection, or nothing.
+/// What was due, and is done.
 #[derive(Clone, Copy, Debug, PartialEq, Eq)]
 pub enum Tended {
+    /// Files of a connection had expired, and are gone.
     Expired,
+    /// A new log has begun behind a snapshot.
+    Checkpointed,
+    /// The claims that no live content stands in are empty.
+    Reclaimed,
     Nothing,
 }
 
 impl Engine<'_> {
-    /// Lets the expired files of the first connection that has some go. Where there are none, it makes a checkpoint if
-    /// that is due, and reclaims the claims if that is due.
+    /// Does the first thing that is due at a moment: it lets the expired files of the first connection that has some go,
+    /// or begins a new log behind a snapshot, or reclaims the claims.
     pub fn tend<D: Disk>(
         &mut self,
         alloc: Global,
@@ -59,6 +64,7 @@ impl Engine<'_> {
     ) -> Result<Tended, EngineError>
         requires ready { IsReady D.tells D.held D.moment D.images self.old disk.old }
         requires most { self.old.most < 2 ^ 64 - 1 }
+        ensures due { IfOk result (λ tended. tended ≡ due_in self.old moment) }
         // The run goes on, or it is stopped. Inbox and outbox aren't called.
         ensures goes_on { OnOk result (IsTrue D.tells → (opened : Machine) (first : D) (left : List NamedFile)
             (standing : List ℕ → Option (List ℕ))
@@ -68,15 +74,17 @@ impl Engine<'_> {
             (left : List NamedFile) (standing : List ℕ → Option (List ℕ))
             → IsRunning D.moment D.images self.old opened first disk.old left standing
             → Stops error D.tells D.held D.moment D.images self.new opened first disk.new left standing }
-        // What was due is done, and nothing else has expired.
-        ensures expired { result ≡ Ok Expired → self.new.entries ≡ self.old.entries + 1 }
-        ensures none { result ≡ Ok Nothing
-            → IsNoneExpired self.new moment × (self.new.entries ≡ self.old.entries) }
-        ensures checkpointed { result ≡ Ok Nothing → IsCheckpointed self.old self.new }
-        ensures short { result ≡ Ok Nothing → IsShortOn D.moment D.images self.new.checkpoint disk.new }
+        // What is done of it.
+        ensures expired { result ≡ Ok Expired → (self.new.entries ≡ self.old.entries + 1)
+            × (self.new.since_reclaim ≡ counted_on self.old.since_reclaim) }
+        ensures checkpointed { result ≡ Ok Checkpointed → IsCheckpointed self.old.store self.new.store }
+        ensures reclaimed { result ≡ Ok Reclaimed → AreReclaimed self.old.store self.new.store
+            × (self.new.since_reclaim ≡ 0) }
+        ensures nothing { result ≡ Ok Nothing → (self.new ≡ self.old) × (disk.new ≡ disk.old) }
+        ensures short { result ≡ Ok Nothing → IsShortOn D.moment D.images self.old.checkpoint disk.old }
         // On any devices.
         ensures ready { OnOk result (IsReady D.tells D.held D.moment D.images self.new disk.new) }
-        ensures names { self.new.listing ≡ self.old.listing }
+        ensures names { (self.new.listing ≡ self.old.listing) × (self.new.last ≡ self.old.last) }
         ensures same { IsOfSameRun self.old self.new }
         ensures log { OnOk result (IsNoEarlier self.old.store.log.number self.new.store.log.number) }
         ensures alone { WritesLog D.moment D.images self.old.store.log.number disk.old disk.new }
@@ -88,19 +96,23 @@ impl Engine<'_> {
             ⊎ ((limit : TheLimit) × (error ≡ EngineError.Limit limit))) }
         ensures cause { CountsFaults (D.faults disk.old) (D.faults disk.new) (IsErrOf result EngineError.Disk) }
     {
-        match self.expire_due(alloc, disk, moment)? {
-            Tended::Expired => Ok(Tended::Expired),
-            Tended::Nothing => {
-                self.checkpoint_due(disk)?;
-                self.reclaim_due(disk)?;
-                Ok(Tended::Nothing)
-            }
+        if self.expire_due(alloc, disk, moment)? {
+            return Ok(Tended::Expired);
         }
+        if self.checkpoint_due(disk)? {
+            return Ok(Tended::Checkpointed);
+        }
+        if self.reclaim_due(disk)? {
+            return Ok(Tended::Reclaimed);
+        }
+        Ok(Tended::Nothing)
     }
 
-    // Begins a new log behind a snapshot where that is due. All memory is taken before the first call of the disk.
-    fn checkpoint_due<D: Disk>(&mut self, disk: &mut D) -> Result<(), EngineError>
+    // Begins a new log behind a snapshot where that is due, and answers whether it was. All memory is taken before the
+    // first call of the disk.
+    fn checkpoint_due<D: Disk>(&mut self, disk: &mut D) -> Result<bool, EngineError>
         requires { IsReady D.tells D.held D.moment D.images self.old disk.old }
+        ensures due { IfOk result (λ made. made ≡ is_log_due self.old.checkpoint self.old.store) }
         ensures goes_on { OnOk result ((opened : Machine) (first : D) (left : List NamedFile)
             (standing : List ℕ → Option (List ℕ))
             → IsRunning D.moment D.images self.old opened first disk.old left standing
@@ -109,8 +121,9 @@ impl Engine<'_> {
             (left : List NamedFile) (standing : List ℕ → Option (List ℕ))
             → IsRunning D.moment D.images self.old opened first disk.old left standing
             → Stops error D.tells D.held D.moment D.images self.new opened first disk.new left standing }
-        ensures made { OnOk result (IsCheckpointed self.old self.new) }
-        ensures short { OnOk result (IsShortOn D.moment D.images self.old.checkpoint disk.new) }
+        ensures made { result ≡ Ok true → IsCheckpointed self.old.store self.new.store }
+        ensures none { result ≡ Ok false → (self.new ≡ self.old) × (disk.new ≡ disk.old) }
+        ensures short { result ≡ Ok false → IsShortOn D.moment D.images self.old.checkpoint disk.old }
         ensures ready { OnOk result (IsReady D.tells D.held D.moment D.images self.new disk.new) }
         ensures rest { self.new ≡ record self.old { store = self.new.store } }
         ensures same { IsOfSameRun self.old self.new }
@@ -121,17 +134,18 @@ impl Engine<'_> {
         ensures cause { CountsFaults (D.faults disk.old) (D.faults disk.new) (IsErrOf result EngineError.Disk) }
     {
         if !wants_checkpoint(&self.store, self.checkpoint) {
-            return Ok(());
+            return Ok(false);
         }
         run_goes_on::<D>();
         faults_end_a_run::<D>();
         checkpoint(&mut self.store, disk)?;
-        Ok(())
+        Ok(true)
     }
 
-    // Reclaims the claims where that is due.
-    fn reclaim_due<D: Disk>(&mut self, disk: &mut D) -> Result<(), EngineError>
+    // Reclaims the claims where that is due, and answers whether it was.
+    fn reclaim_due<D: Disk>(&mut self, disk: &mut D) -> Result<bool, EngineError>
         requires { IsReady D.tells D.held D.moment D.images self.old disk.old }
+        ensures due { IfOk result (λ done. done ≡ nat_le RECLAIM_ENTRIES self.old.since_reclaim) }
         ensures goes_on { OnOk result ((opened : Machine) (first : D) (left : List NamedFile)
             (standing : List ℕ → Option (List ℕ))
             → IsRunning D.moment D.images self.old opened first disk.old left standing
@@ -140,10 +154,11 @@ impl Engine<'_> {
             (standing : List ℕ → Option (List ℕ))
             → IsRunning D.moment D.images self.old opened first disk.old left standing
             → Stops EngineError.Disk D.tells D.held D.moment D.images self.new opened first disk.new left standing }
-        ensures short { (checkpoint : ℕ) → IsShortOn D.moment D.images checkpoint disk.old
-            → IsShortOn D.moment D.images checkpoint disk.new }
+        ensures done { result ≡ Ok true → AreReclaimed self.old.store self.new.store
+            × (self.new.since_reclaim ≡ 0) }
+        ensures none { result ≡ Ok false → (self.new ≡ self.old) × (disk.new ≡ disk.old) }
         ensures ready { OnOk result (IsReady D.tells D.held D.moment D.images self.new disk.new) }
-        ensures rest { self.new ≡ record self.old { store = self.new.store } }
+        ensures names { (self.new.listing ≡ self.old.listing) × (self.new.last ≡ self.old.last) }
         ensures same { IsOfSameRun self.old self.new }
         ensures log { self.new.store.log.number ≡ self.old.store.log.number }
         ensures alone { WritesLog D.moment D.images self.old.store.log.number disk.old disk.new }
@@ -151,24 +166,26 @@ impl Engine<'_> {
         ensures cause { CountsFaults (D.faults disk.old) (D.faults disk.new) (IsErrOf result EngineError.Disk) }
     {
         if self.since_reclaim < RECLAIM_ENTRIES {
-            return Ok(());
+            return Ok(false);
         }
         run_goes_on::<D>();
         faults_end_a_run::<D>();
         reclaim(&mut self.store, disk)?;
         self.since_reclaim = 0;
-        Ok(())
+        Ok(true)
     }
 
-    // Lets the expired files of the first connection that has some go.
+    // Lets the expired files of the first connection that has some go, and answers whether there were any.
     fn expire_due<D: Disk>(
         &mut self,
         alloc: Global,
         disk: &mut D,
         moment: u64,
-    ) -> Result<Tended, EngineError>
+    ) -> Result<bool, EngineError>
         requires ready { IsReady D.tells D.held D.moment D.images self.old disk.old }
         requires most { self.old.most < 2 ^ 64 - 1 }
+        ensures due { IfOk result (λ done.
+            done ≡ is_some (due_expiry self.old.flow (queue_seen self.old.queues) moment)) }
         ensures goes_on { OnOk result (IsTrue D.tells → (opened : Machine) (first : D) (left : List NamedFile)
             (standing : List ℕ → Option (List ℕ))
             → IsRunning D.moment D.images self.old opened first disk.old left standing
@@ -177,10 +194,11 @@ impl Engine<'_> {
             (left : List NamedFile) (standing : List ℕ → Option (List ℕ))
             → IsRunning D.moment D.images self.old opened first disk.old left standing
             → Stops error D.tells D.held D.moment D.images self.new opened first disk.new left standing }
-        ensures expired { result ≡ Ok Expired → self.new.entries ≡ self.old.entries + 1 }
-        ensures none { result ≡ Ok Nothing → IsNoneExpired self.new moment × (self.new ≡ self.old) }
+        ensures expired { result ≡ Ok true → (self.new.entries ≡ self.old.entries + 1)
+            × (self.new.since_reclaim ≡ counted_on self.old.since_reclaim) }
+        ensures none { result ≡ Ok false → (self.new ≡ self.old) × (disk.new ≡ disk.old) }
         ensures ready { OnOk result (IsReady D.tells D.held D.moment D.images self.new disk.new) }
-        ensures names { self.new.listing ≡ self.old.listing }
+        ensures names { (self.new.listing ≡ self.old.listing) × (self.new.last ≡ self.old.last) }
         ensures same { IsOfSameRun self.old self.new }
         ensures log { self.new.store.log.number ≡ self.old.store.log.number }
         ensures alone { WritesLog D.moment D.images self.old.store.log.number disk.old disk.new }
@@ -199,14 +217,10 @@ impl Engine<'_> {
         run_goes_on::<D>();
         faults_end_a_run::<D>();
         let Some(expiry) = self.queues.due_expiry(alloc, moment)? else {
-            return Ok(Tended::Nothing);
+            return Ok(false);
         };
         if self.entries >= self.most {
-            return Err(EngineError::Limit(Limit {
-                which: Which::Journal,
-                number: self.most,
-                wanted: self.most + 1,
-            }));
+            return Err(EngineError::Limit(self.journal_limit()));
         }
         expire(
             alloc,
@@ -219,17 +233,18 @@ impl Engine<'_> {
         )?;
         self.entries += 1;
         self.since_reclaim = self.since_reclaim.saturating_add(1);
-        Ok(Tended::Expired)
+        Ok(true)
     }
 }
 
-// Whether the log has so many entries, and another one can follow it.
+// Whether the log has entries, as many as it takes, and another one can follow it.
 fn wants_checkpoint(store: &Store, checkpoint: u64) -> bool
-    ensures due { (number : ℕ) → store.now.log.number ≡ Some number
-        → result ≡ is_checkpoint_due checkpoint store.now.entries number }
+    ensures due { result ≡ is_log_due checkpoint store.now }
+    ensures next { result ≡ true → (number : ℕ) → store.now.log.number ≡ Some number → IsNumber (number + 1) }
     ensures counted { checkpoint < 2 ^ 64 }
 {
-    store.log_entries() >= checkpoint && store.log_number() < NUMBER_LIMIT - 1
+    let entries = store.log_entries();
+    entries > 0 && entries >= checkpoint && store.log_number() < NUMBER_LIMIT - 1
 }
 
 // Begins a new log behind a snapshot. Whatever a stop leaves stands for the same state.
@@ -244,8 +259,7 @@ fn checkpoint<D: Disk>(store: &mut Store, disk: &mut D) -> Result<(), EngineErro
         → IsAtWork flow D.tells D.held D.moment D.images store.old disk.old
         → IsAtWork flow D.tells D.held D.moment D.images store.new disk.new) }
     ensures same { (kept_by store.new ≡ kept_by store.old) × (store.new.lot ≡ store.old.lot) }
-    ensures next { OnOk result ((number : ℕ) → store.old.log.number ≡ Some number
-        → store.new.log.number ≡ Some (number + 1)) }
+    ensures next { OnOk result (IsCheckpointed store.old store.new) }
     ensures short { OnOk result ((checkpoint : ℕ) → IsShortOn D.moment D.images checkpoint disk.new) }
     ensures log { OnOk result (IsNoEarlier store.old.log.number store.new.log.number) }
     ensures unwritten { IsErrOf result EngineError.Memory → disk.new ≡ disk.old }
@@ -270,8 +284,7 @@ fn reclaim<D: Disk>(store: &mut Store, disk: &mut D) -> Result<(), EngineError>
         → IsAtWork flow D.tells D.held D.moment D.images store.new disk.new) }
     ensures same { (kept_by store.new ≡ kept_by store.old) × (store.new.lot ≡ store.old.lot)
         × (store.new.log.number ≡ store.old.log.number) }
-    ensures short { (checkpoint : ℕ) → IsShortOn D.moment D.images checkpoint disk.old
-        → IsShortOn D.moment D.images checkpoint disk.new }
+    ensures reclaimed { OnOk result (AreReclaimed store.old store.new) }
     ensures alone { WritesLog D.moment D.images store.old.log.number disk.old disk.new }
     ensures kinds { IfErr result (λ error. error ≡ EngineError.Disk) }
     ensures cause { CountsFaults (D.faults disk.old) (D.faults disk.new) (IsErrOf result EngineError.Disk) }

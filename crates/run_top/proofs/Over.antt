@@ -46,14 +46,19 @@ told_shut flow lot files RunError.Memory store damaged other = inr (inr refl)
 
 module _ {A D I O : Type 0} (tells : Bool) (held : D → Files) (moment : D → ℕ) (images : D → ℕ → Files → Type 0) (flow : Flow) (lot : ℕ) (old new : D) (inbox : I) (outbox : O)
     (opened : Result A RunError) (error : RunError) (was : opened ≡ Err error) (store : IsOfStore error) (opens : Opens (identity_of flow) moment images lot (held old) old new opened) where
-  pub refused_ends : FailedOpeningsEnd tells held moment images → (time : ℕ) (state : State) (left : List NamedFile) (standing : List ℕ → Option (List ℕ))
+  pub refused_ends : FailedOpeningsEnd tells held moment images → (time most : ℕ) (state : State) (left : List NamedFile) (standing : List ℕ → Option (List ℕ))
       → (error ≡ RunError.OtherFlow → IsShutStatus (identity_of flow) lot (held old) FLOW_REFUSED) → IsOfFlow flow lot (held old) state
-      → EndsWith flow (status_of error) time tells held moment images lot (machine_at state left standing) old new left standing
+      → EndsWith flow (status_of error) time tells held moment images lot most (machine_at state left standing) old new left standing
       ⊎ IsNotOpened (status_of error) moment images old new inbox inbox outbox outbox
-  refused_ends law time state left standing other of = ⊎_elim
+  refused_ends law time most state left standing other of = ⊎_elim
       (λ (since : SinceSync moment images old new (SameMeaning (identity_of flow) lot (held old))).
       let cause = fault_of error store (λ is. not_other flow lot (held old) state of (other is)) in
-      inl (record { ended = ending.Fault cause.0; told = cause.1; ran = law flow lot time (held old) old new state left standing cause.0 of.stands since }))
+      inl (record {
+        ended = ending.Fault cause.0;
+        told = cause.1;
+        ran = law flow lot time (held old) old new state left standing cause.0 of.stands since;
+        limited = λ limit is. absurd (cc);
+      }))
       (λ (un : IsUnopened moment images old new opened). inr (not_opened moment images old new inbox outbox opened error was un))
       opens
 
@@ -90,12 +95,29 @@ refused_counts opened error disk_old disk_new inbox outbox was counts = record {
 -- ---- a store that was opened
 
 module _ {D : Type 0} (tells : Bool) (held : D → Files) (moment : D → ℕ) (images : D → ℕ → Files → Type 0) (flow : Flow) (lot other : ℕ) (same : other ≡ lot) where
-  pub ran_ends : (ended : Ended) (time : ℕ) (opened : Machine) (old new : D) (left : List NamedFile) (standing : List ℕ → Option (List ℕ))
-      → HasRun flow ended time tells held moment images other opened old new left standing → EndsWith flow (status_of_end ended) time tells held moment images lot opened old new left standing
-  ran_ends ended time opened old new left standing ran = record {
+  -- a limit that was met from a later moment on
+  met_since : (most : ℕ) (old mid new : D) → moment old + 1 ≤ moment mid → (limit : Limit) → IsLimitMet flow tells held moment images other (moment mid) most limit new
+      → IsLimitMet flow tells held moment images lot (moment old + 1) most limit new
+  met_since most old mid new begun limit met = ⊎_elim
+      (λ (by : IsEndedByLimit flow tells held moment images other (moment mid) limit new). inl (record {
+        at = by.at;
+        from = let from = by.from in omega (arith, begun, from);
+        store = by.store;
+        lot_is = by.lot_is ∙ same;
+        refused = by.refused;
+        closed = by.closed;
+      }))
+      (λ full. inr full)
+      met
+
+  pub ran_ends : (ended : Ended) (time most : ℕ) (opened : Machine) (old mid new : D) (left : List NamedFile) (standing : List ℕ → Option (List ℕ)) → moment old + 1 ≤ moment mid
+      → ((limit : Limit) → ended ≡ ending.Limit limit → IsLimitMet flow tells held moment images other (moment mid) most limit new)
+      → HasRun flow ended time tells held moment images other opened old new left standing → EndsWith flow (status_of_end ended) time tells held moment images lot most opened old new left standing
+  ran_ends ended time most opened old mid new left standing begun met ran = record {
     ended = ended;
     told = refl;
     ran = subst (λ (l : ℕ). HasRun flow ended time tells held moment images l opened old new left standing) same ran;
+    limited = λ limit is. met_since most old mid new begun limit (met limit is);
   }
 
   pub read_tells : (ended : Ended) (old mid new : D) → moment old + 1 ≤ moment mid → moment mid ≤ moment new
@@ -106,25 +128,12 @@ module _ {D : Type 0} (tells : Bool) (held : D → Files) (moment : D → ℕ) (
       (λ damage told. record { opened = omega (arith, begun, later); read = subst (λ (l : ℕ). IsReadDamaged flow tells held moment images l new) same (damaged damage told) })
       is
 
-  pub limit_tells : (ended : Ended) (most : ℕ) (old mid new : D) → moment old + 1 ≤ moment mid
+  pub limit_tells : (ended : Ended) (most : ℕ) (old mid new : D) → moment old + 1 ≤ moment mid → moment mid ≤ moment new
       → ((limit : Limit) → ended ≡ ending.Limit limit → IsLimitMet flow tells held moment images other (moment mid) most limit new)
       → status_of_end ended ≡ LIMIT → IsLimited flow tells held moment images lot most old new
-  limit_tells ended most old mid new begun met is =
+  limit_tells ended most old mid new begun later met is =
       limit_end ended
-      (λ limit told. record {
-        limit = limit;
-        met = ⊎_elim
-            (λ (by : IsEndedByLimit flow tells held moment images other (moment mid) limit new). inl (record {
-              at = by.at;
-              from = let from = by.from in omega (arith, begun, from);
-              store = by.store;
-              lot_is = by.lot_is ∙ same;
-              refused = by.refused;
-              closed = by.closed;
-            }))
-            (λ full. inr full)
-            (met limit told);
-      })
+      (λ limit told. record { opened = omega (arith, begun, later); limit = limit; met = met_since most old mid new begun limit (met limit told) })
       is
 
 pub run_counts : (ended : Ended) (disk_old disk_mid disk_new inbox_old inbox_new outbox_old outbox_new : ℕ) → disk_old ≤ disk_mid

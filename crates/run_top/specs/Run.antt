@@ -17,6 +17,7 @@ use Rattle.flow_run.specs.Ending.{IsLimitMet}
 use Rattle.flow_run.specs.Run.{HasRun}
 use Rattle.flow_run.specs.Work.{IsReadDamaged, IsShortOn, MayWriteFrom}
 use Rattle.flow_run.specs.declared.ended.Ended.{Ended}
+use Rattle.flow_run.specs.declared.ended.Ended.TheVariants as ending
 use Rattle.run_top.specs.Opening.{IsShutStatus, IsToldBy}
 use Rattle.run_top.specs.Status.{status_of_end}
 use Rattle.run_top.specs.Text.{IsFlowIn, IsRead, IsRefused}
@@ -24,21 +25,24 @@ use Rattle.run_top.specs.declared.status.TheConstants.{BLOCKED, DONE, FLOW_REFUS
 
 -- ---- a flow has run
 
--- The flow has run, and how it ended at this time of the clock tells the status.
+-- The flow has run, and how it ended at this time of the clock tells the status. Where the journal's limit ended
+-- it, that is `most`.
 pub record EndsWith {D : Type 0} (flow : Flow) (status time : ℕ) (tells : Bool) (held : D → Files) (moment : D → ℕ)
-    (images : D → ℕ → Files → Type 0) (lot : ℕ) (opened : Machine) (old new : D) (left : List NamedFile)
+    (images : D → ℕ → Files → Type 0) (lot most : ℕ) (opened : Machine) (old new : D) (left : List NamedFile)
     (standing : List ℕ → Option (List ℕ)) : Type 0 where
   pub ended : Ended
   pub told : status ≡ status_of_end ended
   pub ran : HasRun flow ended time tells held moment images lot opened old new left standing
+  pub limited : (limit : Limit) → ended ≡ ending.Limit limit
+      → IsLimitMet flow tells held moment images lot (moment old + 1) most limit new
 
 -- .. and it is a flow of the text
 pub record HasRunText {D : Type 0} (text : List ℕ) (status time : ℕ) (tells : Bool) (held : D → Files) (moment : D → ℕ)
-    (images : D → ℕ → Files → Type 0) (lot : ℕ) (opened : Machine) (old new : D) (left : List NamedFile)
+    (images : D → ℕ → Files → Type 0) (lot most : ℕ) (opened : Machine) (old new : D) (left : List NamedFile)
     (standing : List ℕ → Option (List ℕ)) : Type 0 where
   pub flow : Flow
   pub read : IsRead true text flow
-  pub ends : EndsWith flow status time tells held moment images lot opened old new left standing
+  pub ends : EndsWith flow status time tells held moment images lot most opened old new left standing
 
 -- ---- where nothing was done
 
@@ -110,6 +114,7 @@ pub record IsToldByRead {D : Type 0} (flow : Flow) (tells : Bool) (held : D → 
 -- a limit was met behind the opening's first sync
 pub record IsLimited {D : Type 0} (flow : Flow) (tells : Bool) (held : D → Files) (moment : D → ℕ)
     (images : D → ℕ → Files → Type 0) (lot most : ℕ) (old new : D) : Type 0 where
+  pub opened : moment old + 1 ≤ moment new
   pub limit : Limit
   pub met : IsLimitMet flow tells held moment images lot (moment old + 1) most limit new
 

@@ -1,5 +1,5 @@
 //! The command that the words say.
-ghost use Rattle.std.specs.Prelude.{◌≡◌, ◌⊎◌, ◌↔◌, ◌+◌, ◌^◌, true, false, IsTrue};
+ghost use Rattle.std.specs.Prelude.{◌≡◌, ◌⊎◌, ◌↔◌, ◌+◌, ◌-◌, ◌^◌, ◌<◌, true, false, IsTrue};
 ghost use Rattle.disk_trait.specs.Faults.{CountsFaults};
 ghost use Rattle.flowfile_record.specs.Encoding.{IsDigest};
 ghost use Rattle.machine_model.specs.Sound.{IsSound};
@@ -70,7 +70,7 @@ pub fn run<R, D: Disk, I: Inbox, O: Outbox, F: Source, P: Patterns, S: Sink, C: 
     // flow to run.
     ensures headline { IsTrue D.tells → IsTrue I.tells → IsTrue O.tells → IsTrue F.tells → is_run words.now ≡ true
         → (any : TheFlow) → IsFlowIn (F.rest flow.old) any → (state : State) → IsOfFlow any lot (D.held disk.old) state
-        → HasRunText (F.rest flow.old) result (C.time clock.new) D.tells D.held D.moment D.images lot
+        → HasRunText (F.rest flow.old) result (C.time clock.new) D.tells D.held D.moment D.images lot MAX_COMMITS
         (machine_at state (I.left inbox.old) (O.standing outbox.old))
         disk.old disk.new (I.left inbox.new) (O.standing outbox.new)
         ⊎ IsNotOpened result D.moment D.images disk.old disk.new inbox.old inbox.new outbox.old outbox.new
@@ -139,6 +139,7 @@ pub fn run<R, D: Disk, I: Inbox, O: Outbox, F: Source, P: Patterns, S: Sink, C: 
             alloc,
             &flow,
             lot,
+            MAX_COMMITS,
             CHECKPOINT_ENTRIES,
             disk,
             inbox,
@@ -159,11 +160,13 @@ pub fn are_run(words: &[String]) -> bool
     }
 }
 
-/// Opens the store of a flow, and runs the flow over it, with a checkpoint where the log has `checkpoint` entries.
+/// Opens the store of a flow, and runs the flow over it, until the journal has `most` entries at the latest, with a
+/// checkpoint where the log has `checkpoint` entries.
 pub fn run_over<D: Disk, I: Inbox, O: Outbox, C: Clock>(
     alloc: Global,
     flow: &Flow,
     lot: u64,
+    most: u64,
     checkpoint: u64,
     disk: &mut D,
     inbox: &mut I,
@@ -173,9 +176,10 @@ pub fn run_over<D: Disk, I: Inbox, O: Outbox, C: Clock>(
     requires sound { IsSound flow.now }
     requires built { AreBuilt flow.now }
     requires digest { IsDigest flow.now.digest }
+    requires most { most < 2 ^ 64 - 1 }
     ensures headline { IsTrue D.tells → IsTrue I.tells → IsTrue O.tells
         → (state : State) → IsOfFlow flow.now lot (D.held disk.old) state
-        → EndsWith flow.now (status_at result) (C.time clock.new) D.tells D.held D.moment D.images lot
+        → EndsWith flow.now (status_at result) (C.time clock.new) D.tells D.held D.moment D.images lot most
         (machine_at state (I.left inbox.old) (O.standing outbox.old))
         disk.old disk.new (I.left inbox.new) (O.standing outbox.new)
         ⊎ IsNotOpened (status_at result) D.moment D.images disk.old disk.new inbox.old inbox.new outbox.old outbox.new }
@@ -195,7 +199,7 @@ pub fn run_over<D: Disk, I: Inbox, O: Outbox, C: Clock>(
         disk.old disk.new inbox.old inbox.new outbox.old outbox.new
         ⊎ IsToldByRead flow.now D.tells D.held D.moment D.images lot disk.old disk.new }
     ensures limited { status_at result ≡ LIMIT
-        → IsLimited flow.now D.tells D.held D.moment D.images lot MAX_COMMITS disk.old disk.new }
+        → IsLimited flow.now D.tells D.held D.moment D.images lot most disk.old disk.new }
     ensures causes { CountsEachFault (status_at result) (D.faults disk.old) (D.faults disk.new)
         (I.faults inbox.old) (I.faults inbox.new) (O.faults outbox.old) (O.faults outbox.new) }
     ensures source { status_at result ≡ SOURCE_FAULT → ⊥ }
@@ -207,14 +211,6 @@ pub fn run_over<D: Disk, I: Inbox, O: Outbox, C: Clock>(
     events_up_to_the_last_are_in_a_row();
     let _stored = store.state();
     Ok(run_flow(
-        alloc,
-        flow,
-        store,
-        MAX_COMMITS,
-        checkpoint,
-        disk,
-        inbox,
-        outbox,
-        clock,
+        alloc, flow, store, most, checkpoint, disk, inbox, outbox, clock,
     ))
 }

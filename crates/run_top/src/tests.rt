@@ -1,6 +1,8 @@
-//! A run over devices in memory, stopped at every moment and begun anew.
+//! A run over devices in memory, stopped at every moment and begun anew, or ended by the limit of its journal.
+ghost use Rattle.std.specs.Prelude.{◌-◌, ◌^◌, ◌<◌, IfOk};
 ghost use Rattle.flowfile_record.specs.Encoding.{IsDigest};
 ghost use Rattle.machine_model.specs.Sound.{IsSound};
+ghost use Rattle.flow_engine.specs.Engine.{AreBuilt};
 
 use super::*;
 use crate::command::run_over;
@@ -15,6 +17,7 @@ use prov_store::Events;
 use sha2::{Digest, Sha256};
 use std::alloc::Global;
 use std::test::Fail;
+use store_core::{Limit, Which};
 use world_io::{
     FreeGate, MemoryClock, MemoryInbox, MemoryOutbox, MemorySink, MemorySource, Name, Outbox,
 };
@@ -195,13 +198,30 @@ const LOGGED_RUNS: [LoggedRun; 2] = [
 // The calls of a checkpoint: two write the snapshot, six begin the log, and two cut those of before.
 const CHECKPOINT_CALLS: u64 = 10;
 
-// Opens the store, which so many files went through: none waits, and each event of theirs is told once. The number of
-// its log, and how many entries that has.
+// The flow that makes so many files.
+fn beat(alloc: Global, files: u64) -> Result<Flow, Fail>
+    ensures sound { IfOk result IsSound }
+    ensures built { IfOk result AreBuilt }
+    ensures digest { IfOk result (λ flow. IsDigest flow.digest) }
+{
+    let [head, tail] = BEAT;
+    let text = format!(in alloc; "{head}{files}{tail}")?;
+    let mut source = MemorySource::new(text.into_bytes(), Vec::new(alloc));
+    let mut patterns = Builder::new(Vec::new(alloc));
+    let Ok(flow) = read(alloc, &mut source, &mut patterns) else {
+        return Err("a text that is no flow")?;
+    };
+    Ok(flow)
+}
+
+// Opens the store, where so many files were made and so many of them went out: the others wait, and each event is told
+// once. The number of its log, and how many entries that has.
 fn log_behind(
     alloc: Global,
     disk: &mut MemoryDisk,
     flow: &Flow,
-    files: u64,
+    made: u64,
+    gone: u64,
 ) -> Result<(u64, u64), Fail>
     requires sound { IsSound flow.now }
     requires digest { IsDigest flow.now.digest }
@@ -210,47 +230,83 @@ fn log_behind(
         return Err("a store that can't be opened")?;
     };
     let kept = store.state();
-    let counts = [files, 0];
-    if !kept.files.is_empty() || kept.counts.as_slice() != counts.as_slice() {
+    let waiting = made.saturating_sub(gone);
+    let counts = [made, 0];
+    if kept.files.len() != waiting || kept.counts.as_slice() != counts.as_slice() {
         return Err("a store of another state")?;
     }
-    if store.event_counts().counts != [files, 0, 0, 0, 0, 0, 0, 0, files, files, 0, 0] {
+    if store.event_counts().counts != [made, 0, 0, 0, 0, 0, 0, 0, gone, gone, 0, 0] {
         return Err("events that aren't those of the files")?;
     }
     Ok((store.log_number(), store.log_entries()))
 }
 
-// Opens the store of a run, which so many files went through, and has the flow run on to its end. The last log has no
-// entries then.
-fn runs_on(alloc: Global, disk: &mut MemoryDisk, run: LoggedRun, gone: u64) -> Result<(), Fail> {
-    let [head, tail] = BEAT;
-    let text = format!(in alloc; "{head}{}{tail}", run.files)?;
-    let mut source = MemorySource::new(text.into_bytes(), Vec::new(alloc));
-    let mut patterns = Builder::new(Vec::new(alloc));
-    let Ok(flow) = read(alloc, &mut source, &mut patterns) else {
-        return Err("a text that is no flow")?;
-    };
-    log_behind(alloc, disk, &flow, gone)?;
+// Runs the flow over the store, until the journal has `most` entries at the latest: how that ended, and how many files
+// were delivered.
+fn goes_on(
+    alloc: Global,
+    disk: &mut MemoryDisk,
+    flow: &Flow,
+    most: u64,
+    checkpoint: u64,
+) -> Result<(Ended, u64), Fail>
+    requires sound { IsSound flow.now }
+    requires built { AreBuilt flow.now }
+    requires digest { IsDigest flow.now.digest }
+    requires most { most < 2 ^ 64 - 1 }
+{
     let mut inbox = MemoryInbox::new(Vec::new(alloc), Vec::new(alloc));
     let mut outbox = MemoryOutbox::new(Vec::new(alloc), Vec::new(alloc));
     let mut clock = MemoryClock::new(1000, 0);
     let ended = run_over(
         alloc,
-        &flow,
+        flow,
         0,
-        run.entries,
+        most,
+        checkpoint,
         disk,
         &mut inbox,
         &mut outbox,
         &mut clock,
-    );
-    let delivered = outbox.count() as u64;
-    if !matches!(ended, Ok(Ended::Quiet)) || delivered != run.files.saturating_sub(gone) {
+    )?;
+    Ok((ended, outbox.count() as u64))
+}
+
+// Opens the store of a run, which so many files went through, and has the flow run on to its end. The last log has no
+// entries then.
+fn runs_on(alloc: Global, disk: &mut MemoryDisk, run: LoggedRun, gone: u64) -> Result<(), Fail> {
+    let flow = beat(alloc, run.files)?;
+    log_behind(alloc, disk, &flow, gone, gone)?;
+    let left = run.files.saturating_sub(gone);
+    if goes_on(alloc, disk, &flow, MAX_COMMITS, run.entries)? != (Ended::Quiet, left) {
         return Err("a run that doesn't deliver the rest")?;
     }
-    if log_behind(alloc, disk, &flow, run.files)? != (run.last_log, 0) {
+    if log_behind(alloc, disk, &flow, run.files, run.files)? != (run.last_log, 0) {
         return Err("a run with another last log")?;
     }
+    Ok(())
+}
+
+// Runs the flow of four files until the journal has five entries: three files were made, of which two went out. The
+// next run delivers the others.
+fn ends_at_its_limit(alloc: Global) -> Result<(), Fail> {
+    let flow = beat(alloc, 4)?;
+    let mut disk = MemoryDisk::new(Vec::new(alloc));
+    let limit = Limit {
+        which: Which::Journal,
+        number: 5,
+        wanted: 6,
+    };
+    let ended = goes_on(alloc, &mut disk, &flow, 5, CHECKPOINT_ENTRIES)?;
+    if ended != (Ended::Limit(limit), 2) {
+        return Err("a run that isn't ended by the limit of its journal")?;
+    }
+    log_behind(alloc, &mut disk, &flow, 3, 2)?;
+    let ended = goes_on(alloc, &mut disk, &flow, MAX_COMMITS, CHECKPOINT_ENTRIES)?;
+    if ended != (Ended::Quiet, 2) {
+        return Err("a run that doesn't deliver what a limit left")?;
+    }
+    log_behind(alloc, &mut disk, &flow, 4, 4)?;
     Ok(())
 }
 
@@ -303,5 +359,6 @@ fn wherever_a_run_stops_the_next_one_delivers_the_file(rt: HostRuntime) -> Resul
     let [short, long] = LOGGED_RUNS;
     goes_by_logs(alloc, short, &PICKS)?;
     goes_by_logs(alloc, long, &[Pick::Torn(0x5a5a)])?;
+    ends_at_its_limit(alloc)?;
     Ok(())
 }

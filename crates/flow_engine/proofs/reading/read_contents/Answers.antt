@@ -7,7 +7,7 @@ use Rattle.store_core.specs.Store.{StoreState, live_in}
 use Rattle.engine_session.specs.Handing.{AreReadOf}
 use Rattle.flow_run.specs.Work.{IsAtWork, IsReadDamaged}
 use Rattle.flow_engine.specs.declared.error.EngineError.{EngineError}
-use Rattle.flow_engine.proofs.Committed.{work_read}
+use Rattle.flow_engine.proofs.Commits.{work_read}
 use Rattle.flow_engine.proofs.reading.read_contents.Goals as goal
 
 pub loop-place-init : goal.loop-place-init

@@ -1,5 +1,5 @@
 use Rattle.std.proofs.Common.{ap, refl, ◌∙◌, ◌≡◌, ◌∷◌, ◌++◌, [], subst, sym, List, ℕ}
-use Rattle.std.specs.Prelude.{Err, Option, Some}
+use Rattle.std.specs.Prelude.{Err, Option}
 use Rattle.std.proofs.lemmas.Result.{err_from_is_err_and}
 use Rattle.content_repo.specs.Claims.{content_in}
 use Rattle.engine_session.specs.Handing.{AreReadOf}

@@ -1,8 +1,8 @@
-use Rattle.std.proofs.Common.{arith, ◌≡◌, ◌⊎◌, ℕ, List, sym, ◌∙◌, ap, subst}
+use Rattle.std.proofs.Common.{arith, ◌≡◌, List, refl, sym, ◌∙◌, ap, subst}
 use Rattle.std.specs.Prelude.{Err}
 use Rattle.flowfile_record.specs.NamedFile.{NamedFile}
 use Rattle.machine_model.specs.declared.flow.Flow.{Flow}
-use Rattle.store_core.specs.Store.{IsKeptOn, StoreState}
+use Rattle.store_core.specs.Store.{StoreState}
 use Rattle.engine_core.specs.Committing.{identity_of}
 use Rattle.engine_choice.specs.declared.choice.Ending.{Ending}
 use Rattle.flow_run.specs.Run.{HasRun, machine_at}
@@ -11,7 +11,7 @@ use Rattle.flow_engine.specs.Driving.{IsEnded}
 use Rattle.flow_engine.specs.Engine.{EngineState}
 use Rattle.flow_engine.specs.Errors.{ended_by}
 use Rattle.flow_engine.specs.declared.error.EngineError.{EngineError}
-use Rattle.flow_engine.specs.declared.error.EngineError.TheVariants.{Damaged, Limit}
+use Rattle.flow_engine.specs.declared.error.EngineError.TheVariants.{Limit}
 use Rattle.flow_engine.proofs.Closing.{begun, by_damage, closes_blocked, closes_limited, closes_quiet, ends_on_faults, limit_met, limit_of, no_limit_faults, not_opened, run_of, works_on}
 use Rattle.flow_engine.proofs.Turning.{IsNoLimit, damaged_by, each_counts_after, has_run}
 use Rattle.flow_engine.proofs.Short.{ends_by_error, ends_by_limit, ends_short}
@@ -24,8 +24,8 @@ returns-in-Err-clause-headline g c telling in_telling out_telling state first ru
     let D = g.D.Disk in
     let left : List NamedFile = g.I.Inbox.left c.args.inbox.now in
     let standing = g.O.Outbox.standing c.args.outbox.now in
-    not_opened D.tells D.held D.moment D.images c.faults_end_a_run.ensures.between c.args.flow.now c.args.store.lot (g.C.Clock.time c.args.clock.now) (machine_at state left standing) first c.args.disk.now left (g.I.Inbox.left c.open.new.inbox) standing
-    c.in-Err.error c.ended.result c.in-Err.ensures.kinds c.ended.ensures c.open.ensures.left run
+    not_opened D.tells D.held D.moment D.images c.faults_end_a_run.ensures.between c.args.flow.now c.args.store.lot (g.C.Clock.time c.args.clock.now) (machine_at state left standing) first c.args.disk.now left (g.I.Inbox.left c.new.new.inbox) standing
+    c.in-Err.error c.ended.result c.in-Err.ensures.kinds c.ended.ensures c.new.ensures.left run
 
 pub returns-in-Err-clause-checkpointed : goal.returns-in-Err-clause-checkpointed
 returns-in-Err-clause-checkpointed g c =
@@ -41,12 +41,12 @@ returns-in-Ok-Blocked-clause-headline g c telling in_telling out_telling state f
     let is = c.in-Ok.ensures.opened in
     let e : EngineState = c.drive.new.self in
     let laws = g.met.D.Disk g.world.𝓛 g.world.𝓜 g.world.𝓡 ((λ s x. x), (λ x. x), (λ x. x), λ x. x) in
-    let begins = begun D.tells D.held D.moment D.images flow c.args.store c.args.most c.in-Ok.engine is opened first c.args.disk.now left (g.I.Inbox.left c.open.new.inbox) standing c.open.ensures.left
+    let begins = begun D.tells D.held D.moment D.images flow c.args.store c.args.most c.in-Ok.engine is opened first c.args.disk.now left (g.I.Inbox.left c.new.new.inbox) standing c.new.ensures.left
     (c.in-Ok.ensures.coming in_telling state standing) run in
     let end = subst (λ (a : Ending). IsEnded D.moment D.images e opened first c.drive.new.disk (g.I.Inbox.left c.drive.new.inbox) (g.O.Outbox.standing c.drive.new.outbox) (g.C.Clock.time c.drive.new.clock) a) c.in-Ok-Blocked.field-0-is
     (c.in-Ok-Blocked.ensures.ended telling in_telling out_telling opened first begins) in
     closes_blocked D.tells D.held D.moment D.images c.faults_end_a_run.ensures.between e flow c.args.store.lot (c.drive.ensures.same.flow ∙ is.flow_is) (c.drive.ensures.same.lot ∙ ap (λ (t : StoreState). t.lot) is.store_is)
-    c.engine.inside.store (ap (λ (t : EngineState). t.store) c.engine.view_is) (c.in-Ok-Blocked.ensures.work.flow_is ∙ ap identity_of (sym c.drive.ensures.same.flow)) opened first c.drive.new.disk c.close.new.disk
+    c.drive.new.self.store refl (c.in-Ok-Blocked.ensures.work.flow_is ∙ ap identity_of (sym c.drive.ensures.same.flow)) opened first c.drive.new.disk c.close.new.disk
     (g.I.Inbox.left c.drive.new.inbox) (g.O.Outbox.standing c.drive.new.outbox) (g.C.Clock.time c.drive.new.clock) c.close.result c.close.ensures.states (laws.held_is_left c.close.new.disk telling)
     c.run_ends.ensures.blocked c.in-Ok-Blocked.connection end c.close.ensures.told c.close.ensures.tidied telling
 
@@ -60,7 +60,7 @@ returns-in-Ok-Blocked-clause-alone g c =
     let D = g.D.Disk in
     let log = c.args.store.log.number in
     let drives = writes_on D.moment D.images log c.in-Ok.engine.store.log.number c.args.disk.now c.args.disk.now c.drive.new.disk (same_log log c.in-Ok.engine.store.log.number (ap (λ (t : StoreState). t.log.number) c.in-Ok.ensures.opened.store_is)) (writes_none D.moment D.images log c.args.disk.now) c.drive.ensures.alone in
-    writes_in_turn D.moment D.images log c.args.disk.now c.drive.new.disk c.close.new.disk drives (writes_by_close D.moment D.images log c.engine.inside.store c.drive.new.disk c.close.new.disk c.close.ensures.alone)
+    writes_in_turn D.moment D.images log c.args.disk.now c.drive.new.disk c.close.new.disk drives (writes_by_close D.moment D.images log c.drive.new.self.store c.drive.new.disk c.close.new.disk c.close.ensures.alone)
 
 pub returns-in-Ok-Quiet-clause-headline : goal.returns-in-Ok-Quiet-clause-headline
 returns-in-Ok-Quiet-clause-headline g c telling in_telling out_telling state first run =
@@ -72,12 +72,12 @@ returns-in-Ok-Quiet-clause-headline g c telling in_telling out_telling state fir
     let is = c.in-Ok.ensures.opened in
     let e : EngineState = c.drive.new.self in
     let laws = g.met.D.Disk g.world.𝓛 g.world.𝓜 g.world.𝓡 ((λ s x. x), (λ x. x), (λ x. x), λ x. x) in
-    let begins = begun D.tells D.held D.moment D.images flow c.args.store c.args.most c.in-Ok.engine is opened first c.args.disk.now left (g.I.Inbox.left c.open.new.inbox) standing c.open.ensures.left
+    let begins = begun D.tells D.held D.moment D.images flow c.args.store c.args.most c.in-Ok.engine is opened first c.args.disk.now left (g.I.Inbox.left c.new.new.inbox) standing c.new.ensures.left
     (c.in-Ok.ensures.coming in_telling state standing) run in
     let end = subst (λ (a : Ending). IsEnded D.moment D.images e opened first c.drive.new.disk (g.I.Inbox.left c.drive.new.inbox) (g.O.Outbox.standing c.drive.new.outbox) (g.C.Clock.time c.drive.new.clock) a) c.in-Ok-Quiet.field-0-is
     (c.in-Ok-Quiet.ensures.ended telling in_telling out_telling opened first begins) in
     closes_quiet D.tells D.held D.moment D.images c.faults_end_a_run.ensures.between e flow c.args.store.lot (c.drive.ensures.same.flow ∙ is.flow_is) (c.drive.ensures.same.lot ∙ ap (λ (t : StoreState). t.lot) is.store_is)
-    c.engine.inside.store (ap (λ (t : EngineState). t.store) c.engine.view_is) (c.in-Ok-Quiet.ensures.work.flow_is ∙ ap identity_of (sym c.drive.ensures.same.flow)) opened first c.drive.new.disk c.close-in-Ok-Quiet.new.disk
+    c.drive.new.self.store refl (c.in-Ok-Quiet.ensures.work.flow_is ∙ ap identity_of (sym c.drive.ensures.same.flow)) opened first c.drive.new.disk c.close-in-Ok-Quiet.new.disk
     (g.I.Inbox.left c.drive.new.inbox) (g.O.Outbox.standing c.drive.new.outbox) (g.C.Clock.time c.drive.new.clock) c.close-in-Ok-Quiet.result c.close-in-Ok-Quiet.ensures.states (laws.held_is_left c.close-in-Ok-Quiet.new.disk telling)
     c.run_ends.ensures.quiet end c.close-in-Ok-Quiet.ensures.told c.close-in-Ok-Quiet.ensures.tidied telling
 
@@ -91,14 +91,13 @@ returns-in-Ok-Quiet-clause-alone g c =
     let D = g.D.Disk in
     let log = c.args.store.log.number in
     let drives = writes_on D.moment D.images log c.in-Ok.engine.store.log.number c.args.disk.now c.args.disk.now c.drive.new.disk (same_log log c.in-Ok.engine.store.log.number (ap (λ (t : StoreState). t.log.number) c.in-Ok.ensures.opened.store_is)) (writes_none D.moment D.images log c.args.disk.now) c.drive.ensures.alone in
-    writes_in_turn D.moment D.images log c.args.disk.now c.drive.new.disk c.close-in-Ok-Quiet.new.disk drives (writes_by_close D.moment D.images log c.engine.inside.store c.drive.new.disk c.close-in-Ok-Quiet.new.disk c.close-in-Ok-Quiet.ensures.alone)
+    writes_in_turn D.moment D.images log c.args.disk.now c.drive.new.disk c.close-in-Ok-Quiet.new.disk drives (writes_by_close D.moment D.images log c.drive.new.self.store c.drive.new.disk c.close-in-Ok-Quiet.new.disk c.close-in-Ok-Quiet.ensures.alone)
 
 pub close-requires-in-Err-drive-clause-kept : goal.close-requires-in-Err-drive-clause-kept
 close-requires-in-Err-drive-clause-kept g c κs within =
     let D = g.D.Disk in
     let e0 : EngineState = c.in-Ok.engine in
     let met = c.drive.ensures.refused c.in-Limit.limit (c.in-Err-drive.is ∙ ap Err c.in-Limit.is) in
-    subst (λ (t : StoreState). IsKeptOn D.tells D.held D.moment D.images t c.drive.new.disk) (sym (ap (λ (t : EngineState). t.store) c.engine.view_is))
     (works_on D.tells D.held D.moment D.images e0.flow e0.most c.in-Limit.limit c.drive.new.self c.drive.new.disk met).kept
 
 pub close-requires-in-Err-drive-clause-works : goal.close-requires-in-Err-drive-clause-works
@@ -106,8 +105,7 @@ close-requires-in-Err-drive-clause-works g c κs within =
     let D = g.D.Disk in
     let e0 : EngineState = c.in-Ok.engine in
     let met = c.drive.ensures.refused c.in-Limit.limit (c.in-Err-drive.is ∙ ap Err c.in-Limit.is) in
-    ap (λ (t : EngineState). t.store.failed) c.engine.view_is
-    ∙ (works_on D.tells D.held D.moment D.images e0.flow e0.most c.in-Limit.limit c.drive.new.self c.drive.new.disk met).works
+    (works_on D.tells D.held D.moment D.images e0.flow e0.most c.in-Limit.limit c.drive.new.self c.drive.new.disk met).works
 
 pub returns-clause-headline : goal.returns-clause-headline
 returns-clause-headline g c telling in_telling out_telling state first run =
@@ -119,7 +117,7 @@ returns-clause-headline g c telling in_telling out_telling state first run =
     let is = c.in-Ok.ensures.opened in
     let e : EngineState = c.drive.new.self in
     let laws = g.met.D.Disk g.world.𝓛 g.world.𝓜 g.world.𝓡 ((λ s x. x), (λ x. x), (λ x. x), λ x. x) in
-    let begins = begun D.tells D.held D.moment D.images flow c.args.store c.args.most c.in-Ok.engine is opened first c.args.disk.now left (g.I.Inbox.left c.open.new.inbox) standing c.open.ensures.left
+    let begins = begun D.tells D.held D.moment D.images flow c.args.store c.args.most c.in-Ok.engine is opened first c.args.disk.now left (g.I.Inbox.left c.new.new.inbox) standing c.new.ensures.left
     (c.in-Ok.ensures.coming in_telling state standing) run in
     let e0 : EngineState = c.in-Ok.engine in
     let limit = c.in-Limit.limit in
@@ -127,7 +125,7 @@ returns-clause-headline g c telling in_telling out_telling state first run =
     let work = works_on D.tells D.held D.moment D.images e0.flow e0.most limit e c.drive.new.disk (c.drive.ensures.refused limit was) in
     let stop = c.drive.ensures.stopped (Limit limit) was telling in_telling out_telling opened first begins in
     closes_limited D.tells D.held D.moment D.images c.faults_end_a_run.ensures.between e flow c.args.store.lot (c.drive.ensures.same.flow ∙ is.flow_is) (c.drive.ensures.same.lot ∙ ap (λ (t : StoreState). t.lot) is.store_is)
-    c.engine.inside.store (ap (λ (t : EngineState). t.store) c.engine.view_is) (work.flow_is ∙ ap identity_of (sym c.drive.ensures.same.flow)) opened first c.drive.new.disk c.close-in-Err-drive.new.disk
+    c.drive.new.self.store refl (work.flow_is ∙ ap identity_of (sym c.drive.ensures.same.flow)) opened first c.drive.new.disk c.close-in-Err-drive.new.disk
     (g.I.Inbox.left c.drive.new.inbox) (g.O.Outbox.standing c.drive.new.outbox) (g.C.Clock.time c.drive.new.clock) c.close-in-Err-drive.result c.close-in-Err-drive.ensures.states (laws.held_is_left c.close-in-Err-drive.new.disk telling)
     c.run_ends.ensures.limited limit stop c.close-in-Err-drive.ensures.told c.close-in-Err-drive.ensures.tidied telling
 
@@ -140,7 +138,7 @@ returns-clause-alone g c =
     let D = g.D.Disk in
     let log = c.args.store.log.number in
     let drives = writes_on D.moment D.images log c.in-Ok.engine.store.log.number c.args.disk.now c.args.disk.now c.drive.new.disk (same_log log c.in-Ok.engine.store.log.number (ap (λ (t : StoreState). t.log.number) c.in-Ok.ensures.opened.store_is)) (writes_none D.moment D.images log c.args.disk.now) c.drive.ensures.alone in
-    writes_in_turn D.moment D.images log c.args.disk.now c.drive.new.disk c.close-in-Err-drive.new.disk drives (writes_by_close D.moment D.images log c.engine.inside.store c.drive.new.disk c.close-in-Err-drive.new.disk c.close-in-Err-drive.ensures.alone)
+    writes_in_turn D.moment D.images log c.args.disk.now c.drive.new.disk c.close-in-Err-drive.new.disk drives (writes_by_close D.moment D.images log c.drive.new.self.store c.drive.new.disk c.close-in-Err-drive.new.disk c.close-in-Err-drive.ensures.alone)
 
 pub returns-clause-limited : goal.returns-clause-limited
 returns-clause-limited g c limit so =
@@ -148,9 +146,9 @@ returns-clause-limited g c limit so =
     let e0 : EngineState = c.in-Ok.engine in
     let is = c.in-Ok.ensures.opened in
     let met = c.drive.ensures.refused c.in-Limit.limit (c.in-Err-drive.is ∙ ap Err c.in-Limit.is) in
-    limit_met D.tells D.held D.moment D.images c.args.flow.now e0.flow c.args.store.lot (D.moment c.args.disk.now) c.args.most e0.most c.in-Limit.limit limit c.drive.new.self c.engine.inside.store c.drive.new.disk c.close-in-Err-drive.new.disk
+    limit_met D.tells D.held D.moment D.images c.args.flow.now e0.flow c.args.store.lot (D.moment c.args.disk.now) c.args.most e0.most c.in-Limit.limit limit c.drive.new.self c.drive.new.self.store c.drive.new.disk c.close-in-Err-drive.new.disk
     (limit_of c.close-in-Err-drive.result c.in-Limit.limit limit c.close-in-Err-drive.ensures.told so) is.flow_is is.most_is (c.drive.ensures.same.lot ∙ ap (λ (t : StoreState). t.lot) is.store_is)
-    (ap (λ (t : EngineState). t.store) c.engine.view_is) c.drive.ensures.alone.later met c.close-in-Err-drive.ensures.alone
+    refl c.drive.ensures.alone.later met c.close-in-Err-drive.ensures.alone
 
 pub returns-in_default : goal.returns-in_default
 returns-in_default g c =
@@ -170,7 +168,7 @@ returns-in_default g c =
           let now_left : List NamedFile = g.I.Inbox.left c.drive.new.inbox in
           let now_standing = g.O.Outbox.standing c.drive.new.outbox in
           let time = g.C.Clock.time c.drive.new.clock in
-          let begins = begun D.tells D.held D.moment D.images c.args.flow.now c.args.store c.args.most e0 is opened first c.args.disk.now left (g.I.Inbox.left c.open.new.inbox) standing c.open.ensures.left
+          let begins = begun D.tells D.held D.moment D.images c.args.flow.now c.args.store c.args.most e0 is opened first c.args.disk.now left (g.I.Inbox.left c.new.new.inbox) standing c.new.ensures.left
           (c.in-Ok.ensures.coming in_telling state standing) run in
           let stop = c.drive.ensures.stopped error c.in-Err-drive.is telling in_telling out_telling opened first begins in
           subst (λ (r : Ended). HasRun c.args.flow.now r time D.tells D.held D.moment D.images c.args.store.lot opened first c.drive.new.disk now_left now_standing) (sym so)
@@ -188,6 +186,6 @@ returns-in_default g c =
       causes =
           ends_on_faults c.drive.result error end (D.faults c.args.disk.now) (D.faults c.drive.new.disk) (g.I.Inbox.faults c.args.inbox.now) (g.I.Inbox.faults c.drive.new.inbox) (g.O.Outbox.faults c.args.outbox.now) (g.O.Outbox.faults c.drive.new.outbox)
           c.in-Err-drive.is so
-          (each_counts_after c.drive.result (D.faults c.args.disk.now) (D.faults c.args.disk.now) (D.faults c.drive.new.disk) (g.I.Inbox.faults c.args.inbox.now) (g.I.Inbox.faults c.open.new.inbox) (g.I.Inbox.faults c.drive.new.inbox)
-          (g.O.Outbox.faults c.args.outbox.now) (g.O.Outbox.faults c.args.outbox.now) (g.O.Outbox.faults c.drive.new.outbox) (omega arith) c.open.ensures.cause.never_falls (omega arith) c.drive.ensures.cause);
+          (each_counts_after c.drive.result (D.faults c.args.disk.now) (D.faults c.args.disk.now) (D.faults c.drive.new.disk) (g.I.Inbox.faults c.args.inbox.now) (g.I.Inbox.faults c.new.new.inbox) (g.I.Inbox.faults c.drive.new.inbox)
+          (g.O.Outbox.faults c.args.outbox.now) (g.O.Outbox.faults c.args.outbox.now) (g.O.Outbox.faults c.drive.new.outbox) (omega arith) c.new.ensures.cause.never_falls (omega arith) c.drive.ensures.cause);
     }

@@ -3,9 +3,8 @@ use Rattle.std.specs.Prelude.{Err}
 use Rattle.std.proofs.lemmas.Result.{err_from_is_err_and}
 use Rattle.store_core.specs.declared.error.StoreError.{StoreError}
 use Rattle.flow_run.proofs.Writing.{next_log}
-use Rattle.flow_engine.specs.declared.error.EngineError.{EngineError}
 use Rattle.flow_engine.proofs.Short.{just_begun}
-use Rattle.flow_engine.proofs.Tended.{memory_of, spares, still_works, writes_by_checkpoint}
+use Rattle.flow_engine.proofs.Tends.{memory_of, spares, still_works, writes_by_checkpoint}
 use Rattle.flow_engine.proofs.tending.checkpoint.Goals as goal
 
 pub returns-in_err-checkpoint-clause-spared : goal.returns-in_err-checkpoint-clause-spared

@@ -11,7 +11,7 @@ use Rattle.store_core.specs.Store.{kept_by}
 use Rattle.store_core.specs.declared.error.StoreError.{StoreError}
 use Rattle.engine_queues.specs.Settling.{MayExpireIn}
 use Rattle.flow_run.proofs.Writing.{touches_log}
-use Rattle.flow_engine.proofs.Tended.{committed, committed_between, kept_after, limit_of, passes, refuses}
+use Rattle.flow_engine.proofs.Tends.{committed, committed_between, kept_after, limit_of, passes, refuses}
 use Rattle.flow_engine.proofs.tending.expire.Goals as goal
 
 pub returns-in_err-prepared-clause-limited : goal.returns-in_err-prepared-clause-limited

@@ -1,5 +1,4 @@
-use Rattle.flow_engine.proofs.Short.{still_short}
-use Rattle.flow_engine.proofs.Tended.{spares, writes_by_reclaim}
+use Rattle.flow_engine.proofs.Tends.{spares, writes_by_reclaim}
 use Rattle.flow_engine.proofs.tending.reclaim.Goals as goal
 
 pub returns-in_err-reclaim-clause-spared : goal.returns-in_err-reclaim-clause-spared
@@ -17,11 +16,3 @@ returns-clause-spared g c flow before work stands =
 pub returns-clause-alone : goal.returns-clause-alone
 returns-clause-alone g c =
     writes_by_reclaim g.D.Disk.moment g.D.Disk.images c.args.store.now.log.number c.args.store.now.slots c.args.disk.now c.reclaim.new.disk c.reclaim.ensures.alone
-
-pub returns-in_err-reclaim-clause-short : goal.returns-in_err-reclaim-clause-short
-returns-in_err-reclaim-clause-short g c =
-    still_short g.D.Disk.moment g.D.Disk.images _ c.args.disk.now c.reclaim.new.disk c.reclaim.ensures.alone
-
-pub returns-clause-short : goal.returns-clause-short
-returns-clause-short g c =
-    still_short g.D.Disk.moment g.D.Disk.images _ c.args.disk.now c.reclaim.new.disk c.reclaim.ensures.alone

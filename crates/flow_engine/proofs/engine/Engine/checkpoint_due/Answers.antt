@@ -1,17 +1,16 @@
 use Rattle.std.proofs.Common.{◌≡◌, ◌⊎◌, ◌∙◌, refl, sym, subst}
 use Rattle.std.proofs.lemmas.Result.{err_from_is_err_and}
-use Rattle.flow_run.specs.Work.{IsAtWork, IsNoEarlier, IsShortOn, HasShortLog, WritesLog}
+use Rattle.flow_run.specs.Work.{IsAtWork, IsNoEarlier, HasShortLog, WritesLog}
 use Rattle.flow_engine.specs.Engine.{EngineState, IsOfSameRun}
 use Rattle.flow_engine.specs.Running.{IsRunning}
+use Rattle.flow_engine.specs.Tending.{IsCheckpointed}
 use Rattle.flow_engine.specs.declared.error.EngineError.{EngineError}
 use Rattle.flow_engine.proofs.RunsOn.{runs_spared, stops_by}
-use Rattle.flow_engine.proofs.Short.{not_due}
-use Rattle.flow_engine.proofs.Tended.{can_follow}
+use Rattle.flow_engine.proofs.Short.{no_log_due}
 use Rattle.flow_engine.proofs.engine.Engine.checkpoint_due.Goals as goal
 
 pub checkpoint-requires-clause-number : goal.checkpoint-requires-clause-number
-checkpoint-requires-clause-number g c κs within number is =
-    can_follow c.self.inside.checkpoint c.self.inside.store.entries number (sym (c.wants_checkpoint.ensures.due number is) ∙ c.if-not-wants_checkpoint.false)
+checkpoint-requires-clause-number g c κs within number is = c.wants_checkpoint.ensures.next c.if-not-wants_checkpoint.false number is
 
 pub returns-in_err-checkpoint-clause-stopped : goal.returns-in_err-checkpoint-clause-stopped
 returns-in_err-checkpoint-clause-stopped g c error is opened first left standing run =
@@ -22,7 +21,7 @@ returns-in_err-checkpoint-clause-stopped g c error is opened first left standing
     let old = c.args.disk.now in
     let new = c.checkpoint.new.disk in
     let i = c.self.inside in
-    let e : EngineState = record { flow = i.flow.now; store = i.store; queues = i.queues; listing = i.listing; last = i.last; entries = i.entries; most = i.most; checkpoint = i.checkpoint } in
+    let e : EngineState = record { flow = i.flow.now; store = i.store; queues = i.queues; listing = i.listing; last = i.last; entries = i.entries; most = i.most; checkpoint = i.checkpoint; since_reclaim = i.since_reclaim } in
     let f : EngineState = record e { store = c.checkpoint.new.store } in
     let same : IsOfSameRun e f = record { flow = refl; most = refl; checkpoint = refl; lot = c.checkpoint.ensures.same.1 } in
     let work = subst (λ (u : EngineState). IsAtWork u.flow tells held moment images u.store old) (sym c.self.view_is) c.requires.work in
@@ -46,7 +45,7 @@ returns-clause-goes_on g c opened first left standing run =
     let old = c.args.disk.now in
     let new = c.checkpoint.new.disk in
     let i = c.self.inside in
-    let e : EngineState = record { flow = i.flow.now; store = i.store; queues = i.queues; listing = i.listing; last = i.last; entries = i.entries; most = i.most; checkpoint = i.checkpoint } in
+    let e : EngineState = record { flow = i.flow.now; store = i.store; queues = i.queues; listing = i.listing; last = i.last; entries = i.entries; most = i.most; checkpoint = i.checkpoint; since_reclaim = i.since_reclaim } in
     let f : EngineState = record e { store = c.checkpoint.new.store } in
     let same : IsOfSameRun e f = record { flow = refl; most = refl; checkpoint = refl; lot = c.checkpoint.ensures.same.1 } in
     let work = subst (λ (u : EngineState). IsAtWork u.flow tells held moment images u.store old) (sym c.self.view_is) c.requires.work in
@@ -62,13 +61,13 @@ pub returns-clause-alone : goal.returns-clause-alone
 returns-clause-alone g c =
     subst (λ (u : EngineState). WritesLog g.D.Disk.moment g.D.Disk.images u.store.log.number c.args.disk.now c.checkpoint.new.disk) c.self.view_is c.checkpoint.ensures.alone
 
-pub returns-clause-short : goal.returns-clause-short
-returns-clause-short g c =
-    subst (λ (u : EngineState). IsShortOn g.D.Disk.moment g.D.Disk.images u.checkpoint c.checkpoint.new.disk) c.self.view_is (c.in_ok-checkpoint.ensures.short c.self.inside.checkpoint)
+pub returns-clause-made : goal.returns-clause-made
+returns-clause-made g c is =
+    subst (λ (u : EngineState). IsCheckpointed u.store c.checkpoint.new.store) c.self.view_is c.in_ok-checkpoint.ensures.next
 
 pub returns-then-not-wants_checkpoint-clause-short : goal.returns-then-not-wants_checkpoint-clause-short
-returns-then-not-wants_checkpoint-clause-short g c image left =
+returns-then-not-wants_checkpoint-clause-short g c is image left =
     let i = c.self.inside in
     let work = subst (λ (u : EngineState). IsAtWork u.flow g.D.Disk.tells g.D.Disk.held g.D.Disk.moment g.D.Disk.images u.store c.args.disk.now) (sym c.self.view_is) c.requires.work in
     subst (λ (u : EngineState). HasShortLog u.checkpoint image) c.self.view_is
-    (not_due i.checkpoint i.store image c.wants_checkpoint.ensures.counted (λ number is. sym c.if-not-wants_checkpoint.true ∙ c.wants_checkpoint.ensures.due number is) (work.kept.log work.works image left))
+    (no_log_due i.checkpoint i.store image c.wants_checkpoint.ensures.counted (sym c.wants_checkpoint.ensures.due ∙ c.if-not-wants_checkpoint.true) (work.kept.log work.works image left))

@@ -1,13 +1,12 @@
-use Rattle.std.proofs.Common.{◌≡◌, ◌≤◌, IsTrue}
+use Rattle.std.proofs.Common.{◌≤◌, IsTrue}
 use Rattle.machine_model.specs.State.{Machine}
 use Rattle.flow_run.specs.Work.{IsNoEarlier, WritesLog}
-use Rattle.flow_engine.specs.Driving.{to_go}
 use Rattle.flow_engine.specs.Engine.{AreTakeable, IsOfSameRun, IsReady}
 use Rattle.flow_engine.specs.Running.{IsRunning}
 use Rattle.flow_engine.proofs.engine.Engine.drive.Given as goal
 
-abbrev pub invariant-loop-until : goal.invariant-loop-until
-invariant-loop-until g l = record {
+abbrev pub invariant-loop-turn : goal.invariant-loop-turn
+invariant-loop-turn g l = record {
   ready : IsReady g.D.Disk.tells g.D.Disk.held g.D.Disk.moment g.D.Disk.images l.self l.disk;
   left : IsTrue g.I.Inbox.tells → AreTakeable (g.I.Inbox.left l.inbox) l.self.listing.names;
   same : IsOfSameRun l.fn.self l.self;
@@ -20,6 +19,3 @@ invariant-loop-until g l = record {
   inbox_faults : g.I.Inbox.faults l.fn.inbox ≤ g.I.Inbox.faults l.inbox;
   outbox_faults : g.O.Outbox.faults l.fn.outbox ≤ g.O.Outbox.faults l.outbox;
 }
-
-abbrev pub decreases-loop-until : goal.decreases-loop-until
-decreases-loop-until g l = to_go l.self (g.C.Clock.time l.clock)

@@ -1,5 +1,5 @@
 use Rattle.std.proofs.Common.{◌≡◌, ◌⊎◌, ◌+◌, refl, sym, ap, subst, ◌∙◌, inl, arith}
-use Rattle.std.specs.Prelude.{Err, Some, option_map}
+use Rattle.std.specs.Prelude.{Err, Some, true, is_some, option_map}
 use Rattle.std.proofs.lemmas.Result.{err_from_is_err_and}
 use Rattle.content_repo.specs.Claims.{content_in}
 use Rattle.kept_state.specs.declared.limit.Limit.{Limit}
@@ -24,7 +24,7 @@ returns-then-self-clause-stopped g c error is telling opened first left standing
     let images = g.D.Disk.images in
     let disk = c.args.disk.now in
     let i = c.self.inside in
-    let e : EngineState = record { flow = i.flow.now; store = i.store; queues = i.queues; listing = i.listing; last = i.last; entries = i.entries; most = i.most; checkpoint = i.checkpoint } in
+    let e : EngineState = record { flow = i.flow.now; store = i.store; queues = i.queues; listing = i.listing; last = i.last; entries = i.entries; most = i.most; checkpoint = i.checkpoint; since_reclaim = i.since_reclaim } in
     let laws = g.met.D.Disk g.world.𝓛 g.world.𝓜 g.world.𝓡 ((λ s x. x), (λ x. x), (λ x. x), λ x. x) in
     let ready = subst (λ (u : EngineState). IsReady tells held moment images u disk) (sym c.self.view_is) c.requires.ready in
     let expiry = c.in-Some.expiry in
@@ -39,9 +39,9 @@ returns-then-self-clause-stopped g c error is telling opened first left standing
     ready.work.flow_is kept (content_in (held disk)) m sizes (c.holds_its_state.ensures.tied telling i.flow.now ready.work m stands) in
     (goes.after, goes.goes))
     (subst (λ (u : EngineState). IsRunning moment images u opened first disk left standing) (sym c.self.view_is) run) in
-    let told : EngineError.Limit (journal_full i.most) ≡ error = cc in
+    let told : EngineError.Limit (journal_full c.args.self.now.most) ≡ error = cc (is, c.journal_limit.ensures) in
     subst (λ (er : EngineError). Stops er tells held moment images c.args.self.now opened first disk left standing) told
-    (subst (λ (u : EngineState). IsLimited tells held moment images u (journal_full i.most) opened first disk left standing) c.self.view_is limited)
+    (subst (λ (u : EngineState). IsLimited tells held moment images u (journal_full u.most) opened first disk left standing) c.self.view_is limited)
 
 pub returns-in_err-expire-clause-stopped : goal.returns-in_err-expire-clause-stopped
 returns-in_err-expire-clause-stopped g c error is telling opened first left standing run =
@@ -52,7 +52,7 @@ returns-in_err-expire-clause-stopped g c error is telling opened first left stan
     let old = c.args.disk.now in
     let new = c.expire.new.disk in
     let i = c.self.inside in
-    let e : EngineState = record { flow = i.flow.now; store = i.store; queues = i.queues; listing = i.listing; last = i.last; entries = i.entries; most = i.most; checkpoint = i.checkpoint } in
+    let e : EngineState = record { flow = i.flow.now; store = i.store; queues = i.queues; listing = i.listing; last = i.last; entries = i.entries; most = i.most; checkpoint = i.checkpoint; since_reclaim = i.since_reclaim } in
     let f : EngineState = record e { store = c.expire.new.store; queues = c.expire.new.queues } in
     let same : IsOfSameRun e f = record { flow = refl; most = refl; checkpoint = refl; lot = c.expire.ensures.same.0 } in
     let p = err_from_is_err_and c.from_residual-in_err-expire.result c.from_residual-in_err-expire.ensures.1 in
@@ -87,8 +87,8 @@ returns-clause-goes_on g c telling opened first left standing run =
     let old = c.args.disk.now in
     let new = c.expire.new.disk in
     let i = c.self.inside in
-    let e : EngineState = record { flow = i.flow.now; store = i.store; queues = i.queues; listing = i.listing; last = i.last; entries = i.entries; most = i.most; checkpoint = i.checkpoint } in
-    let f : EngineState = record e { store = c.expire.new.store; queues = c.expire.new.queues; entries = i.entries + 1 } in
+    let e : EngineState = record { flow = i.flow.now; store = i.store; queues = i.queues; listing = i.listing; last = i.last; entries = i.entries; most = i.most; checkpoint = i.checkpoint; since_reclaim = i.since_reclaim } in
+    let f : EngineState = record e { store = c.expire.new.store; queues = c.expire.new.queues; entries = i.entries + 1; since_reclaim = c.saturating_add-self-inside.result } in
     let same : IsOfSameRun e f = record { flow = refl; most = refl; checkpoint = refl; lot = c.expire.ensures.same.0 } in
     let expiry = c.in-Some.expiry in
     runs_stepped tells held moment images e f same opened first old new left standing c.worlds_follow_steps.ensures.queues (Expire expiry.connection expiry.numbers c.args.moment) tt
@@ -98,3 +98,11 @@ returns-clause-goes_on g c telling opened first left standing run =
 pub returns-clause-alone : goal.returns-clause-alone
 returns-clause-alone g c =
     subst (λ (u : EngineState). WritesLog g.D.Disk.moment g.D.Disk.images u.store.log.number c.args.disk.now c.expire.new.disk) c.self.view_is c.expire.ensures.alone
+
+pub returns-clause-due : goal.returns-clause-due
+returns-clause-due g c =
+    let i = c.self.inside in
+    let ready = subst (λ (u : EngineState). IsReady g.D.Disk.tells g.D.Disk.held g.D.Disk.moment g.D.Disk.images u c.args.disk.now) (sym c.self.view_is) c.requires.ready in
+    let due : due_expiry i.flow.now (queue_seen i.queues) c.args.moment ≡ Some (c.in-Some.expiry.connection, c.in-Some.expiry.numbers)
+    = sym (c.in_ok-expiry.ensures i.flow.now (are_of i.flow.now (kept_by i.store) i.queues ready.queues)) ∙ ap (option_map (λ expiry. (expiry.connection, expiry.numbers))) c.in-Some.is in
+    subst (λ (u : EngineState). true ≡ is_some (due_expiry u.flow (queue_seen u.queues) c.args.moment)) c.self.view_is (sym (ap is_some due))

@@ -16,7 +16,7 @@ returns-in_err-reclaim-clause-stopped g c is opened first left standing run =
     let old = c.args.disk.now in
     let new = c.reclaim.new.disk in
     let i = c.self.inside in
-    let e : EngineState = record { flow = i.flow.now; store = i.store; queues = i.queues; listing = i.listing; last = i.last; entries = i.entries; most = i.most; checkpoint = i.checkpoint } in
+    let e : EngineState = record { flow = i.flow.now; store = i.store; queues = i.queues; listing = i.listing; last = i.last; entries = i.entries; most = i.most; checkpoint = i.checkpoint; since_reclaim = i.since_reclaim } in
     let f : EngineState = record e { store = c.reclaim.new.store } in
     let same : IsOfSameRun e f = record { flow = refl; most = refl; checkpoint = refl; lot = c.reclaim.ensures.same.1 } in
     let work = subst (λ (u : EngineState). IsAtWork u.flow tells held moment images u.store old) (sym c.self.view_is) c.requires.work in
@@ -37,8 +37,8 @@ returns-clause-goes_on g c opened first left standing run =
     let old = c.args.disk.now in
     let new = c.reclaim.new.disk in
     let i = c.self.inside in
-    let e : EngineState = record { flow = i.flow.now; store = i.store; queues = i.queues; listing = i.listing; last = i.last; entries = i.entries; most = i.most; checkpoint = i.checkpoint } in
-    let f : EngineState = record e { store = c.reclaim.new.store } in
+    let e : EngineState = record { flow = i.flow.now; store = i.store; queues = i.queues; listing = i.listing; last = i.last; entries = i.entries; most = i.most; checkpoint = i.checkpoint; since_reclaim = i.since_reclaim } in
+    let f : EngineState = record e { store = c.reclaim.new.store; since_reclaim = 0 } in
     let same : IsOfSameRun e f = record { flow = refl; most = refl; checkpoint = refl; lot = c.reclaim.ensures.same.1 } in
     let work = subst (λ (u : EngineState). IsAtWork u.flow tells held moment images u.store old) (sym c.self.view_is) c.requires.work in
     runs_spared tells held moment images e f same opened first old new left standing c.run_goes_on.ensures.spared refl refl

@@ -1,7 +1,9 @@
-use Rattle.std.proofs.Common.{◌≡◌}
+use Rattle.std.proofs.Common.{◌≡◌, sym, subst}
 use Rattle.std.specs.Prelude.{Ok}
 use Rattle.std.proofs.lemmas.Result.{IfOk-weaker}
 use Rattle.flow_run.proofs.Writing.{writes_on}
+use Rattle.flow_run.specs.Work.{IsShortOn}
+use Rattle.flow_engine.specs.Engine.{EngineState}
 use Rattle.flow_engine.specs.declared.tending.Tended.TheVariants.{Nothing}
 use Rattle.flow_engine.proofs.engine.Engine.turn.Goals as goal
 
@@ -11,7 +13,9 @@ go_on-requires-clause-short g c κs within =
     let there = c.in_ok-tend.is in
     let nothing = c.in-Nothing.is in
     let is : c.tend.result ≡ Ok Nothing = cc in
-    c.tend.ensures.short is
+    let none = c.tend.ensures.nothing is in
+    subst (λ (e : EngineState). IsShortOn g.D.Disk.moment g.D.Disk.images e.checkpoint c.tend.new.disk) (sym none.0)
+    (subst (λ (d : _). IsShortOn g.D.Disk.moment g.D.Disk.images c.args.self.now.checkpoint d) (sym none.1) (c.tend.ensures.short is))
 
 pub returns-in-Nothing-clause-turned : goal.returns-in-Nothing-clause-turned
 returns-in-Nothing-clause-turned g c =

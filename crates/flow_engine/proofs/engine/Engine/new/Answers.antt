@@ -6,7 +6,7 @@ use Rattle.engine_queues.specs.Queues.{AreQueuesOf}
 use Rattle.flow_engine.specs.Engine.{AreTakeable}
 use Rattle.flow_engine.specs.Opening.{fits_in}
 use Rattle.flow_engine.proofs.Fitting.{ascending_differ, fitting_takeable}
-use Rattle.flow_engine.proofs.engine.Engine.open.Goals as goal
+use Rattle.flow_engine.proofs.engine.Engine.new.Goals as goal
 
 pub new-requires : goal.new-requires
 new-requires g c = ascending_differ c.in_ok-coming.coming.items c.in_ok-coming.ensures.ascending
@@ -21,6 +21,8 @@ returns-clause-opened g c =
       listing = ap (λ (l : Left). l.flow) c.in_ok-listing.ensures;
       distinct = subst AreDistinct (sym listed) (ascending_differ c.in_ok-coming.coming.items c.in_ok-coming.ensures.ascending);
       entries = refl;
+      last = refl;
+      since = refl;
       most_is = refl;
     }
 

@@ -4,8 +4,8 @@ use Rattle.std.proofs.lemmas.Bool.{false≢true}
 use Rattle.std.specs.Prelude.{Option, None, Some, Result, Ok, Err}
 use Rattle.std.proofs.lemmas.List.{length-set}
 use Rattle.disk_trait.specs.Files.{Files}
-use Rattle.disk_trait.specs.Images.{After, Since, Stays}
-use Rattle.disk_trait.proofs.Moments.{nothing, only_read, step_after_step, wider}
+use Rattle.disk_trait.specs.Images.{Since, Stays}
+use Rattle.disk_trait.proofs.Moments.{wider}
 use Rattle.flowfile_record.specs.declared.change.Change.TheVariants as change
 use Rattle.flowfile_record.specs.declared.change.Settled.{Settled}
 use Rattle.flowfile_record.specs.declared.stored.Counted.{Counted}

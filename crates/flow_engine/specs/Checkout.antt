@@ -1,0 +1,34 @@
+-- What comes next.
+use Rattle.std.specs.Prelude.{ℕ, nat_lt, Option, None, Some, if◌then◌else◌}
+use Rattle.engine_choice.specs.Choice.{ending_of, next_choice}
+use Rattle.engine_choice.specs.declared.choice.Choice.{Choice}
+use Rattle.engine_choice.specs.declared.choice.Ending.{Ending}
+use Rattle.engine_choice.specs.declared.choice.Ending.TheVariants as ending
+use Rattle.engine_queues.specs.Queues.{queue_seen}
+use Rattle.store_core.specs.Store.{kept_by}
+use Rattle.flow_run.specs.Ending.{journal_full}
+use Rattle.flow_engine.specs.Engine.{EngineState}
+use Rattle.flow_engine.specs.declared.checkout.Checkout.{Checkout}
+use Rattle.flow_engine.specs.declared.checkout.Checkout.TheVariants.{Session, Limit, Rest, Blocked, Quiet}
+
+-- the session that comes next
+abbrev pub choice_in : EngineState → (moment : ℕ) → Option Choice
+choice_in e moment =
+    next_choice e.flow (queue_seen e.queues) (kept_by e.store).counts e.listing.names moment e.last
+
+-- how it ends where no session comes
+abbrev pub ending_in : EngineState → (moment : ℕ) → Ending
+ending_in e moment = ending_of e.flow (queue_seen e.queues) (kept_by e.store).counts e.listing.names moment
+
+abbrev pub ended_as : Ending → Checkout
+ended_as (ending.Rest until) = Rest until
+ended_as (ending.Blocked connection) = Blocked connection
+ended_as ending.Quiet = Quiet
+
+-- a session, where the journal has room for its entry, or why none comes
+abbrev pub next_of : (entries most : ℕ) → Option Choice → Ending → Checkout
+next_of entries most None end = ended_as end
+next_of entries most (Some choice) end = if nat_lt entries most then Session choice else Limit (journal_full most)
+
+abbrev pub checkout_in : EngineState → (moment : ℕ) → Checkout
+checkout_in e moment = next_of e.entries e.most (choice_in e moment) (ending_in e moment)

@@ -1,0 +1,106 @@
+//! What comes next where nothing is to be tended.
+ghost use Rattle.std.specs.Prelude.{◌≡◌, ◌-◌, ◌^◌, ◌<◌, IfOk};
+ghost use Rattle.engine_choice.specs.Choice.{MayChoose};
+ghost use Rattle.flow_run.specs.Ending.{journal_full};
+ghost use Rattle.store_core.specs.Store.{kept_by};
+ghost use Rattle.flow_engine.specs.Checkout.{checkout_in, choice_in, ending_in, ended_as};
+
+use crate::engine::Engine;
+use engine_choice::{Choice, Ending, choose, ending};
+use std::alloc::{AllocError, Global};
+use store_core::{Limit, Which};
+
+/// What comes next.
+#[derive(Debug, Drop)]
+pub enum Checkout {
+    /// This session.
+    Session(Choice),
+    /// A session, for whose entry the journal has no room.
+    Limit(Limit),
+    /// No session before this moment, at which the next penalty of a file ends.
+    Rest { until: u64 },
+    /// No session: the full connection at this place, the first of them, holds back what wants to work.
+    Blocked(u16),
+    /// No session: nothing wants to work.
+    Quiet,
+}
+
+impl Engine<'_> {
+    /// What comes next at a moment, where nothing is to be tended: the session of the first processor in turn that is
+    /// ready, or why none comes.
+    pub fn checkout(&self, alloc: Global, moment: u64) -> Result<Checkout, AllocError>
+        requires may { MayChoose self.now.flow self.now.queues (kept_by self.now.store).counts self.now.listing }
+        requires most { self.now.most < 2 ^ 64 - 1 }
+        ensures { IfOk result (λ next. next ≡ checkout_in self.now moment) }
+    {
+        let Some(choice) = self.next_choice(alloc, moment)? else {
+            return Ok(Checkout::from(self.ending(alloc, moment)?));
+        };
+        if self.entries < self.most {
+            Ok(Checkout::Session(choice))
+        } else {
+            Ok(Checkout::Limit(self.journal_limit()))
+        }
+    }
+
+    /// The session that comes next.
+    pub(crate) fn next_choice(
+        &self,
+        alloc: Global,
+        moment: u64,
+    ) -> Result<Option<Choice>, AllocError>
+        requires { MayChoose self.now.flow self.now.queues (kept_by self.now.store).counts self.now.listing }
+        ensures { IfOk result (λ choice. choice ≡ choice_in self.now moment) }
+    {
+        let counts = self.store.state().counts.as_slice();
+        choose(
+            alloc,
+            self.flow,
+            &self.queues,
+            counts,
+            &self.listing,
+            self.last,
+            moment,
+        )
+    }
+
+    // How it ends where no session comes.
+    fn ending(&self, alloc: Global, moment: u64) -> Result<Ending, AllocError>
+        requires { MayChoose self.now.flow self.now.queues (kept_by self.now.store).counts self.now.listing }
+        ensures { IfOk result (λ ending. ending ≡ ending_in self.now moment) }
+    {
+        let counts = self.store.state().counts.as_slice();
+        ending(
+            alloc,
+            self.flow,
+            &self.queues,
+            counts,
+            &self.listing,
+            moment,
+        )
+    }
+
+    /// That the journal has as many entries as it may have, and one more is wanted.
+    pub(crate) fn journal_limit(&self) -> Limit
+        requires { self.now.most < 2 ^ 64 - 1 }
+        ensures { result ≡ journal_full self.now.most }
+    {
+        Limit {
+            which: Which::Journal,
+            number: self.most,
+            wanted: self.most + 1,
+        }
+    }
+}
+
+impl From<Ending> for Checkout {
+    ghost from_gives = { λ ending next. next ≡ ended_as ending };
+
+    fn from(ending: Ending) -> Checkout {
+        match ending {
+            Ending::Rest { until } => Checkout::Rest { until },
+            Ending::Blocked(connection) => Checkout::Blocked(connection),
+            Ending::Quiet => Checkout::Quiet,
+        }
+    }
+}

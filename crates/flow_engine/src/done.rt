@@ -1,0 +1,142 @@
+//! The work of a session, and whether it is the work on a job.
+ghost use Rattle.std.specs.Prelude.{◌≡◌, ◌↔◌, map, IfOk, IsTrue};
+ghost use Rattle.processor_api.specs.Acts.{KeepsGiven};
+ghost use Rattle.flow_engine.specs.Done.{IsGivenAs, IsReceivedAs, IsSame, IsWorkOn, MayWorkOn};
+
+use crate::job::Job;
+use engine_session::{ReadList, taken_from};
+use flowfile_record::{Body, Bytes, FileList, FlowFile, Numbers, Outcome};
+use machine_model::{Flow, Given};
+use process_session::{Source, SourceList};
+use std::alloc::{AllocError, Global};
+
+/// What a session's processor made of its job, with what stays of the files that it took. It is made by [`work`] alone.
+#[derive(Drop)]
+pub struct Done {
+    pub(crate) processor: u16,
+    pub(crate) connection: u16,
+    pub(crate) numbers: Numbers,
+    pub(crate) files: FileList,
+    pub(crate) given: Given,
+    pub(crate) outcome: Outcome,
+    pub(crate) sources: SourceList,
+}
+
+/// Has the processor of a job work on it. The uuids of its files are those of the store of this id.
+pub fn work(alloc: Global, flow: &Flow, store: u64, job: Job) -> Result<Done, AllocError>
+    requires { MayWorkOn flow.now store job }
+    ensures { IfOk result (IsWorkOn flow.now store job) }
+{
+    let Job {
+        processor,
+        connection,
+        numbers,
+        files,
+        contents,
+        mut given,
+    } = job;
+    let taken = taken_from(alloc, store, files.as_slice(), contents)?;
+    let (outcome, sources) = engine_session::work(alloc, flow, processor, taken, &mut given)?;
+    Ok(Done {
+        processor,
+        connection,
+        numbers,
+        files,
+        given,
+        outcome,
+        sources,
+    })
+}
+
+/// Whether this is the work on the job, as far as it shows: the job's processor worked on these files, which stood so,
+/// with these contents, and was given this.
+pub fn is_work_on(done: &Done, job: &Job) -> bool
+    ensures { IsTrue result ↔ IsSame done.now job.now }
+{
+    done.processor == job.processor
+        && done.connection == job.connection
+        && done.numbers.as_slice() == job.numbers.as_slice()
+        && are_same_files(done.files.as_slice(), job.files.as_slice())
+        && are_same_contents(done.sources.as_slice(), job.contents.as_slice())
+        && is_given_as(&done.given, &job.given)
+        && is_received_as(&done.outcome, &job.given)
+}
+
+fn are_same_files(files: &[FlowFile], others: &[FlowFile]) -> bool
+    ensures { IsTrue result ↔ (files.now ≡ others.now) }
+{
+    if files.len() != others.len() {
+        return false;
+    }
+    for place in 0..files.len() {
+        if !is_same_file(&files[place], &others[place]) {
+            return false;
+        }
+    }
+    true
+}
+
+fn is_same_file(file: &FlowFile, other: &FlowFile) -> bool
+    ensures { IsTrue result ↔ (file.now ≡ other.now) }
+{
+    file.number == other.number
+        && file.content == other.content
+        && file.entered == other.entered
+        && file.penalty_end == other.penalty_end
+        && file.arrival == other.arrival
+        && file.attributes.equals(&other.attributes)
+}
+
+// Whether the sources' contents, where they were read, are these.
+fn are_same_contents(sources: &[Source], contents: &[Option<Bytes>]) -> bool
+    ensures { IsTrue result ↔ (map (λ source. source.bytes) sources.now ≡ contents.now) }
+{
+    if sources.len() != contents.len() {
+        return false;
+    }
+    for place in 0..sources.len() {
+        if !are_same_bytes(&sources[place].bytes, &contents[place]) {
+            return false;
+        }
+    }
+    true
+}
+
+fn are_same_bytes(bytes: &Option<Bytes>, others: &Option<Bytes>) -> bool
+    ensures { IsTrue result ↔ (bytes.now ≡ others.now) }
+{
+    match (bytes, others) {
+        (Some(bytes), Some(others)) => bytes.as_slice() == others.as_slice(),
+        (None, None) => true,
+        _ => false,
+    }
+}
+
+// Whether both are the same, but for the bytes.
+fn is_given_as(given: &Given, other: &Given) -> bool
+    ensures { IsTrue result ↔ IsGivenAs given.now other.now }
+{
+    given.moment == other.moment
+        && given.index == other.index
+        && given.there == other.there
+        && given.file == other.file
+}
+
+// Whether the outcome has the bytes of the file that is received, if one is: they are those of its first file.
+fn is_received_as(outcome: &Outcome, given: &Given) -> bool
+    ensures { IsTrue result ↔ IsReceivedAs outcome.now given.now }
+{
+    if given.file.is_none() {
+        return true;
+    }
+    let Some(bytes) = &given.bytes else {
+        return false;
+    };
+    let Some(first) = outcome.files.as_slice().first() else {
+        return false;
+    };
+    match &first.body {
+        Body::New(made) => made.as_slice() == bytes.as_slice(),
+        _ => false,
+    }
+}
