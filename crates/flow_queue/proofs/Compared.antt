@@ -1,6 +1,6 @@
 -- Which fragments an order of them takes for one.
-use Rattle.std.proofs.Common.{◌≡◌, inl, inr, ℕ, Bool, true, false, cond, ◌&&◌, List, Some, None, Less, Equal, Greater, refl, sym, ap, ◌∙◌, arith}
-use Rattle.std.specs.Prelude.{◌==◌, nat_lt, bytes_eq, Option}
+use Rattle.std.proofs.Common.{◌≡◌, inl, inr, ℕ, true, false, cond, ◌&&◌, Less, Equal, Greater, refl, sym, ◌∙◌, arith}
+use Rattle.std.specs.Prelude.{◌==◌, nat_lt, bytes_eq}
 use Rattle.std.specs.declared.cmp.Ordering.{Ordering}
 use Rattle.std.specs.BTreeMap.{BTreeMap}
 use Rattle.std.specs.Cmp.{IsTotalOrder, nat_cmp_total, on_total, then_total}
@@ -10,8 +10,8 @@ use Rattle.std.specs.Ordering.{is_eq, nat_cmp, ordering_then}
 use Rattle.std.proofs.lemmas.Bool.{cases_lt, lt-ltb, le-ltb, ne_eqb, and_parts, eqb-true}
 use Rattle.std.proofs.lemmas.Map.Text.{is_eq-slice_cmp}
 use Rattle.std.proofs.lemmas.Slice.Eq.{bytes_eq-Decides}
-use Rattle.flow_queue.specs.declared.queue.fragments.Whole.{Whole}
-use Rattle.flow_queue.specs.declared.queue.fragments.Fragment.{Fragment as Part}
+use Rattle.machine_model.specs.declared.fragment.Whole.{Whole}
+use Rattle.machine_model.specs.declared.fragment.Fragment.{Fragment as Part}
 use Rattle.flow_queue.specs.Fragments.{whole_cmp, part_cmp, number_at}
 
 pub whole_cmp-total : IsTotalOrder whole_cmp

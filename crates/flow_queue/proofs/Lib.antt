@@ -8,6 +8,5 @@ pub mod Fields
 pub mod ForCallers
 pub mod Numbered
 pub mod Parts
-pub mod Reading
 pub mod Sorting
 pub mod Taken

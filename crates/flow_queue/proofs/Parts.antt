@@ -9,11 +9,12 @@ use Rattle.std.proofs.lemmas.Bool.{true≢false}
 use Rattle.std.proofs.lemmas.List.{append-nil}
 use Rattle.std.proofs.lemmas.List.Folds.{find-append}
 use Rattle.machine_model.specs.Due.{numbers_of}
-use Rattle.machine_model.specs.Taking.{Fragment, fragment_of, is_fragment_at, fragment_at, joined_option, fragments_from, whole_of, first_some, first_whole}
+use Rattle.machine_model.specs.Taking.{Fragment, fragment_of, is_fragment_at, fragment_at, joined_option, fragments_from, whole_of, first_some}
 use Rattle.machine_model.specs.View.{FileView}
-use Rattle.flow_queue.specs.declared.queue.fragments.Whole.{Whole}
-use Rattle.flow_queue.specs.declared.queue.fragments.Fragment.{Fragment as Part}
-use Rattle.flow_queue.specs.Fragments.{fragment_seen, whole_cmp, part_cmp, number_at, AreFirst, IsNoted, added, numbers_from, files_of_whole, AreMissing}
+use Rattle.machine_model.specs.declared.fragment.Whole.{Whole}
+use Rattle.machine_model.specs.declared.fragment.Fragment.{Fragment as Part}
+use Rattle.machine_model.specs.Fragments.{fragment_seen}
+use Rattle.flow_queue.specs.Fragments.{whole_cmp, part_cmp, number_at, AreFirst, IsNoted, added, numbers_from, files_of_whole, AreMissing}
 use Rattle.flow_queue.specs.Picking.{Picks}
 use Rattle.flow_queue.proofs.Compared.{same-parts, one-number, one-whole}
 

@@ -1,8 +1,7 @@
 -- What a queue's rules pick, as it is answered, and that no session works on it.
 use Rattle.std.proofs.Common.{◌≡◌, inl, inr, ℕ, zero, suc, ◌+◌, ◌-◌, Bool, true, false, cond, ◌&&◌, ◌||◌, List, [], ◌∷◌, length, Option, Some, None, Result, Ok, Err, IfOk, refl, sym, ap, ◌∙◌, subst}
-use Rattle.std.specs.Prelude.{All, IfSome, OnOk, OnErr, IsOk, filter, find, is_some, nat_le, nat_lt}
+use Rattle.std.specs.Prelude.{All, IfSome, OnOk, OnErr, filter, find, is_some, nat_le, nat_lt}
 use Rattle.std.specs.Option.{option_map, unwrap_or}
-use Rattle.std.proofs.lemmas.Bool.{true≢false}
 use Rattle.std.proofs.lemmas.List.Elements.{All-nil, All-cons}
 use Rattle.std.proofs.lemmas.List.Sorted.{IsPermutation-sym, Contains-permutation}
 use Rattle.flowfile_record.specs.NumberedItems.{AscendsByNumber}
@@ -16,7 +15,7 @@ use Rattle.machine_model.specs.View.{FileView}
 use Rattle.machine_model.proofs.Among.{Among, among_contained, contains_among, kept_by}
 use Rattle.machine_model.proofs.Ordered.{in_order-permutes}
 use Rattle.flow_queue.specs.Picking.{Picks}
-use Rattle.flow_queue.specs.Queue.{QueueState, number_of, views_of, flight_of, IsAtRest, eligible_in, picked, picked_numbers}
+use Rattle.flow_queue.specs.Queue.{QueueState, number_of, views_of, IsAtRest, eligible_in, picked, picked_numbers}
 use Rattle.flow_queue.proofs.AtRest.{seen-at, resting}
 
 -- ---- the clauses of what is answered

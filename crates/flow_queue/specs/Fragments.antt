@@ -7,16 +7,14 @@ use Rattle.std.specs.Cmp.Lexicographic.{slice_cmp}
 use Rattle.std.specs.Option.{option_map, option_or}
 use Rattle.std.specs.Ordering.{is_eq, nat_cmp, ordering_then}
 use Rattle.machine_model.specs.Due.{numbers_of}
-use Rattle.machine_model.specs.Taking.{Fragment, fragment_of, fragment_at, fragments_from, whole_of}
+use Rattle.machine_model.specs.Fragments.{fragment_seen}
+use Rattle.machine_model.specs.Taking.{fragment_of, fragment_at, fragments_from, whole_of}
 use Rattle.machine_model.specs.View.{FileView}
-use Rattle.flow_queue.specs.declared.queue.fragments.Whole.{Whole}
-use Rattle.flow_queue.specs.declared.queue.fragments.Fragment.{Fragment as Part}
+use Rattle.machine_model.specs.declared.fragment.Whole.{Whole}
+use Rattle.machine_model.specs.declared.fragment.Fragment.{Fragment as Part}
 use Rattle.flow_queue.specs.declared.queue.wholes.Candidate.{Candidate}
 use Rattle.flow_queue.specs.Picking.{Picks}
 use Rattle.flow_queue.specs.Queue.{view_of}
-
-abbrev pub fragment_seen : Part → Fragment
-fragment_seen part = record { identifier = part.whole.identifier.now; index = part.index; count = part.whole.count }
 
 -- ---- files whose fragments are read
 

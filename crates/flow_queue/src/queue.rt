@@ -4,7 +4,6 @@ ghost use Rattle.flow_queue.specs.Queue.{IsApart, AreApart, with_file, without_f
 
 mod bins;
 mod choosing;
-mod fragments;
 mod ordered;
 mod places;
 mod wholes;

@@ -12,6 +12,7 @@ pub mod DueSteps
 pub mod EventRows
 pub mod EventsTell
 pub mod ExtractedTexts
+pub mod FragmentRead
 pub mod Fragments
 pub mod GivenIn
 pub mod GoesOn

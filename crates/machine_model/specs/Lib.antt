@@ -8,6 +8,7 @@ pub mod DuplicateFlowFile
 pub mod Events
 pub mod ExtractText
 pub mod Files
+pub mod Fragments
 pub mod Kinds
 pub mod Laws
 pub mod Lineage

@@ -6,6 +6,7 @@
 
 mod filter;
 mod flow;
+mod fragment;
 mod given;
 mod journal;
 mod kind;
@@ -15,6 +16,7 @@ mod pattern;
 
 pub use filter::Filter;
 pub use flow::{Connection, ConnectionList, Flow, Processor, ProcessorList, QueueLimits};
+pub use fragment::{Fragment, Whole, fragment_of};
 pub use given::Given;
 pub use journal::{Entry, EntryList, RECLAIM_ENTRIES, Step};
 pub use kind::{

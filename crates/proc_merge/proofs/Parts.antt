@@ -1,23 +1,15 @@
 -- What fragments are, as attributes are read, and files that are in turn, a file at a time.
-use Rattle.std.proofs.Common.{◌≡◌, ℕ, ◌+◌, ◌<◌, true, false, List, [], ◌∷◌, length, map, drop, get_or, Option, codes, sym, ◌∙◌, ap, arith, Bool}
-use Rattle.std.specs.Prelude.{◌==◌, option_and_then, ◌&&◌}
-use Rattle.std.specs.FinMap.{get}
+use Rattle.std.proofs.Common.{◌≡◌, ℕ, ◌+◌, ◌<◌, true, false, List, [], ◌∷◌, length, map, drop, get_or, Option, sym, ◌∙◌, ap, arith, Bool}
+use Rattle.std.specs.Prelude.{◌==◌, ◌&&◌}
 use Rattle.std.specs.List.{enumerate_from, list_all}
 use Rattle.flowfile_record.specs.Attributes.{AttributeMap}
 use Rattle.machine_model.specs.Making.{TakenFile}
 use Rattle.machine_model.specs.MergeContent.{are_fragments_of, may_join}
 use Rattle.machine_model.specs.declared.kind.MergeStrategy.TheVariants.{Defragment}
-use Rattle.machine_model.specs.Taking.{Fragment, number_under, within_count, fragment_of, is_fragment_at}
+use Rattle.machine_model.specs.Taking.{Fragment, fragment_of, is_fragment_at}
 use Rattle.process_session.specs.declared.file.File.{File}
 use Rattle.proc_merge.specs.Taken.{seen}
 use Rattle.proc_merge.proofs.Passed.{left}
-
-pub fragment-by : (attributes : AttributeMap) (identifier : Option (List ℕ)) (index count : Option ℕ) → identifier ≡ get attributes (codes "fragment.identifier")
-    → index ≡ number_under attributes (codes "fragment.index") → count ≡ number_under attributes (codes "fragment.count")
-    → option_and_then (λ identifier. option_and_then (λ index. option_and_then (λ count. within_count (record { identifier = identifier; index = index; count = count })) count) index) identifier
-    ≡ fragment_of attributes
-fragment-by attributes identifier index count a b c =
-    λ j. option_and_then (λ identifier. option_and_then (λ index. option_and_then (λ count. within_count (record { identifier = identifier; index = index; count = count })) (c j)) (b j)) (a j)
 
 -- the files from a place on are fragments from an index on
 abbrev pub in_turn : Fragment → (index : ℕ) → List File → Bool

@@ -4,13 +4,11 @@ use Rattle.std.specs.Option.{option_map}
 use Rattle.flowfile_record.specs.declared.attributes.TheConstants.{ATTRIBUTES_MAX}
 use Rattle.flowfile_record.specs.declared.limits.TheConstants.{TAKEN_MAX}
 use Rattle.machine_model.specs.Making.{TakenFile}
-use Rattle.machine_model.specs.Taking.{Fragment}
 use Rattle.process_session.specs.Bench.{Bench, bench_of, file_size}
 use Rattle.process_session.specs.declared.file.File.{File}
 use Rattle.process_session.specs.declared.file.Source.{Source}
 use Rattle.process_session.specs.declared.file.Taken.{Taken}
 use Rattle.processor_api.specs.Acts.{AreRead}
-use Rattle.proc_merge.specs.declared.fragments.Fragment.{Fragment as Part}
 
 -- it took some files and did nothing yet
 pub record TookSome (bench : Bench) : Type 0 where
@@ -35,6 +33,3 @@ abbrev pub bytes_read : List Source → Option (List ℕ)
 bytes_read [] = Some []
 bytes_read (source ∷ sources) =
     option_and_then (λ bytes. option_map (λ more. bytes ++ more) (bytes_read sources)) source.bytes
-
-abbrev pub fragment_seen : Part → Fragment
-fragment_seen part = record { identifier = part.identifier.now; index = part.index; count = part.count }

@@ -1,27 +1,16 @@
 //! Whether files are all fragments of one whole, in turn.
 ghost use Rattle.std.specs.Prelude.{◌≡◌, Some, length};
 ghost use Rattle.std.specs.List.{enumerate_from, list_all};
-ghost use Rattle.std.specs.Option.{option_map};
-ghost use Rattle.std.specs.Result.{result_ok};
-ghost use Rattle.expr_lang.specs.Value.{text, as_number};
+ghost use Rattle.machine_model.specs.Fragments.{fragment_seen};
 ghost use Rattle.machine_model.specs.MergeContent.{are_fragments_of, may_join};
-ghost use Rattle.machine_model.specs.Taking.{positive, number_under, within_count, fragment_of, is_fragment_at};
+ghost use Rattle.machine_model.specs.Taking.{fragment_of, is_fragment_at};
 ghost use Rattle.machine_model.specs.declared.kind.MergeStrategy.TheVariants as strategy;
-ghost use Rattle.proc_merge.specs.Taken.{TookSome, files_seen, fragment_seen};
+ghost use Rattle.proc_merge.specs.Taken.{TookSome, files_seen};
 
 use crate::taken::attributes_of;
-use flowfile_record::{Attributes, TAKEN_MAX};
-use machine_model::MergeStrategy;
+use flowfile_record::Attributes;
+use machine_model::{Fragment, MergeStrategy, fragment_of};
 use process_session::Session;
-
-/// Which part of which whole a file is.
-#[derive(Clone, Copy)]
-struct Fragment<'a> {
-    identifier: &'a str,
-    /// From 1 on.
-    index: u64,
-    count: u64,
-}
 
 /// Whether the taken files may be joined: under Defragment they have to be all fragments of one whole, in turn.
 pub(crate) fn may_join(strategy: MergeStrategy, session: &Session) -> bool
@@ -49,7 +38,7 @@ fn are_fragments_of(session: &Session, fragment: Fragment<'_>) -> bool
     requires { TookSome session.now }
     ensures { result ≡ are_fragments_of (files_seen session.now) (Some (fragment_seen fragment.entry)) }
 {
-    u64::from(session.taken()) == fragment.count && are_in_turn(session, fragment)
+    u64::from(session.taken()) == fragment.whole.count && are_in_turn(session, fragment)
 }
 
 fn are_in_turn(session: &Session, fragment: Fragment<'_>) -> bool
@@ -72,58 +61,10 @@ fn is_fragment_at(fragment: Fragment<'_>, index: u64, attributes: &Attributes) -
 {
     match fragment_of(attributes) {
         Some(other) => {
-            other.identifier == fragment.identifier
-                && other.count == fragment.count
+            other.whole.identifier == fragment.whole.identifier
+                && other.whole.count == fragment.whole.count
                 && other.index == index
         }
         None => false,
-    }
-}
-
-fn fragment_of(attributes: &Attributes) -> Option<Fragment<'_>>
-    ensures { option_map fragment_seen result ≡ fragment_of attributes.now }
-{
-    let identifier = attributes.get("fragment.identifier")?;
-    let index = number_under(attributes, "fragment.index")?;
-    let count = number_under(attributes, "fragment.count")?;
-    within_count(Fragment {
-        identifier,
-        index,
-        count,
-    })
-}
-
-fn within_count(fragment: Fragment<'_>) -> Option<Fragment<'_>>
-    ensures { option_map fragment_seen result ≡ within_count (fragment_seen fragment.entry) }
-{
-    if fragment.index <= fragment.count && fragment.count <= TAKEN_MAX {
-        Some(fragment)
-    } else {
-        None
-    }
-}
-
-fn number_under(attributes: &Attributes, key: &str) -> Option<u64>
-    ensures { result ≡ number_under attributes.now key.now }
-{
-    positive(attributes.get(key)?)
-}
-
-/// The number that a text is, where it is one from 1 on.
-fn positive(value: &str) -> Option<u64>
-    ensures { result ≡ positive (as_number (text value.now)) }
-{
-    match number_of(value) {
-        Some(number) if number > 0 => Some(number.unsigned_abs()),
-        _ => None,
-    }
-}
-
-fn number_of(value: &str) -> Option<i64>
-    ensures { result ≡ result_ok (as_number (text value.now)) }
-{
-    match value.parse::<i64>() {
-        Ok(number) => Some(number),
-        Err(_) => None,
     }
 }

@@ -4,8 +4,8 @@ ghost use Rattle.machine_model.specs.declared.kind.TakeRule.TheVariants.{Defragm
 ghost use Rattle.flow_queue.specs.Fragments.{IsRead, IsNoted, IsTry, AreFirst, files_of, numbers_from};
 ghost use Rattle.flow_queue.specs.Picking.{Picks, numbers_picked, views_at};
 
-use super::fragments::{Fragment, Whole, fragment_of};
 use crate::held::Held;
+use machine_model::{Fragment, Whole, fragment_of};
 use std::alloc::{AllocError, Global};
 use std::collections::{BTreeMap, BTreeSet};
 

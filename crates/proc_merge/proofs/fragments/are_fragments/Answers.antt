@@ -1,7 +1,7 @@
 use Rattle.std.proofs.Common.{◌≡◌, ◌<◌, None, Some, get_or, length, sym, ◌∙◌, ap, arith}
 use Rattle.std.specs.Option.{option_map}
 use Rattle.machine_model.specs.Taking.{fragment_of}
-use Rattle.proc_merge.specs.Taken.{fragment_seen}
+use Rattle.machine_model.specs.Fragments.{fragment_seen}
 use Rattle.proc_merge.proofs.Benches.{no_file}
 use Rattle.proc_merge.proofs.Child.{some-files}
 use Rattle.proc_merge.proofs.Parts.{first-decides}

@@ -1,6 +1,6 @@
 use Rattle.std.proofs.Common.{◌+◌, ◌<◌, ◌≤◌, length, sym, ◌∙◌, ap, arith}
 use Rattle.machine_model.specs.Taking.{fragment_of, is_fragment_at}
-use Rattle.proc_merge.specs.Taken.{fragment_seen}
+use Rattle.machine_model.specs.Fragments.{fragment_seen}
 use Rattle.proc_merge.proofs.Benches.{no_file}
 use Rattle.proc_merge.proofs.Parts.{in_turn, turn-breaks, turn-goes-on}
 use Rattle.proc_merge.proofs.Reading.{as-many, drop-past}

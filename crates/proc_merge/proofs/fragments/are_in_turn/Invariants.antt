@@ -1,5 +1,5 @@
 use Rattle.std.proofs.Common.{◌≡◌, ◌+◌, drop}
-use Rattle.proc_merge.specs.Taken.{fragment_seen}
+use Rattle.machine_model.specs.Fragments.{fragment_seen}
 use Rattle.proc_merge.proofs.Parts.{in_turn}
 use Rattle.proc_merge.proofs.fragments.are_in_turn.Given as goal
 

@@ -2,7 +2,8 @@ use Rattle.std.proofs.Common.{◌≡◌, ◌+◌, ◌++◌, ◌∷◌, [], take,
 use Rattle.std.specs.Option.{option_map}
 use Rattle.std.proofs.lemmas.List.{map_more}
 use Rattle.flow_queue.specs.declared.queue.wholes.Candidate.{Candidate}
-use Rattle.flow_queue.specs.Fragments.{fragment_seen, files_of, AreFirst, IsRead}
+use Rattle.machine_model.specs.Fragments.{fragment_seen}
+use Rattle.flow_queue.specs.Fragments.{files_of, AreFirst, IsRead}
 use Rattle.flow_queue.specs.Queue.{view_of}
 use Rattle.flow_queue.proofs.Parts.{first-noted, first-other}
 use Rattle.flow_queue.proofs.queue.wholes.first_numbers.Goals as goal

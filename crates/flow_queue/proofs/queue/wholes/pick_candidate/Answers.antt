@@ -2,7 +2,8 @@ use Rattle.std.proofs.Common.{◌≡◌, [], None, sym, ap, ◌∙◌}
 use Rattle.std.specs.BTreeSet.{contains}
 use Rattle.std.specs.Option.{option_map, is_some, unwrap_or}
 use Rattle.machine_model.specs.Due.{numbers_of}
-use Rattle.flow_queue.specs.Fragments.{fragment_seen, whole_cmp, whole_at, AreMissing}
+use Rattle.machine_model.specs.Fragments.{fragment_seen}
+use Rattle.flow_queue.specs.Fragments.{whole_cmp, whole_at, AreMissing}
 use Rattle.flow_queue.specs.Queue.{view_of}
 use Rattle.flow_queue.proofs.Parts.{contained, missing-more, part-whole, picks-same, where-none, whole-numbers}
 use Rattle.flow_queue.proofs.queue.wholes.pick_candidate.Goals as goal

@@ -3,7 +3,7 @@ use Rattle.std.proofs.lemmas.Int.{to_z-of_z}
 use Rattle.std.specs.Prelude.{FitsSigned}
 use Rattle.std.specs.Result.{result_ok}
 use Rattle.expr_lang.proofs.Fits.{is_number, no_number}
-use Rattle.proc_merge.proofs.fragments.number_of.Goals as goal
+use Rattle.machine_model.proofs.fragment.number_of.Goals as goal
 
 pub returns-in-Ok : goal.returns-in-Ok
 returns-in-Ok c =

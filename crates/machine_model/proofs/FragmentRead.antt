@@ -1,4 +1,4 @@
--- What a fragment is, as its attributes are read.
+-- Which fragment a file is, as its attributes are read.
 use Rattle.std.proofs.Common.{◌≡◌, ℕ, List, Option, codes}
 use Rattle.std.specs.Prelude.{option_and_then}
 use Rattle.std.specs.FinMap.{get}

@@ -1,10 +1,10 @@
 use Rattle.std.proofs.Common.{◌≡◌, Option, Some, None, codes, refl, ap, ◌∙◌, rules}
 use Rattle.std.specs.Option.{option_map}
 use Rattle.machine_model.specs.Taking.{number_under}
-use Rattle.flow_queue.specs.declared.queue.fragments.Fragment.{Fragment as Part}
-use Rattle.flow_queue.specs.Fragments.{fragment_seen}
-use Rattle.flow_queue.proofs.Reading.{fragment-by}
-use Rattle.flow_queue.proofs.queue.fragments.fragment_of.Goals as goal
+use Rattle.machine_model.specs.declared.fragment.Fragment.{Fragment as Part}
+use Rattle.machine_model.specs.Fragments.{fragment_seen}
+use Rattle.machine_model.proofs.FragmentRead.{fragment-by}
+use Rattle.machine_model.proofs.fragment.fragment_of.Goals as goal
 
 pub returns-in_err-identifier : goal.returns-in_err-identifier
 returns-in_err-identifier c =

@@ -3,26 +3,30 @@ ghost use Rattle.std.specs.Prelude.{◌≡◌};
 ghost use Rattle.std.specs.Option.{option_map};
 ghost use Rattle.std.specs.Result.{result_ok};
 ghost use Rattle.expr_lang.specs.Value.{text, as_number};
+ghost use Rattle.machine_model.specs.Fragments.{fragment_seen};
 ghost use Rattle.machine_model.specs.Taking.{positive, number_under, within_count, fragment_of};
-ghost use Rattle.flow_queue.specs.Fragments.{fragment_seen};
 
 use flowfile_record::{Attributes, TAKEN_MAX};
 
 /// A file that was split, into so many parts.
 #[derive(Clone, Copy, PartialEq, Eq, PartialOrd, Ord)]
-pub(super) struct Whole<'a> {
-    pub(super) identifier: &'a str,
-    pub(super) count: u64,
+pub struct Whole<'a> {
+    pub identifier: &'a str,
+    pub count: u64,
 }
 
+/// A part of a whole.
 #[derive(Clone, Copy, PartialEq, Eq, PartialOrd, Ord)]
-pub(super) struct Fragment<'a> {
-    pub(super) whole: Whole<'a>,
-    // From 1 on.
-    pub(super) index: u64,
+pub struct Fragment<'a> {
+    pub whole: Whole<'a>,
+    /// From 1 on.
+    pub index: u64,
 }
 
-pub(super) fn fragment_of(attributes: &Attributes) -> Option<Fragment<'_>>
+/// Which part of which whole a file of these attributes is. It is none unless it has `fragment.identifier`, and
+/// `fragment.index` and `fragment.count` are decimal numbers from 1 on, the index at most the count, and the count at
+/// most [`TAKEN_MAX`].
+pub fn fragment_of(attributes: &Attributes) -> Option<Fragment<'_>>
     ensures { option_map fragment_seen result ≡ fragment_of attributes.now }
 {
     let identifier = attributes.get("fragment.identifier")?;
