@@ -1,5 +1,6 @@
 -- What each status says of how a run ended, or why it didn't begin.
-use Rattle.std.proofs.Common.{◌≡◌, ◌⊎◌, inl, inr, ℕ, refl, arith}
+use Rattle.std.proofs.Common.{◌≡◌, ◌⊎◌, inl, inr, ⊎_elim, ℕ, refl, sym, ◌∙◌, arith}
+use Rattle.std.specs.Prelude.{Result}
 use Rattle.disk_trait.specs.declared.damage.Damage.{Damage}
 use Rattle.kept_state.specs.declared.limit.Limit.{Limit}
 use Rattle.flow_definition.specs.declared.rule.Rule.{Rule}
@@ -7,7 +8,8 @@ use Rattle.flow_run.specs.declared.ended.Ended.{Ended}
 use Rattle.flow_run.specs.declared.ended.Ended.TheVariants as ending
 use Rattle.flow_run.specs.declared.ended.Fault.{Fault}
 use Rattle.flow_run.specs.declared.ended.Fault.TheVariants as fault
-use Rattle.run_top.specs.Status.{status_of, status_of_end, status_of_fault}
+use Rattle.run_top.specs.Run.{IsOfRun}
+use Rattle.run_top.specs.Status.{status_at, status_of, status_of_end, status_of_fault}
 use Rattle.run_top.specs.declared.status.RunError.{RunError}
 use Rattle.run_top.specs.declared.status.TheConstants.{USAGE, FLOW_REFUSED, DAMAGED, DISK_FAULT, INBOX_FAULT, OUTBOX_FAULT, SOURCE_FAULT, LIMIT}
 
@@ -156,3 +158,33 @@ of_end (ending.Fault cause) = record {
   where
     ap_fault : {a b : Fault} → a ≡ b → ending.Fault a ≡ ending.Fault b
     ap_fault same = cc
+
+-- ---- which there are
+
+fault_of_run : (cause : Fault) → IsOfRun (status_of_fault cause)
+fault_of_run fault.Disk = inr (inr (inr (inl refl)))
+fault_of_run fault.Inbox = inr (inr (inr (inr (inl refl))))
+fault_of_run fault.Outbox = inr (inr (inr (inr (inr (inl refl)))))
+fault_of_run (fault.Damaged damage) = inr (inr (inl refl))
+fault_of_run fault.Memory = inr (inr (inr (inr (inr (inr (inr (inr refl)))))))
+
+pub end_of_run : (ended : Ended) → IsOfRun (status_of_end ended)
+end_of_run ending.Quiet = inl refl
+end_of_run (ending.Blocked place) = inr (inr (inr (inr (inr (inr (inl refl))))))
+end_of_run (ending.Limit limit) = inr (inr (inr (inr (inr (inr (inr (inl refl)))))))
+end_of_run (ending.Fault cause) = fault_of_run cause
+
+pub error_of_run : (e : RunError) → IsOfStore e → IsOfRun (status_of e)
+error_of_run RunError.Source store = absurd (store.source refl)
+error_of_run (RunError.Refused rule) store = inr (inl refl)
+error_of_run RunError.OtherFlow store = inr (inl refl)
+error_of_run (RunError.Damaged damage) store = inr (inr (inl refl))
+error_of_run RunError.Disk store = inr (inr (inr (inl refl)))
+error_of_run RunError.Memory store = inr (inr (inr (inr (inr (inr (inr (inr refl)))))))
+
+isnt_source : (status : ℕ) → status ≡ SOURCE_FAULT → IsOfRun status → ⊥
+isnt_source status is one = ⊎_elim (λ s. omega (arith, is, s)) (λ more. ⊎_elim (λ s. omega (arith, is, s)) (λ more. ⊎_elim (λ s. omega (arith, is, s)) (λ more. ⊎_elim (λ s. omega (arith, is, s))
+    (λ more. ⊎_elim (λ s. omega (arith, is, s)) (λ more. ⊎_elim (λ s. omega (arith, is, s)) (λ more. ⊎_elim (λ s. omega (arith, is, s)) (λ more. ⊎_elim (λ s. omega (arith, is, s)) (λ s. omega (arith, is, s)) more) more) more) more) more) more) more) one
+
+pub no_source : (run : Result Ended RunError) (status : ℕ) → status ≡ status_at run → status ≡ SOURCE_FAULT → IsOfRun (status_at run) → ⊥
+no_source run status same is one = isnt_source (status_at run) (sym same ∙ is) one

@@ -10,61 +10,14 @@ use Rattle.store_core.specs.Flow as store
 use Rattle.store_core.specs.Opened.{IsShut}
 use Rattle.engine_core.specs.Committing.{identity_of}
 use Rattle.flow_definition.specs.declared.rule.Rule.{Rule}
-use Rattle.flow_run.specs.declared.ended.Ended.{Ended}
-use Rattle.flow_run.specs.declared.ended.Ended.TheVariants as ending
-use Rattle.flow_run.specs.declared.ended.Fault.{Fault}
-use Rattle.flow_run.specs.declared.ended.Fault.TheVariants as fault
 use Rattle.run_top.specs.Opening.{IsOfFlow}
-use Rattle.run_top.specs.Run.{CountsEachFault, EndsWith, HasRunText, IsLeftShut, IsNotOpened, IsNotRead, IsUntouched}
-use Rattle.run_top.specs.Status.{status_at, status_of, status_of_end, status_of_fault}
+use Rattle.run_top.specs.Run.{CountsEachFault, EndsWith, HasRunText, HasWritten, IsLeftShut, IsNotOpened, IsNotRead, IsUntouched}
+use Rattle.run_top.specs.Status.{status_of}
 use Rattle.run_top.specs.Text.{IsFlowIn, IsRead, IsRefused}
 use Rattle.run_top.specs.declared.status.RunError.{RunError}
-use Rattle.run_top.specs.declared.status.TheConstants.{DONE, USAGE, FLOW_REFUSED, DAMAGED, DISK_FAULT, INBOX_FAULT, OUTBOX_FAULT, SOURCE_FAULT, BLOCKED, LIMIT, OUT_OF_MEMORY}
+use Rattle.run_top.specs.declared.status.TheConstants.{USAGE, FLOW_REFUSED, DAMAGED, DISK_FAULT, INBOX_FAULT, OUTBOX_FAULT, SOURCE_FAULT, LIMIT, OUT_OF_MEMORY}
 use Rattle.run_top.proofs.Built.{of_flow, same_identity}
-use Rattle.run_top.proofs.Statuses.{no_end, of_end, source_error}
-
--- ---- statuses
-
-abbrev pub IsStatus : ℕ → Type 0
-IsStatus n =
-    (n ≡ DONE) ⊎ (n ≡ USAGE) ⊎ (n ≡ FLOW_REFUSED) ⊎ (n ≡ DAMAGED)
-    ⊎ (n ≡ DISK_FAULT) ⊎ (n ≡ INBOX_FAULT) ⊎ (n ≡ OUTBOX_FAULT) ⊎ (n ≡ SOURCE_FAULT)
-    ⊎ (n ≡ BLOCKED) ⊎ (n ≡ LIMIT) ⊎ (n ≡ OUT_OF_MEMORY)
-
-fault_status : (cause : Fault) → IsStatus (status_of_fault cause)
-fault_status fault.Disk = inr (inr (inr (inr (inl refl))))
-fault_status fault.Inbox = inr (inr (inr (inr (inr (inl refl)))))
-fault_status fault.Outbox = inr (inr (inr (inr (inr (inr (inl refl))))))
-fault_status (fault.Damaged damage) = inr (inr (inr (inl refl)))
-fault_status fault.Memory = inr (inr (inr (inr (inr (inr (inr (inr (inr (inr refl)))))))))
-
-end_status : (ended : Ended) → IsStatus (status_of_end ended)
-end_status ending.Quiet = inl refl
-end_status (ending.Blocked place) = inr (inr (inr (inr (inr (inr (inr (inr (inl refl))))))))
-end_status (ending.Limit limit) = inr (inr (inr (inr (inr (inr (inr (inr (inr (inl refl)))))))))
-end_status (ending.Fault cause) = fault_status cause
-
-error_status : (error : RunError) → IsStatus (status_of error)
-error_status RunError.Source = inr (inr (inr (inr (inr (inr (inr (inl refl)))))))
-error_status (RunError.Refused rule) = inr (inr (inl refl))
-error_status RunError.OtherFlow = inr (inr (inl refl))
-error_status (RunError.Damaged damage) = inr (inr (inr (inl refl)))
-error_status RunError.Disk = inr (inr (inr (inr (inl refl))))
-error_status RunError.Memory = inr (inr (inr (inr (inr (inr (inr (inr (inr (inr refl)))))))))
-
-run_status : (run : Result Ended RunError) → IsStatus (status_at run)
-run_status (Ok ended) = end_status ended
-run_status (Err error) = error_status error
-
-pub is_status : (run : Result Ended RunError) (status : ℕ) → status ≡ status_at run → IsStatus status
-is_status run status is = subst IsStatus (sym is) (run_status run)
-
-no_usage : (run : Result Ended RunError) → status_at run ≡ USAGE → ⊥
-no_usage (Ok ended) is = (of_end ended).usage is
-no_usage (Err error) is = (no_end error).usage is
-
-pub isnt_usage : (run : Result Ended RunError) (status : ℕ) → status ≡ status_at run → status ≡ USAGE → ⊥
-isnt_usage run status same is = no_usage run (sym same ∙ is)
+use Rattle.run_top.proofs.Short.{is_status}
 
 -- ---- a flow that was read
 
@@ -104,13 +57,15 @@ module _ (tells : Bool) (text : List ℕ) (one : Flow) (read : IsRead tells text
         inr (inl (subst (λ (n : ℕ). IsNotOpened n moment images old new inbox_old inbox_new outbox_old outbox_new) (sym is) un)))
         left
 
-pub alone_or : {W X D I O : Type 0} (moment : D → ℕ) (images : D → ℕ → Files → Type 0) (old new : D) (inbox_old inbox_new : I) (outbox_old outbox_new : O) (status result : ℕ) → result ≡ status
-    → W ⊎ IsNotOpened status moment images old new inbox_old inbox_new outbox_old outbox_new → W ⊎ IsNotOpened result moment images old new inbox_old inbox_new outbox_old outbox_new ⊎ X
-alone_or {W = W} moment images old new inbox_old inbox_new outbox_old outbox_new status result is alone = ⊎_elim
-    (λ (w : W). inl w)
+pub written_or : {X D I O : Type 0} (moment : D → ℕ) (images : D → ℕ → Files → Type 0) (files : Files) (checkpoint : ℕ) (old new : D) (inbox_old inbox_new : I) (outbox_old outbox_new : O) (status result : ℕ) → result ≡ status
+    → HasWritten status moment images files checkpoint old new ⊎ IsNotOpened status moment images old new inbox_old inbox_new outbox_old outbox_new
+    → HasWritten result moment images files checkpoint old new ⊎ IsNotOpened result moment images old new inbox_old inbox_new outbox_old outbox_new ⊎ X
+written_or moment images files checkpoint old new inbox_old inbox_new outbox_old outbox_new status result is written = ⊎_elim
+    (λ (w : HasWritten status moment images files checkpoint old new).
+    inl (record { alone = w.alone; short = is_status result status is w.short }))
     (λ (un : IsNotOpened status moment images old new inbox_old inbox_new outbox_old outbox_new).
     inr (inl (subst (λ (n : ℕ). IsNotOpened n moment images old new inbox_old inbox_new outbox_old outbox_new) (sym is) un)))
-    alone
+    written
 
 -- ---- none was read
 
@@ -176,6 +131,3 @@ nothing_counts status disk inbox outbox of = record {
   inbox = record { never_falls = omega arith; rose = λ is. absurd (of.inbox is) };
   outbox = record { never_falls = omega arith; rose = λ is. absurd (of.outbox is) };
 }
-
-pub error_is_status : (error : RunError) (status : ℕ) → status ≡ status_of error → IsStatus status
-error_is_status error status is = subst IsStatus (sym is) (error_status error)

@@ -13,6 +13,7 @@ use Rattle.store_core.specs.Calls.{SinceSync, IsUnwritten}
 use Rattle.store_core.specs.Flow as store
 use Rattle.store_core.specs.Opened.{SameMeaning}
 use Rattle.store_core.specs.Touched.{IsOfLog, OnlyShortens, log_opened}
+use Rattle.engine_core.specs.Committing.{identity_of}
 use Rattle.flow_run.specs.Ending.{IsLimitMet}
 use Rattle.flow_run.specs.Run.{HasRun}
 use Rattle.flow_run.specs.Work.{IsReadDamaged, IsShortOn, MayWriteFrom}
@@ -21,7 +22,7 @@ use Rattle.flow_run.specs.declared.ended.Ended.TheVariants as ending
 use Rattle.run_top.specs.Opening.{IsShutStatus, IsToldBy}
 use Rattle.run_top.specs.Status.{status_of_end}
 use Rattle.run_top.specs.Text.{IsFlowIn, IsRead, IsRefused}
-use Rattle.run_top.specs.declared.status.TheConstants.{BLOCKED, DONE, FLOW_REFUSED, DISK_FAULT, INBOX_FAULT, OUTBOX_FAULT, SOURCE_FAULT, OUT_OF_MEMORY}
+use Rattle.run_top.specs.declared.status.TheConstants.{DONE, FLOW_REFUSED, DAMAGED, DISK_FAULT, INBOX_FAULT, OUTBOX_FAULT, SOURCE_FAULT, BLOCKED, LIMIT, OUT_OF_MEMORY}
 
 -- ---- a flow has run
 
@@ -68,6 +69,14 @@ pub record IsNotOpened {D I O : Type 0} (status : ℕ) (moment : D → ℕ) (ima
   pub inbox : inbox_new ≡ inbox_old
   pub outbox : outbox_new ≡ outbox_old
 
+-- the run didn't begin: the opening's first sync failed, or there was no flow to run
+abbrev pub HasNotBegun : {D I O : Type 0} → (status : ℕ) → (D → ℕ) → (D → ℕ → Files → Type 0) → (Risen : Type 0)
+    → (tells : Bool) → (text : List ℕ) → (old new : D) → (inbox_old inbox_new : I) → (outbox_old outbox_new : O)
+    → Type 0
+HasNotBegun status moment images Risen tells text old new inbox_old inbox_new outbox_old outbox_new =
+    IsNotOpened status moment images old new inbox_old inbox_new outbox_old outbox_new
+    ⊎ IsNotRead status Risen tells text old new inbox_old inbox_new outbox_old outbox_new
+
 -- What may not be opened is left so: what the disk holds is as before, of the calls that change something there was the
 -- opening's first sync alone, and from behind it on whatever a stop may leave means the same.
 pub record IsLeftShut {D I O : Type 0} (flow : store.Flow) (status : ℕ) (held : D → Files) (moment : D → ℕ)
@@ -105,6 +114,12 @@ abbrev pub EndsShort : {D : Type 0} → (status : ℕ) → (D → ℕ) → (D �
 EndsShort status moment images checkpoint new =
     (status ≡ DONE) ⊎ (status ≡ BLOCKED) → IsShortOn moment images checkpoint new
 
+-- it has written so
+pub record HasWritten {D : Type 0} (status : ℕ) (moment : D → ℕ) (images : D → ℕ → Files → Type 0) (files : Files)
+    (checkpoint : ℕ) (old new : D) : Type 0 where
+  pub alone : WritesAlone moment images files old new
+  pub short : EndsShort status moment images checkpoint new
+
 -- a live content was read behind the opening's first sync, and that told damage
 pub record IsToldByRead {D : Type 0} (flow : Flow) (tells : Bool) (held : D → Files) (moment : D → ℕ)
     (images : D → ℕ → Files → Type 0) (lot : ℕ) (old new : D) : Type 0 where
@@ -119,6 +134,25 @@ pub record IsLimited {D : Type 0} (flow : Flow) (tells : Bool) (held : D → Fil
   pub met : IsLimitMet flow tells held moment images lot (moment old + 1) most limit new
 
 -- ---- causes
+
+-- the statuses of a flow that was read
+abbrev pub IsOfRun : (status : ℕ) → Type 0
+IsOfRun status =
+    (status ≡ DONE) ⊎ (status ≡ FLOW_REFUSED) ⊎ (status ≡ DAMAGED) ⊎ (status ≡ DISK_FAULT) ⊎ (status ≡ INBOX_FAULT)
+    ⊎ (status ≡ OUTBOX_FAULT) ⊎ (status ≡ BLOCKED) ⊎ (status ≡ LIMIT) ⊎ (status ≡ OUT_OF_MEMORY)
+
+-- The status of a flow that was read has its cause: the store that stands is another flow's, its files or a content
+-- that was read are damaged, or a limit was met.
+pub record HasCause {D I O : Type 0} (flow : Flow) (status : ℕ) (tells : Bool) (held : D → Files) (moment : D → ℕ)
+    (images : D → ℕ → Files → Type 0) (lot most : ℕ) (old new : D) (inbox_old inbox_new : I) (outbox_old outbox_new : O)
+    : Type 0 where
+  pub one_of : IsOfRun status
+  pub refused : status ≡ FLOW_REFUSED
+      → IsToldShut (identity_of flow) status tells held moment lot old new inbox_old inbox_new outbox_old outbox_new
+  pub damaged : status ≡ DAMAGED
+      → IsToldShut (identity_of flow) status tells held moment lot old new inbox_old inbox_new outbox_old outbox_new
+      ⊎ IsToldByRead flow tells held moment images lot old new
+  pub limited : status ≡ LIMIT → IsLimited flow tells held moment images lot most old new
 
 -- A device's fault count never falls, and its status is answered only where the count rose, or stands at its type's
 -- end.

@@ -1,5 +1,5 @@
 //! The command that the words say.
-ghost use Rattle.std.specs.Prelude.{◌≡◌, ◌⊎◌, ◌↔◌, ◌+◌, ◌-◌, ◌^◌, ◌<◌, true, false, IsTrue};
+ghost use Rattle.std.specs.Prelude.{◌≡◌, ◌⊎◌, ◌-◌, ◌^◌, ◌<◌, true, false, IsTrue};
 ghost use Rattle.disk_trait.specs.Faults.{CountsFaults};
 ghost use Rattle.flowfile_record.specs.Encoding.{IsDigest};
 ghost use Rattle.machine_model.specs.Sound.{IsSound};
@@ -11,18 +11,15 @@ ghost use Rattle.flow_definition.specs.Patterns.{HasRisen};
 ghost use Rattle.flow_run.specs.Run.{machine_at};
 ghost use Rattle.flow_engine.specs.Engine.{AreBuilt};
 ghost use Rattle.run_top.specs.Opening.{IsOfFlow};
-ghost use Rattle.run_top.specs.Run.{CountsEachFault, EndsShort, EndsWith, HasRunText, IsLeftShut, IsLimited, IsNotOpened, IsNotRead, IsToldByRead, IsToldShut, IsUntouched, WritesAlone};
+ghost use Rattle.run_top.specs.Run.{CountsEachFault, EndsWith, HasCause, HasNotBegun, HasRunText, HasWritten, IsLeftShut, IsNotOpened, IsNotRead, IsUntouched};
 ghost use Rattle.run_top.specs.Status.{status_at};
-ghost use Rattle.run_top.specs.Text.{IsBroken, IsFlowIn, IsRead, IsRefused};
+ghost use Rattle.run_top.specs.Text.{IsBroken, IsFlowIn, IsRead};
 ghost use Rattle.run_top.specs.Words.{is_run};
 
 use crate::opening::open;
 use crate::status::status_of_run;
 use crate::text::read;
-use crate::{
-    BLOCKED, DAMAGED, DISK_FAULT, DONE, FLOW_REFUSED, INBOX_FAULT, LIMIT, OUT_OF_MEMORY,
-    OUTBOX_FAULT, RunError, SOURCE_FAULT, USAGE,
-};
+use crate::{RunError, SOURCE_FAULT, USAGE};
 use disk_trait::Disk;
 use flow_definition::Patterns;
 use flow_engine::run_flow;
@@ -66,67 +63,49 @@ pub fn run<R, D: Disk, I: Inbox, O: Outbox, F: Source, P: Patterns, S: Sink, C: 
     _gate: &G,
 ) -> u8
     // The headline. Where the devices tell and the files stand for a state of the flow of the text, there is a journal
-    // of which all that HasRun says is true, whatever the status; or the opening's first sync failed; or there was no
-    // flow to run.
+    // of which all that HasRun says is true, whatever the status; or the run didn't begin.
     ensures headline { IsTrue D.tells → IsTrue I.tells → IsTrue O.tells → IsTrue F.tells → is_run words.now ≡ true
         → (any : TheFlow) → IsFlowIn (F.rest flow.old) any → (state : State) → IsOfFlow any lot (D.held disk.old) state
         → HasRunText (F.rest flow.old) result (C.time clock.new) D.tells D.held D.moment D.images lot MAX_COMMITS
         (machine_at state (I.left inbox.old) (O.standing outbox.old))
         disk.old disk.new (I.left inbox.new) (O.standing outbox.new)
-        ⊎ IsNotOpened result D.moment D.images disk.old disk.new inbox.old inbox.new outbox.old outbox.new
-        ⊎ IsNotRead result (HasRisen (P.faults patterns.old) (P.faults patterns.new)) F.tells (F.rest flow.old)
-        disk.old disk.new inbox.old inbox.new outbox.old outbox.new }
+        ⊎ HasNotBegun result D.moment D.images (HasRisen (P.faults patterns.old) (P.faults patterns.new)) F.tells
+        (F.rest flow.old) disk.old disk.new inbox.old inbox.new outbox.old outbox.new }
 
     // Where the files stand for no state, or for one of another flow, the disk is synced once and nothing else is done,
-    // whatever the status; or that sync failed; or there was no flow to run.
+    // whatever the status; or the run didn't begin.
     ensures shut_left { IsTrue D.tells → IsTrue F.tells → is_run words.now ≡ true
         → (any : TheFlow) → IsFlowIn (F.rest flow.old) any → IsShut (identity_of any) lot (D.held disk.old)
         → IsLeftShut (identity_of any) result D.held D.moment D.images lot
         disk.old disk.new inbox.old inbox.new outbox.old outbox.new
-        ⊎ IsNotOpened result D.moment D.images disk.old disk.new inbox.old inbox.new outbox.old outbox.new
-        ⊎ IsNotRead result (HasRisen (P.faults patterns.old) (P.faults patterns.new)) F.tells (F.rest flow.old)
-        disk.old disk.new inbox.old inbox.new outbox.old outbox.new }
+        ⊎ HasNotBegun result D.moment D.images (HasRisen (P.faults patterns.old) (P.faults patterns.new)) F.tells
+        (F.rest flow.old) disk.old disk.new inbox.old inbox.new outbox.old outbox.new }
 
     // Where the text breaks a rule, nothing is done.
     ensures broken { IsTrue F.tells → is_run words.now ≡ true → IsBroken (F.rest flow.old)
         → IsNotRead result (HasRisen (P.faults patterns.old) (P.faults patterns.new)) F.tells (F.rest flow.old)
         disk.old disk.new inbox.old inbox.new outbox.old outbox.new }
 
-    // Whatever the status, only claims, events, the log, later logs with their snapshots, and a new store's snapshot
-    // are written; or the opening's first sync failed; or there was no flow to run.
-    ensures alone { is_run words.now ≡ true → WritesAlone D.moment D.images (D.held disk.old) disk.old disk.new
-        ⊎ IsNotOpened result D.moment D.images disk.old disk.new inbox.old inbox.new outbox.old outbox.new
+    // On any disk only claims, events, the log, later logs with their snapshots, and a new store's snapshot are
+    // written, and with 0 and 10 the log is short; or the run didn't begin.
+    ensures written { is_run words.now ≡ true
+        → HasWritten result D.moment D.images (D.held disk.old) CHECKPOINT_ENTRIES disk.old disk.new
+        ⊎ HasNotBegun result D.moment D.images (HasRisen (P.faults patterns.old) (P.faults patterns.new)) F.tells
+        (F.rest flow.old) disk.old disk.new inbox.old inbox.new outbox.old outbox.new }
+
+    // Each status has its cause. Where a flow was read, the status tells how its run ended or why it wasn't opened.
+    ensures why { is_run words.now ≡ true
+        → ((one : TheFlow) × IsRead F.tells (F.rest flow.old) one
+        × HasCause one result D.tells D.held D.moment D.images lot MAX_COMMITS
+        disk.old disk.new inbox.old inbox.new outbox.old outbox.new)
         ⊎ IsNotRead result (HasRisen (P.faults patterns.old) (P.faults patterns.new)) F.tells (F.rest flow.old)
         disk.old disk.new inbox.old inbox.new outbox.old outbox.new }
-
-    // With 0 and 10 the log has fewer entries than it takes to make a checkpoint, or no other log can follow it.
-    ensures checkpointed { EndsShort result D.moment D.images CHECKPOINT_ENTRIES disk.new }
-
-    // Each status has its cause.
-    ensures usage { result ≡ USAGE ↔ (is_run words.now ≡ false) }
-    ensures usage_untouched { result ≡ USAGE
-        → IsUntouched disk.old disk.new inbox.old inbox.new outbox.old outbox.new
+    ensures faults { CountsEachFault result (D.faults disk.old) (D.faults disk.new)
+        (I.faults inbox.old) (I.faults inbox.new) (O.faults outbox.old) (O.faults outbox.new)
+        × CountsFaults (F.faults flow.old) (F.faults flow.new) (result ≡ SOURCE_FAULT) }
+    ensures usage { is_run words.now ≡ false → (result ≡ USAGE)
+        × IsUntouched disk.old disk.new inbox.old inbox.new outbox.old outbox.new
         × (flow.new ≡ flow.old) × (patterns.new ≡ patterns.old) × (clock.new ≡ clock.old) }
-    ensures refused { result ≡ FLOW_REFUSED
-        → (IsRefused (HasRisen (P.faults patterns.old) (P.faults patterns.new)) F.tells (F.rest flow.old)
-        × IsUntouched disk.old disk.new inbox.old inbox.new outbox.old outbox.new)
-        ⊎ ((one : TheFlow) × IsRead F.tells (F.rest flow.old) one
-        × IsToldShut (identity_of one) result D.tells D.held D.moment lot
-        disk.old disk.new inbox.old inbox.new outbox.old outbox.new) }
-    ensures damaged { result ≡ DAMAGED → (one : TheFlow) × IsRead F.tells (F.rest flow.old) one
-        × (IsToldShut (identity_of one) result D.tells D.held D.moment lot
-        disk.old disk.new inbox.old inbox.new outbox.old outbox.new
-        ⊎ IsToldByRead one D.tells D.held D.moment D.images lot disk.old disk.new) }
-    ensures source { result ≡ SOURCE_FAULT
-        → IsUntouched disk.old disk.new inbox.old inbox.new outbox.old outbox.new }
-    ensures limited { result ≡ LIMIT → (one : TheFlow) × IsRead F.tells (F.rest flow.old) one
-        × IsLimited one D.tells D.held D.moment D.images lot MAX_COMMITS disk.old disk.new }
-    ensures causes { CountsEachFault result (D.faults disk.old) (D.faults disk.new)
-        (I.faults inbox.old) (I.faults inbox.new) (O.faults outbox.old) (O.faults outbox.new) }
-    ensures source_cause { CountsFaults (F.faults flow.old) (F.faults flow.new) (result ≡ SOURCE_FAULT) }
-    ensures statuses { (result ≡ DONE) ⊎ (result ≡ USAGE) ⊎ (result ≡ FLOW_REFUSED) ⊎ (result ≡ DAMAGED)
-        ⊎ (result ≡ DISK_FAULT) ⊎ (result ≡ INBOX_FAULT) ⊎ (result ≡ OUTBOX_FAULT) ⊎ (result ≡ SOURCE_FAULT)
-        ⊎ (result ≡ BLOCKED) ⊎ (result ≡ LIMIT) ⊎ (result ≡ OUT_OF_MEMORY) }
 
     // What is printed to isn't called.
     ensures unused { sink.new ≡ sink.old }
@@ -162,7 +141,7 @@ pub fn are_run(words: &[String]) -> bool
 
 /// Opens the store of a flow, and runs the flow over it, until the journal has `most` entries at the latest, with a
 /// checkpoint where the log has `checkpoint` entries.
-pub fn run_over<D: Disk, I: Inbox, O: Outbox, C: Clock>(
+pub(crate) fn run_over<D: Disk, I: Inbox, O: Outbox, C: Clock>(
     alloc: Global,
     flow: &Flow,
     lot: u64,
@@ -187,22 +166,13 @@ pub fn run_over<D: Disk, I: Inbox, O: Outbox, C: Clock>(
         → IsLeftShut (identity_of flow.now) (status_at result) D.held D.moment D.images lot
         disk.old disk.new inbox.old inbox.new outbox.old outbox.new
         ⊎ IsNotOpened (status_at result) D.moment D.images disk.old disk.new inbox.old inbox.new outbox.old outbox.new }
-    ensures alone { WritesAlone D.moment D.images (D.held disk.old) disk.old disk.new
+    ensures written { HasWritten (status_at result) D.moment D.images (D.held disk.old) checkpoint disk.old disk.new
         ⊎ IsNotOpened (status_at result) D.moment D.images disk.old disk.new
         inbox.old inbox.new outbox.old outbox.new }
-    ensures checkpointed { EndsShort (status_at result) D.moment D.images checkpoint disk.new }
-    ensures refused { status_at result ≡ FLOW_REFUSED
-        → IsToldShut (identity_of flow.now) (status_at result) D.tells D.held D.moment lot
+    ensures why { HasCause flow.now (status_at result) D.tells D.held D.moment D.images lot most
         disk.old disk.new inbox.old inbox.new outbox.old outbox.new }
-    ensures damaged { status_at result ≡ DAMAGED
-        → IsToldShut (identity_of flow.now) (status_at result) D.tells D.held D.moment lot
-        disk.old disk.new inbox.old inbox.new outbox.old outbox.new
-        ⊎ IsToldByRead flow.now D.tells D.held D.moment D.images lot disk.old disk.new }
-    ensures limited { status_at result ≡ LIMIT
-        → IsLimited flow.now D.tells D.held D.moment D.images lot most disk.old disk.new }
-    ensures causes { CountsEachFault (status_at result) (D.faults disk.old) (D.faults disk.new)
+    ensures faults { CountsEachFault (status_at result) (D.faults disk.old) (D.faults disk.new)
         (I.faults inbox.old) (I.faults inbox.new) (O.faults outbox.old) (O.faults outbox.new) }
-    ensures source { status_at result ≡ SOURCE_FAULT → ⊥ }
 {
     failed_openings_end_a_run::<D>();
     let store = open(alloc, lot, disk, flow)?;

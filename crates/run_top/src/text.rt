@@ -15,7 +15,7 @@ use world_io::Source;
 const PIECE: usize = 65_536;
 
 /// Reads the flow that a source has the text of.
-pub fn read<F: Source, P: Patterns>(
+pub(crate) fn read<F: Source, P: Patterns>(
     alloc: Global,
     source: &mut F,
     patterns: &mut P,

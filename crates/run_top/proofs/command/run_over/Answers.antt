@@ -5,7 +5,7 @@ use Rattle.flowfile_record.specs.NamedFile.{NamedFile}
 use Rattle.engine_core.specs.Committing.{identity_of}
 use Rattle.flow_run.specs.Run.{machine_at}
 use Rattle.flow_run.specs.declared.ended.Ended.{Ended}
-use Rattle.run_top.specs.Run.{CountsEachFault, EndsWith, IsLeftShut, IsLimited, IsNotOpened, IsToldByRead, IsToldShut}
+use Rattle.run_top.specs.Run.{CountsEachFault, EndsWith, HasCause, IsLeftShut, IsNotOpened}
 use Rattle.run_top.specs.Status.{status_at, status_of, status_of_end}
 use Rattle.run_top.specs.declared.status.RunError.{RunError}
 use Rattle.run_top.specs.declared.status.TheConstants.{DAMAGED, FLOW_REFUSED}
@@ -13,7 +13,7 @@ use Rattle.run_top.proofs.Opened.{not_opened}
 use Rattle.run_top.proofs.Over.{left_shut, limit_tells, ran_ends, read_tells, refused_counts, refused_ends, run_counts, told_by}
 use Rattle.run_top.proofs.Short.{has_ended, not_begun}
 use Rattle.run_top.proofs.Started.{starts}
-use Rattle.run_top.proofs.Statuses.{IsOfStore, damaged_error, no_end, of_end, refused_error, source_error}
+use Rattle.run_top.proofs.Statuses.{IsOfStore, damaged_error, end_of_run, error_of_run, no_end, of_end, refused_error}
 use Rattle.run_top.proofs.Writing.{opens_alone, runs_alone}
 use Rattle.run_top.proofs.command.run_over.Goals as goal
 
@@ -41,70 +41,6 @@ returns-in_err-store-clause-shut_left g c told shut =
     (left_shut g.D.Disk.tells g.D.Disk.held g.D.Disk.moment g.D.Disk.images c.args.flow.now c.args.lot c.args.disk.now c.open.new.disk c.args.inbox.now c.args.outbox.now c.open.result error c.in_err-store.was kinds c.open.ensures.images
     (λ damage is. (c.open.ensures.damaged damage (c.in_err-store.was ∙ ap Err is)).found told) (λ other. (c.open.ensures.other_flow (c.in_err-store.was ∙ ap Err other)).found told) (c.open.ensures.shut told shut))
 
-pub returns-in_err-store-clause-alone : goal.returns-in_err-store-clause-alone
-returns-in_err-store-clause-alone g c =
-    let error = c.in_err-store.field-0.0 in
-    let p = err_from_is_err_and c.from_residual.result c.from_residual.ensures.1 in
-    let fails : c.from_residual.result ≡ Err error = cc (p.1, p.2) in
-    ⊎_elim
-    (λ since. inl (opens_alone g.D.Disk.moment g.D.Disk.images (g.D.Disk.held c.args.disk.now) c.args.disk.now c.open.new.disk since))
-    (λ failed. inr (subst (λ (r : Result Ended RunError). IsNotOpened (status_at r) g.D.Disk.moment g.D.Disk.images c.args.disk.now c.open.new.disk c.args.inbox.now c.args.inbox.now c.args.outbox.now c.args.outbox.now) (sym fails)
-    (not_opened g.D.Disk.moment g.D.Disk.images c.args.disk.now c.open.new.disk c.args.inbox.now c.args.outbox.now c.open.result error c.in_err-store.was failed)))
-    c.open.ensures.alone
-
-pub returns-in_err-store-clause-checkpointed : goal.returns-in_err-store-clause-checkpointed
-returns-in_err-store-clause-checkpointed g c =
-    let error = c.in_err-store.field-0.0 in
-    let p = err_from_is_err_and c.from_residual.result c.from_residual.ensures.1 in
-    let fails : c.from_residual.result ≡ Err error = cc (p.1, p.2) in
-    not_begun g.D.Disk.moment g.D.Disk.images c.args.checkpoint c.open.new.disk (status_at c.from_residual.result) error (ap status_at fails)
-
-pub returns-in_err-store-clause-refused : goal.returns-in_err-store-clause-refused
-returns-in_err-store-clause-refused g c is =
-    let error = c.in_err-store.field-0.0 in
-    let p = err_from_is_err_and c.from_residual.result c.from_residual.ensures.1 in
-    let fails : c.from_residual.result ≡ Err error = cc (p.1, p.2) in
-    let kinds : IsOfStore error = record { source = c.in_err-store.ensures.kinds.0; refused = c.in_err-store.ensures.kinds.1 } in
-    subst (λ (r : Result Ended RunError). IsToldShut (identity_of c.args.flow.now) (status_at r) g.D.Disk.tells g.D.Disk.held g.D.Disk.moment c.args.lot c.args.disk.now c.open.new.disk c.args.inbox.now c.args.inbox.now c.args.outbox.now c.args.outbox.now) (sym fails)
-    (refused_error error kinds
-    (λ other. told_by g.D.Disk.tells g.D.Disk.held g.D.Disk.moment g.D.Disk.images c.args.flow.now c.args.lot c.args.disk.now c.open.new.disk c.args.inbox.now c.args.outbox.now c.open.result error c.in_err-store.was kinds c.open.ensures.images
-    FLOW_REFUSED (ap status_of other) (c.open.ensures.other_flow (c.in_err-store.was ∙ ap Err other)))
-    (sym (ap status_at fails) ∙ is))
-
-pub returns-in_err-store-clause-damaged : goal.returns-in_err-store-clause-damaged
-returns-in_err-store-clause-damaged g c is =
-    let error = c.in_err-store.field-0.0 in
-    let p = err_from_is_err_and c.from_residual.result c.from_residual.ensures.1 in
-    let fails : c.from_residual.result ≡ Err error = cc (p.1, p.2) in
-    let kinds : IsOfStore error = record { source = c.in_err-store.ensures.kinds.0; refused = c.in_err-store.ensures.kinds.1 } in
-    inl (subst (λ (r : Result Ended RunError). IsToldShut (identity_of c.args.flow.now) (status_at r) g.D.Disk.tells g.D.Disk.held g.D.Disk.moment c.args.lot c.args.disk.now c.open.new.disk c.args.inbox.now c.args.inbox.now c.args.outbox.now c.args.outbox.now) (sym fails)
-    (damaged_error error
-    (λ damage same. told_by g.D.Disk.tells g.D.Disk.held g.D.Disk.moment g.D.Disk.images c.args.flow.now c.args.lot c.args.disk.now c.open.new.disk c.args.inbox.now c.args.outbox.now c.open.result error c.in_err-store.was kinds c.open.ensures.images
-    DAMAGED (ap status_of same) (c.open.ensures.damaged damage (c.in_err-store.was ∙ ap Err same)))
-    (sym (ap status_at fails) ∙ is)))
-
-pub returns-in_err-store-clause-limited : goal.returns-in_err-store-clause-limited
-returns-in_err-store-clause-limited g c is =
-    let error = c.in_err-store.field-0.0 in
-    let p = err_from_is_err_and c.from_residual.result c.from_residual.ensures.1 in
-    let fails : c.from_residual.result ≡ Err error = cc (p.1, p.2) in
-    absurd ((no_end error).limit (sym (ap status_at fails) ∙ is))
-
-pub returns-in_err-store-clause-causes : goal.returns-in_err-store-clause-causes
-returns-in_err-store-clause-causes g c =
-    let error = c.in_err-store.field-0.0 in
-    let p = err_from_is_err_and c.from_residual.result c.from_residual.ensures.1 in
-    let fails : c.from_residual.result ≡ Err error = cc (p.1, p.2) in
-    subst (λ (r : Result Ended RunError). CountsEachFault (status_at r) (g.D.Disk.faults c.args.disk.now) (g.D.Disk.faults c.open.new.disk) (g.I.Inbox.faults c.args.inbox.now) (g.I.Inbox.faults c.args.inbox.now) (g.O.Outbox.faults c.args.outbox.now) (g.O.Outbox.faults c.args.outbox.now)) (sym fails)
-    (refused_counts c.open.result error _ _ _ _ c.in_err-store.was c.open.ensures.cause)
-
-pub returns-in_err-store-clause-source : goal.returns-in_err-store-clause-source
-returns-in_err-store-clause-source g c is =
-    let error = c.in_err-store.field-0.0 in
-    let p = err_from_is_err_and c.from_residual.result c.from_residual.ensures.1 in
-    let fails : c.from_residual.result ≡ Err error = cc (p.1, p.2) in
-    c.in_err-store.ensures.kinds.0 (source_error error (sym (ap status_at fails) ∙ is))
-
 pub returns-clause-headline : goal.returns-clause-headline
 returns-clause-headline g c disk_told in_told out_told state of =
     let left : List NamedFile = g.I.Inbox.left c.args.inbox.now in
@@ -125,36 +61,69 @@ returns-clause-headline g c disk_told in_told out_told state of =
 pub returns-clause-shut_left : goal.returns-clause-shut_left
 returns-clause-shut_left g c told shut = absurd (c.in_ok-store.ensures.open told shut)
 
-pub returns-clause-alone : goal.returns-clause-alone
-returns-clause-alone g c =
+pub returns-in_err-store-clause-written : goal.returns-in_err-store-clause-written
+returns-in_err-store-clause-written g c =
+    let error = c.in_err-store.field-0.0 in
+    let p = err_from_is_err_and c.from_residual.result c.from_residual.ensures.1 in
+    let fails : c.from_residual.result ≡ Err error = cc (p.1, p.2) in
+    ⊎_elim
+    (λ since. inl (record {
+      alone = opens_alone g.D.Disk.moment g.D.Disk.images (g.D.Disk.held c.args.disk.now) c.args.disk.now c.open.new.disk since;
+      short = not_begun g.D.Disk.moment g.D.Disk.images c.args.checkpoint c.open.new.disk (status_at c.from_residual.result) error (ap status_at fails);
+    }))
+    (λ failed. inr (subst (λ (r : Result Ended RunError). IsNotOpened (status_at r) g.D.Disk.moment g.D.Disk.images c.args.disk.now c.open.new.disk c.args.inbox.now c.args.inbox.now c.args.outbox.now c.args.outbox.now) (sym fails)
+    (not_opened g.D.Disk.moment g.D.Disk.images c.args.disk.now c.open.new.disk c.args.inbox.now c.args.outbox.now c.open.result error c.in_err-store.was failed)))
+    c.open.ensures.alone
+
+pub returns-in_err-store-clause-why : goal.returns-in_err-store-clause-why
+returns-in_err-store-clause-why g c =
+    let error = c.in_err-store.field-0.0 in
+    let p = err_from_is_err_and c.from_residual.result c.from_residual.ensures.1 in
+    let fails : c.from_residual.result ≡ Err error = cc (p.1, p.2) in
+    let kinds : IsOfStore error = record { source = c.in_err-store.ensures.kinds.0; refused = c.in_err-store.ensures.kinds.1 } in
+    subst (λ (r : Result Ended RunError). HasCause c.args.flow.now (status_at r) g.D.Disk.tells g.D.Disk.held g.D.Disk.moment g.D.Disk.images c.args.lot c.args.most c.args.disk.now c.open.new.disk c.args.inbox.now c.args.inbox.now c.args.outbox.now c.args.outbox.now) (sym fails)
+    (record {
+      one_of = error_of_run error kinds;
+      refused = refused_error error kinds
+          (λ other. told_by g.D.Disk.tells g.D.Disk.held g.D.Disk.moment g.D.Disk.images c.args.flow.now c.args.lot c.args.disk.now c.open.new.disk c.args.inbox.now c.args.outbox.now c.open.result error c.in_err-store.was kinds c.open.ensures.images
+          FLOW_REFUSED (ap status_of other) (c.open.ensures.other_flow (c.in_err-store.was ∙ ap Err other)));
+      damaged = λ is. inl (damaged_error error
+          (λ damage same. told_by g.D.Disk.tells g.D.Disk.held g.D.Disk.moment g.D.Disk.images c.args.flow.now c.args.lot c.args.disk.now c.open.new.disk c.args.inbox.now c.args.outbox.now c.open.result error c.in_err-store.was kinds c.open.ensures.images
+          DAMAGED (ap status_of same) (c.open.ensures.damaged damage (c.in_err-store.was ∙ ap Err same)))
+          is);
+      limited = λ is. absurd ((no_end error).limit is);
+    })
+
+pub returns-in_err-store-clause-faults : goal.returns-in_err-store-clause-faults
+returns-in_err-store-clause-faults g c =
+    let error = c.in_err-store.field-0.0 in
+    let p = err_from_is_err_and c.from_residual.result c.from_residual.ensures.1 in
+    let fails : c.from_residual.result ≡ Err error = cc (p.1, p.2) in
+    subst (λ (r : Result Ended RunError). CountsEachFault (status_at r) (g.D.Disk.faults c.args.disk.now) (g.D.Disk.faults c.open.new.disk) (g.I.Inbox.faults c.args.inbox.now) (g.I.Inbox.faults c.args.inbox.now) (g.O.Outbox.faults c.args.outbox.now) (g.O.Outbox.faults c.args.outbox.now)) (sym fails)
+    (refused_counts c.open.result error _ _ _ _ c.in_err-store.was c.open.ensures.cause)
+
+pub returns-clause-written : goal.returns-clause-written
+returns-clause-written g c =
     let disk_laws = g.met.D.Disk g.world.𝓛 g.world.𝓜 g.world.𝓡 ((λ s x. x), (λ x. x), (λ x. x), λ x. x) in
     ⊎_elim
-    (λ since. inl (runs_alone g.D.Disk.moment g.D.Disk.images (g.D.Disk.held c.args.disk.now) g.D.Disk.tells c.in_ok-store.store.log.number c.args.disk.now c.open.new.disk c.run_flow.new.disk
-    (λ disk k e left. disk_laws.left_is_told disk k e left) c.in_ok-store.ensures.log since c.run_flow.ensures.alone))
+    (λ since. inl (record {
+      alone = runs_alone g.D.Disk.moment g.D.Disk.images (g.D.Disk.held c.args.disk.now) g.D.Disk.tells c.in_ok-store.store.log.number c.args.disk.now c.open.new.disk c.run_flow.new.disk
+          (λ disk k e left. disk_laws.left_is_told disk k e left) c.in_ok-store.ensures.log since c.run_flow.ensures.alone;
+      short = has_ended g.D.Disk.moment g.D.Disk.images c.args.checkpoint c.run_flow.new.disk (status_of_end c.run_flow.result) c.run_flow.result refl c.run_flow.ensures.checkpointed;
+    }))
     (λ failed. absurd (⊎_elim (λ disk. cc (disk, c.in_ok-store.was)) (λ memory. cc (memory.0, c.in_ok-store.was)) failed.told))
     c.open.ensures.alone
 
-pub returns-clause-checkpointed : goal.returns-clause-checkpointed
-returns-clause-checkpointed g c =
-    has_ended g.D.Disk.moment g.D.Disk.images c.args.checkpoint c.run_flow.new.disk (status_of_end c.run_flow.result) c.run_flow.result refl c.run_flow.ensures.checkpointed
-
-pub returns-clause-refused : goal.returns-clause-refused
-returns-clause-refused g c is = absurd ((of_end c.run_flow.result).refused is)
-
-pub returns-clause-damaged : goal.returns-clause-damaged
-returns-clause-damaged g c is = ⊎_elim
-    (λ since. inr (read_tells g.D.Disk.tells g.D.Disk.held g.D.Disk.moment g.D.Disk.images c.args.flow.now c.args.lot c.in_ok-store.store.lot c.in_ok-store.ensures.opened.1 c.run_flow.result c.args.disk.now c.open.new.disk c.run_flow.new.disk since.begun c.run_flow.ensures.alone.later c.run_flow.ensures.damaged is))
+pub returns-clause-why : goal.returns-clause-why
+returns-clause-why g c = ⊎_elim
+    (λ since. record {
+      one_of = end_of_run c.run_flow.result;
+      refused = λ is. absurd ((of_end c.run_flow.result).refused is);
+      damaged = λ is. inr (read_tells g.D.Disk.tells g.D.Disk.held g.D.Disk.moment g.D.Disk.images c.args.flow.now c.args.lot c.in_ok-store.store.lot c.in_ok-store.ensures.opened.1 c.run_flow.result c.args.disk.now c.open.new.disk c.run_flow.new.disk since.begun c.run_flow.ensures.alone.later c.run_flow.ensures.damaged is);
+      limited = λ is. limit_tells g.D.Disk.tells g.D.Disk.held g.D.Disk.moment g.D.Disk.images c.args.flow.now c.args.lot c.in_ok-store.store.lot c.in_ok-store.ensures.opened.1 c.run_flow.result _ c.args.disk.now c.open.new.disk c.run_flow.new.disk since.begun c.run_flow.ensures.alone.later c.run_flow.ensures.limited is;
+    })
     (λ failed. absurd (⊎_elim (λ disk. cc (disk, c.in_ok-store.was)) (λ memory. cc (memory.0, c.in_ok-store.was)) failed.told))
     c.open.ensures.alone
 
-pub returns-clause-limited : goal.returns-clause-limited
-returns-clause-limited g c is = ⊎_elim
-    (λ since. limit_tells g.D.Disk.tells g.D.Disk.held g.D.Disk.moment g.D.Disk.images c.args.flow.now c.args.lot c.in_ok-store.store.lot c.in_ok-store.ensures.opened.1 c.run_flow.result _ c.args.disk.now c.open.new.disk c.run_flow.new.disk since.begun c.run_flow.ensures.alone.later c.run_flow.ensures.limited is)
-    (λ failed. absurd (⊎_elim (λ disk. cc (disk, c.in_ok-store.was)) (λ memory. cc (memory.0, c.in_ok-store.was)) failed.told))
-    c.open.ensures.alone
-
-pub returns-clause-causes : goal.returns-clause-causes
-returns-clause-causes g c = run_counts c.run_flow.result _ (g.D.Disk.faults c.open.new.disk) _ _ _ _ _ c.open.ensures.cause.never_falls c.run_flow.ensures.causes
-
-pub returns-clause-source : goal.returns-clause-source
-returns-clause-source g c is = (of_end c.run_flow.result).source is
+pub returns-clause-faults : goal.returns-clause-faults
+returns-clause-faults g c = run_counts c.run_flow.result _ (g.D.Disk.faults c.open.new.disk) _ _ _ _ _ c.open.ensures.cause.never_falls c.run_flow.ensures.causes
