@@ -1,14 +1,15 @@
 #!/usr/bin/env python3
 """Changes the folders of a run while it stands still between two of its calls.
 
-strace stops the program behind a call on one path; then another program's change is made there, and the program goes on.
-A file of the inbox is read twice before its session is committed, by one open handle. Whatever becomes of the file
-between, what is delivered is what stood under the name at the second reading, and only that is removed. A put is durable
-in the folder that the outbox's path leads to.
+strace stops the program behind a call on one path; then a change is made there, as by another program, and it goes on.
+A file of the inbox is opened once and read twice before its session is committed. Whatever becomes of it between, what is
+delivered is what stood under the name at the second reading, and only that is removed. A put is durable in the folder
+that the outbox's path leads to.
 """
 
 import os
 import re
+import signal
 import subprocess
 import time
 
@@ -18,12 +19,15 @@ from support import (DONE, INBOX, OUTBOX, Report, Wrong, find_program, names, ne
 
 CONTENT_MAX = 16_777_216
 
+# In so many seconds the program has to end behind a change.
+LONGEST = 120
+
 FILES = {"a": b"the first bytes", "b": b"another file"}
 
 
 def stopped_in(program, folder, path, call, when, change):
-    """Runs the program, makes a change in the folder behind the call of this name on a path, the one of that number, and
-    lets it go on. Gives its status, and the names of the calls on that path: those of this name, and those that open it."""
+    """Runs the program, makes a change in the folder behind one of its calls of this name on a path, and lets it go on.
+    Gives its status, and the names of the calls on that path: those of this name, and those that open it."""
     with new_folder() as aside:
         trace = aside / "trace"
         child = subprocess.Popen(["strace", "-f", "-q", "-y", "-P", path, "-e", f"trace={call},openat",
@@ -33,16 +37,21 @@ def stopped_in(program, folder, path, call, when, change):
         try:
             change(folder)
         finally:
-            subprocess.run(["kill", "-CONT", process], check=True)
-        status = child.wait(120)
+            os.kill(process, signal.SIGCONT)
+        try:
+            status = child.wait(LONGEST)
+        except subprocess.TimeoutExpired as waited:
+            os.kill(process, signal.SIGKILL)
+            raise Wrong("the program doesn't end") from waited
         return status, re.findall(r"^\d+ +(\w+)\(", trace.read_text(errors="replace"), re.MULTILINE)
 
 
 def wait_for_stop(child, trace):
     for _ in range(60_000):
-        found = trace.exists() and re.search(r"^(\d+) --- stopped by SIGSTOP", trace.read_text(errors="replace"), re.MULTILINE)
+        said = trace.read_text(errors="replace") if trace.exists() else ""
+        found = re.search(r"^(\d+) --- stopped by SIGSTOP", said, re.MULTILINE)
         if found:
-            return found.group(1)
+            return int(found.group(1))
         if child.poll() is not None:
             raise Wrong(f"the program ended before it was stopped, with {child.returncode}")
         time.sleep(0.001)

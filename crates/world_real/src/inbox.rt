@@ -25,7 +25,7 @@ pub struct InboxFolder<'r, R> {
     /// until a file is read or removed.
     listed: Vec<ListedFile>,
     /// The file that was read last since the last listing. It stays open: where it still stands under its
-    /// name it is read again by the same handle, and to remove it takes no other look.
+    /// name it is read again without being opened anew, and to remove it takes no other look.
     seen: Option<SeenFile>,
     faults: u64,
 }
