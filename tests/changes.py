@@ -154,6 +154,30 @@ class Cases:
             need(run(self.program, folder).status == DONE, "the next run doesn't end with 0")
             need(read_files(folder / "out") == {"b": FILES["b"]}, f"out holds {names(folder / 'out')}")
 
+    def refused_looks(self):
+        """Each look at a file of the inbox, or at the outbox's folder, is refused alone: its device has failed."""
+        tried = 0
+        for path, wanted in (("in/a", INBOX), ("out", OUTBOX)):
+            looks = self.looks_at(path, "trace=statx", DONE)
+            need(looks, f"there is no look at {path}")
+            for number in range(1, looks + 1):
+                self.looks_at(path, f"inject=statx:error=EIO:when={number}", wanted)
+            tried += looks
+        return f"{tried} looks"
+
+    def looks_at(self, path, asked, wanted):
+        """How many looks at a path a run makes, which has to end with this status. The next one delivers."""
+        with work_folder(self.parent) as folder, new_folder() as aside:
+            write_files(folder / "in", FILES)
+            (folder / "out").mkdir()
+            ended = subprocess.run(["strace", "-f", "-qq", "-y", "-P", path, "-e", "trace=statx", "-e", asked,
+                                    "-o", aside / "trace", self.program, "run"], cwd=folder, check=False,
+                                   stdin=subprocess.DEVNULL, stderr=subprocess.DEVNULL)
+            need(ended.returncode == wanted, f"{asked} on {path}: status {ended.returncode}")
+            need(run(self.program, folder).status == DONE, f"{asked} on {path}: the next run doesn't end with 0")
+            need(names(folder / "in") == [] and read_files(folder / "out") == FILES, f"{asked} on {path}: a file is lost")
+            return (aside / "trace").read_text().count("statx(")
+
 
 def remove(folder):
     os.unlink(folder / "in" / "a")
@@ -200,7 +224,8 @@ def main():
             ("a link, a pipe or a folder takes its place: 6, nothing taken", cases.replaced_by_another_kind),
             ("it goes, becomes a pipe or too large behind the listing: 6, nothing taken", cases.behind_the_listing),
             ("another folder takes the outbox's place between two puts: that one is synced", cases.other_outbox),
-            ("the outbox is moved away between two puts: 7, and later delivered", cases.no_outbox)):
+            ("the outbox is moved away between two puts: 7, and later delivered", cases.no_outbox),
+            ("each look at a file of the inbox or at the outbox is refused alone: 6 or 7", cases.refused_looks)):
         report.case(text, body)
     report.end()
 
