@@ -6,11 +6,11 @@ ghost use Rattle.world_real.specs.Untold.{told_by_none};
 
 use crate::faults::{counted, is_out_of_memory};
 use crate::folder::{Entry, Folder, Place, entry_at};
-use crate::open_file::{OpenFile, for_reading, open_file};
+use crate::open_file::{FileId, OpenFile, for_reading, open_named};
 use disk_trait::Failed;
 use flowfile_record::{CONTENT_MAX, Name, NameError};
 use std::alloc::Global;
-use std::fs::{self, File};
+use std::fs::{self, File, Metadata};
 use std::io::{self, ErrorKind};
 use std::os::unix::fs::FileExt;
 use std::rt::Files;
@@ -21,14 +21,25 @@ use world_io::{Inbox, WorldError};
 #[derive(Drop)]
 pub struct InboxFolder<'r, R> {
     place: Place<'r, R>,
-    /// The file that was read last since the last listing: to remove it takes no other look.
+    /// What the listing saw of the files whose size wasn't asked since, the last name first. It counts
+    /// until a file is read or removed.
+    listed: Vec<ListedFile>,
+    /// The file that was read last since the last listing. It stays open: where it still stands under its
+    /// name it is read again without being opened anew, and to remove it takes no other look.
     seen: Option<SeenFile>,
     faults: u64,
 }
 
 #[derive(Drop)]
+pub(crate) struct ListedFile {
+    name: Name,
+    size: u64,
+}
+
+#[derive(Drop)]
 pub(crate) struct SeenFile {
     name: Name,
+    id: FileId,
     file: OpenFile,
 }
 
@@ -39,6 +50,7 @@ impl<'r, R: Files<File = File> + Alloc + Sync> InboxFolder<'r, R> {
     {
         InboxFolder {
             place: Place { rt, alloc, folder },
+            listed: Vec::new(alloc),
             seen: None,
             faults: 0,
         }
@@ -56,26 +68,33 @@ impl<'r, R: Files<File = File> + Alloc + Sync> Inbox for InboxFolder<'r, R> {
 
     fn list(&mut self, names: &mut Vec<Name>) -> Result<(), WorldError> {
         self.seen = None;
-        match list_names(&self.place, names) {
+        self.listed.clear();
+        match list_names(&self.place, &mut self.listed, names) {
             Ok(()) => Ok(()),
             Err(error) => {
                 names.clear();
+                self.listed.clear();
                 counted_world(&mut self.faults, Err(error))
             }
         }
     }
 
     fn size(&mut self, name: &Name) -> Result<u64, Failed> {
-        let answer = size_at(&self.place, name);
+        let answer = match take_listed(&mut self.listed, name) {
+            Some(size) => Ok(size),
+            None => size_at(&self.place, name),
+        };
         counted(&mut self.faults, answer)
     }
 
     fn read(&mut self, name: &Name, into: &mut Vec<u8>) -> Result<(), WorldError> {
+        self.listed = Vec::new(self.place.alloc);
         let answer = read_whole(&self.place, &mut self.seen, name, into);
         counted_world(&mut self.faults, answer)
     }
 
     fn remove(&mut self, name: &Name) -> Result<(), Failed> {
+        self.listed = Vec::new(self.place.alloc);
         let answer = remove(&self.place, &mut self.seen, name);
         counted(&mut self.faults, answer)
     }
@@ -93,22 +112,25 @@ fn counted_world(faults: &mut u64, answer: io::Result<()>) -> Result<(), WorldEr
 
 fn list_names<R: Files<File = File> + Alloc>(
     place: &Place<'_, R>,
+    listed: &mut Vec<ListedFile>,
     names: &mut Vec<Name>,
 ) -> io::Result<()>
     requires { names.old.items ≡ [] }
     ensures ascending { OnOk result (IsAscending names.new.items) }
 {
-    let mut found = Vec::new(place.alloc);
     for entry in fs::read_dir(&place.rt, place.path()?)? {
         let entry = entry?;
-        if let Entry::File(_) = entry_at(place.rt, entry.path())?
+        if let Entry::File(found) = entry_at(place.rt, entry.path())?
             && let Some(name) = read_name(place.alloc, entry.file_name())?
         {
-            found.push(name)?;
+            let size = found.len();
+            listed.push(ListedFile { name, size })?;
         }
     }
-    found.sort_unstable_by(|a: &Name, b: &Name| a.text().cmp(b.text()));
-    keep_ascending(found, names)
+    listed.sort_unstable_by(|a: &ListedFile, b: &ListedFile| a.name.text().cmp(b.name.text()));
+    keep_ascending(listed.as_slice(), names)?;
+    listed.reverse();
+    Ok(())
 }
 
 fn read_name(alloc: Global, text: &str) -> io::Result<Option<Name>> {
@@ -119,14 +141,14 @@ fn read_name(alloc: Global, text: &str) -> io::Result<Option<Name>> {
     }
 }
 
-/// Takes over each name that comes after the last one: a folder has each once.
-fn keep_ascending(found: Vec<Name>, names: &mut Vec<Name>) -> io::Result<()>
+/// Hands out each name that comes after the last one: a folder has each once.
+fn keep_ascending(listed: &[ListedFile], names: &mut Vec<Name>) -> io::Result<()>
     requires { names.old.items ≡ [] }
     ensures { OnOk result (IsAscending names.new.items) }
 {
-    for name in found {
-        if follows(names, &name) {
-            names.push(name)?;
+    for file in listed {
+        if follows(names, &file.name) {
+            names.push(file.name.clone()?)?;
         }
     }
     Ok(())
@@ -141,35 +163,70 @@ fn follows(names: &Vec<Name>, name: &Name) -> bool
     }
 }
 
-/// The size of a file, which isn't opened for that: a listing of many files asks it of each.
+/// The size that the listing saw, where the file is the next one whose size wasn't asked.
+fn take_listed(listed: &mut Vec<ListedFile>, name: &Name) -> Option<u64> {
+    if listed.last()?.name == *name {
+        listed.pop().map(|file| file.size)
+    } else {
+        None
+    }
+}
+
+/// The size of a file, which isn't opened for that.
 fn size_at<R: Files>(place: &Place<'_, R>, name: &Name) -> io::Result<u64> {
     let path = place.entry(name.text())?;
-    match entry_at(place.rt, path.as_str())? {
-        Entry::File(found) => Ok(found.len()),
+    Ok(found_at(place.rt, path.as_str())?.len())
+}
+
+/// What the system tells of the regular file at a path.
+fn found_at<R: Files>(rt: &R, path: &str) -> io::Result<Metadata> {
+    match entry_at(rt, path)? {
+        Entry::File(found) => Ok(found),
         Entry::Nothing => Err(ErrorKind::NotFound.into()),
         Entry::Folder | Entry::Other => Err(ErrorKind::Unsupported.into()),
     }
 }
 
-fn open_at<R: Files<File = File>>(place: &Place<'_, R>, name: &Name) -> io::Result<OpenFile> {
+/// The file, open: the one that was looked at last, where it still stands under its name.
+fn open_at<R: Files<File = File>>(
+    place: &Place<'_, R>,
+    name: &Name,
+    last: Option<SeenFile>,
+) -> io::Result<(FileId, OpenFile)> {
     let path = place.entry(name.text())?;
-    match open_file(place.rt, path.as_str(), &for_reading())? {
-        Some(file) => Ok(file),
-        None => Err(ErrorKind::NotFound.into()),
+    let found = found_at(place.rt, path.as_str())?;
+    let file = match still_open(last, &found) {
+        Some(file) => file,
+        None => open_named(place.rt, path.as_str(), &for_reading(), &found)?,
+    };
+    Ok((FileId::of(&found), file))
+}
+
+/// The file that was looked at last, where it is the one that was found.
+fn still_open(last: Option<SeenFile>, found: &Metadata) -> Option<OpenFile> {
+    let SeenFile {
+        name: _name,
+        id,
+        file,
+    } = last?;
+    if id == FileId::of(found) {
+        Some(file.of_size(found.len()))
+    } else {
+        None
     }
 }
 
 // With no memory for the name the file is closed, and opened again where it is needed.
-fn keep(seen: &mut Option<SeenFile>, name: &Name, file: OpenFile) {
+fn keep(seen: &mut Option<SeenFile>, name: &Name, id: FileId, file: OpenFile) {
     if let Ok(name) = name.clone() {
-        *seen = Some(SeenFile { name, file });
+        *seen = Some(SeenFile { name, id, file });
     }
 }
 
 /// Takes the file out where it was looked at last.
-fn take_seen(seen: &mut Option<SeenFile>, name: &Name) -> Option<OpenFile> {
-    let SeenFile { name: last, file } = seen.take()?;
-    if last == *name { Some(file) } else { None }
+fn take_seen(seen: &mut Option<SeenFile>, name: &Name) -> Option<SeenFile> {
+    let last = seen.take()?;
+    if last.name == *name { Some(last) } else { None }
 }
 
 fn read_whole<R: Files<File = File>>(
@@ -181,8 +238,8 @@ fn read_whole<R: Files<File = File>>(
     requires { into.old.items ≡ [] }
     ensures { OnOk result (length into.new.items ≤ CONTENT_MAX) }
 {
-    *seen = None;
-    let mut file = open_at(place, name)?;
+    let last = take_seen(seen, name);
+    let (id, mut file) = open_at(place, name, last)?;
     let size = file.size()?;
     if size > CONTENT_MAX {
         return Err(ErrorKind::FileTooLarge.into());
@@ -194,7 +251,7 @@ fn read_whole<R: Files<File = File>>(
         file.read(0, into.as_mut_slice())?;
         ends_at(&file, size)?;
     }
-    keep(seen, name, file);
+    keep(seen, name, id, file);
     Ok(())
 }
 
@@ -226,9 +283,6 @@ fn remove<R: Files>(
     if take_seen(seen, name).is_some() {
         return fs::remove_file(place.rt, path.as_str());
     }
-    match entry_at(place.rt, path.as_str())? {
-        Entry::File(_) => fs::remove_file(place.rt, path.as_str()),
-        Entry::Nothing => Err(ErrorKind::NotFound.into()),
-        Entry::Folder | Entry::Other => Err(ErrorKind::Unsupported.into()),
-    }
+    found_at(place.rt, path.as_str())?;
+    fs::remove_file(place.rt, path.as_str())
 }

@@ -1,10 +1,10 @@
 //! The lock by which one process has a store, and the mark that a refused sync leaves on it.
 use crate::faults::is_out_of_memory;
 use crate::folder::Place;
-use crate::open_file::{create_file, for_both_ways, open_file};
+use crate::open_file::{FileId, create_file, for_both_ways, open_file};
 use std::fs::{self, File};
 use std::io::{self, ErrorKind};
-use std::os::unix::fs::{FileExt, MetadataExt};
+use std::os::unix::fs::FileExt;
 use std::rt::Files;
 
 /// The name of the file that the one process which has the store holds a lock on. It has one byte.
@@ -84,7 +84,7 @@ fn take_lock<R: Files<File = File>>(place: &Place<'_, R>) -> io::Result<File> {
         file.metadata()?,
         fs::symlink_metadata(place.rt, path.as_str())?,
     );
-    if found.dev() != named.dev() || found.ino() != named.ino() {
+    if FileId::of(&found) != FileId::of(&named) {
         return Err(ErrorKind::WouldBlock.into());
     }
     if found.len() == 0 {

@@ -1,10 +1,26 @@
-//! Files that are open.
+//! Files and folders that are open.
 use crate::folder::{Entry, entry_at};
-use std::fs::{File, Metadata, OpenOptions};
+use std::fs::{self, File, Metadata, OpenOptions};
 use std::io::{self, ErrorKind};
 use std::os::fd::AsRawFd;
 use std::os::unix::fs::{FileExt, MetadataExt};
 use std::rt::Files;
+
+/// Which file or folder it is. As long as it is open, no other one has its id.
+#[derive(Clone, Copy, PartialEq, Eq)]
+pub(crate) struct FileId {
+    device: u64,
+    inode: u64,
+}
+
+impl FileId {
+    pub(crate) fn of(found: &Metadata) -> FileId {
+        FileId {
+            device: found.dev(),
+            inode: found.ino(),
+        }
+    }
+}
 
 /// An open file and its size, which nobody else changes. Where a change of it failed, the size isn't
 /// known until the system is asked again.
@@ -15,6 +31,14 @@ pub(crate) struct OpenFile {
 }
 
 impl OpenFile {
+    /// The file with the size that the system told just now.
+    pub(crate) fn of_size(self, size: u64) -> OpenFile {
+        OpenFile {
+            file: self.file,
+            size: Some(size),
+        }
+    }
+
     pub(crate) fn size(&mut self) -> io::Result<u64> {
         let size = match self.size {
             Some(size) => size,
@@ -60,8 +84,9 @@ pub(crate) fn open_file<R: Files<File = File>>(
     }
 }
 
-// What is open has to be what stood there: a link may have taken its place since.
-fn open_named<R: Files<File = File>>(
+/// Opens the file that was found at a path. What is open has to be what stood there: a link may have
+/// taken its place since.
+pub(crate) fn open_named<R: Files<File = File>>(
     rt: &R,
     path: &str,
     how: &OpenOptions,
@@ -69,7 +94,7 @@ fn open_named<R: Files<File = File>>(
 ) -> io::Result<OpenFile> {
     let file = off_the_streams(how.open(rt, path)?)?;
     let found = file.metadata()?;
-    if found.is_file() && found.dev() == named.dev() && found.ino() == named.ino() {
+    if found.is_file() && FileId::of(&found) == FileId::of(named) {
         let size = Some(found.len());
         Ok(OpenFile { file, size })
     } else {
@@ -91,6 +116,51 @@ fn off_the_streams(file: File) -> io::Result<File> {
     } else {
         Ok(file)
     }
+}
+
+/// A folder that stays open for the syncs of which entries stand in it.
+#[derive(Drop)]
+pub(crate) struct OpenFolder {
+    id: FileId,
+    file: File,
+}
+
+/// Syncs which entries stand in the folder at a path. The one that is open serves only where the path
+/// still leads to it: else its sync would make durable what stands elsewhere.
+pub(crate) fn sync_folder<R: Files<File = File>>(
+    rt: &R,
+    path: &str,
+    open: &mut Option<OpenFolder>,
+) -> io::Result<()> {
+    let folder = match still_at(rt, path, open.take())? {
+        Some(folder) => folder,
+        None => keep_open(rt, path)?,
+    };
+    folder.file.sync_all()?;
+    *open = Some(folder);
+    Ok(())
+}
+
+fn still_at<R: Files<File = File>>(
+    rt: &R,
+    path: &str,
+    open: Option<OpenFolder>,
+) -> io::Result<Option<OpenFolder>> {
+    let Some(folder) = open else {
+        return Ok(None);
+    };
+    let found = fs::metadata(rt, path)?;
+    if FileId::of(&found) == folder.id {
+        Ok(Some(folder))
+    } else {
+        Ok(None)
+    }
+}
+
+fn keep_open<R: Files<File = File>>(rt: &R, path: &str) -> io::Result<OpenFolder> {
+    let file = off_the_streams(File::open(rt, path)?)?;
+    let id = FileId::of(&file.metadata()?);
+    Ok(OpenFolder { id, file })
 }
 
 pub(crate) fn for_reading() -> OpenOptions {

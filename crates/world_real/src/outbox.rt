@@ -5,7 +5,7 @@ ghost use Rattle.world_real.specs.Untold.{told_by_none};
 use crate::faults::counted;
 use crate::folder::{Entry, Folder, Place, entry_at};
 use crate::numbered::{is_no_text, read_number};
-use crate::open_file::create_file;
+use crate::open_file::{OpenFolder, create_file, sync_folder};
 use disk_trait::Failed;
 use flowfile_record::Name;
 use std::alloc::Global;
@@ -28,6 +28,8 @@ pub struct OutboxFolder<'r, R> {
     place: Place<'r, R>,
     /// Whether it is known that no earlier put left a folder there.
     is_swept: bool,
+    /// The folder, which stays open from the first put on.
+    open: Option<OpenFolder>,
     faults: u64,
 }
 
@@ -39,6 +41,7 @@ impl<'r, R: Files<File = File> + Alloc + Sync> OutboxFolder<'r, R> {
         OutboxFolder {
             place: Place { rt, alloc, folder },
             is_swept: false,
+            open: None,
             faults: 0,
         }
     }
@@ -57,7 +60,13 @@ impl<'r, R: Files<File = File> + Alloc + Sync> Outbox for OutboxFolder<'r, R> {
     }
 
     fn put(&mut self, name: &Name, bytes: &[u8]) -> Result<(), Failed> {
-        let answer = put(&self.place, &mut self.is_swept, name.text(), bytes);
+        let answer = put(
+            &self.place,
+            &mut self.is_swept,
+            &mut self.open,
+            name.text(),
+            bytes,
+        );
         counted(&mut self.faults, answer)
     }
 }
@@ -77,6 +86,7 @@ fn holds<R: Files<File = File> + Alloc>(
 fn put<R: Files<File = File> + Alloc>(
     place: &Place<'_, R>,
     is_swept: &mut bool,
+    open: &mut Option<OpenFolder>,
     name: &str,
     bytes: &[u8],
 ) -> io::Result<()> {
@@ -84,7 +94,7 @@ fn put<R: Files<File = File> + Alloc>(
     let path = place.entry(name)?;
     *is_swept = false;
     let aside = make_aside(place, name)?;
-    let answer = put_through(place, aside.as_str(), path.as_str(), bytes);
+    let answer = put_through(place, open, aside.as_str(), path.as_str(), bytes);
     if answer.is_err() {
         // The next put looks again for what this one leaves.
         let _ = fs::remove_dir_all(place.rt, aside.as_str());
@@ -166,6 +176,7 @@ fn is_made_anew<R: Files + Alloc>(rt: &R, path: &str) -> io::Result<bool> {
 
 fn put_through<R: Files<File = File>>(
     place: &Place<'_, R>,
+    open: &mut Option<OpenFolder>,
     aside: &str,
     path: &str,
     bytes: &[u8],
@@ -179,5 +190,5 @@ fn put_through<R: Files<File = File>>(
     fs::rename(place.rt, part.as_str(), path)?;
     fs::remove_dir(place.rt, aside)?;
     // Last, so that both the name and the end of what stood aside are durable.
-    File::open(place.rt, place.path()?)?.sync_all()
+    sync_folder(place.rt, place.path()?, open)
 }
