@@ -1,16 +1,22 @@
 -- A change that is on its way into the store, and what its commit leaves.
-use Rattle.std.specs.Prelude.{◌≡◌, ◌⊎◌, ℕ, ◌+◌, ◌≤◌, length, All}
+use Rattle.std.specs.Prelude.{◌≡◌, ◌⊎◌, ℕ, ◌+◌, ◌≤◌, length, All, Ok}
 use Rattle.disk_trait.specs.Files.{Files}
+use Rattle.disk_trait.specs.Images.{Since}
 use Rattle.flowfile_record.specs.Stored.{Kept}
 use Rattle.flowfile_record.specs.declared.change.Change.TheVariants as change
 use Rattle.flowfile_record.specs.declared.change.Settled.{Settled}
 use Rattle.record_codec.specs.Placeless.{placeless_entry}
 use Rattle.record_codec.specs.declared.entry.LogEntry.{LogEntry}
+use Rattle.content_repo.specs.Claims.{content_in}
 use Rattle.kept_state.specs.Applied.{applied}
 use Rattle.kept_state.specs.Changes.{entry_of, expiry_entry, no_files, MayExpireAs}
-use Rattle.prov_store.specs.State.{HasBlock, NumberedEvents}
+use Rattle.machine_model.specs.Changing.{state_after}
+use Rattle.machine_model.specs.State.{State}
+use Rattle.prov_store.specs.State.{HasBlock, IsAppended, NumberedEvents}
 use Rattle.store_core.specs.Change.{MayChange, IsWithinLimits}
-use Rattle.store_core.specs.Store.{StoreState, kept_by, Holds}
+use Rattle.store_core.specs.Flow.{flow_in}
+use Rattle.store_core.specs.State.{stands_for}
+use Rattle.store_core.specs.Store.{StoreState, kept_by, EachStandsFor, Holds}
 
 -- a change with the entry that it makes, whose new contents have no place yet, and its events
 pub record PreparedChange : Type 0 where
@@ -51,3 +57,22 @@ pub record HasChange (p : PreparedChange) (old new : StoreState) : Type 0 where
 -- the files hold the state before the change, or that behind it
 abbrev pub HoldsEither : (old new : StoreState) → Files → Type 0
 HoldsEither old new files = Holds old files ⊎ Holds new files
+
+-- Within a commit whatever a stop may leave has all of the change or nothing of it.
+pub record IsAllOrNothing {D : Type 0} (held : D → Files) (moment : D → ℕ) (images : D → ℕ → Files → Type 0)
+    (s_old s_new : StoreState) (settled : Settled) (old new : D) : Type 0 where
+  pub holds : Since moment images old new (HoldsEither s_old s_new)
+  pub states : (state : State) → EachStandsFor (flow_in (kept_by s_old)) s_old.lot state (images old (moment old))
+      → Since moment images old new (λ c.
+      (stands_for (flow_in (kept_by s_old)) s_old.lot c ≡ Ok state)
+      ⊎ (stands_for (flow_in (kept_by s_old)) s_old.lot c ≡ Ok (state_after (content_in (held old)) state settled)))
+
+-- A commit is acknowledged: the disk's present moment is told, the events are the store's, and whatever a stop may leave
+-- stands for the state with the change.
+pub record IsAcknowledged {D : Type 0} (held : D → Files) (moment_of : D → ℕ) (images : D → ℕ → Files → Type 0)
+    (s_old s_new : StoreState) (settled : Settled) (old new : D) (told : ℕ) : Type 0 where
+  pub moment : told ≡ moment_of new
+  pub events : IsAppended settled.events s_old.events s_new.events
+  pub states : (state : State) → EachStandsFor (flow_in (kept_by s_old)) s_old.lot state (images old (moment_of old))
+      → EachStandsFor (flow_in (kept_by s_old)) s_old.lot (state_after (content_in (held old)) state settled)
+      (images new (moment_of new))

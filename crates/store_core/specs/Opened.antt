@@ -18,8 +18,9 @@ use Rattle.store_core.specs.Flow.{Flow, flow_in}
 use Rattle.store_core.specs.Kept.{kept_in}
 use Rattle.store_core.specs.Found.{IsFoundIn}
 use Rattle.store_core.specs.New.{kept_anew}
+use Rattle.store_core.specs.Calls.{IsUnwritten}
 use Rattle.store_core.specs.State.{stands_for, contents_damage, live_contents}
-use Rattle.store_core.specs.Store.{StoreState, kept_by, live_in}
+use Rattle.store_core.specs.Store.{StoreState, kept_by, live_in, IsKeptOn}
 use Rattle.store_core.specs.Touched.{log_opened}
 use Rattle.store_core.specs.declared.reading.Found.{Found}
 
@@ -43,6 +44,15 @@ pub record HasNoLeftovers (s : StoreState) (files : Files) : Type 0 where
   pub others : HasNoOthers s.log.number files
   pub claims : (n : ℕ) → length (files (claim n)) ≡ covered n (live_in s)
 
+-- The store is opened on a disk: it is of this flow, and each image of now holds it. Where the disk tells, it is what
+-- the files stood for, and nothing else is left of them.
+pub record IsOpenedOn {D : Type 0} (tells : Bool) (held : D → Files) (moment : D → ℕ) (images : D → ℕ → Files → Type 0)
+    (flow : Flow) (lot : ℕ) (old new : D) (s : StoreState) : Type 0 where
+  pub opened : IsOpenedFor flow lot s
+  pub found : IsTrue tells → IsFound flow lot s (held old)
+  pub kept : IsKeptOn tells held moment images s new
+  pub tidy : IsTrue tells → HasNoLeftovers s (held new)
+
 -- these files stand for a state of another flow, whose digest is this
 pub record IsOfOther (flow : Flow) (lot : ℕ) (digest : List ℕ) (files : Files) : Type 0 where
   pub state : State
@@ -57,6 +67,20 @@ abbrev pub IsShut : Flow → (lot : ℕ) → Files → Type 0
 IsShut flow lot files =
     ((damage : Damage) × (stands_for flow lot files ≡ Err damage))
     ⊎ ((digest : List ℕ) × IsOfOther flow lot digest files)
+
+-- Damage is told: where the disk tells it is the first one of the files, and they were only read.
+pub record IsToldDamaged {D : Type 0} (flow : Flow) (tells : Bool) (held : D → Files) (moment : D → ℕ) (lot : ℕ)
+    (damage : Damage) (old new : D) : Type 0 where
+  pub stands : IsTrue tells → stands_for flow lot (held old) ≡ Err damage
+  pub unwritten : IsUnwritten held moment old new
+
+-- Another flow is told, by its digest and that of this one: where the disk tells, the files are of it. They were only
+-- read.
+pub record IsToldOther {D : Type 0} (flow : Flow) (tells : Bool) (held : D → Files) (moment : D → ℕ) (lot : ℕ)
+    (digest asked : List ℕ) (old new : D) : Type 0 where
+  pub asked_is : asked ≡ flow.digest
+  pub stands : IsTrue tells → IsOfOther flow lot digest (held old)
+  pub unwritten : IsUnwritten held moment old new
 
 -- these files keep and stand for what those do
 pub record SameMeaning (flow : Flow) (lot : ℕ) (old new : Files) : Type 0 where

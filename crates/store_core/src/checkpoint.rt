@@ -2,7 +2,7 @@
 //!
 //! The new log becomes the current one by the write of one byte. Until then the log and the snapshot of before stand
 //! for what is kept, and from then on the new ones.
-ghost use Rattle.std.specs.Prelude.{◌≡◌, ◌⊎◌, ◌+◌, ℕ, [], false, Ok, Some, OnOk, IfErr, IsErr, IsErrOf, IsTrue};
+ghost use Rattle.std.specs.Prelude.{◌≡◌, ◌+◌, ℕ, [], false, Some, OnOk, IfErr, IsErr, IsErrOf, IsTrue};
 ghost use Rattle.disk_trait.specs.Files.{At};
 ghost use Rattle.disk_trait.specs.Faults.{CountsFaults};
 ghost use Rattle.disk_trait.specs.Images.{After, Since, IsOnly};
@@ -11,12 +11,9 @@ ghost use Rattle.flowfile_record.specs.Stored.{kept_of};
 ghost use Rattle.checkpoint_store.specs.Begun.{IsPassedOver, log_file};
 ghost use Rattle.checkpoint_store.specs.Consistent.{IsConsistent};
 ghost use Rattle.flowfile_wal.specs.Calls.{InEach};
-ghost use Rattle.machine_model.specs.State.{State};
-ghost use Rattle.store_core.specs.Calls.{RefusesOnFault, IsDiskOrMemory};
+ghost use Rattle.store_core.specs.Calls.{IsDiskOrMemory, KeepsMeaning, StopsOrLacksMemory};
 ghost use Rattle.store_core.specs.Checkpoint.{IsOfNumber, ArePassedOver, HasTakenOver, TakesOver, Drops, AreGone, Checkpoints};
-ghost use Rattle.store_core.specs.Flow.{flow_in};
-ghost use Rattle.store_core.specs.State.{stands_for};
-ghost use Rattle.store_core.specs.Store.{kept_by, Holds, IsKeptOn, EachStandsFor};
+ghost use Rattle.store_core.specs.Store.{kept_by, IsKeptOn};
 ghost use Rattle.store_core.specs.Touched.{TouchesOnly};
 
 use crate::discard::cut_file;
@@ -31,27 +28,18 @@ impl Store {
     pub fn checkpoint<D: Disk>(&mut self, disk: &mut D) -> Result<(), StoreError>
         requires kept { IsKeptOn D.tells D.held D.moment D.images self.old disk.old }
         requires number { (number : ℕ) → self.old.log.number ≡ Some number → IsNumber (number + 1) }
-        // The log is the next one, and has no entries.
-        ensures log { OnOk result ((number : ℕ) → self.old.log.number ≡ Some number
-            → (self.new.log.number ≡ Some (number + 1)) × (self.new.entries ≡ 0)) }
+        // The log is the next one, and has no entries. Where the disk tells, that of before is gone with its snapshot.
+        ensures next { OnOk result ((number : ℕ) → self.old.log.number ≡ Some number
+            → (self.new.log.number ≡ Some (number + 1)) × (self.new.entries ≡ 0)
+            × (IsTrue D.tells → AreGone number (D.held disk.new))) }
         ensures state { (kept_by self.new ≡ kept_by self.old) × (self.new.slots ≡ self.old.slots)
             × (self.new.opened ≡ self.old.opened) × (self.new.events ≡ self.old.events)
             × (self.new.lot ≡ self.old.lot) }
-        // Whatever a stop leaves holds the same, and stands for the same state.
-        ensures images { self.old.failed ≡ false → Since D.moment D.images disk.old disk.new (Holds self.old) }
-        ensures states { self.old.failed ≡ false → (state : State)
-            → EachStandsFor (flow_in (kept_by self.old)) self.old.lot state (D.images disk.old (D.moment disk.old))
-            → Since D.moment D.images disk.old disk.new
-            (λ c. stands_for (flow_in (kept_by self.old)) self.old.lot c ≡ Ok state) }
+        ensures meaning { self.old.failed ≡ false → KeepsMeaning D.moment D.images self.old disk.old disk.new }
         ensures alone { (number : ℕ) → self.old.log.number ≡ Some number → Since D.moment D.images disk.old disk.new
             (After (Checkpoints number) (D.images disk.old (D.moment disk.old))) }
-        ensures gone { OnOk result ((number : ℕ) → self.old.log.number ≡ Some number → IsTrue D.tells
-            → AreGone number (D.held disk.new)) }
         ensures kept { IsKeptOn D.tells D.held D.moment D.images self.new disk.new }
-        ensures untouched { IsErrOf result StoreError.Memory ⊎ IsErrOf result StoreError.MustReopen
-            → (self.new ≡ self.old) × (disk.new ≡ disk.old) }
-        ensures refusal { RefusesOnFault result self.old self.new (D.faults disk.old) (D.faults disk.new) }
-        ensures kinds { IfErr result (λ error. IsDiskOrMemory error ⊎ (error ≡ StoreError.MustReopen)) }
+        ensures refusal { StopsOrLacksMemory result self.old self.new D.faults disk.old disk.new }
     {
         if self.has_failed {
             return Err(StoreError::MustReopen);

@@ -1,20 +1,16 @@
 //! A change becomes part of the store: its contents and its events first, then the log.
-ghost use Rattle.std.specs.Prelude.{◌≡◌, ℕ, ◌+◌, ◌⊎◌, true, false, map, Ok, IfOk, OnOk, IfErr, IsErr, IsErrOf, IsTrue};
+ghost use Rattle.std.specs.Prelude.{◌≡◌, ◌+◌, false, map, IfOk, OnOk, IfErr, IsErr, IsTrue};
 ghost use Rattle.disk_trait.specs.Faults.{CountsFaults};
 ghost use Rattle.disk_trait.specs.Images.{After, Since};
 ghost use Rattle.record_codec.specs.Placeless.{placeless_entry};
-ghost use Rattle.machine_model.specs.Changing.{state_after};
-ghost use Rattle.machine_model.specs.State.{State};
-ghost use Rattle.content_repo.specs.Claims.{content_in, HasSizes};
+ghost use Rattle.content_repo.specs.Claims.{HasSizes};
 ghost use Rattle.kept_state.specs.Changes.{placed_in, record_of};
-ghost use Rattle.prov_store.specs.State.{IsAppended, IsReady};
-ghost use Rattle.store_core.specs.Calls.{RefusesOnFault, IsDiskOrReopen};
+ghost use Rattle.prov_store.specs.State.{IsReady};
+ghost use Rattle.store_core.specs.Calls.{StopsOnFault};
 ghost use Rattle.store_core.specs.Change.{HasLiveContents};
-ghost use Rattle.store_core.specs.Committed.{IsPrepared, HasChange, HoldsEither};
-ghost use Rattle.store_core.specs.Flow.{flow_in};
+ghost use Rattle.store_core.specs.Committed.{IsPrepared, HasChange, IsAcknowledged, IsAllOrNothing};
 ghost use Rattle.store_core.specs.Placing.{MayPlace, PlacesAll, AddsEvents, GrowsAhead};
-ghost use Rattle.store_core.specs.State.{stands_for};
-ghost use Rattle.store_core.specs.Store.{kept_by, IsKeptOn, EachStandsFor};
+ghost use Rattle.store_core.specs.Store.{IsKeptOn};
 ghost use Rattle.store_core.specs.Touched.{AppendsToClaims, MayTouch, TouchesOnly};
 
 use crate::contents::{give_up, place_contents};
@@ -41,30 +37,16 @@ impl Store {
         requires contents { HasLiveContents self.old prepared.settled }
         // The change is made in memory, and once it is acknowledged whatever a stop leaves has it: see `kept`.
         ensures changed { self.old.failed ≡ false → HasChange prepared.entry self.old self.new }
-        ensures acknowledged { IfOk result (λ moment. moment ≡ D.moment disk.new) }
-        ensures events { OnOk result (IsAppended prepared.entry.settled.events self.old.events self.new.events) }
+        ensures acknowledged { IfOk result (IsAcknowledged D.held D.moment D.images self.old self.new
+            prepared.entry.settled disk.old disk.new) }
         ensures kept { IsKeptOn D.tells D.held D.moment D.images self.new disk.new }
-        // Within the call whatever a stop leaves has all of the change or nothing of it.
-        ensures images { self.old.failed ≡ false
-            → Since D.moment D.images disk.old disk.new (HoldsEither self.old self.new) }
-        ensures states { self.old.failed ≡ false → (state : State)
-            → EachStandsFor (flow_in (kept_by self.old)) self.old.lot state (D.images disk.old (D.moment disk.old))
-            → Since D.moment D.images disk.old disk.new (λ c.
-            (stands_for (flow_in (kept_by self.old)) self.old.lot c ≡ Ok state)
-            ⊎ (stands_for (flow_in (kept_by self.old)) self.old.lot c
-            ≡ Ok (state_after (content_in (D.held disk.old)) state prepared.entry.settled))) }
-        ensures acknowledged_state { OnOk result ((state : State)
-            → EachStandsFor (flow_in (kept_by self.old)) self.old.lot state (D.images disk.old (D.moment disk.old))
-            → EachStandsFor (flow_in (kept_by self.old)) self.old.lot
-            (state_after (content_in (D.held disk.old)) state prepared.entry.settled)
-            (D.images disk.new (D.moment disk.new))) }
+        ensures whole { self.old.failed ≡ false → IsAllOrNothing D.held D.moment D.images self.old self.new
+            prepared.entry.settled disk.old disk.new }
         ensures alone { Since D.moment D.images disk.old disk.new
             (After (TouchesOnly (MayTouch self.old.log.number)) (D.images disk.old (D.moment disk.old))) }
         // What stood in a claim stands there.
         ensures claims { AppendsToClaims D.tells D.held D.moment D.images self.old.slots disk.old disk.new result }
-        ensures refusal { RefusesOnFault result self.old self.new (D.faults disk.old) (D.faults disk.new) }
-        ensures kinds { IfErr result IsDiskOrReopen }
-        ensures untouched { self.old.failed ≡ true → (self.new ≡ self.old) × (disk.new ≡ disk.old) }
+        ensures refusal { StopsOnFault result self.old self.new D.faults disk.old disk.new }
     {
         if self.has_failed {
             return Err(StoreError::MustReopen);

@@ -35,7 +35,11 @@ impl Spared {
 
 /// Cuts all that doesn't matter beside this current log, but for claims and events. Where none is current, all but
 /// these.
-pub fn discard<D: Disk>(alloc: Global, disk: &mut D, current: Option<u64>) -> Result<(), StoreError>
+pub(crate) fn discard<D: Disk>(
+    alloc: Global,
+    disk: &mut D,
+    current: Option<u64>,
+) -> Result<(), StoreError>
     ensures images { Since D.moment D.images disk.old disk.new
         (After (Discards current) (D.images disk.old (D.moment disk.old))) }
     ensures others { OnOk result (IsTrue D.tells → HasNoOthers current (D.held disk.new)) }
@@ -128,7 +132,7 @@ fn cut_unless_spared<D: Disk>(
 }
 
 // Cuts a file to a size, unless it is no longer.
-pub fn cut_file<D: Disk>(disk: &mut D, file: FileName, size: u64) -> Result<(), Failed>
+pub(crate) fn cut_file<D: Disk>(disk: &mut D, file: FileName, size: u64) -> Result<(), Failed>
     ensures cut { OnOk result (IsTrue D.tells → At file (Shortened size) (D.held disk.old) (D.held disk.new)) }
     ensures short { OnOk result (IsTrue D.tells → length (D.held disk.new file) ≤ size) }
     ensures images { Since D.moment D.images disk.old disk.new

@@ -1,5 +1,5 @@
 //! A store is opened, whatever a stop left of it.
-ghost use Rattle.std.specs.Prelude.{◌≡◌, ◌⊎◌, ℕ, List, true, None, Ok, Err, IfOk, OnOk, IfErr, IsErrOf, IsTrue, Result};
+ghost use Rattle.std.specs.Prelude.{◌≡◌, ◌⊎◌, ℕ, List, true, Err, IfOk, OnOk, IfErr, IsErrOf, IsTrue};
 ghost use Rattle.disk_trait.specs.Faults.{CountsFaults};
 ghost use Rattle.disk_trait.specs.Files.{Files};
 ghost use Rattle.disk_trait.specs.Images.{Since, Stays, IsOnly};
@@ -8,10 +8,10 @@ ghost use Rattle.flowfile_record.specs.Stored.{kept_of};
 ghost use Rattle.flowfile_wal.specs.Current.{current_number};
 ghost use Rattle.checkpoint_store.specs.Consistent.{IsConsistent};
 ghost use Rattle.kept_state.specs.declared.limit.Limit.{Limit as TheLimit};
-ghost use Rattle.store_core.specs.Calls.{SinceSync, IsUnsynced, IsUnwritten};
+ghost use Rattle.store_core.specs.Calls.{RefusesToOpen, SinceSync, IsUnsynced, IsUnwritten};
 ghost use Rattle.store_core.specs.Flow.{agrees_with, flow_in};
 ghost use Rattle.store_core.specs.New.{kept_anew};
-ghost use Rattle.store_core.specs.Opened.{HasNoLeftovers, IsOpenedFor, IsFound, IsOfOther, IsShut, SameMeaning};
+ghost use Rattle.store_core.specs.Opened.{HasNoLeftovers, IsOpenedFor, IsOpenedOn, IsFound, IsOfOther, IsShut, IsToldDamaged, IsToldOther, SameMeaning};
 ghost use Rattle.store_core.specs.State.{stands_for};
 ghost use Rattle.store_core.specs.Store.{IsKeptOn};
 ghost use Rattle.store_core.specs.Touched.{Revives};
@@ -37,11 +37,7 @@ impl Store {
         lot: u64,
     ) -> Result<Store, StoreError>
         requires { IsConsistent (kept_anew flow.now lot) }
-        // The store is what the files stand for, and of this flow.
-        ensures opened { IfOk result (IsOpenedFor flow.now lot) }
-        ensures found { IfOk result (λ store. IsTrue D.tells → IsFound flow.now lot store (D.held disk.old)) }
-        ensures kept { IfOk result (λ store. IsKeptOn D.tells D.held D.moment D.images store disk.new) }
-        ensures tidy { IfOk result (λ store. IsTrue D.tells → HasNoLeftovers store (D.held disk.new)) }
+        ensures opened { IfOk result (IsOpenedOn D.tells D.held D.moment D.images flow.now lot disk.old disk.new) }
         // From behind the first sync on, whatever a stop leaves keeps and stands for the same; or that sync failed.
         ensures images { SinceSync D.moment D.images disk.old disk.new (SameMeaning flow.now lot (D.held disk.old))
             ⊎ IsUnsynced D.moment D.images disk.old disk.new result }
@@ -49,21 +45,14 @@ impl Store {
         ensures alone { SinceSync D.moment D.images disk.old disk.new
             (Revives (current_number (D.held disk.old)) (D.held disk.old))
             ⊎ IsUnsynced D.moment D.images disk.old disk.new result }
-        // The first damage is told, and so is another flow; where the disk tells, nothing else is.
-        ensures damaged { (damage : TheDamage) → IsErrOf result (StoreError.Damaged damage) → IsTrue D.tells
-            → stands_for flow.now lot (D.held disk.old) ≡ Err damage }
-        ensures other_flow { (digest other : List ℕ) → IsErrOf result (StoreError.OtherFlow digest other)
-            → (other ≡ flow.now.digest) × (IsTrue D.tells → IsOfOther flow.now lot digest (D.held disk.old)) }
+        ensures damaged { (damage : TheDamage) → IsErrOf result (StoreError.Damaged damage)
+            → IsToldDamaged flow.now D.tells D.held D.moment lot damage disk.old disk.new }
+        ensures other_flow { (digest asked : List ℕ) → IsErrOf result (StoreError.OtherFlow digest asked)
+            → IsToldOther flow.now D.tells D.held D.moment lot digest asked disk.old disk.new }
         // Files that may not be opened are only read, whatever the answer, unless the first sync failed.
-        ensures unwritten { (damage : TheDamage) → IsErrOf result (StoreError.Damaged damage)
-            → IsUnwritten D.held D.moment disk.old disk.new }
-        ensures other_unwritten { (digest other : List ℕ) → IsErrOf result (StoreError.OtherFlow digest other)
-            → IsUnwritten D.held D.moment disk.old disk.new }
         ensures shut { IsTrue D.tells → IsShut flow.now lot (D.held disk.old)
             → IsUnwritten D.held D.moment disk.old disk.new ⊎ IsUnsynced D.moment D.images disk.old disk.new result }
-        ensures kinds { (IsErrOf result StoreError.MustReopen → ⊥)
-            × ((limit : TheLimit) → IsErrOf result (StoreError.Limit limit) → ⊥) }
-        ensures cause { CountsFaults (D.faults disk.old) (D.faults disk.new) (IsErrOf result StoreError.Disk) }
+        ensures refusal { RefusesToOpen result D.faults disk.old disk.new }
     {
         disk.sync()?;
         let store = restore(alloc, disk, flow, lot)?;

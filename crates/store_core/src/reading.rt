@@ -42,7 +42,7 @@ pub struct Found {
 
 /// Reads what is kept: the log, the snapshot of its number, and the entries on it. Where no log is current, a store
 /// isn't made yet.
-pub fn read_kept<D: Disk>(
+pub(crate) fn read_kept<D: Disk>(
     alloc: Global,
     disk: &mut D,
     flow: &FlowIdentity<'_>,
@@ -337,7 +337,7 @@ fn misfit(log: u64, at: u64) -> StoreError
 }
 
 /// Reads each live content, one at a time, and gives the references to them by the files' numbers.
-pub fn read_contents<D: Disk>(
+pub(crate) fn read_contents<D: Disk>(
     alloc: Global,
     disk: &mut D,
     stored: &Stored,

@@ -33,7 +33,7 @@ use std::alloc::Global;
 const FIRST_LOG: u64 = 1;
 
 /// The store of what was read, on a disk with nothing pending.
-pub fn revive<D: Disk>(
+pub(crate) fn revive<D: Disk>(
     alloc: Global,
     disk: &mut D,
     found: Found,

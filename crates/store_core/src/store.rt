@@ -1,22 +1,19 @@
 //! The store: what a flow keeps, in memory and on a disk.
-ghost use Rattle.std.specs.Prelude.{◌≡◌, ℕ, ◌⊎◌, [], true, false, Ok, Some, None, IfOk, OnOk, IsErrOf, IfErr, Contains, IsTrue};
+ghost use Rattle.std.specs.Prelude.{◌≡◌, ◌⊎◌, [], true, false, Some, None, IfOk, OnOk, IsErrOf, IfErr, Contains, IsTrue};
 ghost use Rattle.disk_trait.specs.Images.{Since, Stays, IsOnly, After};
 ghost use Rattle.disk_trait.specs.declared.damage.Damage.{Damage as TheDamage};
 ghost use Rattle.flowfile_record.specs.Stored.{kept_of};
 ghost use Rattle.flowfile_record.specs.declared.change.Change.TheVariants as change;
 ghost use Rattle.checkpoint_store.specs.Consistent.{IsConsistent};
-ghost use Rattle.content_repo.specs.Claims.{AreEmptied, IsRead, IdleShortened, claim};
-ghost use Rattle.content_repo.specs.Slots.{references_to, IsReclaimed};
+ghost use Rattle.content_repo.specs.Claims.{AreEmptied, IsRead, IdleShortened};
+ghost use Rattle.content_repo.specs.Slots.{IsReclaimed};
 ghost use Rattle.kept_state.specs.Changes.{entry_of, expiry_entry};
 ghost use Rattle.kept_state.specs.Limits.{numbers_limit};
 ghost use Rattle.kept_state.specs.declared.limit.Limit.{Limit as TheLimit};
-ghost use Rattle.machine_model.specs.State.{State};
-ghost use Rattle.store_core.specs.Calls.{RefusesOnFault, IsDiskOrReopen, IsReadRefusal};
+ghost use Rattle.store_core.specs.Calls.{KeepsMeaning, RefusesToRead, StopsOnFault};
 ghost use Rattle.store_core.specs.Change.{MayChange, MayExpire, IsWithinLimits, IsLimitOf, kept_with};
 ghost use Rattle.store_core.specs.Committed.{IsPrepared};
-ghost use Rattle.store_core.specs.Flow.{flow_in};
-ghost use Rattle.store_core.specs.State.{stands_for};
-ghost use Rattle.store_core.specs.Store.{kept_by, live_in, EachStandsFor, Holds, IsKeptOn, IsTidy};
+ghost use Rattle.store_core.specs.Store.{kept_by, live_in, IsKeptOn, IsTidy};
 ghost use Rattle.store_core.specs.Touched.{Frees};
 
 use crate::contents::{fresh_sizes, let_go};
@@ -180,10 +177,9 @@ impl Store {
         ensures undamaged { (damage : TheDamage) → IsErrOf result (StoreError.Damaged damage) → IsTrue D.tells
             → self.old.failed ≡ true }
         ensures same { (self.new ≡ self.old) ⊎ (self.new ≡ record self.old { failed = true }) }
-        ensures stays { Stays D.held D.moment D.images disk.old disk.new }
-        ensures refusal { RefusesOnFault result self.old self.new (D.faults disk.old) (D.faults disk.new) }
-        ensures kinds { IfErr result (λ error. IsReadRefusal error ⊎ (error ≡ StoreError.MustReopen)) }
-        ensures kept { IsKeptOn D.tells D.held D.moment D.images self.new disk.new }
+        ensures kept { Stays D.held D.moment D.images disk.old disk.new
+            × IsKeptOn D.tells D.held D.moment D.images self.new disk.new }
+        ensures refusal { RefusesToRead result at.now self.old self.new D.faults disk.old disk.new }
     {
         if self.has_failed {
             return Err(StoreError::MustReopen);
@@ -206,21 +202,13 @@ impl Store {
         ensures reclaimed { IfOk result (IsReclaimed self.old.slots self.new.slots) }
         ensures emptied { OnOk result (IsTrue D.tells
             → AreEmptied self.old.slots self.new.slots (D.held disk.old) (D.held disk.new)) }
-        // Whatever a stop leaves holds the same, and stands for the same state.
-        ensures images { self.old.failed ≡ false → Since D.moment D.images disk.old disk.new (Holds self.old) }
-        ensures states { self.old.failed ≡ false → (state : State)
-            → EachStandsFor (flow_in (kept_by self.old)) self.old.lot state (D.images disk.old (D.moment disk.old))
-            → Since D.moment D.images disk.old disk.new
-            (λ c. stands_for (flow_in (kept_by self.old)) self.old.lot c ≡ Ok state) }
+        ensures meaning { self.old.failed ≡ false → KeepsMeaning D.moment D.images self.old disk.old disk.new }
         ensures alone { Since D.moment D.images disk.old disk.new
             (After (IdleShortened self.old.slots) (D.images disk.old (D.moment disk.old))) }
         ensures kept { IsKeptOn D.tells D.held D.moment D.images self.new disk.new }
         ensures state { (kept_by self.new ≡ kept_by self.old) × (self.new.opened ≡ self.old.opened)
-            × (self.new.lot ≡ self.old.lot) }
-        ensures log { self.new.log.number ≡ self.old.log.number }
-        ensures refusal { RefusesOnFault result self.old self.new (D.faults disk.old) (D.faults disk.new) }
-        ensures kinds { IfErr result IsDiskOrReopen }
-        ensures untouched { self.old.failed ≡ true → (self.new ≡ self.old) × (disk.new ≡ disk.old) }
+            × (self.new.lot ≡ self.old.lot) × (self.new.log.number ≡ self.old.log.number) }
+        ensures refusal { StopsOnFault result self.old self.new D.faults disk.old disk.new }
     {
         if self.has_failed {
             return Err(StoreError::MustReopen);
@@ -236,12 +224,7 @@ impl Store {
     /// It takes no memory.
     pub fn close<D: Disk>(&mut self, disk: &mut D) -> Result<(), StoreError>
         requires { IsKeptOn D.tells D.held D.moment D.images self.old disk.old }
-        ensures images { self.old.failed ≡ false → Since D.moment D.images disk.old disk.new (Holds self.old) }
-        // Whatever a stop leaves stands for the same state.
-        ensures states { self.old.failed ≡ false → (state : State)
-            → EachStandsFor (flow_in (kept_by self.old)) self.old.lot state (D.images disk.old (D.moment disk.old))
-            → Since D.moment D.images disk.old disk.new
-            (λ c. stands_for (flow_in (kept_by self.old)) self.old.lot c ≡ Ok state) }
+        ensures meaning { self.old.failed ≡ false → KeepsMeaning D.moment D.images self.old disk.old disk.new }
         // Only claims change: those that no live content stands in get shorter.
         ensures alone { Since D.moment D.images disk.old disk.new
             (After (Frees (live_in self.old)) (D.images disk.old (D.moment disk.old))) }
@@ -251,9 +234,7 @@ impl Store {
         ensures tidy { OnOk result (IsTrue D.tells → IsTidy (kept_by self.new) (D.held disk.new)) }
         ensures kept { IsKeptOn D.tells D.held D.moment D.images self.new disk.new }
         ensures state { (kept_by self.new ≡ kept_by self.old) × (self.new.lot ≡ self.old.lot) }
-        ensures refusal { RefusesOnFault result self.old self.new (D.faults disk.old) (D.faults disk.new) }
-        ensures kinds { IfErr result IsDiskOrReopen }
-        ensures untouched { self.old.failed ≡ true → (self.new ≡ self.old) × (disk.new ≡ disk.old) }
+        ensures refusal { StopsOnFault result self.old self.new D.faults disk.old disk.new }
     {
         if self.has_failed {
             return Err(StoreError::MustReopen);

@@ -26,8 +26,8 @@ take_over-requires-clause-passed g c κs within =
     let kept = subst (λ (t : StoreState). IsKeptOn g.D.Disk.tells g.D.Disk.held moment images t c.args.disk.now) (sym c.self.view_is) c.requires.kept in
     λ d left. passed_next s number may d (kept.log c.if-self.false d left) (λ f past. laws.images_end c.args.disk.now (moment c.args.disk.now) d f left past)
 
-pub returns-in-Err-clause-images : goal.returns-in-Err-clause-images
-returns-in-Err-clause-images g c unfailed =
+pub returns-in-Err-clause-meaning : goal.returns-in-Err-clause-meaning
+returns-in-Err-clause-meaning g c unfailed =
     let i = c.self.inside in
     let s = state_in i.state i.log i.entries i.contents i.opened.items i.events i.lot i.has_failed in
     let now = c.args.self.now in
@@ -41,24 +41,10 @@ returns-in-Err-clause-images g c unfailed =
       consistent = c.stored.ensures.consistent;
       no_batches = c.stored.ensures.no_batches;
     } in
-    images_taken g.D.Disk.tells g.D.Disk.held moment images s now number (kept_of c.stored.result.now) c.args.disk.now c.take_over.new.disk c.self.view_is c.stored.ensures.kept may c.if-self.false c.requires.kept c.take_over.ensures.images
-
-pub returns-in-Err-clause-states : goal.returns-in-Err-clause-states
-returns-in-Err-clause-states g c unfailed =
-    let i = c.self.inside in
-    let s = state_in i.state i.log i.entries i.contents i.opened.items i.events i.lot i.has_failed in
-    let now = c.args.self.now in
-    let moment = g.D.Disk.moment in
-    let images = g.D.Disk.images in
-    let number = c.log_number-number.result in
-    let known : now.log.number ≡ Some number = c.log_number-number.ensures in
-    let may : MayCheckpoint s number = record {
-      current = ap (λ (t : StoreState). t.log.number) c.self.view_is ∙ known;
-      next = c.requires.number number known;
-      consistent = c.stored.ensures.consistent;
-      no_batches = c.stored.ensures.no_batches;
-    } in
-    states_taken g.D.Disk.tells g.D.Disk.held moment images s now number (kept_of c.stored.result.now) c.args.disk.now c.take_over.new.disk c.self.view_is c.stored.ensures.kept may c.if-self.false c.requires.kept c.take_over.ensures.images
+    record {
+      holds = images_taken g.D.Disk.tells g.D.Disk.held moment images s now number (kept_of c.stored.result.now) c.args.disk.now c.take_over.new.disk c.self.view_is c.stored.ensures.kept may c.if-self.false c.requires.kept c.take_over.ensures.images;
+      states = states_taken g.D.Disk.tells g.D.Disk.held moment images s now number (kept_of c.stored.result.now) c.args.disk.now c.take_over.new.disk c.self.view_is c.stored.ensures.kept may c.if-self.false c.requires.kept c.take_over.ensures.images;
+    }
 
 pub returns-in-Err-clause-alone : goal.returns-in-Err-clause-alone
 returns-in-Err-clause-alone g c =
@@ -103,8 +89,8 @@ begun-requires-after_bounds g c κs within =
     let taken = c.in_default.ensures.taken d left in
     begun_in (number + 1) d may.next taken.log.begun taken.log.greater
 
-pub returns-in_default-drop_log-clause-images : goal.returns-in_default-drop_log-clause-images
-returns-in_default-drop_log-clause-images g c unfailed =
+pub returns-in_default-drop_log-clause-meaning : goal.returns-in_default-drop_log-clause-meaning
+returns-in_default-drop_log-clause-meaning g c unfailed =
     let i = c.self.inside in
     let s = state_in i.state i.log i.entries i.contents i.opened.items i.events i.lot i.has_failed in
     let now = c.args.self.now in
@@ -118,24 +104,10 @@ returns-in_default-drop_log-clause-images g c unfailed =
       consistent = c.stored.ensures.consistent;
       no_batches = c.stored.ensures.no_batches;
     } in
-    images_dropped g.D.Disk.tells g.D.Disk.held moment images s now number (kept_of c.stored.result.now) c.args.disk.now c.take_over.new.disk c.self.view_is c.stored.ensures.kept may c.if-self.false c.requires.kept c.take_over.ensures.images c.drop_log.new.disk c.in_default.ensures.taken c.drop_log.ensures.images
-
-pub returns-in_default-drop_log-clause-states : goal.returns-in_default-drop_log-clause-states
-returns-in_default-drop_log-clause-states g c unfailed =
-    let i = c.self.inside in
-    let s = state_in i.state i.log i.entries i.contents i.opened.items i.events i.lot i.has_failed in
-    let now = c.args.self.now in
-    let moment = g.D.Disk.moment in
-    let images = g.D.Disk.images in
-    let number = c.log_number-number.result in
-    let known : now.log.number ≡ Some number = c.log_number-number.ensures in
-    let may : MayCheckpoint s number = record {
-      current = ap (λ (t : StoreState). t.log.number) c.self.view_is ∙ known;
-      next = c.requires.number number known;
-      consistent = c.stored.ensures.consistent;
-      no_batches = c.stored.ensures.no_batches;
-    } in
-    states_dropped g.D.Disk.tells g.D.Disk.held moment images s now number (kept_of c.stored.result.now) c.args.disk.now c.take_over.new.disk c.self.view_is c.stored.ensures.kept may c.if-self.false c.requires.kept c.take_over.ensures.images c.drop_log.new.disk c.in_default.ensures.taken c.drop_log.ensures.images
+    record {
+      holds = images_dropped g.D.Disk.tells g.D.Disk.held moment images s now number (kept_of c.stored.result.now) c.args.disk.now c.take_over.new.disk c.self.view_is c.stored.ensures.kept may c.if-self.false c.requires.kept c.take_over.ensures.images c.drop_log.new.disk c.in_default.ensures.taken c.drop_log.ensures.images;
+      states = states_dropped g.D.Disk.tells g.D.Disk.held moment images s now number (kept_of c.stored.result.now) c.args.disk.now c.take_over.new.disk c.self.view_is c.stored.ensures.kept may c.if-self.false c.requires.kept c.take_over.ensures.images c.drop_log.new.disk c.in_default.ensures.taken c.drop_log.ensures.images;
+    }
 
 pub returns-in_default-drop_log-clause-alone : goal.returns-in_default-drop_log-clause-alone
 returns-in_default-drop_log-clause-alone g c =
@@ -154,8 +126,8 @@ returns-in_default-drop_log-clause-alone g c =
     } in
     alone_dropped g.D.Disk.tells g.D.Disk.held moment images s now number (kept_of c.stored.result.now) c.args.disk.now c.take_over.new.disk c.self.view_is c.stored.ensures.kept may c.if-self.false c.requires.kept c.take_over.ensures.images c.drop_log.new.disk c.in_default.ensures.taken c.drop_log.ensures.images
 
-pub returns-clause-images : goal.returns-clause-images
-returns-clause-images g c unfailed =
+pub returns-clause-meaning : goal.returns-clause-meaning
+returns-clause-meaning g c unfailed =
     let i = c.self.inside in
     let s = state_in i.state i.log i.entries i.contents i.opened.items i.events i.lot i.has_failed in
     let now = c.args.self.now in
@@ -169,24 +141,10 @@ returns-clause-images g c unfailed =
       consistent = c.stored.ensures.consistent;
       no_batches = c.stored.ensures.no_batches;
     } in
-    images_dropped g.D.Disk.tells g.D.Disk.held moment images s now number (kept_of c.stored.result.now) c.args.disk.now c.take_over.new.disk c.self.view_is c.stored.ensures.kept may c.if-self.false c.requires.kept c.take_over.ensures.images c.drop_log.new.disk c.in_default.ensures.taken c.drop_log.ensures.images
-
-pub returns-clause-states : goal.returns-clause-states
-returns-clause-states g c unfailed =
-    let i = c.self.inside in
-    let s = state_in i.state i.log i.entries i.contents i.opened.items i.events i.lot i.has_failed in
-    let now = c.args.self.now in
-    let moment = g.D.Disk.moment in
-    let images = g.D.Disk.images in
-    let number = c.log_number-number.result in
-    let known : now.log.number ≡ Some number = c.log_number-number.ensures in
-    let may : MayCheckpoint s number = record {
-      current = ap (λ (t : StoreState). t.log.number) c.self.view_is ∙ known;
-      next = c.requires.number number known;
-      consistent = c.stored.ensures.consistent;
-      no_batches = c.stored.ensures.no_batches;
-    } in
-    states_dropped g.D.Disk.tells g.D.Disk.held moment images s now number (kept_of c.stored.result.now) c.args.disk.now c.take_over.new.disk c.self.view_is c.stored.ensures.kept may c.if-self.false c.requires.kept c.take_over.ensures.images c.drop_log.new.disk c.in_default.ensures.taken c.drop_log.ensures.images
+    record {
+      holds = images_dropped g.D.Disk.tells g.D.Disk.held moment images s now number (kept_of c.stored.result.now) c.args.disk.now c.take_over.new.disk c.self.view_is c.stored.ensures.kept may c.if-self.false c.requires.kept c.take_over.ensures.images c.drop_log.new.disk c.in_default.ensures.taken c.drop_log.ensures.images;
+      states = states_dropped g.D.Disk.tells g.D.Disk.held moment images s now number (kept_of c.stored.result.now) c.args.disk.now c.take_over.new.disk c.self.view_is c.stored.ensures.kept may c.if-self.false c.requires.kept c.take_over.ensures.images c.drop_log.new.disk c.in_default.ensures.taken c.drop_log.ensures.images;
+    }
 
 pub returns-clause-alone : goal.returns-clause-alone
 returns-clause-alone g c =

@@ -250,8 +250,8 @@ returns-in_default-clause-changed g c =
     let new = state_in c.apply.new.self i.log i.entries c.write_ahead.new.contents i.opened.items c.write_ahead.new.events i.lot true in
     λ works. has_change s now new change p c.write_ahead.new.entry c.into_frame-entry.result.0 view p_view c.write_ahead.ensures.same c.into_frame-entry.ensures.entry c.apply.ensures.kept refl refl refl
 
-pub returns-in_default-clause-images : goal.returns-in_default-clause-images
-returns-in_default-clause-images g c =
+pub returns-in_default-clause-whole : goal.returns-in_default-clause-whole
+returns-in_default-clause-whole g c works =
     let i = c.self.inside in
     let s = state_in i.state i.log i.entries i.contents i.opened.items i.events i.lot i.has_failed in
     let now = c.args.self.now in
@@ -268,26 +268,10 @@ returns-in_default-clause-images g c =
     let tells = g.D.Disk.tells in
     let has = has_placed tells held moment images s now change p e old mid view p_view (c.self.invariant.works c.if-self.false) c.if-self.false c.stored-stored.ensures.consistent c.stored-stored.ensures.no_batches c.requires.kept c.requires.prepared c.requires.contents c.write_ahead.ensures.same c.write_ahead.ensures.images c.write_ahead.ensures.held in
     let new = state_in c.apply.new.self i.log i.entries c.write_ahead.new.contents i.opened.items c.write_ahead.new.events i.lot true in
-    λ works. placed_images tells held moment images now p e old mid new has
-
-pub returns-in_default-clause-states : goal.returns-in_default-clause-states
-returns-in_default-clause-states g c =
-    let i = c.self.inside in
-    let s = state_in i.state i.log i.entries i.contents i.opened.items i.events i.lot i.has_failed in
-    let now = c.args.self.now in
-    let view : s ≡ now = c.self.view_is in
-    let change : PreparedChange = record { entry = c.prepared.inside.entry; settled = c.prepared.inside.settled.now; events = c.prepared.inside.events } in
-    let p = c.args.prepared in
-    let p_view : change ≡ p = c.prepared.view_is in
-    let e = c.write_ahead.new.entry in
-    let old = c.args.disk.now in
-    let mid = c.write_ahead.new.disk in
-    let moment = g.D.Disk.moment in
-    let images = g.D.Disk.images in
-    let held = g.D.Disk.held in
-    let tells = g.D.Disk.tells in
-    let has = has_placed tells held moment images s now change p e old mid view p_view (c.self.invariant.works c.if-self.false) c.if-self.false c.stored-stored.ensures.consistent c.stored-stored.ensures.no_batches c.requires.kept c.requires.prepared c.requires.contents c.write_ahead.ensures.same c.write_ahead.ensures.images c.write_ahead.ensures.held in
-    λ works state stands. placed_states tells held moment images now p e old mid (λ c'. stands_for (flow_in (kept_by now)) now.lot c' ≡ of_state (state_after (content_in (held old)) state p.settled)) state has stands
+    record {
+      holds = placed_images tells held moment images now p e old mid new has;
+      states = λ state stands. placed_states tells held moment images now p e old mid (λ c'. stands_for (flow_in (kept_by now)) now.lot c' ≡ of_state (state_after (content_in (held old)) state p.settled)) state has stands;
+    }
 
 pub returns-in_default-clause-alone : goal.returns-in_default-clause-alone
 returns-in_default-clause-alone g c =
@@ -320,8 +304,8 @@ returns-in_default-append-clause-changed g c =
     let new = state_in c.apply-2.new.self c.append.new.self i.entries c.give_up.new.contents i.opened.items c.write_ahead.new.events i.lot true in
     λ works. has_change s now new change p c.write_ahead.new.entry c.into_frame-entry-2.result.0 view p_view c.write_ahead.ensures.same c.into_frame-entry-2.ensures.entry c.apply-2.ensures.kept refl refl (ap (λ (l : LogState). l.number) c.in_default-append.ensures.refusal.shown)
 
-pub returns-in_default-append-clause-images : goal.returns-in_default-append-clause-images
-returns-in_default-append-clause-images g c =
+pub returns-in_default-append-clause-whole : goal.returns-in_default-append-clause-whole
+returns-in_default-append-clause-whole g c works =
     let i = c.self.inside in
     let s = state_in i.state i.log i.entries i.contents i.opened.items i.events i.lot i.has_failed in
     let now = c.args.self.now in
@@ -345,34 +329,10 @@ returns-in_default-append-clause-images g c =
     let laws = g.met.D.Disk g.world.𝓛 g.world.𝓜 g.world.𝓡 ((λ s x. x), (λ x. x), (λ x. x), λ x. x) in
     let number = numbered_of i.log.number c.self.invariant.current in
     let logged = has_logged tells held moment images s now new change p e c.into_frame-entry-2.result.0 old mid end number.0 slots view p_view number.1 placed c.in-Ok.ensures.sizes c.in-Ok.ensures.events c.into_frame-entry-2.ensures.entry c.apply-2.ensures.kept refl (c.append.ensures.images number.0 e number.1 framed) (λ disk k c' image. laws.left_is_told disk k c' image) (λ disk told. laws.held_is_left disk told) in
-    λ works. logged_images tells held moment images now new p e old mid end number.0 slots has logged
-
-pub returns-in_default-append-clause-states : goal.returns-in_default-append-clause-states
-returns-in_default-append-clause-states g c =
-    let i = c.self.inside in
-    let s = state_in i.state i.log i.entries i.contents i.opened.items i.events i.lot i.has_failed in
-    let now = c.args.self.now in
-    let view : s ≡ now = c.self.view_is in
-    let change : PreparedChange = record { entry = c.prepared.inside.entry; settled = c.prepared.inside.settled.now; events = c.prepared.inside.events } in
-    let p = c.args.prepared in
-    let p_view : change ≡ p = c.prepared.view_is in
-    let e = c.write_ahead.new.entry in
-    let old = c.args.disk.now in
-    let mid = c.write_ahead.new.disk in
-    let moment = g.D.Disk.moment in
-    let images = g.D.Disk.images in
-    let held = g.D.Disk.held in
-    let tells = g.D.Disk.tells in
-    let has = has_placed tells held moment images s now change p e old mid view p_view (c.self.invariant.works c.if-self.false) c.if-self.false c.stored-stored.ensures.consistent c.stored-stored.ensures.no_batches c.requires.kept c.requires.prepared c.requires.contents c.write_ahead.ensures.same c.write_ahead.ensures.images c.write_ahead.ensures.held in
-    let slots = c.write_ahead.new.contents in
-    let placed : PlacesAll tells (held mid) change.settled.placed s.slots slots e = subst (λ (l : List Placed). PlacesAll tells (held mid) l s.slots slots e) c.as_slice.ensures c.in-Ok.ensures.placed in
-    let framed : IsFrame e c.as_slice-3.result.now = entry_frame now p e c.as_slice-3.result.now has.consistent has.prepared has.same c.into_frame-entry-2.ensures.encoded (c.as_slice-3.ensures.value ∙ c.into_frame-entry-2.ensures.frame) in
-    let new = state_in c.apply-2.new.self c.append.new.self i.entries c.give_up.new.contents i.opened.items c.write_ahead.new.events i.lot true in
-    let end = c.append.new.disk in
-    let laws = g.met.D.Disk g.world.𝓛 g.world.𝓜 g.world.𝓡 ((λ s x. x), (λ x. x), (λ x. x), λ x. x) in
-    let number = numbered_of i.log.number c.self.invariant.current in
-    let logged = has_logged tells held moment images s now new change p e c.into_frame-entry-2.result.0 old mid end number.0 slots view p_view number.1 placed c.in-Ok.ensures.sizes c.in-Ok.ensures.events c.into_frame-entry-2.ensures.entry c.apply-2.ensures.kept refl (c.append.ensures.images number.0 e number.1 framed) (λ disk k c' image. laws.left_is_told disk k c' image) (λ disk told. laws.held_is_left disk told) in
-    λ works state stands. logged_states tells held moment images now new p e old mid end number.0 slots has logged state stands
+    record {
+      holds = logged_images tells held moment images now new p e old mid end number.0 slots has logged;
+      states = λ state stands. logged_states tells held moment images now new p e old mid end number.0 slots has logged state stands;
+    }
 
 pub returns-in_default-append-clause-alone : goal.returns-in_default-append-clause-alone
 returns-in_default-append-clause-alone g c =
@@ -413,8 +373,8 @@ returns-clause-changed g c =
     let new = state_in c.apply-2.new.self c.append.new.self c.saturating_add-self-inside.result c.give_up.new.contents i.opened.items c.write_ahead.new.events i.lot i.has_failed in
     λ works. has_change s now new change p c.write_ahead.new.entry c.into_frame-entry-2.result.0 view p_view c.write_ahead.ensures.same c.into_frame-entry-2.ensures.entry c.apply-2.ensures.kept refl refl (ap (λ (l : LogState). l.number) c.in-Ok-append.ensures.acknowledged.1)
 
-pub returns-clause-images : goal.returns-clause-images
-returns-clause-images g c =
+pub returns-clause-whole : goal.returns-clause-whole
+returns-clause-whole g c works =
     let i = c.self.inside in
     let s = state_in i.state i.log i.entries i.contents i.opened.items i.events i.lot i.has_failed in
     let now = c.args.self.now in
@@ -438,34 +398,10 @@ returns-clause-images g c =
     let laws = g.met.D.Disk g.world.𝓛 g.world.𝓜 g.world.𝓡 ((λ s x. x), (λ x. x), (λ x. x), λ x. x) in
     let number = numbered_of i.log.number c.self.invariant.current in
     let logged = has_logged tells held moment images s now new change p e c.into_frame-entry-2.result.0 old mid end number.0 slots view p_view number.1 placed c.in-Ok.ensures.sizes c.in-Ok.ensures.events c.into_frame-entry-2.ensures.entry c.apply-2.ensures.kept refl (c.append.ensures.images number.0 e number.1 framed) (λ disk k c' image. laws.left_is_told disk k c' image) (λ disk told. laws.held_is_left disk told) in
-    λ works. logged_images tells held moment images now new p e old mid end number.0 slots has logged
-
-pub returns-clause-states : goal.returns-clause-states
-returns-clause-states g c =
-    let i = c.self.inside in
-    let s = state_in i.state i.log i.entries i.contents i.opened.items i.events i.lot i.has_failed in
-    let now = c.args.self.now in
-    let view : s ≡ now = c.self.view_is in
-    let change : PreparedChange = record { entry = c.prepared.inside.entry; settled = c.prepared.inside.settled.now; events = c.prepared.inside.events } in
-    let p = c.args.prepared in
-    let p_view : change ≡ p = c.prepared.view_is in
-    let e = c.write_ahead.new.entry in
-    let old = c.args.disk.now in
-    let mid = c.write_ahead.new.disk in
-    let moment = g.D.Disk.moment in
-    let images = g.D.Disk.images in
-    let held = g.D.Disk.held in
-    let tells = g.D.Disk.tells in
-    let has = has_placed tells held moment images s now change p e old mid view p_view (c.self.invariant.works c.if-self.false) c.if-self.false c.stored-stored.ensures.consistent c.stored-stored.ensures.no_batches c.requires.kept c.requires.prepared c.requires.contents c.write_ahead.ensures.same c.write_ahead.ensures.images c.write_ahead.ensures.held in
-    let slots = c.write_ahead.new.contents in
-    let placed : PlacesAll tells (held mid) change.settled.placed s.slots slots e = subst (λ (l : List Placed). PlacesAll tells (held mid) l s.slots slots e) c.as_slice.ensures c.in-Ok.ensures.placed in
-    let framed : IsFrame e c.as_slice-3.result.now = entry_frame now p e c.as_slice-3.result.now has.consistent has.prepared has.same c.into_frame-entry-2.ensures.encoded (c.as_slice-3.ensures.value ∙ c.into_frame-entry-2.ensures.frame) in
-    let new = state_in c.apply-2.new.self c.append.new.self c.saturating_add-self-inside.result c.give_up.new.contents i.opened.items c.write_ahead.new.events i.lot i.has_failed in
-    let end = c.append.new.disk in
-    let laws = g.met.D.Disk g.world.𝓛 g.world.𝓜 g.world.𝓡 ((λ s x. x), (λ x. x), (λ x. x), λ x. x) in
-    let number = numbered_of i.log.number c.self.invariant.current in
-    let logged = has_logged tells held moment images s now new change p e c.into_frame-entry-2.result.0 old mid end number.0 slots view p_view number.1 placed c.in-Ok.ensures.sizes c.in-Ok.ensures.events c.into_frame-entry-2.ensures.entry c.apply-2.ensures.kept refl (c.append.ensures.images number.0 e number.1 framed) (λ disk k c' image. laws.left_is_told disk k c' image) (λ disk told. laws.held_is_left disk told) in
-    λ works state stands. logged_states tells held moment images now new p e old mid end number.0 slots has logged state stands
+    record {
+      holds = logged_images tells held moment images now new p e old mid end number.0 slots has logged;
+      states = λ state stands. logged_states tells held moment images now new p e old mid end number.0 slots has logged state stands;
+    }
 
 pub returns-clause-alone : goal.returns-clause-alone
 returns-clause-alone g c =
@@ -522,8 +458,8 @@ returns-clause-kept g c =
     let more : new.entries ≡ min (i.entries + 1) (2 ^ 64 - 1) = omega (arith, c.saturating_add-self-inside.ensures) in
     acknowledged_kept tells held moment images now new p e old mid end number.0 slots has logged (c.in-Ok-append.ensures.added number.0 e number.1 framed) c.in-Ok-append.ensures.ready.ready (more ∙ ap (λ (t : StoreState). min (t.entries + 1) (2 ^ 64 - 1)) view) c.give_up.ensures.sizes
 
-pub returns-clause-acknowledged_state : goal.returns-clause-acknowledged_state
-returns-clause-acknowledged_state g c =
+pub returns-clause-acknowledged : goal.returns-clause-acknowledged
+returns-clause-acknowledged g c =
     let i = c.self.inside in
     let s = state_in i.state i.log i.entries i.contents i.opened.items i.events i.lot i.has_failed in
     let now = c.args.self.now in
@@ -547,14 +483,11 @@ returns-clause-acknowledged_state g c =
     let laws = g.met.D.Disk g.world.𝓛 g.world.𝓜 g.world.𝓡 ((λ s x. x), (λ x. x), (λ x. x), λ x. x) in
     let number = numbered_of i.log.number c.self.invariant.current in
     let logged = has_logged tells held moment images s now new change p e c.into_frame-entry-2.result.0 old mid end number.0 slots view p_view number.1 placed c.in-Ok.ensures.sizes c.in-Ok.ensures.events c.into_frame-entry-2.ensures.entry c.apply-2.ensures.kept refl (c.append.ensures.images number.0 e number.1 framed) (λ disk k c' image. laws.left_is_told disk k c' image) (λ disk told. laws.held_is_left disk told) in
-    λ state stands. state_of_acknowledged tells held moment images now new p e old mid end number.0 slots has logged state stands (c.in-Ok-append.ensures.added number.0 e number.1 framed)
-
-pub returns-clause-events : goal.returns-clause-events
-returns-clause-events g c =
-    let i = c.self.inside in
-    let s = state_in i.state i.log i.entries i.contents i.opened.items i.events i.lot i.has_failed in
-    let change : PreparedChange = record { entry = c.prepared.inside.entry; settled = c.prepared.inside.settled.now; events = c.prepared.inside.events } in
-    events_counted s c.args.self.now change c.args.prepared c.write_ahead.new.events c.self.view_is c.prepared.view_is c.requires.prepared c.in-Ok.ensures.events.appended
+    record {
+      moment = c.in-Ok-append.ensures.acknowledged.0;
+      events = events_counted s c.args.self.now change c.args.prepared c.write_ahead.new.events c.self.view_is c.prepared.view_is c.requires.prepared c.in-Ok.ensures.events.appended;
+      states = λ state stands. state_of_acknowledged tells held moment images now new p e old mid end number.0 slots has logged state stands (c.in-Ok-append.ensures.added number.0 e number.1 framed);
+    }
 
 pub returns-in_default-clause-claims : goal.returns-in_default-clause-claims
 returns-in_default-clause-claims g c =

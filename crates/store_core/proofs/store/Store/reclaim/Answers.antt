@@ -1,11 +1,8 @@
 use Rattle.std.proofs.Common.{◌≡◌, sym, subst}
-use Rattle.disk_trait.specs.Images.{Since}
 use Rattle.content_repo.specs.Claims.{AreEmptied}
 use Rattle.content_repo.specs.Slots.{IsReclaimed}
-use Rattle.store_core.specs.Store.{StoreState, state_in, EachStandsFor, IsKeptOn, Holds, kept_by}
-use Rattle.store_core.specs.Flow.{flow_in}
-use Rattle.store_core.specs.State.{stands_for}
-use Rattle.store_core.proofs.Agreeing.{of_state}
+use Rattle.store_core.specs.Calls.{KeepsMeaning}
+use Rattle.store_core.specs.Store.{StoreState, state_in, IsKeptOn}
 use Rattle.store_core.proofs.Closing.{states_reclaimed}
 use Rattle.store_core.proofs.Reclaiming.{since_reclaimed, kept_reclaimed, sound_reclaimed}
 use Rattle.store_core.proofs.store.Store.reclaim.Goals as goal
@@ -16,25 +13,35 @@ invariant_of-self g c =
     let s = state_in i.state i.log i.entries i.contents i.opened.items i.events i.lot i.has_failed in
     sound_reclaimed s c.reclaim.new.self c.in-Ok.reclaimed c.self.invariant c.if-self.false c.in-Ok.ensures.reclaimed
 
-pub returns-in_default-clause-images : goal.returns-in_default-clause-images
-returns-in_default-clause-images g c works =
+pub returns-in_default-clause-meaning : goal.returns-in_default-clause-meaning
+returns-in_default-clause-meaning g c works =
     let i = c.self.inside in
     let s = state_in i.state i.log i.entries i.contents i.opened.items i.events i.lot i.has_failed in
     let moment = g.D.Disk.moment in
     let images = g.D.Disk.images in
-    let kept = subst (λ (t : StoreState). IsKeptOn g.D.Disk.tells g.D.Disk.held moment images t c.args.disk.now) (sym c.self.view_is) c.requires in
-    subst (λ (t : StoreState). Since moment images c.args.disk.now c.reclaim.new.disk (Holds t)) c.self.view_is
-    (since_reclaimed moment images s c.args.disk.now c.reclaim.new.disk (c.self.invariant.works c.if-self.false) (kept.holds c.if-self.false) (kept.log c.if-self.false) c.reclaim.ensures.images)
+    let old = c.args.disk.now in
+    let new = c.reclaim.new.disk in
+    let kept = subst (λ (t : StoreState). IsKeptOn g.D.Disk.tells g.D.Disk.held moment images t old) (sym c.self.view_is) c.requires in
+    subst (λ (t : StoreState). KeepsMeaning moment images t old new) c.self.view_is
+    (record {
+      holds = since_reclaimed moment images s old new (c.self.invariant.works c.if-self.false) (kept.holds c.if-self.false) (kept.log c.if-self.false) c.reclaim.ensures.images;
+      states = λ state. states_reclaimed g.D.Disk.tells g.D.Disk.held moment images s old new (c.self.invariant.works c.if-self.false) c.if-self.false kept c.reclaim.ensures.images state;
+    })
 
-pub returns-clause-images : goal.returns-clause-images
-returns-clause-images g c works =
+pub returns-clause-meaning : goal.returns-clause-meaning
+returns-clause-meaning g c works =
     let i = c.self.inside in
     let s = state_in i.state i.log i.entries i.contents i.opened.items i.events i.lot i.has_failed in
     let moment = g.D.Disk.moment in
     let images = g.D.Disk.images in
-    let kept = subst (λ (t : StoreState). IsKeptOn g.D.Disk.tells g.D.Disk.held moment images t c.args.disk.now) (sym c.self.view_is) c.requires in
-    subst (λ (t : StoreState). Since moment images c.args.disk.now c.reclaim.new.disk (Holds t)) c.self.view_is
-    (since_reclaimed moment images s c.args.disk.now c.reclaim.new.disk (c.self.invariant.works c.if-self.false) (kept.holds c.if-self.false) (kept.log c.if-self.false) c.reclaim.ensures.images)
+    let old = c.args.disk.now in
+    let new = c.reclaim.new.disk in
+    let kept = subst (λ (t : StoreState). IsKeptOn g.D.Disk.tells g.D.Disk.held moment images t old) (sym c.self.view_is) c.requires in
+    subst (λ (t : StoreState). KeepsMeaning moment images t old new) c.self.view_is
+    (record {
+      holds = since_reclaimed moment images s old new (c.self.invariant.works c.if-self.false) (kept.holds c.if-self.false) (kept.log c.if-self.false) c.reclaim.ensures.images;
+      states = λ state. states_reclaimed g.D.Disk.tells g.D.Disk.held moment images s old new (c.self.invariant.works c.if-self.false) c.if-self.false kept c.reclaim.ensures.images state;
+    })
 
 pub returns-clause-kept : goal.returns-clause-kept
 returns-clause-kept g c =
@@ -45,30 +52,6 @@ returns-clause-kept g c =
     let kept = subst (λ (t : StoreState). IsKeptOn g.D.Disk.tells g.D.Disk.held moment images t c.args.disk.now) (sym c.self.view_is) c.requires in
     kept_reclaimed moment images s c.args.disk.now c.reclaim.new.disk g.D.Disk.tells g.D.Disk.held c.reclaim.new.self
     (c.self.invariant.works c.if-self.false) c.if-self.false kept c.reclaim.ensures.images c.reclaim.ensures.shortened (λ told. (c.in-Ok.ensures.emptied told).sizes)
-
-pub returns-in_default-clause-states : goal.returns-in_default-clause-states
-returns-in_default-clause-states g c works state =
-    let i = c.self.inside in
-    let s = state_in i.state i.log i.entries i.contents i.opened.items i.events i.lot i.has_failed in
-    let moment = g.D.Disk.moment in
-    let images = g.D.Disk.images in
-    let old = c.args.disk.now in
-    let new = c.reclaim.new.disk in
-    let kept = subst (λ (t : StoreState). IsKeptOn g.D.Disk.tells g.D.Disk.held moment images t old) (sym c.self.view_is) c.requires in
-    subst (λ (t : StoreState). EachStandsFor (flow_in (kept_by t)) t.lot state (images old (moment old)) → Since moment images old new (λ c'. stands_for (flow_in (kept_by t)) t.lot c' ≡ of_state state)) c.self.view_is
-    (states_reclaimed g.D.Disk.tells g.D.Disk.held moment images s old new (c.self.invariant.works c.if-self.false) c.if-self.false kept c.reclaim.ensures.images state)
-
-pub returns-clause-states : goal.returns-clause-states
-returns-clause-states g c works state =
-    let i = c.self.inside in
-    let s = state_in i.state i.log i.entries i.contents i.opened.items i.events i.lot i.has_failed in
-    let moment = g.D.Disk.moment in
-    let images = g.D.Disk.images in
-    let old = c.args.disk.now in
-    let new = c.reclaim.new.disk in
-    let kept = subst (λ (t : StoreState). IsKeptOn g.D.Disk.tells g.D.Disk.held moment images t old) (sym c.self.view_is) c.requires in
-    subst (λ (t : StoreState). EachStandsFor (flow_in (kept_by t)) t.lot state (images old (moment old)) → Since moment images old new (λ c'. stands_for (flow_in (kept_by t)) t.lot c' ≡ of_state state)) c.self.view_is
-    (states_reclaimed g.D.Disk.tells g.D.Disk.held moment images s old new (c.self.invariant.works c.if-self.false) c.if-self.false kept c.reclaim.ensures.images state)
 
 pub returns-clause-reclaimed : goal.returns-clause-reclaimed
 returns-clause-reclaimed g c =
