@@ -1,4 +1,4 @@
-use Rattle.std.proofs.Common.{◌≡◌, sym, subst}
+use Rattle.std.proofs.Common.{sym, subst}
 use Rattle.content_repo.specs.Claims.{AreEmptied}
 use Rattle.content_repo.specs.Slots.{IsReclaimed}
 use Rattle.store_core.specs.Calls.{KeepsMeaning}
