@@ -8,7 +8,6 @@ mod clock;
 mod faults;
 mod folder;
 mod inbox;
-mod last_read;
 mod lock;
 mod numbered;
 mod open_file;

@@ -6,7 +6,6 @@ ghost use Rattle.world_real.specs.Untold.{told_by_none, left_by_none};
 
 use crate::faults::{counted, is_out_of_memory};
 use crate::folder::{Folder, Place};
-use crate::last_read::LastRead;
 use crate::lock::Lock;
 use crate::open_file::{OpenFile, create_file};
 use crate::open_files::OpenFiles;
@@ -36,7 +35,6 @@ pub(crate) struct StoreFiles {
     lock: Lock,
     open: OpenFiles,
     pending: Pending,
-    last: LastRead,
     moment: u64,
 }
 
@@ -53,7 +51,6 @@ impl<'r, R: Files<File = File> + Alloc + Sync> StoreFolder<'r, R> {
                 lock: Lock::Untried,
                 open: OpenFiles::new(alloc),
                 pending: Pending::Everything,
-                last: LastRead::nothing(alloc),
                 moment: 0,
             },
             faults: 0,
@@ -188,17 +185,12 @@ fn read_at<R: Files<File = File>>(
     ensures moment { files.new.moment ≡ files.old.moment }
 {
     files.lock.hold(place)?;
-    if files.last.fill(name, at, into) {
-        return Ok(());
-    }
     let Some(mut file) = take_file(place, &mut files.open, name)? else {
         return is_within(into.is_empty() && at == 0);
     };
     let answer = read_from(&mut file, at, into);
     files.open.put(name, file, &files.pending);
-    answer?;
-    files.last.keep(name, at, into);
-    Ok(())
+    answer
 }
 
 fn read_from(file: &mut OpenFile, at: u64, into: &mut [u8]) -> io::Result<()> {
@@ -243,7 +235,6 @@ fn write_at<R: Files<File = File>>(
     ensures last { files.old.moment ≡ 2 ^ 64 - 1 → IsErr result }
 {
     count_moment(&mut files.moment)?;
-    files.last.forget();
     is_within(at.checked_add(bytes.len() as u64).is_some())?;
     files.lock.hold(place)?;
     let mut file = match take_file(place, &mut files.open, name)? {
@@ -288,7 +279,6 @@ fn cut_to<R: Files<File = File>>(
     ensures last { files.old.moment ≡ 2 ^ 64 - 1 → IsErr result }
 {
     count_moment(&mut files.moment)?;
-    files.last.forget();
     files.lock.hold(place)?;
     let Some(mut file) = take_file(place, &mut files.open, name)? else {
         return is_within(size == 0);
@@ -329,7 +319,6 @@ fn sync_files<R: Files<File = File> + Alloc>(
     ensures last { files.old.moment ≡ 2 ^ 64 - 1 → IsErr result }
 {
     count_moment(&mut files.moment)?;
-    files.last.forget();
     files.lock.hold(place)?;
     sync_pending(place, &files.lock, &mut files.open, &mut files.pending)
 }
