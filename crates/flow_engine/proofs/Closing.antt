@@ -1,7 +1,7 @@
 -- How a run over an opened store begins, and how it ends once the store was closed.
 use Rattle.std.proofs.Common.{◌≡◌, ◌⊎◌, inl, inr, ⊎_elim, ℕ, ◌≤◌, Bool, true, false, IsTrue, List, [], refl, sym, ◌∙◌, ap, subst, arith}
 use Rattle.std.proofs.lemmas.Bool.{false≢true}
-use Rattle.std.specs.Prelude.{Option, Result, Ok, Err}
+use Rattle.std.specs.Prelude.{◌↔◌, Option, Result, Ok, Err, IsErrOf}
 use Rattle.disk_trait.specs.Files.{Files}
 use Rattle.disk_trait.specs.Images.{After, Since}
 use Rattle.disk_trait.specs.declared.damage.Damage.{Damage as TheDamage}
@@ -13,7 +13,6 @@ use Rattle.machine_model.specs.declared.flow.Flow.{Flow}
 use Rattle.machine_model.specs.declared.journal.Entry.{Entry}
 use Rattle.machine_model.specs.Sound.{IsSound}
 use Rattle.machine_model.specs.State.{Machine, State}
-use Rattle.store_core.specs.Calls.{RefusesOnFault}
 use Rattle.store_core.specs.Flow as store
 use Rattle.store_core.specs.Flow.{flow_in}
 use Rattle.store_core.specs.Kept.{kept_in}
@@ -47,26 +46,26 @@ use Rattle.flow_engine.proofs.Turning.{IsMet, IsNoLimit}
 -- ---- the store is closed
 
 -- a call that ended well met no fault
-still_works : {A : Type 0} (result : Result A StoreError) (s t : StoreState) (before now : ℕ) (answer : A) → result ≡ Ok answer → s.failed ≡ false → RefusesOnFault result s t before now → t.failed ≡ false
-still_works {A = A} result s t before now answer is works refuses = by t.failed refl
+still_works : {A : Type 0} (result : Result A StoreError) (s t : StoreState) (answer : A) → result ≡ Ok answer → s.failed ≡ false → (t.failed ≡ true) ↔ ((s.failed ≡ true) ⊎ IsErrOf result refusal.Disk) → t.failed ≡ false
+still_works {A = A} result s t answer is works fails = by t.failed refl
   where
     by : (b : Bool) → t.failed ≡ b → t.failed ≡ false
     by false so = so
     by true so =
         absurd
         (⊎_elim (λ (was : s.failed ≡ true). false≢true (sym works ∙ was)) (λ (failed : result ≡ Err refusal.Disk). let both : ◌≡◌ {A = Result A StoreError} (Ok answer) (Err refusal.Disk) = sym is ∙ failed in cc)
-        (refuses.failed.0 so))
+        (fails.0 so))
 
 -- what its claims hold is needed
-pub tidied : (flow : Flow) (tells : Bool) {D : Type 0} (held : D → Files) (moment : D → ℕ) (images : D → ℕ → Files → Type 0) {A : Type 0} (result : Result A StoreError) (s t : StoreState) (new : D) (before now : ℕ) (answer : A)
-    → result ≡ Ok answer → s.failed ≡ false → RefusesOnFault result s t before now → flow_in (kept_by s) ≡ identity_of flow → kept_by t ≡ kept_by s → t.lot ≡ s.lot → IsKeptOn tells held moment images t new
+pub tidied : (flow : Flow) (tells : Bool) {D : Type 0} (held : D → Files) (moment : D → ℕ) (images : D → ℕ → Files → Type 0) {A : Type 0} (result : Result A StoreError) (s t : StoreState) (new : D) (answer : A)
+    → result ≡ Ok answer → s.failed ≡ false → (t.failed ≡ true) ↔ ((s.failed ≡ true) ⊎ IsErrOf result refusal.Disk) → flow_in (kept_by s) ≡ identity_of flow → kept_by t ≡ kept_by s → t.lot ≡ s.lot → IsKeptOn tells held moment images t new
     → images new (moment new) (held new) → IsTidy (kept_by t) (held new) → IsTidied flow s.lot (held new)
-tidied flow tells held moment images result s t new before now answer is works refuses flow_is kept lot on is_left tidy = record {
+tidied flow tells held moment images result s t new answer is works fails flow_is kept lot on is_left tidy = record {
   kept = kept_by t;
   keeps =
       ap (λ (f : store.Flow). kept_in f s.lot (held new)) (sym (ap flow_in kept ∙ flow_is))
       ∙ ap (λ (l : ℕ). kept_in (flow_in (kept_by t)) l (held new)) (sym lot)
-      ∙ (on.holds (still_works result s t before now answer is works refuses) (held new) is_left).kept;
+      ∙ (on.holds (still_works result s t answer is works fails) (held new) is_left).kept;
   tidy = tidy;
 }
 

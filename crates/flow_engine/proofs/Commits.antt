@@ -1,7 +1,7 @@
 -- What the commit of a session's change leaves, in the machine's words.
 use Rattle.std.proofs.Common.{◌≡◌, ◌⊎◌, inl, inr, ⊎_elim, ℕ, Bool, true, false, List, length, refl, sym, ◌∙◌, ap, subst}
 use Rattle.std.proofs.lemmas.Bool.{false≢true}
-use Rattle.std.specs.Prelude.{Option, None, Some, Result, Ok, Err}
+use Rattle.std.specs.Prelude.{◌↔◌, Option, None, Some, Result, Ok, Err, IsErrOf}
 use Rattle.std.proofs.lemmas.List.{length-set}
 use Rattle.disk_trait.specs.Files.{Files}
 use Rattle.disk_trait.specs.Images.{Since, Stays}
@@ -23,7 +23,6 @@ use Rattle.machine_model.specs.declared.flow.Flow.{Flow}
 use Rattle.machine_model.specs.Changing.{state_after}
 use Rattle.machine_model.specs.State.{Machine, State}
 use Rattle.prov_store.specs.State.{IsTrimmed}
-use Rattle.store_core.specs.Calls.{RefusesOnFault}
 use Rattle.store_core.specs.Change.{IsLimitOf, MayChange}
 use Rattle.store_core.specs.Committed.{HasChange, PreparedChange}
 use Rattle.store_core.specs.Flow as store
@@ -156,15 +155,15 @@ kept_after p s t u room settled connection same changed entry active = record {
 }
 
 -- a call that ended well met no fault
-pub still_works : {A : Type 0} (result : Result A StoreError) (s t : StoreState) (before now : ℕ) → (answer : A) → result ≡ Ok answer → s.failed ≡ false → RefusesOnFault result s t before now → t.failed ≡ false
-still_works {A = A} result s t before now answer is works refusal = by t.failed refl
+pub still_works : {A : Type 0} (result : Result A StoreError) (s t : StoreState) (answer : A) → result ≡ Ok answer → s.failed ≡ false → (t.failed ≡ true) ↔ ((s.failed ≡ true) ⊎ IsErrOf result StoreError.Disk) → t.failed ≡ false
+still_works {A = A} result s t answer is works fails = by t.failed refl
   where
     by : (b : Bool) → t.failed ≡ b → t.failed ≡ false
     by false so = so
     by true so =
         absurd
         (⊎_elim (λ (was : s.failed ≡ true). false≢true (sym works ∙ was)) (λ (failed : result ≡ Err StoreError.Disk). let both : ◌≡◌ {A = Result A StoreError} (Ok answer) (Err StoreError.Disk) = sym is ∙ failed in cc)
-        (refusal.failed.0 so))
+        (fails.0 so))
 
 -- ---- errors
 

@@ -1,6 +1,6 @@
 -- What a reclaim and the commit of expired files leave.
 use Rattle.std.proofs.Common.{◌≡◌, ◌⊎◌, inl, inr, ⊎_elim, ℕ, Bool, true, false, List, [], ◌+◌, ◌-◌, length, refl, sym, ap, subst, ◌∙◌, arith}
-use Rattle.std.specs.Prelude.{Option, Some, Result, Ok, Err, nat_le, nat_lt}
+use Rattle.std.specs.Prelude.{◌↔◌, Option, Some, Result, Ok, Err, IsErrOf, nat_le, nat_lt}
 use Rattle.std.proofs.lemmas.Bool.{and_parts, false≢true, ltb-true}
 use Rattle.disk_trait.specs.Files.{Files}
 use Rattle.disk_trait.specs.Images.{After, Since}
@@ -28,7 +28,7 @@ use Rattle.machine_model.specs.declared.flow.Flow.{Flow}
 use Rattle.machine_model.specs.Changing.{state_after}
 use Rattle.machine_model.specs.Due.{is_checkpoint_due}
 use Rattle.machine_model.specs.State.{Machine, State}
-use Rattle.store_core.specs.Calls.{IsDiskOrMemory, RefusesOnFault}
+use Rattle.store_core.specs.Calls.{IsDiskOrMemory}
 use Rattle.store_core.specs.Checkpoint.{Checkpoints}
 use Rattle.store_core.specs.Change.{IsLimitOf, MayExpire, fresh_sizes_of, kept_with}
 use Rattle.store_core.specs.Committed.{HasChange, PreparedChange}
@@ -50,15 +50,15 @@ use Rattle.flow_engine.specs.declared.error.EngineError.{EngineError}
 -- ---- errors
 
 -- a call that ended well met no fault
-pub still_works : {A : Type 0} (result : Result A StoreError) (s t : StoreState) (before now : ℕ) → (answer : A) → result ≡ Ok answer → s.failed ≡ false → RefusesOnFault result s t before now → t.failed ≡ false
-still_works {A = A} result s t before now answer is works refusal = by t.failed refl
+pub still_works : {A : Type 0} (result : Result A StoreError) (s t : StoreState) (answer : A) → result ≡ Ok answer → s.failed ≡ false → (t.failed ≡ true) ↔ ((s.failed ≡ true) ⊎ IsErrOf result StoreError.Disk) → t.failed ≡ false
+still_works {A = A} result s t answer is works fails = by t.failed refl
   where
     by : (b : Bool) → t.failed ≡ b → t.failed ≡ false
     by false so = so
     by true so =
         absurd
         (⊎_elim (λ (was : s.failed ≡ true). false≢true (sym works ∙ was)) (λ (failed : result ≡ Err StoreError.Disk). let both : ◌≡◌ {A = Result A StoreError} (Ok answer) (Err StoreError.Disk) = sym is ∙ failed in cc)
-        (refusal.failed.0 so))
+        (fails.0 so))
 
 -- which error of the store a limit is
 pub limit_of : (e : StoreError) (limit : Limit) → error_of e ≡ EngineError.Limit limit → e ≡ StoreError.Limit limit

@@ -15,7 +15,7 @@ use Rattle.flow_engine.proofs.session.commit.Goals as goal
 pub returns-in_err-moment-clause-cut_off : goal.returns-in_err-moment-clause-cut_off
 returns-in_err-moment-clause-cut_off g c is flow before after work stands makes =
     committed_between g.D.Disk.held g.D.Disk.moment g.D.Disk.images flow c.args.store.now c.prepare.new.self c.prepare.new.self.memory.room c.args.changed.settled c.in_ok-prepared.prepared.settled c.args.disk.now c.commit.new.disk before after
-    c.prepare.ensures.same c.in_ok-prepared.ensures.prepared.0 work.flow_is stands makes work.works c.commit.ensures.states
+    c.prepare.ensures.same c.in_ok-prepared.ensures.prepared.0 work.flow_is stands makes work.works (λ works. (c.commit.ensures.whole works).states)
 
 pub returns-in_err-moment-clause-alone : goal.returns-in_err-moment-clause-alone
 returns-in_err-moment-clause-alone g c =
@@ -30,7 +30,7 @@ returns-clause-alone g c =
 pub returns-clause-stepped : goal.returns-clause-stepped
 returns-clause-stepped g c flow before after work stands makes =
     committed g.D.Disk.held g.D.Disk.moment g.D.Disk.images flow c.args.store.now c.prepare.new.self c.prepare.new.self.memory.room c.args.changed.settled c.in_ok-prepared.prepared.settled c.args.disk.now c.commit.new.disk before after
-    c.prepare.ensures.same c.in_ok-prepared.ensures.prepared.0 work.flow_is stands makes work.works c.commit.ensures.states c.in_ok-moment.ensures.acknowledged_state
+    c.prepare.ensures.same c.in_ok-prepared.ensures.prepared.0 work.flow_is stands makes work.works (λ works. (c.commit.ensures.whole works).states) c.in_ok-moment.ensures.acknowledged.states
 
 pub settle-requires-clause-kept : goal.settle-requires-clause-kept
 settle-requires-clause-kept g c =
@@ -71,7 +71,7 @@ returns-clause-work g c flow queued =
     c.in_ok-prepared.ensures.entry c.requires.gone) in
     record {
       work = record {
-        works = still_works c.commit.result t c.commit.new.self (g.D.Disk.faults c.args.disk.now) (g.D.Disk.faults c.commit.new.disk) c.in_ok-moment.moment c.in_ok-moment.was works c.commit.ensures.refusal;
+        works = still_works c.commit.result t c.commit.new.self c.in_ok-moment.moment c.in_ok-moment.was works c.commit.ensures.refusal.failed;
         flow_is = flow_after c.in_ok-prepared.prepared t c.commit.new.self (identity_of flow) (c.commit.ensures.changed works) (ap (λ (u : StoreState). flow_in (kept_by u)) c.prepare.ensures.same ∙ queued.work.flow_is);
         kept = c.commit.ensures.kept;
       };

@@ -9,7 +9,7 @@ use Rattle.flow_engine.proofs.tending.checkpoint.Goals as goal
 
 pub returns-in_err-checkpoint-clause-spared : goal.returns-in_err-checkpoint-clause-spared
 returns-in_err-checkpoint-clause-spared g c flow before work stands =
-    spares g.D.Disk.moment g.D.Disk.images flow c.args.store.now c.args.disk.now c.checkpoint.new.disk before work.flow_is stands (c.checkpoint.ensures.states work.works)
+    spares g.D.Disk.moment g.D.Disk.images flow c.args.store.now c.args.disk.now c.checkpoint.new.disk before work.flow_is stands (c.checkpoint.ensures.meaning work.works).states
 
 pub returns-in_err-checkpoint-clause-alone : goal.returns-in_err-checkpoint-clause-alone
 returns-in_err-checkpoint-clause-alone g c =
@@ -18,17 +18,20 @@ returns-in_err-checkpoint-clause-alone g c =
 pub returns-in_err-checkpoint-clause-unwritten : goal.returns-in_err-checkpoint-clause-unwritten
 returns-in_err-checkpoint-clause-unwritten g c is =
     let p = err_from_is_err_and c.from_residual.result c.from_residual.ensures.1 in
-    let was : c.in_err-checkpoint.field-0.0 ≡ StoreError.Memory = memory_of c.in_err-checkpoint.field-0.0 c.in_err-checkpoint.ensures.kinds (cc (p.1, p.2, is)) in
-    (c.checkpoint.ensures.untouched (inl (c.in_err-checkpoint.was ∙ ap Err was))).1
+    let was : c.in_err-checkpoint.field-0.0 ≡ StoreError.Memory = memory_of c.in_err-checkpoint.field-0.0 c.in_err-checkpoint.ensures.refusal.kinds (cc (p.1, p.2, is)) in
+    (c.checkpoint.ensures.refusal.untouched (inl (c.in_err-checkpoint.was ∙ ap Err was))).1
 
 pub returns-clause-spared : goal.returns-clause-spared
 returns-clause-spared g c flow before work stands =
-    spares g.D.Disk.moment g.D.Disk.images flow c.args.store.now c.args.disk.now c.checkpoint.new.disk before work.flow_is stands (c.checkpoint.ensures.states work.works)
+    spares g.D.Disk.moment g.D.Disk.images flow c.args.store.now c.args.disk.now c.checkpoint.new.disk before work.flow_is stands (c.checkpoint.ensures.meaning work.works).states
+
+pub returns-clause-next : goal.returns-clause-next
+returns-clause-next g c number known = let next = c.in_ok-checkpoint.ensures.next number known in (next.0, next.1)
 
 pub returns-clause-log : goal.returns-clause-log
 returns-clause-log g c =
     let number = c.log_number-number.result in
-    next_log c.args.store.now.log.number c.checkpoint.new.self.log.number number c.log_number-number.ensures ((c.in_ok-checkpoint.ensures.log number c.log_number-number.ensures).0)
+    next_log c.args.store.now.log.number c.checkpoint.new.self.log.number number c.log_number-number.ensures ((c.in_ok-checkpoint.ensures.next number c.log_number-number.ensures).0)
 
 pub returns-clause-alone : goal.returns-clause-alone
 returns-clause-alone g c =
@@ -36,5 +39,5 @@ returns-clause-alone g c =
 
 pub returns-clause-short : goal.returns-clause-short
 returns-clause-short g c checkpoint image left =
-    let works = still_works c.checkpoint.result c.args.store.now c.checkpoint.new.self (g.D.Disk.faults c.args.disk.now) (g.D.Disk.faults c.checkpoint.new.disk) _ c.in_ok-checkpoint.was c.requires.work.1.works c.checkpoint.ensures.refusal in
-    just_begun checkpoint c.checkpoint.new.self image ((c.in_ok-checkpoint.ensures.log c.log_number-number.result c.log_number-number.ensures).1) (c.checkpoint.ensures.kept.log works image left)
+    let works = still_works c.checkpoint.result c.args.store.now c.checkpoint.new.self _ c.in_ok-checkpoint.was c.requires.work.1.works c.checkpoint.ensures.refusal.failed in
+    just_begun checkpoint c.checkpoint.new.self image ((c.in_ok-checkpoint.ensures.next c.log_number-number.result c.log_number-number.ensures).1) (c.checkpoint.ensures.kept.log works image left)

@@ -62,7 +62,7 @@ returns-in_err-commit-clause-cut_off g c is telling before stands =
       after = goes.after;
       goes = goes.goes;
       is_so = committed_between g.D.Disk.moment g.D.Disk.images flow s disk c.commit.new.disk before c.requires.work.flow_is stands g.D.Disk.held goes.after c.in_ok-prepared.prepared.settled
-          (ap (state_after (content_in held) before.state) c.in_ok-prepared.ensures.prepared.0 ∙ goes.is_so) (c.commit.ensures.states c.requires.work.works);
+          (ap (state_after (content_in held) before.state) c.in_ok-prepared.ensures.prepared.0 ∙ goes.is_so) (c.commit.ensures.whole c.requires.work.works).states;
     }
 
 pub returns-clause-done : goal.returns-clause-done
@@ -78,7 +78,7 @@ returns-clause-done g c telling before stands =
       after = goes.after;
       goes = goes.goes;
       is_so = committed g.D.Disk.moment g.D.Disk.images flow s disk c.commit.new.disk before c.requires.work.flow_is stands g.D.Disk.held goes.after c.in_ok-prepared.prepared.settled
-          (ap (state_after (content_in held) before.state) c.in_ok-prepared.ensures.prepared.0 ∙ goes.is_so) (c.commit.ensures.states c.requires.work.works) c.in_ok-commit.ensures.acknowledged_state;
+          (ap (state_after (content_in held) before.state) c.in_ok-prepared.ensures.prepared.0 ∙ goes.is_so) (c.commit.ensures.whole c.requires.work.works).states c.in_ok-commit.ensures.acknowledged.states;
     }
 
 pub returns-clause-queues : goal.returns-clause-queues

@@ -3,7 +3,7 @@ use Rattle.flow_engine.proofs.tending.reclaim.Goals as goal
 
 pub returns-in_err-reclaim-clause-spared : goal.returns-in_err-reclaim-clause-spared
 returns-in_err-reclaim-clause-spared g c flow before work stands =
-    spares g.D.Disk.moment g.D.Disk.images flow c.args.store.now c.args.disk.now c.reclaim.new.disk before work.flow_is stands (c.reclaim.ensures.states work.works)
+    spares g.D.Disk.moment g.D.Disk.images flow c.args.store.now c.args.disk.now c.reclaim.new.disk before work.flow_is stands (c.reclaim.ensures.meaning work.works).states
 
 pub returns-in_err-reclaim-clause-alone : goal.returns-in_err-reclaim-clause-alone
 returns-in_err-reclaim-clause-alone g c =
@@ -11,7 +11,7 @@ returns-in_err-reclaim-clause-alone g c =
 
 pub returns-clause-spared : goal.returns-clause-spared
 returns-clause-spared g c flow before work stands =
-    spares g.D.Disk.moment g.D.Disk.images flow c.args.store.now c.args.disk.now c.reclaim.new.disk before work.flow_is stands (c.reclaim.ensures.states work.works)
+    spares g.D.Disk.moment g.D.Disk.images flow c.args.store.now c.args.disk.now c.reclaim.new.disk before work.flow_is stands (c.reclaim.ensures.meaning work.works).states
 
 pub returns-clause-alone : goal.returns-clause-alone
 returns-clause-alone g c =

@@ -23,14 +23,14 @@ pub returns-in_err-store-clause-damaged : goal.returns-in_err-store-clause-damag
 returns-in_err-store-clause-damaged g c damage is =
     let p = err_from_is_err_and c.from_residual-in_err-store.result c.from_residual-in_err-store.ensures.1 in
     let was : c.in_err-store.field-0.0 ≡ StoreError.Damaged damage = damage_of c.in_err-store.field-0.0 damage (cc (p.1, p.2, is)) in
-    let refused = c.in_err-store.was ∙ ap Err was in
+    let told = c.load.ensures.damaged damage (c.in_err-store.was ∙ ap Err was) in
     told_damage g.D.Disk.tells g.D.Disk.held g.D.Disk.moment _ _ (identity_is c.args.flow.now _ _ _ refl c.in_ok-ids.ensures c.len.ensures) c.args.lot c.args.disk.now c.load.new.disk damage
-    (c.load.ensures.damaged damage refused) (c.load.ensures.unwritten damage refused)
+    told.stands told.unwritten
 
 pub returns-in_err-store-clause-other_flow : goal.returns-in_err-store-clause-other_flow
 returns-in_err-store-clause-other_flow g c is =
     let p = err_from_is_err_and c.from_residual-in_err-store.result c.from_residual-in_err-store.ensures.1 in
     let was = other_of c.in_err-store.field-0.0 (cc (p.1, p.2, is)) in
-    let refused = c.in_err-store.was ∙ ap Err was.1.1 in
+    let told = c.load.ensures.other_flow was.0 was.1.0 (c.in_err-store.was ∙ ap Err was.1.1) in
     told_other g.D.Disk.tells g.D.Disk.held g.D.Disk.moment _ _ (identity_is c.args.flow.now _ _ _ refl c.in_ok-ids.ensures c.len.ensures) c.args.lot c.args.disk.now c.load.new.disk was.0
-    (c.load.ensures.other_flow was.0 was.1.0 refused).1 (c.load.ensures.other_unwritten was.0 was.1.0 refused)
+    told.stands told.unwritten

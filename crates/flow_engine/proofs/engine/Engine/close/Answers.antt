@@ -17,5 +17,5 @@ returns-clause-states g c state stands =
     let same : c.self.inside.store ≡ c.args.self.now.store = ap (λ (x : EngineState). x.store) c.self.view_is in
     let works : c.self.inside.store.failed ≡ false = ap (λ (s : StoreState). s.failed) same ∙ c.requires.works in
     subst (λ (s : StoreState). Since g.D.Disk.moment g.D.Disk.images c.args.disk.now c.close.new.disk (λ files. stands_for (flow_in (kept_by s)) s.lot files ≡ Ok state)) same
-    (c.close.ensures.states works state
+    ((c.close.ensures.meaning works).states state
     (subst (λ (s : StoreState). EachStandsFor (flow_in (kept_by s)) s.lot state (g.D.Disk.images c.args.disk.now (g.D.Disk.moment c.args.disk.now))) (sym same) stands))
