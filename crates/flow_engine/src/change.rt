@@ -42,7 +42,7 @@ pub struct Changed {
 }
 
 /// What a session changes and sends: the work on its job, settled over what the store keeps.
-pub fn session_change(
+pub(crate) fn session_change(
     alloc: Global,
     flow: &Flow,
     store: &Store,

@@ -34,7 +34,7 @@ use world_io::{Clock, Inbox, Outbox};
 impl Engine<'_> {
     /// Tends what is due and runs session after session, until the flow is quiet or blocked. Where files wait for the
     /// end of a penalty, it waits with them.
-    pub fn drive<D: Disk, I: Inbox, O: Outbox, C: Clock>(
+    pub(crate) fn drive<D: Disk, I: Inbox, O: Outbox, C: Clock>(
         &mut self,
         alloc: Global,
         disk: &mut D,

@@ -20,7 +20,7 @@ use store_core::{Store, StoreError};
 
 /// What a session is handed of the contents of these files: each content, or none where together they are larger than
 /// one may be. Each is read all the same, so that damage is told, and files of one content are handed one read.
-pub fn read_contents<D: Disk>(
+pub(crate) fn read_contents<D: Disk>(
     alloc: Global,
     store: &mut Store,
     disk: &mut D,

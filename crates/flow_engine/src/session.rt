@@ -31,7 +31,7 @@ use world_io::{Inbox, Name, Outbox};
 
 /// Puts what a session sends into the outbox, and then commits its change. All memory is taken before. It answers the
 /// moment of the acknowledgement.
-pub fn commit<D: Disk, O: Outbox>(
+pub(crate) fn commit<D: Disk, O: Outbox>(
     store: &mut Store,
     queues: &mut Queues,
     disk: &mut D,
@@ -110,7 +110,7 @@ fn send<O: Outbox>(outbox: &mut O, sending: &Option<Sending>) -> Result<(), Engi
 }
 
 /// The file that a session received, if any, is no longer to come, and is removed from the inbox.
-pub fn remove<I: Inbox>(
+pub(crate) fn remove<I: Inbox>(
     listing: &mut Listing<'_>,
     inbox: &mut I,
     processor: u16,
