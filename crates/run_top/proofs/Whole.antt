@@ -62,7 +62,7 @@ pub written_or : {X D I O : Type 0} (moment : D → ℕ) (images : D → ℕ →
     → HasWritten result moment images files checkpoint old new ⊎ IsNotOpened result moment images old new inbox_old inbox_new outbox_old outbox_new ⊎ X
 written_or moment images files checkpoint old new inbox_old inbox_new outbox_old outbox_new status result is written = ⊎_elim
     (λ (w : HasWritten status moment images files checkpoint old new).
-    inl (record { alone = w.alone; short = is_status result status is w.short }))
+    inl (record { alone = w.alone; short = is_status moment images checkpoint new result status is w.short }))
     (λ (un : IsNotOpened status moment images old new inbox_old inbox_new outbox_old outbox_new).
     inr (inl (subst (λ (n : ℕ). IsNotOpened n moment images old new inbox_old inbox_new outbox_old outbox_new) (sym is) un)))
     written
