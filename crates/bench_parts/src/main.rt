@@ -11,7 +11,7 @@ mod stores;
 
 use anyhow::{Result, bail};
 use measured::Measured;
-use std::alloc::{Alloc, Global};
+use std::alloc::{Alloc, AllocError, Global};
 use std::env;
 use std::fs::Files;
 
@@ -23,8 +23,9 @@ const FEW: u32 = 5;
 
 fn main(rt: HostRuntime) -> Result<()> {
     let alloc = rt.alloc();
-    let words: Vec<String> = env::args(&rt)?.skip(1).collect(alloc)?;
-    let Some(word) = words.first() else {
+    let mut words = env::args(&rt)?;
+    let _program = words.next();
+    let Some(word) = words.next() else {
         bail!("the words are `check`, or a part and a count");
     };
     if word.as_str() == "check" {
@@ -34,18 +35,20 @@ fn main(rt: HostRuntime) -> Result<()> {
         }
         return Ok(());
     }
-    let much = read_count(word.as_str(), words.get(1))?;
-    let live = match words.get(2) {
-        Some(_) => read_count(word.as_str(), words.get(2))?,
+    let part = word.as_str();
+    let much = read_count(part, words.next())?;
+    let live = match words.next() {
+        Some(count) => read_count(part, Some(count))?,
         None => 0,
     };
-    let measured = measure(&rt, alloc, word.as_str(), much, live)?;
-    let microseconds = measured.took / 1_000;
-    println!(rt;
-        "{word} {much}: {} in {microseconds} microseconds",
-        measured.count
-    )?;
+    let measured = measure(&rt, alloc, part, much, live)?;
+    println!(rt; "{part} {much}: {}", told(alloc, measured)?)?;
     Ok(())
+}
+
+fn told(alloc: Global, measured: Measured) -> Result<String, AllocError> {
+    let (count, microseconds) = (measured.count, measured.took / 1_000);
+    format!(in alloc; "{count} in {microseconds} microseconds")
 }
 
 // Of a store there is so much behind so many live files.
@@ -67,7 +70,7 @@ fn measure<R: Files + Alloc<A = Global>>(
 }
 
 // How much there is of a part, of these words.
-fn read_count(part: &str, count: Option<&String>) -> Result<u32> {
+fn read_count(part: &str, count: Option<String>) -> Result<u32> {
     let Some(count) = count else {
         bail!("`{part}` needs a count");
     };

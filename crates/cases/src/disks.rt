@@ -1,5 +1,6 @@
 //! Cases of the disk in memory: what its calls answer, and what a stop leaves.
-use crate::json::{item, items, member, number, text, word};
+use crate::encodings::put_digits;
+use crate::json::{items, member, number, number_at, text_at, word, word_at};
 use anyhow::{Result, bail};
 use disk_trait::{Disk, FileKind, FileName, MemoryDisk, Pick};
 use serde_json::Value;
@@ -15,60 +16,76 @@ const KINDS: [FileKind; 5] = [
 
 /// What calls on an empty disk answer, one after the other, and the files of one image of a moment. The numbers of the
 /// calls that fail come first.
-pub fn stopped(alloc: Global, failing: &Value, case: &Value) -> Result<String> {
+pub fn put_stopped(out: &mut String, alloc: Global, failing: &Value, case: &Value) -> Result<()> {
+    let calls = items(member(case, "calls")?)?;
+    let mut disk = MemoryDisk::new(numbers(alloc, items(failing)?)?);
+    put_answers(out, alloc, &mut disk, calls.as_slice())?;
+    let mut image = image(&disk, case)?;
+    put_files(out, alloc, &mut image)
+}
+
+fn numbers(alloc: Global, values: &[Value]) -> Result<Vec<u64>> {
     let mut numbers = Vec::new(alloc);
-    for call in items(failing)? {
-        numbers.push(number(call)?)?;
+    for value in values {
+        numbers.push(number(value)?)?;
     }
-    let mut disk = MemoryDisk::new(numbers);
-    let mut told = String::new(alloc);
-    for call in items(member(case, "calls")?)? {
-        told.push_str(called(alloc, &mut disk, call)?)?;
-        told.push_str("; ")?;
-    }
+    Ok(numbers)
+}
+
+fn image(disk: &MemoryDisk, case: &Value) -> Result<MemoryDisk> {
     let moment = number(member(case, "moment")?)?;
     if moment > disk.moment() {
         bail!("a moment that is to come");
     }
-    let mut image = disk.stopped(moment, pick(member(case, "pick")?)?)?;
-    told.push_str(files_in_words(alloc, &mut image)?.as_str())?;
-    Ok(told)
+    let pick = pick(member(case, "pick")?)?;
+    Ok(disk.stopped(moment, pick)?)
+}
+
+fn put_answers(
+    out: &mut String,
+    alloc: Global,
+    disk: &mut MemoryDisk,
+    calls: &[Value],
+) -> Result<()> {
+    for call in calls {
+        let answer = if is_done(alloc, disk, call)? {
+            "done; "
+        } else {
+            "failed; "
+        };
+        out.push_str(answer)?;
+    }
+    Ok(())
 }
 
 // A write and a cut are two calls: the file's size is asked first.
-fn called(alloc: Global, disk: &mut MemoryDisk, call: &Value) -> Result<&'static str> {
-    let name = word(item(call, 0)?)?;
+fn is_done(alloc: Global, disk: &mut MemoryDisk, call: &Value) -> Result<bool> {
+    let name = word_at(call, 0)?;
     if name == "sync" {
-        return Ok(answered(disk.sync().is_ok()));
+        return Ok(disk.sync().is_ok());
     }
     let file = file_of(call)?;
-    let at = number(item(call, 3)?)?;
+    let at = number_at(call, 3)?;
     let Ok(size) = disk.size(file) else {
-        return Ok(answered(false));
+        return Ok(false);
     };
     if at > size {
         bail!("a place past the end");
     }
     if name == "cut" {
-        return Ok(answered(disk.cut(file, at).is_ok()));
+        return Ok(disk.cut(file, at).is_ok());
     }
-    let bytes = text(alloc, item(call, 4)?)?;
-    Ok(answered(disk.write(file, at, bytes.as_bytes()).is_ok()))
-}
-
-fn answered(done: bool) -> &'static str {
-    if done { "done" } else { "failed" }
+    let bytes = text_at(alloc, call, 4)?;
+    Ok(disk.write(file, at, bytes.as_bytes()).is_ok())
 }
 
 // The second and the third item of a call are the file's kind and its number.
 fn file_of(call: &Value) -> Result<FileName> {
-    let name = word(item(call, 1)?)?;
+    let name = word_at(call, 1)?;
+    let number = number_at(call, 2)?;
     for kind in KINDS {
         if name_of(kind) == name {
-            return Ok(FileName {
-                kind,
-                number: number(item(call, 2)?)?,
-            });
+            return Ok(FileName { kind, number });
         }
     }
     bail!("no kind of file")
@@ -96,27 +113,34 @@ fn pick(value: &Value) -> Result<Pick> {
     }
 }
 
-fn files_in_words(alloc: Global, disk: &mut MemoryDisk) -> Result<String> {
-    let mut told = String::new(alloc);
+fn put_files(out: &mut String, alloc: Global, disk: &mut MemoryDisk) -> Result<()> {
     for kind in KINDS {
-        let mut numbers = Vec::new(alloc);
-        disk.files(kind, &mut numbers)?;
-        for number in &numbers {
-            let file = FileName {
-                kind,
-                number: *number,
-            };
-            told.push_str(file_in_words(alloc, disk, file)?.as_str())?;
-        }
+        put_files_of(out, alloc, disk, kind)?;
     }
-    Ok(told)
+    Ok(())
 }
 
-fn file_in_words(alloc: Global, disk: &mut MemoryDisk, file: FileName) -> Result<String> {
+fn put_files_of(
+    out: &mut String,
+    alloc: Global,
+    disk: &mut MemoryDisk,
+    kind: FileKind,
+) -> Result<()> {
+    let mut numbers = Vec::new(alloc);
+    disk.files(kind, &mut numbers)?;
+    for number in &numbers {
+        let number = *number;
+        put_file(out, alloc, disk, FileName { kind, number })?;
+    }
+    Ok(())
+}
+
+fn put_file(out: &mut String, alloc: Global, disk: &mut MemoryDisk, file: FileName) -> Result<()> {
     let size = disk.size(file)?;
     let mut bytes = vec![in alloc; 0; size as usize]?;
     disk.read(file, 0, bytes.as_mut_slice())?;
-    let digits = hex::encode(alloc, bytes.as_slice())?;
     let (name, number) = (name_of(file.kind), file.number);
-    Ok(format!(in alloc; "{name}-{number} {digits} ")?)
+    write!(out, "{name}-{number} ")?;
+    put_digits(out, alloc, bytes.as_slice())?;
+    Ok(out.push(' ')?)
 }

@@ -4,51 +4,69 @@ use crate::json::{item, member, number, text, word};
 use anyhow::{Context, Result, bail};
 use flowfile_record::CodecError;
 use record_codec::{
-    PAYLOAD_MAX, append_block, read_active_file, read_block, read_entry, read_file, read_head,
-    read_snapshot_end, read_swap_batch, write_active_file, write_entry, write_file, write_head,
-    write_snapshot_end, write_swap_batch,
+    Block, BlockEnd, PAYLOAD_MAX, append_block, read_active_file, read_block, read_entry,
+    read_file, read_head, read_snapshot_end, read_swap_batch, write_active_file, write_entry,
+    write_file, write_head, write_snapshot_end, write_swap_batch,
 };
 use serde_json::Value;
-use std::alloc::Global;
+use std::alloc::{AllocError, Global};
 
 /// A block of a kind and a payload, in hexadecimal.
-pub fn block(alloc: Global, pair: &Value) -> Result<String> {
+pub fn put_block(out: &mut String, alloc: Global, pair: &Value) -> Result<()> {
+    let kind = kind(item(pair, 0)?)?;
     let payload = bytes(alloc, item(pair, 1)?)?;
     if payload.len() as u64 > PAYLOAD_MAX {
         bail!("a payload longer than any");
     }
-    let mut out = Vec::new(alloc);
-    append_block(&mut out, kind(item(pair, 0)?)?, payload.as_slice())?;
-    Ok(hex::encode(alloc, out.as_slice())?)
+    let mut block = Vec::new(alloc);
+    append_block(&mut block, kind, payload.as_slice())?;
+    Ok(put_digits(out, alloc, block.as_slice())?)
 }
 
 /// Where the block at an offset of some bytes stands.
-pub fn block_read(alloc: Global, value: &Value, case: &Value) -> Result<String> {
-    let bytes = bytes(alloc, value)?;
+pub fn put_block_read(out: &mut String, alloc: Global, value: &Value, case: &Value) -> Result<()> {
     let offset = number(member(case, "at")?)?;
+    let bytes = bytes(alloc, value)?;
     if offset > bytes.len() as u64 {
         bail!("the offset is past the end");
     }
-    match read_block(bytes.as_slice(), offset) {
+    Ok(put_place(out, read_block(bytes.as_slice(), offset))?)
+}
+
+fn put_place(out: &mut String, found: Result<Block, BlockEnd>) -> Result<(), AllocError> {
+    match found {
         Ok(found) => {
             let (kind, start, end, next) = (found.kind, found.start, found.end, found.next);
-            Ok(format!(in alloc; "kind {kind}, payload {start} to {end}, next {next}")?)
+            write!(out, "kind {kind}, payload {start} to {end}, next {next}")
         }
-        Err(error) => Ok(format!(in alloc; "{error}")?),
+        Err(error) => write!(out, "{error}"),
     }
 }
 
 /// Whether some bytes are a value's encoding, and whether that value is encoded so.
-pub fn record(alloc: Global, form: &Value, case: &Value) -> Result<String> {
+pub fn put_record(out: &mut String, alloc: Global, form: &Value, case: &Value) -> Result<()> {
+    let form = word(form)?;
     let given = bytes(alloc, member(case, "bytes")?)?;
-    match rewritten(alloc, word(form)?, given.as_slice())? {
-        Ok(out) if out.as_slice() == given.as_slice() => Ok(String::from_str(
-            alloc,
-            "read, and written the same",
-        )?),
-        Ok(out) => Ok(hex::encode(alloc, out.as_slice())?),
-        Err(error) => Ok(format!(in alloc; "{error}")?),
+    let rewritten = rewritten(alloc, form, given.as_slice())?;
+    Ok(put_rewritten(out, alloc, given.as_slice(), &rewritten)?)
+}
+
+fn put_rewritten(
+    out: &mut String,
+    alloc: Global,
+    given: &[u8],
+    rewritten: &Result<Vec<u8>, CodecError>,
+) -> Result<(), AllocError> {
+    match rewritten {
+        Ok(bytes) if bytes.as_slice() == given => out.push_str("read, and written the same"),
+        Ok(bytes) => put_digits(out, alloc, bytes.as_slice()),
+        Err(error) => write!(out, "{error}"),
     }
+}
+
+/// Bytes in hexadecimal.
+pub fn put_digits(out: &mut String, alloc: Global, bytes: &[u8]) -> Result<(), AllocError> {
+    out.push_str(hex::encode(alloc, bytes)?.as_str())
 }
 
 // What reading a value, and writing what was read, gives.

@@ -1,10 +1,12 @@
 //! Cases of events: what is read, what is written, and which flow files come from which.
+ghost use Rattle.prov_event.specs.Encoding.{IsEvent};
+
 use crate::encodings::bytes;
 use anyhow::{Result, bail};
-use flowfile_record::CodecError;
+use flowfile_record::{CodecError, Event};
 use prov_event::{event_size, kin, read_event, write_event};
 use serde_json::Value;
-use std::alloc::Global;
+use std::alloc::{AllocError, Global};
 
 /// What reading an event, and writing what was read, gives.
 pub fn rewritten(alloc: Global, given: &[u8]) -> Result<Result<Vec<u8>, CodecError>> {
@@ -18,18 +20,24 @@ pub fn rewritten(alloc: Global, given: &[u8]) -> Result<Result<Vec<u8>, CodecErr
 }
 
 /// The size of an event's encoding, and each child with each parent that it names.
-pub fn kin_told(alloc: Global, value: &Value) -> Result<String> {
+pub fn put_kin(out: &mut String, alloc: Global, value: &Value) -> Result<()> {
     let given = bytes(alloc, value)?;
     let Ok(event) = read_event(alloc, given.as_slice()) else {
         bail!("no event")
     };
+    Ok(put_kin_of(out, alloc, &event)?)
+}
+
+fn put_kin_of(out: &mut String, alloc: Global, event: &Event) -> Result<(), AllocError>
+    requires { IsEvent event.now }
+{
     let mut pairs = Vec::new(alloc);
-    kin(&event, &mut pairs)?;
-    let size = event_size(&event);
-    let mut told = format!(in alloc; "{size} bytes")?;
+    kin(event, &mut pairs)?;
+    let size = event_size(event);
+    write!(out, "{size} bytes")?;
     for pair in pairs.as_slice() {
         let (child, parent) = *pair;
-        told.push_str(format!(in alloc; ", {child} of {parent}")?.as_str())?;
+        write!(out, ", {child} of {parent}")?;
     }
-    Ok(told)
+    Ok(())
 }

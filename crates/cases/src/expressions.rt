@@ -1,9 +1,9 @@
 //! Cases of expressions: which texts are read, and what they are worth.
 use crate::json::{member, text};
 use anyhow::Result;
-use expr_lang::{Subject, Val, parse, value};
+use expr_lang::{EvalError, Expr, Subject, Val, parse, value};
 use serde_json::Value;
-use std::alloc::Global;
+use std::alloc::{AllocError, Global};
 
 /// A flow file with the one attribute `x`.
 #[derive(Drop)]
@@ -22,29 +22,38 @@ impl Subject for OneAttribute<'_> {
 }
 
 /// Whether a text is an expression.
-pub fn parsed(alloc: Global, expression: &Value) -> Result<String> {
+pub fn put_parsed(out: &mut String, alloc: Global, expression: &Value) -> Result<()> {
     let expression = text(alloc, expression)?;
     match parse(alloc, expression.as_str()) {
-        Ok(_) => Ok(String::from_str(alloc, "read")?),
-        Err(error) => Ok(format!(in alloc; "{error}")?),
+        Ok(_) => out.push_str("read")?,
+        Err(error) => write!(out, "{error}")?,
     }
+    Ok(())
 }
 
 /// What an expression is worth over a flow file whose attribute `x` the case says. Of a long text the size is told.
-pub fn valued(alloc: Global, expression: &Value, case: &Value) -> Result<String> {
-    let expression = text(alloc, expression)?;
+pub fn put_valued(out: &mut String, alloc: Global, expression: &Value, case: &Value) -> Result<()> {
+    let expression = expression_of(alloc, expression)?;
     let x = text(alloc, member(case, "x")?)?;
-    let parsed = parse(alloc, expression.as_str())?;
     let subject = OneAttribute { x: x.as_str() };
-    match value(alloc, &parsed, &subject) {
+    Ok(put_value(out, &value(alloc, &expression, &subject))?)
+}
+
+fn expression_of(alloc: Global, value: &Value) -> Result<Expr> {
+    let text = text(alloc, value)?;
+    Ok(parse(alloc, text.as_str())?)
+}
+
+fn put_value(out: &mut String, value: &Result<Val, EvalError>) -> Result<(), AllocError> {
+    match value {
         Ok(Val::Text(text)) if text.len() > LONG => {
             let size = text.len();
-            Ok(format!(in alloc; "a text of {size} bytes")?)
+            write!(out, "a text of {size} bytes")
         }
-        Ok(Val::Text(text)) => Ok(format!(in alloc; "text {text:?}")?),
-        Ok(Val::Num(number)) => Ok(format!(in alloc; "number {number}")?),
-        Ok(Val::Bool(truth)) => Ok(format!(in alloc; "truth {truth}")?),
-        Err(error) => Ok(format!(in alloc; "{error}")?),
+        Ok(Val::Text(text)) => write!(out, "text {text:?}"),
+        Ok(Val::Num(number)) => write!(out, "number {number}"),
+        Ok(Val::Bool(truth)) => write!(out, "truth {truth}"),
+        Err(error) => write!(out, "{error}"),
     }
 }
 

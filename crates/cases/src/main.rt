@@ -18,61 +18,66 @@ use std::alloc::Global;
 fn main(rt: HostRuntime) -> Result<()> {
     let alloc = rt.alloc();
     for line in rt.lines(alloc) {
-        let line = line?;
-        let case = Value::from_str(alloc, line.as_str())?;
-        let answer = answer_of(alloc, &case)?;
+        let answer = answer_of(alloc, line?.as_str())?;
         println!(rt; "{answer}")?;
     }
     Ok(())
 }
 
-// What came out of a case, by the one member that says what it tries.
-fn answer_of(alloc: Global, case: &Value) -> Result<String> {
-    if let Some(list) = case.get("order") {
-        return orders::sorted(alloc, list, case);
-    }
-    if let Some(pair) = case.get("priorities") {
-        return orders::compared(alloc, pair);
-    }
-    if let Some(name) = case.get("prioritizer") {
-        return orders::named(alloc, name);
-    }
-    if let Some(text) = case.get("parse") {
-        return expressions::parsed(alloc, text);
-    }
-    if let Some(text) = case.get("value") {
-        return expressions::valued(alloc, text, case);
-    }
-    answer_of_records(alloc, case)
+fn answer_of(alloc: Global, line: &str) -> Result<String> {
+    let mut answer = String::new(alloc);
+    let case = Value::from_str(alloc, line)?;
+    put_answer(&mut answer, alloc, &case)?;
+    Ok(answer)
 }
 
-fn answer_of_records(alloc: Global, case: &Value) -> Result<String> {
+// What came out of a case, by the one member that says what it tries.
+fn put_answer(out: &mut String, alloc: Global, case: &Value) -> Result<()> {
+    if let Some(list) = case.get("order") {
+        return orders::put_sorted(out, alloc, list, case);
+    }
+    if let Some(pair) = case.get("priorities") {
+        return orders::put_compared(out, alloc, pair);
+    }
+    if let Some(name) = case.get("prioritizer") {
+        return orders::put_named(out, name);
+    }
+    if let Some(text) = case.get("parse") {
+        return expressions::put_parsed(out, alloc, text);
+    }
+    if let Some(text) = case.get("value") {
+        return expressions::put_valued(out, alloc, text, case);
+    }
+    put_answer_of_records(out, alloc, case)
+}
+
+fn put_answer_of_records(out: &mut String, alloc: Global, case: &Value) -> Result<()> {
     if let Some(text) = case.get("name") {
-        return records::named(alloc, text);
+        return records::put_named(out, alloc, text);
     }
     if let Some(pair) = case.get("identifier") {
-        return records::identified(alloc, pair);
+        return records::put_identified(out, pair);
     }
     if let Some(calls) = case.get("attributes") {
-        return records::attributes(alloc, calls);
+        return records::put_attributes(out, alloc, calls);
     }
     if let Some(pair) = case.get("block") {
-        return encodings::block(alloc, pair);
+        return encodings::put_block(out, alloc, pair);
     }
     if let Some(bytes) = case.get("block bytes") {
-        return encodings::block_read(alloc, bytes, case);
+        return encodings::put_block_read(out, alloc, bytes, case);
     }
     if let Some(form) = case.get("record") {
-        return encodings::record(alloc, form, case);
+        return encodings::put_record(out, alloc, form, case);
     }
     if let Some(bytes) = case.get("kin") {
-        return events::kin_told(alloc, bytes);
+        return events::put_kin(out, alloc, bytes);
     }
     if let Some(failing) = case.get("disk") {
-        return disks::stopped(alloc, failing, case);
+        return disks::put_stopped(out, alloc, failing, case);
     }
     if let Some(content) = case.get("session") {
-        return sessions::session(alloc, content, case);
+        return sessions::put_session(out, alloc, content, case);
     }
     bail!("a case that tries nothing")
 }

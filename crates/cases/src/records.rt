@@ -1,95 +1,118 @@
 //! Cases of names, identifiers and attributes.
-use crate::json::{item, items, number, text, word};
+use crate::json::{items, number_at, text, text_at, word_at};
 use anyhow::{Result, bail};
 use flowfile_record::{AttrError, Attributes, Name, Put, uuid_of};
 use serde_json::Value;
-use std::alloc::Global;
+use std::alloc::{AllocError, Global};
 
 /// Whether a text is a name of a file.
-pub fn named(alloc: Global, value: &Value) -> Result<String> {
+pub fn put_named(out: &mut String, alloc: Global, value: &Value) -> Result<()> {
     let text = text(alloc, value)?;
     match Name::read(alloc, text.as_str()) {
         Ok(name) => {
             let size = name.text().len();
-            Ok(format!(in alloc; "a name of {size} bytes")?)
+            write!(out, "a name of {size} bytes")?;
         }
-        Err(error) => Ok(format!(in alloc; "{error}")?),
+        Err(error) => write!(out, "{error}")?,
     }
+    Ok(())
 }
 
 /// The identifier of a store's flow file.
-pub fn identified(alloc: Global, pair: &Value) -> Result<String> {
-    let id = uuid_of(number(item(pair, 0)?)?, number(item(pair, 1)?)?);
-    Ok(format!(in alloc; "{id}")?)
+pub fn put_identified(out: &mut String, pair: &Value) -> Result<()> {
+    let id = uuid_of(number_at(pair, 0)?, number_at(pair, 1)?);
+    Ok(write!(out, "{id}")?)
 }
 
 /// What calls on attributes answer, one after the other, and the pairs and the size at the end.
-pub fn attributes(alloc: Global, calls: &Value) -> Result<String> {
+pub fn put_attributes(out: &mut String, alloc: Global, calls: &Value) -> Result<()> {
+    let calls = items(calls)?;
     let mut attributes = Attributes::new(alloc);
-    let mut told = String::new(alloc);
-    for call in items(calls)? {
-        told.push_str(call_attributes(alloc, &mut attributes, call)?.as_str())?;
-        told.push_str("; ")?;
+    for call in calls {
+        put_call(out, alloc, &mut attributes, call)?;
+        out.push_str("; ")?;
     }
-    told.push_str(pairs_of(alloc, &attributes)?.as_str())?;
+    put_pairs(out, &attributes)?;
     let size = attributes.size();
-    Ok(format!(in alloc; "{told}, {size} bytes")?)
+    Ok(write!(out, ", {size} bytes")?)
 }
 
-fn call_attributes(alloc: Global, attributes: &mut Attributes, call: &Value) -> Result<String> {
-    let key = text(alloc, item(call, 1)?)?;
-    match word(item(call, 0)?)? {
-        "put" => {
-            let value = text(alloc, item(call, 2)?)?;
-            put_answer(alloc, attributes.put(key.as_str(), value.as_str()))
-        }
-        "get" => found(alloc, attributes.get(key.as_str())),
-        "remove" => {
-            let was_there = attributes.remove(key.as_str());
-            Ok(format!(in alloc; "{was_there}")?)
-        }
-        "share" => {
-            let mut others = attributes.copy()?;
-            others.remove(key.as_str());
-            attributes.keep_shared(&others);
-            Ok(String::from_str(alloc, "shared")?)
-        }
+fn put_call(
+    out: &mut String,
+    alloc: Global,
+    attributes: &mut Attributes,
+    call: &Value,
+) -> Result<()> {
+    let name = word_at(call, 0)?;
+    let key = text_at(alloc, call, 1)?;
+    match name {
+        "put" => put_pair(out, alloc, attributes, key.as_str(), call),
+        "get" => put_found(out, attributes.get(key.as_str())),
+        "remove" => put_truth(out, attributes.remove(key.as_str())),
+        "share" => put_shared(out, attributes, key.as_str()),
         _ => bail!("no call of attributes"),
     }
 }
 
+fn put_pair(
+    out: &mut String,
+    alloc: Global,
+    attributes: &mut Attributes,
+    key: &str,
+    call: &Value,
+) -> Result<()> {
+    let value = text_at(alloc, call, 2)?;
+    put_answer(out, attributes.put(key, value.as_str()))
+}
+
 /// A put's answer in words.
-pub fn put_answer(alloc: Global, answer: Result<Put, AttrError>) -> Result<String> {
+pub fn put_answer(out: &mut String, answer: Result<Put, AttrError>) -> Result<()> {
     match answer {
-        Ok(put) => Ok(format!(in alloc; "{put:?}")?),
-        Err(error) => Ok(format!(in alloc; "{error}")?),
+        Ok(put) => Ok(write!(out, "{put:?}")?),
+        Err(error) => Ok(write!(out, "{error}")?),
     }
 }
 
-fn found(alloc: Global, value: Option<&str>) -> Result<String> {
+fn put_found(out: &mut String, value: Option<&str>) -> Result<()> {
     match value {
-        Some(text) => Ok(format!(in alloc; "{text:?}")?),
-        None => Ok(String::from_str(alloc, "none")?),
+        Some(text) => Ok(write!(out, "{text:?}")?),
+        None => Ok(out.push_str("none")?),
     }
 }
 
-/// The pairs in their order. Of a long value the size is told.
-pub fn pairs_of(alloc: Global, attributes: &Attributes) -> Result<String> {
-    let mut told = String::from_str(alloc, "{")?;
+/// A truth value in words.
+pub fn put_truth(out: &mut String, truth: bool) -> Result<()> {
+    Ok(write!(out, "{truth}")?)
+}
+
+// Lets the attributes share what others have, which lack a key.
+fn put_shared(out: &mut String, attributes: &mut Attributes, key: &str) -> Result<()> {
+    let mut others = attributes.copy()?;
+    others.remove(key);
+    attributes.keep_shared(&others);
+    Ok(out.push_str("shared")?)
+}
+
+/// The pairs in their order.
+pub fn put_pairs(out: &mut String, attributes: &Attributes) -> Result<()> {
+    out.push_str("{")?;
     for place in 0..attributes.len() {
         let Some((key, value)) = attributes.pair(place) else {
             bail!("a pair is missing")
         };
-        let size = value.len();
-        let pair = if size > LONG {
-            format!(in alloc; " {key}={size} bytes")?
-        } else {
-            format!(in alloc; " {key}={value:?}")?
-        };
-        told.push_str(pair.as_str())?;
+        push_pair(out, key, value)?;
     }
-    told.push_str(" }")?;
-    Ok(told)
+    Ok(out.push_str(" }")?)
+}
+
+// Of a long value the size is told.
+fn push_pair(out: &mut String, key: &str, value: &str) -> Result<(), AllocError> {
+    let size = value.len();
+    if size > LONG {
+        write!(out, " {key}={size} bytes")
+    } else {
+        write!(out, " {key}={value:?}")
+    }
 }
 
 const LONG: usize = 100;

@@ -1,118 +1,106 @@
 //! What an accepted flow is told as.
-use anyhow::Result;
 use flowfile_record::Text;
 use machine_model::{
     Conflict, Connection, Destination, Flow, Kind, MatchRequirement, MergeStrategy, OwnExpression,
-    OwnPattern, Pattern, Processor, Replacement,
+    OwnPattern, Pattern, Processor, QueueLimits, Replacement,
 };
-use std::alloc::Global;
+use std::alloc::AllocError;
 
 /// The processors and the connections of a flow, one after the other.
-pub fn told(alloc: Global, flow: &Flow) -> Result<String> {
-    let mut text = String::new(alloc);
+pub fn put_flow(out: &mut String, flow: &Flow) -> Result<(), AllocError> {
     for processor in flow.processors.as_slice() {
-        push(&mut text, processor_told(alloc, processor)?.as_str())?;
+        put_behind(out)?;
+        put_processor(out, processor)?;
     }
     for connection in flow.connections.as_slice() {
-        push(&mut text, connection_told(alloc, connection)?.as_str())?;
+        put_behind(out)?;
+        put_connection(out, connection)?;
     }
-    if text.is_empty() {
-        text.push_str("an empty flow")?;
+    if out.is_empty() {
+        out.push_str("an empty flow")?;
     }
-    Ok(text)
-}
-
-fn push(text: &mut String, part: &str) -> Result<()> {
-    if !text.is_empty() {
-        text.push_str("; ")?;
-    }
-    text.push_str(part)?;
     Ok(())
 }
 
-fn processor_told(alloc: Global, processor: &Processor) -> Result<String> {
-    let id = processor.id.as_str();
-    let kind = kind_told(alloc, &processor.kind)?;
-    let tasks = processor.tasks;
-    let penalty = processor.penalty;
-    let terminated = names_told(alloc, processor.terminated.as_slice())?;
-    Ok(format!(in alloc; "{id} {kind} tasks {tasks} penalty {penalty}{terminated}")?)
+fn put_behind(out: &mut String) -> Result<(), AllocError> {
+    if out.is_empty() {
+        return Ok(());
+    }
+    out.push_str("; ")
 }
 
-fn kind_told(alloc: Global, kind: &Kind) -> Result<String> {
+fn put_processor(out: &mut String, processor: &Processor) -> Result<(), AllocError> {
+    let (id, tasks, penalty) = (processor.id.as_str(), processor.tasks, processor.penalty);
+    write!(out, "{id} ")?;
+    put_kind(out, &processor.kind)?;
+    write!(out, " tasks {tasks} penalty {penalty}")?;
+    put_names(out, processor.terminated.as_slice())
+}
+
+fn put_kind(out: &mut String, kind: &Kind) -> Result<(), AllocError> {
     match kind {
-        Kind::GetFile { filter } => get_file_told(alloc, filter),
-        Kind::GenerateFlowFile { count, .. } => Ok(format!(in alloc; "GenerateFlowFile {count}")?),
-        Kind::PutFile { conflict } => {
-            let conflict = conflict_told(*conflict);
-            Ok(format!(in alloc; "PutFile {conflict}")?)
-        }
-        Kind::UpdateAttribute { own } => own_told(alloc, "UpdateAttribute", own.as_slice()),
-        Kind::RouteOnAttribute { own } => own_told(alloc, "RouteOnAttribute", own.as_slice()),
+        Kind::GetFile { filter } => put_get_file(out, filter),
+        Kind::GenerateFlowFile { count, .. } => write!(out, "GenerateFlowFile {count}"),
+        Kind::PutFile { conflict } => put_words(out, "PutFile", conflict_told(*conflict)),
+        Kind::UpdateAttribute { own } => put_own(out, "UpdateAttribute", own.as_slice()),
+        Kind::RouteOnAttribute { own } => put_own(out, "RouteOnAttribute", own.as_slice()),
         Kind::AttributesToJson { destination, names } => {
-            let destination = destination_told(*destination);
-            let names = listed_told(alloc, names.as_slice())?;
-            Ok(format!(in alloc; "AttributesToJSON {destination}{names}")?)
+            put_words(out, "AttributesToJSON", destination_told(*destination))?;
+            put_listed(out, names.as_slice())
         }
-        Kind::DuplicateFlowFile { copies } => Ok(format!(in alloc; "DuplicateFlowFile {copies}")?),
-        Kind::CryptographicHashContent => {
-            Ok(String::from_str(alloc, "CryptographicHashContent")?)
+        Kind::DuplicateFlowFile { copies } => write!(out, "DuplicateFlowFile {copies}"),
+        Kind::CryptographicHashContent => out.push_str("CryptographicHashContent"),
+        Kind::SplitText { lines } => write!(out, "SplitText {lines}"),
+        Kind::ReplaceText { replacement } => put_replacement(out, replacement),
+        Kind::ExtractText { own } => {
+            out.push_str("ExtractText")?;
+            put_patterns(out, own.as_slice())
         }
-        Kind::SplitText { lines } => Ok(format!(in alloc; "SplitText {lines}")?),
-        Kind::ReplaceText { replacement } => replacement_told(alloc, replacement),
-        Kind::ExtractText { own } => patterns_told(alloc, "ExtractText", own.as_slice()),
         Kind::RouteOnContent { requirement, own } => {
-            let requirement = requirement_told(*requirement);
-            let name = format!(in alloc; "RouteOnContent {requirement}")?;
-            patterns_told(alloc, name.as_str(), own.as_slice())
+            put_words(out, "RouteOnContent", requirement_told(*requirement))?;
+            put_patterns(out, own.as_slice())
         }
         Kind::MergeContent {
             strategy,
             minimum,
             maximum,
         } => {
-            let strategy = strategy_told(*strategy);
-            Ok(format!(in alloc; "MergeContent {strategy} {minimum} {maximum}")?)
+            put_words(out, "MergeContent", strategy_told(*strategy))?;
+            write!(out, " {minimum} {maximum}")
         }
-        Kind::SegmentContent { size } => Ok(format!(in alloc; "SegmentContent {size}")?),
-        Kind::ModifyBytes { start, end } => Ok(format!(in alloc; "ModifyBytes {start} {end}")?),
+        Kind::SegmentContent { size } => write!(out, "SegmentContent {size}"),
+        Kind::ModifyBytes { start, end } => write!(out, "ModifyBytes {start} {end}"),
     }
 }
 
-fn get_file_told(alloc: Global, filter: &Option<Pattern>) -> Result<String> {
+fn put_words(out: &mut String, kind: &str, words: &str) -> Result<(), AllocError> {
+    write!(out, "{kind} {words}")
+}
+
+fn put_get_file(out: &mut String, filter: &Option<Pattern>) -> Result<(), AllocError> {
     match filter {
-        Some(pattern) => {
-            let pattern = pattern.text.as_str();
-            Ok(format!(in alloc; "GetFile {pattern}")?)
-        }
-        None => Ok(String::from_str(alloc, "GetFile")?),
+        Some(pattern) => put_words(out, "GetFile", pattern.text.as_str()),
+        None => out.push_str("GetFile"),
     }
 }
 
-fn replacement_told(alloc: Global, replacement: &Replacement) -> Result<String> {
-    match replacement {
-        Replacement::Regex { search, template } => {
-            let search = search.text.as_str();
-            let template = template.as_str();
-            Ok(format!(in alloc; "ReplaceText regex [{search}] [{template}]")?)
-        }
-        Replacement::Literal { search, value } => {
-            let search = search.as_str();
-            let value = value.as_str();
-            Ok(format!(in alloc; "ReplaceText literal [{search}] [{value}]")?)
-        }
-    }
+fn put_replacement(out: &mut String, replacement: &Replacement) -> Result<(), AllocError> {
+    let (kind, search, value) = match replacement {
+        Replacement::Regex { search, template } => ("regex", &search.text, template),
+        Replacement::Literal { search, value } => ("literal", search, value),
+    };
+    put_words(out, "ReplaceText", kind)?;
+    put_bracketed(out, search.as_str())?;
+    put_bracketed(out, value.as_str())
 }
 
-/// A kind, and the name of each own property in brackets, behind a space, and its pattern behind another one.
-fn patterns_told(alloc: Global, kind: &str, own: &[OwnPattern]) -> Result<String> {
-    let mut text = String::from_str(alloc, kind)?;
+/// The name of each own property in brackets, behind a space, and its pattern behind another one.
+fn put_patterns(out: &mut String, own: &[OwnPattern]) -> Result<(), AllocError> {
     for property in own {
-        push_bracketed(&mut text, property.name.as_str())?;
-        text.push(' ')?;
-        text.push_str(property.pattern.text.as_str())?;
+        put_bracketed(out, property.name.as_str())?;
+        put_behind_a_space(out, property.pattern.text.as_str())?;
     }
-    Ok(text)
+    Ok(())
 }
 
 fn requirement_told(requirement: MatchRequirement) -> &'static str {
@@ -130,28 +118,24 @@ fn strategy_told(strategy: MergeStrategy) -> &'static str {
 }
 
 /// A kind, and the name of each own property in brackets, behind a space.
-fn own_told(alloc: Global, kind: &str, own: &[OwnExpression]) -> Result<String> {
-    let mut text = String::from_str(alloc, kind)?;
+fn put_own(out: &mut String, kind: &str, own: &[OwnExpression]) -> Result<(), AllocError> {
+    out.push_str(kind)?;
     for property in own {
-        push_bracketed(&mut text, property.name.as_str())?;
+        put_bracketed(out, property.name.as_str())?;
     }
-    Ok(text)
+    Ok(())
 }
 
 /// Each name in brackets, behind a space.
-fn listed_told(alloc: Global, names: &[Text]) -> Result<String> {
-    let mut text = String::new(alloc);
+fn put_listed(out: &mut String, names: &[Text]) -> Result<(), AllocError> {
     for name in names {
-        push_bracketed(&mut text, name.as_str())?;
+        put_bracketed(out, name.as_str())?;
     }
-    Ok(text)
+    Ok(())
 }
 
-fn push_bracketed(text: &mut String, name: &str) -> Result<()> {
-    text.push_str(" [")?;
-    text.push_str(name)?;
-    text.push(']')?;
-    Ok(())
+fn put_bracketed(out: &mut String, name: &str) -> Result<(), AllocError> {
+    write!(out, " [{name}]")
 }
 
 fn destination_told(destination: Destination) -> &'static str {
@@ -170,26 +154,27 @@ fn conflict_told(conflict: Conflict) -> &'static str {
 }
 
 /// Each name behind a space.
-fn names_told(alloc: Global, names: &[Text]) -> Result<String> {
-    let mut text = String::new(alloc);
+fn put_names(out: &mut String, names: &[Text]) -> Result<(), AllocError> {
     for name in names {
-        text.push(' ')?;
-        text.push_str(name.as_str())?;
+        put_behind_a_space(out, name.as_str())?;
     }
-    Ok(text)
+    Ok(())
 }
 
-fn connection_told(alloc: Global, connection: &Connection) -> Result<String> {
+fn put_behind_a_space(out: &mut String, text: &str) -> Result<(), AllocError> {
+    write!(out, " {text}")
+}
+
+fn put_connection(out: &mut String, connection: &Connection) -> Result<(), AllocError> {
     let id = connection.id.as_str();
-    let source = connection.source;
-    let target = connection.target;
-    let relationships = names_told(alloc, connection.relationships.as_slice())?;
-    let limits = connection.limits;
-    let expiration = limits.expiration;
-    let objects = limits.objects;
-    let bytes = limits.bytes;
-    let swap = limits.swap;
-    Ok(format!(in alloc;
-        "{id} {source} to {target}{relationships}, {expiration} {objects} {bytes} {swap}"
-    )?)
+    let (source, target) = (connection.source, connection.target);
+    write!(out, "{id} {source} to {target}")?;
+    put_names(out, connection.relationships.as_slice())?;
+    put_limits(out, &connection.limits)
+}
+
+fn put_limits(out: &mut String, limits: &QueueLimits) -> Result<(), AllocError> {
+    let (expiration, objects) = (limits.expiration, limits.objects);
+    let (bytes, swap) = (limits.bytes, limits.swap);
+    write!(out, ", {expiration} {objects} {bytes} {swap}")
 }

@@ -1,6 +1,7 @@
 //! Tries of the machine's definitions, at flows, files and steps so small that the answer is known beforehand.
 #![tactic(auto)]
 
-#[cfg(test)]
-mod tests;
+mod sharing;
 pub mod tries;
+
+pub use sharing::threads_may_share;

@@ -3,8 +3,8 @@ ghost use Rattle.std.specs.Prelude.{◌≡◌, ◌+◌, ◌<◌, ◌≤◌, leng
 ghost use Rattle.content_repo.specs.Claims.{HasSizes};
 ghost use Rattle.content_repo.specs.Slots.{count_of, held_in};
 
-use crate::disks::{damage_in_words, failing_calls};
-use crate::json::{item, items, member, number, text};
+use crate::disks::{failing_calls, put_damage, put_digits};
+use crate::json::{item, items, member, number_at, text};
 use anyhow::{Result, bail};
 use content_repo::{
     Content, ContentError, HELD_MAX, Reclaimed, appended_contents_are_held, counts_leave_the_sizes,
@@ -14,7 +14,7 @@ use disk_trait::{Disk, FileKind, FileName, MemoryDisk};
 use flowfile_record::{CONTENT_MAX, ContentRef};
 use serde_json::Value;
 use sha2::{Digest, Sha256};
-use std::alloc::Global;
+use std::alloc::{AllocError, Global};
 
 // The first claim.
 const CLAIM: FileName = FileName {
@@ -24,20 +24,20 @@ const CLAIM: FileName = FileName {
 
 /// What becomes of one content in an empty repository: it is appended, read, let go, and its claim emptied. The numbers
 /// of the disk's calls that fail stand beside it.
-pub fn content(alloc: Global, value: &Value, case: &Value) -> Result<String> {
+pub fn put_content(out: &mut String, alloc: Global, value: &Value, case: &Value) -> Result<()> {
     let text = text(alloc, value)?;
-    let mut disk = MemoryDisk::new(failing_calls(alloc, case)?);
-    let bytes = text.as_bytes();
-    if bytes.len() as u64 > CONTENT_MAX {
+    if text.len() as u64 > CONTENT_MAX {
         bail!("a content longer than any");
     }
-    match kept_and_let_go(alloc, &mut disk, bytes) {
+    let mut disk = MemoryDisk::new(failing_calls(alloc, case)?);
+    match kept_and_let_go(alloc, &mut disk, text.as_bytes()) {
         Ok(reclaimed) => {
             let (emptied, claimed) = (reclaimed.emptied, reclaimed.claimed);
-            Ok(format!(in alloc; "read, {emptied} emptied, {claimed} claimed")?)
+            write!(out, "read, {emptied} emptied, {claimed} claimed")?;
         }
-        Err(error) => refusal_in_words(alloc, &error),
+        Err(error) => put_refusal(out, alloc, &error)?,
     }
+    Ok(())
 }
 
 fn kept_and_let_go<D: Disk>(
@@ -70,22 +70,23 @@ fn let_go<D: Disk>(
 }
 
 /// Where contents stand that are appended to an empty repository, one after the other.
-pub fn appends(alloc: Global, value: &Value) -> Result<String> {
+pub fn put_appends(out: &mut String, alloc: Global, value: &Value) -> Result<()> {
     let texts = items(value)?;
     if texts.len() > 100 {
         bail!("more contents than a case has");
     }
-    append_each(
-        alloc,
-        &mut MemoryDisk::new(Vec::new(alloc)),
-        texts.as_slice(),
-    )
+    let mut disk = MemoryDisk::new(Vec::new(alloc));
+    append_each(out, alloc, &mut disk, texts.as_slice())
 }
 
-fn append_each<D: Disk>(alloc: Global, disk: &mut D, texts: &[Value]) -> Result<String>
+fn append_each<D: Disk>(
+    out: &mut String,
+    alloc: Global,
+    disk: &mut D,
+    texts: &[Value],
+) -> Result<()>
     requires { length texts.now ≤ 100 }
 {
-    let mut told = String::new(alloc);
     let mut content = Content::load(alloc, disk, &[])?;
     for value in texts {
         let text = text(alloc, value)?;
@@ -93,15 +94,14 @@ fn append_each<D: Disk>(alloc: Global, disk: &mut D, texts: &[Value]) -> Result<
             bail!("a content longer than any");
         }
         let at = appended(&mut content, disk, text.as_bytes())?;
-        let place = place_in_words(alloc, &at)?;
-        told.push_str(place.as_str())?;
+        put_place(out, &at)?;
     }
-    Ok(told)
+    Ok(())
 }
 
-fn place_in_words(alloc: Global, at: &ContentRef) -> Result<String> {
+fn put_place(out: &mut String, at: &ContentRef) -> Result<(), AllocError> {
     let (slot, offset, size) = (at.slot, at.offset, at.size);
-    Ok(format!(in alloc; "slot {slot}, offset {offset}, size {size}; ")?)
+    write!(out, "slot {slot}, offset {offset}, size {size}; ")
 }
 
 fn appended<D: Disk>(
@@ -120,43 +120,64 @@ fn appended<D: Disk>(
 }
 
 /// What is read of a claim of these bytes, at an offset, of a size, by the digest of a text.
-pub fn read(alloc: Global, list: &Value, case: &Value) -> Result<String> {
-    let mut disk = MemoryDisk::new(failing_calls(alloc, case)?);
-    disk.write(CLAIM, 0, text(alloc, member(case, "claim")?)?.as_bytes())?;
-    let at = ContentRef {
-        slot: 0,
-        offset: number(item(list, 0)?)?,
-        size: number(item(list, 1)?)?,
-        digest: Sha256::digest(text(alloc, item(list, 2)?)?.as_bytes()),
-    };
+pub fn put_read(out: &mut String, alloc: Global, list: &Value, case: &Value) -> Result<()> {
+    let at = reference(alloc, list)?;
     if at.offset.checked_add(at.size).is_none() {
         bail!("a reference past every number");
     }
+    let claim = text(alloc, member(case, "claim")?)?;
+    let mut disk = MemoryDisk::new(failing_calls(alloc, case)?);
+    disk.write(CLAIM, 0, claim.as_bytes())?;
     match read_content(alloc, &mut disk, &at) {
-        Ok(bytes) => Ok(hex::encode(alloc, bytes.as_slice())?),
-        Err(error) => refusal_in_words(alloc, &error),
+        Ok(bytes) => put_digits(out, alloc, bytes.as_slice())?,
+        Err(error) => put_refusal(out, alloc, &error)?,
     }
+    Ok(())
+}
+
+// A content in the first slot.
+fn reference(alloc: Global, list: &Value) -> Result<ContentRef> {
+    let offset = number_at(list, 0)?;
+    let size = number_at(list, 1)?;
+    let text = text(alloc, item(list, 2)?)?;
+    Ok(ContentRef {
+        slot: 0,
+        offset,
+        size,
+        digest: Sha256::digest(text.as_bytes()),
+    })
 }
 
 /// Whether an empty repository has room for contents of these sizes, each so often.
-pub fn room(alloc: Global, value: &Value) -> Result<String> {
+pub fn put_room(out: &mut String, alloc: Global, value: &Value) -> Result<()> {
+    let sizes = sizes(alloc, items(value)?.as_slice())?;
     let mut disk = MemoryDisk::new(Vec::new(alloc));
-    let mut sizes = Vec::new(alloc);
-    for pair in items(value)? {
-        for _ in 0..number(item(pair, 1)?)? {
-            sizes.push(number(item(pair, 0)?)?)?;
-        }
-    }
     let content = Content::load(alloc, &mut disk, &[])?;
     match content.room(sizes.as_slice()) {
-        Ok(()) => Ok(String::from_str(alloc, "room")?),
-        Err(error) => refusal_in_words(alloc, &error),
+        Ok(()) => out.push_str("room")?,
+        Err(error) => put_refusal(out, alloc, &error)?,
     }
+    Ok(())
 }
 
-fn refusal_in_words(alloc: Global, error: &ContentError) -> Result<String> {
+fn sizes(alloc: Global, pairs: &[Value]) -> Result<Vec<u64>> {
+    let mut sizes = Vec::new(alloc);
+    for pair in pairs {
+        push_often(&mut sizes, number_at(pair, 0)?, number_at(pair, 1)?)?;
+    }
+    Ok(sizes)
+}
+
+fn push_often(sizes: &mut Vec<u64>, size: u64, count: u64) -> Result<(), AllocError> {
+    for _ in 0..count {
+        sizes.push(size)?;
+    }
+    Ok(())
+}
+
+fn put_refusal(out: &mut String, alloc: Global, error: &ContentError) -> Result<(), AllocError> {
     match error {
-        ContentError::Damaged(damage) => damage_in_words(alloc, damage),
-        error => Ok(format!(in alloc; "{error}")?),
+        ContentError::Damaged(damage) => put_damage(out, alloc, damage),
+        error => write!(out, "{error}"),
     }
 }

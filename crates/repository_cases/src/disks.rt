@@ -1,9 +1,9 @@
 //! The disk of a case, and what is told of its files.
 use crate::json::{items, number, text};
 use anyhow::{Result, bail};
-use disk_trait::{Damage, FileKind};
+use disk_trait::{Damage, FileKind, FileName};
 use serde_json::Value;
-use std::alloc::Global;
+use std::alloc::{AllocError, Global};
 
 /// The bytes that a text of hexadecimal digits stands for.
 pub fn bytes(alloc: Global, value: &Value) -> Result<Vec<u8>> {
@@ -35,8 +35,13 @@ fn name_of(kind: FileKind) -> &'static str {
     }
 }
 
+/// Bytes in hexadecimal.
+pub fn put_digits(out: &mut String, alloc: Global, bytes: &[u8]) -> Result<(), AllocError> {
+    out.push_str(hex::encode(alloc, bytes)?.as_str())
+}
+
 /// The file, the offset, and the two digests or sizes.
-pub fn damage_in_words(alloc: Global, damage: &Damage) -> Result<String> {
+pub fn put_damage(out: &mut String, alloc: Global, damage: &Damage) -> Result<(), AllocError> {
     match damage {
         Damage::Digest {
             file,
@@ -44,10 +49,12 @@ pub fn damage_in_words(alloc: Global, damage: &Damage) -> Result<String> {
             stored,
             found,
         } => {
-            let (name, number) = (name_of(file.kind), file.number);
-            let stored = hex::encode(alloc, stored)?;
-            let found = hex::encode(alloc, found)?;
-            Ok(format!(in alloc; "{name}-{number} at {at}: digest {stored} stored, {found} found")?)
+            put_place(out, file, *at)?;
+            out.push_str("digest ")?;
+            put_digits(out, alloc, stored)?;
+            out.push_str(" stored, ")?;
+            put_digits(out, alloc, found)?;
+            out.push_str(" found")
         }
         Damage::Short {
             file,
@@ -55,12 +62,17 @@ pub fn damage_in_words(alloc: Global, damage: &Damage) -> Result<String> {
             need,
             have,
         } => {
-            let (name, number) = (name_of(file.kind), file.number);
-            Ok(format!(in alloc; "{name}-{number} at {at}: {need} bytes needed, {have} there")?)
+            put_place(out, file, *at)?;
+            write!(out, "{need} bytes needed, {have} there")
         }
         Damage::Form { file, at } => {
-            let (name, number) = (name_of(file.kind), file.number);
-            Ok(format!(in alloc; "{name}-{number} at {at}: no reading")?)
+            put_place(out, file, *at)?;
+            out.push_str("no reading")
         }
     }
+}
+
+fn put_place(out: &mut String, file: &FileName, at: u64) -> Result<(), AllocError> {
+    let (name, number) = (name_of(file.kind), file.number);
+    write!(out, "{name}-{number} at {at}: ")
 }

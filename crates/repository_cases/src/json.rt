@@ -1,7 +1,7 @@
 //! Parts of a case.
 use anyhow::{Context, Result};
 use serde_json::Value;
-use std::alloc::Global;
+use std::alloc::{AllocError, Global};
 
 /// The member of this name.
 pub fn member<'a>(case: &'a Value, name: &str) -> Result<&'a Value> {
@@ -25,6 +25,16 @@ pub fn word(value: &Value) -> Result<&str> {
     value.as_str().context("no text")
 }
 
+/// The number at a place of a list.
+pub fn number_at(list: &Value, place: usize) -> Result<u64> {
+    number(item(list, place)?)
+}
+
+/// The word at a place of a list.
+pub fn word_at(list: &Value, place: usize) -> Result<&str> {
+    word(item(list, place)?)
+}
+
 /// A text: one, or a list of parts. A part is a text, or a list of a text, how often it stands there, and how often all
 /// of that does.
 pub fn text(alloc: Global, value: &Value) -> Result<String> {
@@ -33,26 +43,29 @@ pub fn text(alloc: Global, value: &Value) -> Result<String> {
     }
     let mut text = String::new(alloc);
     for part in items(value)? {
-        text.push_str(part_text(alloc, part)?.as_str())?;
+        push_part(&mut text, alloc, part)?;
     }
     Ok(text)
 }
 
-fn part_text(alloc: Global, part: &Value) -> Result<String> {
+fn push_part(text: &mut String, alloc: Global, part: &Value) -> Result<()> {
     if let Some(once) = part.as_str() {
-        return Ok(String::from_str(alloc, once)?);
+        return Ok(text.push_str(once)?);
     }
-    let run = repeated(alloc, word(item(part, 0)?)?, number(item(part, 1)?)?)?;
-    match part.get(2) {
-        Some(times) => repeated(alloc, run.as_str(), number(times)?),
-        None => Ok(run),
-    }
+    let once = word_at(part, 0)?;
+    let count = number_at(part, 1)?;
+    let times = match part.get(2) {
+        Some(times) => number(times)?,
+        None => 1,
+    };
+    let mut run = String::new(alloc);
+    push_repeated(&mut run, once, count)?;
+    Ok(push_repeated(text, run.as_str(), times)?)
 }
 
-fn repeated(alloc: Global, text: &str, count: u64) -> Result<String> {
-    let mut all = String::new(alloc);
+fn push_repeated(text: &mut String, run: &str, count: u64) -> Result<(), AllocError> {
     for _ in 0..count {
-        all.push_str(text)?;
+        text.push_str(run)?;
     }
-    Ok(all)
+    Ok(())
 }

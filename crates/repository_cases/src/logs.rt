@@ -18,22 +18,29 @@ use std::alloc::{AllocError, Global};
 
 /// Begins log 1 on an empty disk, appends the entry of a batch that is swapped in, and loads the log again. Says which
 /// call was refused, or the log and how many entries it has.
-pub fn log(alloc: Global, value: &Value, case: &Value) -> Result<String> {
+pub fn put_log(out: &mut String, alloc: Global, value: &Value, case: &Value) -> Result<()> {
     let batch = number(value)?;
     if batch >= NUMBER_LIMIT {
         bail!("a batch past every number");
     }
-    let frame = frame_of(alloc, batch)?;
     let mut disk = MemoryDisk::new(failing_calls(alloc, case)?);
+    let frame = frame_of(alloc, batch)?;
     match begun_and_appended(alloc, &mut disk, frame.as_slice()) {
-        Ok(moment) => {
-            let (log, entries) = Log::load(alloc, &mut disk)?;
-            let number = log.number().unwrap_or(0);
-            let count = entries.len();
-            Ok(format!(in alloc; "log {number}, {count} entries, acknowledged at {moment}")?)
-        }
-        Err(call) => Ok(format!(in alloc; "{call} refused")?),
+        Ok(moment) => put_loaded(out, alloc, &mut disk, moment)?,
+        Err(call) => write!(out, "{call} refused")?,
     }
+    Ok(())
+}
+
+// The log that is loaded, and the moment at which its entry was acknowledged.
+fn put_loaded(out: &mut String, alloc: Global, disk: &mut MemoryDisk, moment: u64) -> Result<()> {
+    let (log, entries) = Log::load(alloc, disk)?;
+    let number = log.number().unwrap_or(0);
+    let count = entries.len();
+    Ok(write!(
+        out,
+        "log {number}, {count} entries, acknowledged at {moment}"
+    )?)
 }
 
 // The block of a batch that is swapped in, with a closed gate behind it.

@@ -15,33 +15,38 @@ use std::alloc::Global;
 fn main(rt: HostRuntime) -> Result<()> {
     let alloc = rt.alloc();
     for line in rt.lines(alloc) {
-        let line = line?;
-        let case = Value::from_str(alloc, line.as_str())?;
-        let answer = answer_of(alloc, &case)?;
+        let answer = answer_of(alloc, line?.as_str())?;
         println!(rt; "{answer}")?;
     }
     Ok(())
 }
 
+fn answer_of(alloc: Global, line: &str) -> Result<String> {
+    let mut answer = String::new(alloc);
+    let case = Value::from_str(alloc, line)?;
+    put_answer(&mut answer, alloc, &case)?;
+    Ok(answer)
+}
+
 // What came out of a case, by the one member that says what it tries.
-fn answer_of(alloc: Global, case: &Value) -> Result<String> {
+fn put_answer(out: &mut String, alloc: Global, case: &Value) -> Result<()> {
     if let Some(bytes) = case.get("snapshot") {
-        return snapshots::snapshot(alloc, bytes, case);
+        return snapshots::put_snapshot(out, alloc, bytes, case);
     }
     if let Some(batch) = case.get("log") {
-        return logs::log(alloc, batch, case);
+        return logs::put_log(out, alloc, batch, case);
     }
     if let Some(text) = case.get("content") {
-        return contents::content(alloc, text, case);
+        return contents::put_content(out, alloc, text, case);
     }
     if let Some(texts) = case.get("appends") {
-        return contents::appends(alloc, texts);
+        return contents::put_appends(out, alloc, texts);
     }
     if let Some(list) = case.get("read") {
-        return contents::read(alloc, list, case);
+        return contents::put_read(out, alloc, list, case);
     }
     if let Some(sizes) = case.get("room") {
-        return contents::room(alloc, sizes);
+        return contents::put_room(out, alloc, sizes);
     }
     bail!("a case that tries nothing")
 }
