@@ -10,11 +10,10 @@ use Rattle.std.proofs.lemmas.Slice.Eq.{bytes_eq-Decides}
 use Rattle.std.proofs.lemmas.Str.{IsUtf8-from_ascii}
 use Rattle.std.proofs.lemmas.Str.Ascii.{IsAscii-from_all}
 use Rattle.std.specs.Int.{w16, w32, w64, to_be_bytes}
-use Rattle.std.specs.List.{flat_map, list_all, list_any}
+use Rattle.std.specs.List.{flat_map, list_all}
 use Rattle.std.specs.Prelude.{◌&&◌, ◌||◌, nat_lt, replicate, slice_get}
-use Rattle.flowfile_record.specs.Encoding.{IsDigest, IsNumber, IsText, numbers, text}
+use Rattle.flowfile_record.specs.Encoding.{IsDigest, IsNumber, IsText, text}
 use Rattle.record_codec.specs.StoreHead.{IsHead}
-use Rattle.record_codec.specs.Texts.{texts}
 use Rattle.record_codec.proofs.Sizes.{head_size}
 use Rattle.checkpoint_store.specs.Consistent.{AreDistinctBy, IsConsistent, IsBatchIn, IsFileIn}
 use Rattle.checkpoint_store.specs.Snapshot.{head_in}

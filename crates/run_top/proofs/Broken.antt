@@ -1,10 +1,10 @@
 -- A text that breaks a rule gives no flow.
-use Rattle.std.proofs.Common.{◌≡◌, ◌≢◌, ◌⊎◌, inl, inr, ⊎_elim, ℕ, suc, ◌+◌, ◌≤◌, ◌<◌, Bool, true, false, List, [], ◌∷◌, ◌++◌, length, take, drop, refl, sym, ◌∙◌, ap, subst, arith, Contains}
+use Rattle.std.proofs.Common.{◌≡◌, ◌≢◌, ◌⊎◌, inl, inr, ⊎_elim, ℕ, suc, ◌+◌, Bool, true, false, List, [], ◌∷◌, ◌++◌, take, drop, refl, sym, ◌∙◌, ap, subst, arith, Contains}
 use Rattle.std.proofs.Math.Logic.{∥∥₁_elim}
 use Rattle.std.proofs.lemmas.Bool.{true≢false}
 use Rattle.std.specs.List.{list_all}
 use Rattle.std.specs.Option.{option_map_or, option_or}
-use Rattle.std.specs.Prelude.{Option, None, Some, Ok, Err, IfSome, IsSomeAnd, IsTrue, MatchBool, MatchOption, chars, nat_lt, option_map}
+use Rattle.std.specs.Prelude.{Option, None, Some, Ok, Err, IfSome, IsSomeAnd, IsTrue, MatchBool, MatchOption, chars, option_map}
 use Rattle.expr_lang.specs.View.{tree_of}
 use Rattle.regex_hir.specs.declared.hir.Hir.{Hir}
 use Rattle.regex_syntax.specs.Grammar.{Names, read}
@@ -53,7 +53,7 @@ use Rattle.flow_definition.specs.Reading.{AreOwnOf, AreProcessorsOf, IsKindOf, I
 use Rattle.flow_definition.specs.Rules.{Path}
 use Rattle.flow_definition.specs.Types.{own_of, properties_of}
 use Rattle.flow_definition.specs.Verdict.{Accepts, IsAnswer, IsAnswerBehind, IsAnswerOf, IsAnswerTo, IsSettled, Refuses, first_behind, object_in, refused}
-use Rattle.flow_definition.specs.Walk.{first_of, first_rules, last_rules}
+use Rattle.flow_definition.specs.Walk.{first_of, last_rules}
 use Rattle.flow_definition.proofs.Passed.{none_or}
 use Rattle.run_top.specs.Text.{IsBroken}
 use Rattle.run_top.proofs.Texts.{IsAccepted, accepted, is_whole}

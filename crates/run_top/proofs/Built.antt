@@ -1,6 +1,6 @@
 -- There are processors of each kind of a flow that was read, and all flows of a text are of one store.
 use Rattle.std.proofs.Common.{◌≡◌, true, List, [], ◌∷◌, length, map, All, refl, sym, ◌∙◌, subst}
-use Rattle.std.specs.Prelude.{IsTrue, Some}
+use Rattle.std.specs.Prelude.{IsTrue}
 use Rattle.std.proofs.lemmas.List.Elements.{All-nil, All-cons}
 use Rattle.std.proofs.lemmas.Option.{same_Some}
 use Rattle.sha2.proofs.Facts256.{length-sha256}

@@ -6,7 +6,6 @@ use Rattle.disk_trait.specs.declared.damage.Damage.{Damage}
 use Rattle.flowfile_record.specs.Stored.{Kept}
 use Rattle.machine_model.specs.declared.flow.Flow.{Flow as TheFlow}
 use Rattle.machine_model.specs.State.{State}
-use Rattle.disk_trait.specs.Images.{Since}
 use Rattle.store_core.specs.Calls.{IsUnsynced, IsUnwritten}
 use Rattle.store_core.specs.Flow.{Flow}
 use Rattle.store_core.specs.Opened.{IsOfOther, IsShut}
@@ -14,7 +13,7 @@ use Rattle.store_core.specs.State.{stands_for}
 use Rattle.store_core.specs.declared.error.StoreError.{StoreError}
 use Rattle.engine_core.specs.Committing.{identity_of}
 use Rattle.run_top.specs.Opening.{IsLeftUnwritten, IsOfFlow, IsShutStatus, IsToldBy, IsUnopened}
-use Rattle.run_top.specs.Run.{IsLeftShut, IsNotOpened}
+use Rattle.run_top.specs.Run.{IsNotOpened}
 use Rattle.run_top.specs.Status.{error_of, status_of}
 use Rattle.run_top.specs.declared.status.RunError.{RunError}
 use Rattle.run_top.specs.declared.status.TheConstants.{DAMAGED, FLOW_REFUSED}

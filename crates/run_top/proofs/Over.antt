@@ -1,6 +1,6 @@
 -- A run over a store that was opened, or wasn't.
-use Rattle.std.proofs.Common.{◌≡◌, ◌⊎◌, inl, inr, ⊎_elim, ℕ, ◌+◌, ◌≤◌, Bool, List, [], refl, sym, ◌∙◌, ap, subst, arith}
-use Rattle.std.specs.Prelude.{Option, Ok, Err, Result, IsErrOf, IsTrue}
+use Rattle.std.proofs.Common.{◌≡◌, ◌⊎◌, inl, inr, ⊎_elim, ℕ, ◌+◌, ◌≤◌, Bool, List, refl, sym, ◌∙◌, ap, subst, arith}
+use Rattle.std.specs.Prelude.{Option, Err, Result, IsErrOf}
 use Rattle.disk_trait.specs.Faults.{CountsFaults}
 use Rattle.disk_trait.specs.Files.{Files}
 use Rattle.disk_trait.specs.declared.damage.Damage.{Damage}

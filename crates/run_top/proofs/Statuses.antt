@@ -1,5 +1,5 @@
 -- What each status says of how a run ended, or why it didn't begin.
-use Rattle.std.proofs.Common.{◌≡◌, ◌⊎◌, inl, inr, ⊎_elim, ℕ, refl, sym, ◌∙◌, arith}
+use Rattle.std.proofs.Common.{◌≡◌, inl, inr, ⊎_elim, ℕ, refl, sym, ◌∙◌, arith}
 use Rattle.std.specs.Prelude.{Result}
 use Rattle.disk_trait.specs.declared.damage.Damage.{Damage}
 use Rattle.kept_state.specs.declared.limit.Limit.{Limit}

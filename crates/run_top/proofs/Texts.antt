@@ -1,5 +1,5 @@
 -- Which answer a reader of flows gives, as a text was read.
-use Rattle.std.proofs.Common.{◌≡◌, ℕ, ◌+◌, ◌≤◌, ◌<◌, Bool, true, false, List, [], length, take, refl, sym, ◌∙◌, ap, subst, arith}
+use Rattle.std.proofs.Common.{◌≡◌, ℕ, ◌+◌, ◌≤◌, ◌<◌, Bool, true, false, List, [], length, take, refl, sym, ◌∙◌, subst, arith}
 use Rattle.std.proofs.lemmas.Bool.{lt-ltb, ltb-false, ltb-true}
 use Rattle.std.proofs.lemmas.List.{length-take, take_all}
 use Rattle.std.specs.Prelude.{Option, None, Some, Result, Ok, Err, IsTrue, MatchBool, MatchOption, nat_lt}
@@ -17,7 +17,7 @@ use Rattle.flow_definition.specs.Looks.{items_at}
 use Rattle.flow_definition.specs.Made.{AreMade}
 use Rattle.flow_definition.specs.Reading.{IsFlowOf}
 use Rattle.flow_definition.specs.Rules.{Path}
-use Rattle.flow_definition.specs.Verdict.{Accepts, IsAnswer, IsAnswerBehind, IsAnswerOf, IsAnswerTo, IsSettled, Refuses, first_behind, object_in}
+use Rattle.flow_definition.specs.Verdict.{Accepts, IsAnswer, IsAnswerBehind, IsAnswerTo, IsSettled, Refuses, first_behind, object_in}
 use Rattle.flow_definition.specs.Walk.{first_of, first_rules}
 use Rattle.run_top.specs.Text.{IsRead, IsRefused}
 

@@ -1,7 +1,6 @@
 -- A whole run: its status, of a flow that was read, or where there was none.
 use Rattle.std.proofs.Common.{◌≡◌, ◌⊎◌, inl, inr, ⊎_elim, ℕ, Bool, List, refl, sym, ◌∙◌, subst, arith}
-use Rattle.std.specs.Prelude.{Option, Ok, Err, Result, IsTrue}
-use Rattle.disk_trait.specs.Faults.{CountsFaults}
+use Rattle.std.specs.Prelude.{Option, IsTrue}
 use Rattle.disk_trait.specs.Files.{Files}
 use Rattle.flowfile_record.specs.NamedFile.{NamedFile}
 use Rattle.machine_model.specs.declared.flow.Flow.{Flow}
@@ -11,7 +10,7 @@ use Rattle.store_core.specs.Opened.{IsShut}
 use Rattle.engine_core.specs.Committing.{identity_of}
 use Rattle.flow_definition.specs.declared.rule.Rule.{Rule}
 use Rattle.run_top.specs.Opening.{IsOfFlow}
-use Rattle.run_top.specs.Run.{CountsEachFault, EndsWith, HasRunText, HasWritten, IsLeftShut, IsNotOpened, IsNotRead, IsUntouched}
+use Rattle.run_top.specs.Run.{CountsEachFault, EndsWith, HasRunText, HasWritten, IsLeftShut, IsNotOpened, IsNotRead}
 use Rattle.run_top.specs.Status.{status_of}
 use Rattle.run_top.specs.Text.{IsFlowIn, IsRead, IsRefused}
 use Rattle.run_top.specs.declared.status.RunError.{RunError}

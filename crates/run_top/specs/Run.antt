@@ -2,7 +2,7 @@
 use Rattle.std.specs.Prelude.{◌≡◌, ◌⊎◌, ℕ, ◌+◌, ◌≤◌, Bool, true, List, Option, Some}
 use Rattle.disk_trait.specs.Faults.{CountsFaults}
 use Rattle.disk_trait.specs.Files.{Files}
-use Rattle.disk_trait.specs.Images.{SinceMoment, Since}
+use Rattle.disk_trait.specs.Images.{Since}
 use Rattle.disk_trait.specs.declared.file_name.FileName.{FileName}
 use Rattle.flowfile_record.specs.NamedFile.{NamedFile}
 use Rattle.flowfile_wal.specs.Current.{current_number}
@@ -21,7 +21,7 @@ use Rattle.flow_run.specs.declared.ended.Ended.{Ended}
 use Rattle.flow_run.specs.declared.ended.Ended.TheVariants as ending
 use Rattle.run_top.specs.Opening.{IsShutStatus, IsToldBy}
 use Rattle.run_top.specs.Status.{status_of_end}
-use Rattle.run_top.specs.Text.{IsFlowIn, IsRead, IsRefused}
+use Rattle.run_top.specs.Text.{IsRead, IsRefused}
 use Rattle.run_top.specs.declared.status.TheConstants.{DONE, FLOW_REFUSED, DAMAGED, DISK_FAULT, INBOX_FAULT, OUTBOX_FAULT, SOURCE_FAULT, BLOCKED, LIMIT, OUT_OF_MEMORY}
 
 -- ---- a flow has run

@@ -21,7 +21,12 @@ use std::alloc::Global;
 use store_core::{FlowIdentity, Store};
 
 /// Opens the store of a flow on a disk, or makes one.
-pub(crate) fn open<D: Disk>(alloc: Global, lot: u64, disk: &mut D, flow: &Flow) -> Result<Store, RunError>
+pub(crate) fn open<D: Disk>(
+    alloc: Global,
+    lot: u64,
+    disk: &mut D,
+    flow: &Flow,
+) -> Result<Store, RunError>
     requires sound { IsSound flow.now }
     requires digest { IsDigest flow.now.digest }
     ensures opened { IfOk result (λ store. IsAtWork flow.now D.tells D.held D.moment D.images store disk.new

@@ -1,13 +1,12 @@
-use Rattle.std.proofs.Common.{◌≡◌, ◌∙◌, inl, inr, ⊎_elim, ℕ, List, refl, sym, ap, subst}
+use Rattle.std.proofs.Common.{◌∙◌, inl, inr, ℕ, sym, ap, subst}
 use Rattle.std.specs.Prelude.{Err}
-use Rattle.flowfile_record.specs.NamedFile.{NamedFile}
 use Rattle.flow_definition.specs.Patterns.{HasRisen}
 use Rattle.flow_run.specs.Run.{machine_at}
 use Rattle.run_top.specs.Run.{CountsEachFault, HasCause}
 use Rattle.run_top.specs.declared.command.TheConstants.{MAX_COMMITS}
-use Rattle.run_top.proofs.Built.{are_built, has_digest}
+use Rattle.run_top.proofs.Built.{are_built}
 use Rattle.run_top.proofs.Statuses.{no_source, source_error}
-use Rattle.run_top.proofs.Whole.{IsOfText, has_run, is_shut, not_read, nothing_counts, of_one, of_text, shut_one, written_or}
+use Rattle.run_top.proofs.Whole.{has_run, is_shut, not_read, nothing_counts, of_one, of_text, shut_one, written_or}
 use Rattle.run_top.proofs.command.run.Goals as goal
 
 pub run_over-requires-clause-built : goal.run_over-requires-clause-built

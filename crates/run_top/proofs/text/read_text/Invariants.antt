@@ -1,4 +1,4 @@
-use Rattle.std.proofs.Common.{◌≡◌, ◌≤◌, ◌++◌, length, ℕ, ◌-◌}
+use Rattle.std.proofs.Common.{◌≡◌, ◌≤◌, ◌++◌, length, ◌-◌}
 use Rattle.std.specs.Prelude.{IsTrue}
 use Rattle.run_top.proofs.text.read_text.Given as goal
 
