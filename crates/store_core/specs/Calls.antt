@@ -63,6 +63,7 @@ pub record RefusesToRead {D A : Type 0} (result : Result A StoreError) (at : Con
   pub cause : CountsFaults (faults old) (faults new) (IsErrOf result Disk)
   pub kinds : IfErr result (λ error. IsReadRefusal error ⊎ (error ≡ MustReopen))
   pub memory : IsErrOf result Memory → 0 < at.size
+  pub untouched : s_old.failed ≡ true → (s_new ≡ s_old) × (new ≡ old)
 
 -- An opening refuses by no failure of an earlier call and by no limit, and by the disk only where its fault count rose.
 pub record RefusesToOpen {D A : Type 0} (result : Result A StoreError) (faults : D → ℕ) (old new : D) : Type 0 where
