@@ -64,6 +64,9 @@ MOST_PER_FILE = 1.5
 # For how many milliseconds a put tries again.
 TRIES = 1000
 
+# A new log begins where the current one has so many entries.
+LOG_ENTRIES = 4096
+
 
 def many(count, size):
     return {f"file-{n:06}": random.randbytes(size) for n in range(count)}
@@ -270,8 +273,8 @@ def tries(program, parent, milliseconds):
         need_status(ended, DONE)
         need(read_files(folder / "out") == {"a": b"before"}, "out changed")
         state = store_format.state_of(store_format.files_in(folder / "store"))
-        # The first entry took the file, the last one let it expire.
-        return len(state.entries) - 2, ended
+        # Each log but the current one had so many entries. The first entry took the file, the last one let it expire.
+        return (state.log - 1) * LOG_ENTRIES + len(state.entries) - 2, ended
 
 
 def comes_back(program, parent):

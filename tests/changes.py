@@ -49,7 +49,8 @@ def stopped_in(program, folder, path, call, when, change):
 def wait_for_stop(child, trace):
     for _ in range(60_000):
         said = trace.read_text(errors="replace") if trace.exists() else ""
-        found = re.search(r"^(\d+) --- stopped by SIGSTOP", said, re.MULTILINE)
+        # The signal is told before the stop, and nothing of the program runs between them.
+        found = re.search(r"^(\d+) --- (?:stopped by SIGSTOP|SIGSTOP )", said, re.MULTILINE)
         if found:
             return int(found.group(1))
         if child.poll() is not None:

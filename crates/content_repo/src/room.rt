@@ -1,6 +1,7 @@
 //! Whether contents find a slot each.
 ghost use Rattle.std.specs.Prelude.{◌≡◌, ℕ, ◌+◌, ◌≤◌, true, length, drop, count_by, OnOk, OnErr, IfErr};
 ghost use Rattle.content_repo.specs.declared.error.ContentError.TheVariants.{SlotsFull as Full};
+ghost use Rattle.content_repo.specs.declared.slot_set.TheConstants.{SLOTS};
 ghost use Rattle.content_repo.specs.Room.{left_behind, left_by_slot, left_by_live, left_by_new};
 ghost use Rattle.content_repo.specs.Slots.{HasRoom, HasUnused, is_free};
 
@@ -11,6 +12,8 @@ impl Content {
     pub fn room(&self, sizes: &[u64]) -> Result<(), ContentError>
         ensures room { OnOk result (HasRoom self.now sizes.now) }
         ensures full { OnErr result (HasRoom self.now sizes.now → ⊥) }
+        // The refusal considers every slot: there are exactly SLOTS of them.
+        ensures long { OnErr result (length self.now ≡ SLOTS) }
         ensures refusal { IfErr result (λ error. error ≡ Full) }
     {
         if self.fit_the_next_slot(sizes) {
@@ -41,6 +44,7 @@ impl Content {
         ensures left { drop result.0 sizes.now ≡ left_by_live self.now sizes.now }
         ensures free { result.1 ≡ count_by is_free self.now }
         ensures unused { HasUnused self.now }
+        ensures long { length self.now ≡ SLOTS }
     {
         let mut next = 0;
         let mut free = 0;

@@ -1,5 +1,5 @@
 -- Which session comes next.
-use Rattle.std.specs.Prelude.{◌≡◌, ℕ, ◌+◌, ◌≤◌, ◌&&◌, not, nat_lt, nat_le, Bool, false, List, length, filter, take, drop, ◌++◌, find, Option, None, Some, is_some, option_map, option_and_then, slice_get, slice_index, if◌then◌else◌}
+use Rattle.std.specs.Prelude.{◌≡◌, ℕ, ◌+◌, ◌≤◌, ◌&&◌, not, nat_lt, nat_le, Bool, false, List, length, filter, take, drop, ◌++◌, find, Option, None, Some, is_some, option_map, option_and_then, slice_index, if◌then◌else◌}
 use Rattle.std.specs.List.{enumerate_from, flat_map}
 use Rattle.std.specs.Option.{option_map_or}
 use Rattle.flowfile_record.specs.NamedFile.{bytes_of}

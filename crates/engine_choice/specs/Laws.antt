@@ -56,6 +56,13 @@ ChoicesAreSessions =
     → next_choice flow queues state.counts (coming_of world) moment last ≡ Some choice
     → IsSessionAt flow state world moment choice
 
+-- by views that see the same the same session comes next
+abbrev pub ChoicesAreSeen : Type 0
+ChoicesAreSeen =
+    (flow : Flow) (one other : ℕ → QueueView) (counts : List ℕ) (coming : List (List ℕ)) (moment : ℕ)
+    (last : Option ℕ) → SeesTheSame flow one other
+    → next_choice flow one counts coming moment last ≡ next_choice flow other counts coming moment last
+
 -- ---- the end
 
 -- the machine is blocked at this connection, or it is quiet; a rest is no end

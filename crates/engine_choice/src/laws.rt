@@ -1,5 +1,5 @@
 //! What ties the choice of the next session to the machine, each law as the contract of a function that does nothing.
-ghost use Rattle.engine_choice.specs.Laws.{ChoicesAreSessions, EndsAreMachineEnds};
+ghost use Rattle.engine_choice.specs.Laws.{ChoicesAreSeen, ChoicesAreSessions, EndsAreMachineEnds};
 
 use engine_queues::{picks_are_given, quiet_and_blocked_are_seen};
 use machine_model::picks_may_be_taken;
@@ -10,6 +10,11 @@ pub fn choices_are_sessions()
 {
     picks_may_be_taken();
 }
+
+/// Which session comes next goes by what views of the queues show.
+pub fn choices_are_seen()
+    ensures { ChoicesAreSeen }
+{}
 
 /// Where no file has expired and no session comes, it ends as the machine does: quiet and blocked exactly where that is.
 pub fn ends_are_machine_ends()

@@ -8,5 +8,5 @@ mod listing;
 
 pub use choice::{Choice, Ending, Taking};
 pub use choosing::{choose, ending};
-pub use laws::{choices_are_sessions, ends_are_machine_ends};
+pub use laws::{choices_are_seen, choices_are_sessions, ends_are_machine_ends};
 pub use listing::Listing;

@@ -1,9 +1,8 @@
--- What an engine may choose, and that its choice is a step of the machine.
-use Rattle.std.proofs.Common.{◌≡◌, ℕ, zero, suc, Bool, true, false, List, [], ◌∷◌, length, map, refl, sym, ◌∙◌, ap, subst, arith, true≢false}
+-- An engine's choice is a step of the machine.
+use Rattle.std.proofs.Common.{◌≡◌, ℕ, Bool, true, false, List, [], ◌∷◌, length, map, refl, sym, ◌∙◌, ap, subst, arith, true≢false}
 use Rattle.std.proofs.lemmas.Bool.{and_parts}
 use Rattle.std.proofs.lemmas.List.{length-map}
-use Rattle.std.proofs.lemmas.List.Elements.{All-head, All-tail}
-use Rattle.std.specs.Prelude.{All, Option, None, Some, IfSome, nat_le, slice_get, slice_index}
+use Rattle.std.specs.Prelude.{Option, None, Some, IfSome, nat_le, slice_get, slice_index}
 use Rattle.std.specs.Option.{option_map, option_map_or}
 use Rattle.disk_trait.specs.Files.{Files}
 use Rattle.flowfile_record.specs.NamedFile.{bytes_of}
@@ -33,11 +32,11 @@ use Rattle.machine_model.specs.RouteOnContent.{route_by_content}
 use Rattle.machine_model.specs.MergeContent.{merge}
 use Rattle.machine_model.specs.SegmentContent.{segment}
 use Rattle.machine_model.specs.ModifyBytes.{modify}
+use Rattle.machine_model.specs.Due.{due_expiry}
 use Rattle.machine_model.specs.Files.{queues_of}
 use Rattle.machine_model.specs.Kinds.{take_rule_of}
 use Rattle.machine_model.specs.Laws.{MayTake}
 use Rattle.machine_model.specs.Placing.{EndedSession}
-use Rattle.machine_model.specs.Sound.{IsSound}
 use Rattle.machine_model.specs.State.{Machine, QueuedFile, State, World}
 use Rattle.machine_model.specs.Stepping.{as_taken, given_in, is_there, may_generate, may_get, same_bool, session_after, step, taken_files}
 use Rattle.machine_model.specs.Valid.{IsValid}
@@ -50,36 +49,17 @@ use Rattle.store_core.specs.Store.{Holds, StoreState, kept_by}
 use Rattle.engine_core.specs.Committing.{identity_of}
 use Rattle.engine_queues.specs.Laws.{HeldContentsHaveSizes, QueuesAreSeen, SeesTheSame}
 use Rattle.engine_queues.specs.Queues.{AreQueuesOf, queue_seen}
-use Rattle.engine_choice.specs.Choice.{MayChoose, coming_of, next_choice}
-use Rattle.engine_choice.specs.Laws.{ChoicesAreSessions, IsSessionAt, given_for, numbers_in}
+use Rattle.engine_choice.specs.Choice.{coming_of, next_choice}
+use Rattle.engine_choice.specs.Laws.{ChoicesAreSeen, ChoicesAreSessions, IsSessionAt, given_for, numbers_in}
 use Rattle.engine_choice.specs.declared.choice.Choice.{Choice}
 use Rattle.engine_choice.specs.declared.choice.Taking.{Taking}
 use Rattle.engine_choice.specs.declared.choice.Taking.TheVariants as taking
 use Rattle.engine_session.specs.Steps.{SessionsAreSteps}
 use Rattle.flow_run.specs.Run.{IsStateOf}
+use Rattle.flow_run.specs.Turns.{ComesNext, moment_of}
 use Rattle.flow_engine.specs.Checkout.{choice_in}
 use Rattle.flow_engine.specs.Driving.{ShowsState}
-use Rattle.flow_engine.specs.Engine.{AreBuilt, EngineState}
-
--- ---- what may be chosen from
-
-pub all_at : {X : Type 0} (P : X → Type 0) (xs : List X) (k : ℕ) (x : X) → All P xs → slice_get xs k ≡ Some x → P x
-all_at P [] k x all is = cc
-all_at {X = X} P (y ∷ xs) zero x all is = let same : y ≡ x = cc in subst P same (All-head P y xs all)
-all_at P (y ∷ xs) (suc k) x all is = all_at P xs k x (All-tail P y xs all) is
-
-pub may_choose : (e : EngineState) → IsSound e.flow → AreBuilt e.flow → flow_in (kept_by e.store) ≡ identity_of e.flow → AreQueuesOf e.flow (kept_by e.store) e.queues → e.listing.flow ≡ e.flow
-    → MayChoose e.flow e.queues (kept_by e.store).counts e.listing
-may_choose e sound built flow queues listing = record {
-  queues = record {
-    count = queues.count;
-    each = λ place connection queue at got. let q = queues.each place connection queue at got in record { order = q.order; limits = q.limits };
-  };
-  connections = sound.connection_count;
-  processors = sound.processor_count;
-  counts = ap (λ (f : store.Flow). f.processors) flow;
-  listing = listing;
-}
+use Rattle.flow_engine.specs.Engine.{EngineState}
 
 -- ---- the queues are the machine's
 
@@ -92,9 +72,11 @@ sees law sizes flow s files queues m holds consistent flow_is are tied =
 
 -- ---- a choice is a step
 
--- the machine goes on by some step
-pub record HasStep (flow : Flow) (m : Machine) : Type 0 where
+-- a session of this moment comes next behind this last worker, and the machine goes on by it
+pub record HasStep (flow : Flow) (last : Option ℕ) (moment : ℕ) (m : Machine) : Type 0 where
   pub next : Step
+  pub at : moment_of next ≡ moment
+  pub comes : ComesNext flow last m next
   pub after : Machine
   pub goes : step flow m next ≡ Some after
 
@@ -159,9 +141,15 @@ at_moment moment there (taking.Files connection numbers) = refl
 at_moment moment there (taking.Generate index) = refl
 at_moment moment there (taking.Receive name) = refl
 
+there_for : (moment : ℕ) (there : Bool) (takes : Taking) → given_for moment (given_for moment there takes).there takes ≡ given_for moment there takes
+there_for moment there (taking.Files connection numbers) = refl
+there_for moment there (taking.Generate index) = refl
+there_for moment there (taking.Receive name) = refl
+
 -- a session that comes next is one
-pub session_step : SessionsAreSteps → (flow : Flow) (m : Machine) (moment : ℕ) (choice : Choice) → IsSessionAt flow m.state m.world moment choice → HasStep flow m
-session_step law flow m moment choice s =
+session_step : SessionsAreSteps → (flow : Flow) (last : Option ℕ) (m : Machine) (moment : ℕ) (choice : Choice) → due_expiry flow (queues_of m.state) moment ≡ None
+    → next_choice flow (queues_of m.state) m.state.counts (coming_of m.world) moment last ≡ Some choice → IsSessionAt flow m.state m.world moment choice → HasStep flow last moment m
+session_step law flow last m moment choice nothing chosen s =
     let kind = s.processor.kind in
     let given : Given = given_for moment (is_there m.world s.files) choice.taking in
     let took = if_at (taken_files flow m.state choice.processor (take_rule_of kind) (numbers_in choice.taking) moment) s.files (Took m.state (take_rule_of kind)) s.taken
@@ -171,6 +159,15 @@ session_step law flow m moment choice s =
     let session : EndedSession = record { flow = flow; place = choice.processor; processor = s.processor; state = m.state; taken = s.files; given = s.handed } in
     record {
       next = Session choice.processor (numbers_in choice.taking) moment given;
+      at = refl;
+      comes = record {
+        expired = nothing;
+        choice = choice;
+        chosen = chosen;
+        place_is = refl;
+        numbers_are = refl;
+        given_is = there_for moment (is_there m.world s.files) choice.taking;
+      };
       after = session_after m session makes.outcome;
       goes = law m.world (numbers_in choice.taking) moment given session makes.outcome (record {
         processor = s.found;
@@ -181,14 +178,16 @@ session_step law flow m moment choice s =
       });
     }
 
--- .. and so the machine goes on where one comes
-pub goes_on : ChoicesAreSessions → SessionsAreSteps → (e : EngineState) (m : Machine) (moment : ℕ) (choice : Choice) → IsValid e.flow m.state → SeesTheSame e.flow (queue_seen e.queues) (queues_of m.state)
-    → (kept_by e.store).counts ≡ m.state.counts → coming_of m.world ≡ e.listing.names → choice_in e moment ≡ Some choice → HasStep e.flow m
-goes_on choices steps e m moment choice valid seen counts coming is =
-    session_step steps e.flow m moment choice
-    (choices e.flow (queue_seen e.queues) m.state m.world moment e.last choice valid seen
-    (ap (λ (made : List ℕ). next_choice e.flow (queue_seen e.queues) made (coming_of m.world) moment e.last) (sym counts)
-    ∙ ap (λ (names : List (List ℕ)). next_choice e.flow (queue_seen e.queues) (kept_by e.store).counts names moment e.last) coming ∙ is))
+-- .. and so the machine goes on where one comes and no file has expired
+pub goes_on : ChoicesAreSessions → ChoicesAreSeen → SessionsAreSteps → (e : EngineState) (m : Machine) (moment : ℕ) (choice : Choice) → IsValid e.flow m.state → SeesTheSame e.flow (queue_seen e.queues) (queues_of m.state)
+    → (kept_by e.store).counts ≡ m.state.counts → coming_of m.world ≡ e.listing.names → due_expiry e.flow (queue_seen e.queues) moment ≡ None → choice_in e moment ≡ Some choice → HasStep e.flow e.last moment m
+goes_on choices seen_so steps e m moment choice valid seen counts coming nothing is =
+    let chosen : next_choice e.flow (queue_seen e.queues) m.state.counts (coming_of m.world) moment e.last ≡ Some choice =
+    ap (λ (made : List ℕ). next_choice e.flow (queue_seen e.queues) made (coming_of m.world) moment e.last) (sym counts)
+    ∙ ap (λ (names : List (List ℕ)). next_choice e.flow (queue_seen e.queues) (kept_by e.store).counts names moment e.last) coming ∙ is in
+    session_step steps e.flow e.last m moment choice (sym (seen.expiry moment) ∙ nothing)
+    (sym (seen_so e.flow (queue_seen e.queues) (queues_of m.state) m.state.counts (coming_of m.world) moment e.last seen) ∙ chosen)
+    (choices e.flow (queue_seen e.queues) m.state m.world moment e.last choice valid seen chosen)
 
 -- ---- an engine shows the machine's state
 

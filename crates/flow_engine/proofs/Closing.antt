@@ -1,7 +1,7 @@
 -- How a run over an opened store begins, and how it ends once the store was closed.
 use Rattle.std.proofs.Common.{◌≡◌, ◌⊎◌, inl, inr, ⊎_elim, ℕ, ◌≤◌, Bool, true, false, IsTrue, List, [], refl, sym, ◌∙◌, ap, subst, arith}
 use Rattle.std.proofs.lemmas.Bool.{false≢true}
-use Rattle.std.specs.Prelude.{◌↔◌, Option, Result, Ok, Err, IsErrOf}
+use Rattle.std.specs.Prelude.{◌↔◌, Option, None, Result, Ok, Err, IfErr, IsErrOf, OnOk}
 use Rattle.disk_trait.specs.Files.{Files}
 use Rattle.disk_trait.specs.Images.{After, Since}
 use Rattle.disk_trait.specs.declared.damage.Damage.{Damage as TheDamage}
@@ -11,63 +11,35 @@ use Rattle.flowfile_wal.specs.Calls.{InEach}
 use Rattle.kept_state.specs.declared.limit.Limit.{Limit as TheLimit}
 use Rattle.machine_model.specs.declared.flow.Flow.{Flow}
 use Rattle.machine_model.specs.declared.journal.Entry.{Entry}
-use Rattle.machine_model.specs.Sound.{IsSound}
+use Rattle.machine_model.specs.Acknowledged.{steps}
 use Rattle.machine_model.specs.State.{Machine, State}
 use Rattle.store_core.specs.Flow as store
 use Rattle.store_core.specs.Flow.{flow_in}
-use Rattle.store_core.specs.Kept.{kept_in}
 use Rattle.store_core.specs.State.{stands_for}
-use Rattle.store_core.specs.Store.{EachStandsFor, IsKeptOn, IsTidy, StoreState, kept_by, live_in}
+use Rattle.store_core.specs.Store.{EachStandsFor, StoreState, kept_by, live_in}
 use Rattle.store_core.specs.Touched.{Frees}
-use Rattle.store_core.specs.declared.error.StoreError.{StoreError}
-use Rattle.store_core.specs.declared.error.StoreError.TheVariants as refusal
 use Rattle.engine_core.specs.Committing.{identity_of}
-use Rattle.engine_queues.specs.Queues.{AreQueuesOf}
 use Rattle.engine_choice.specs.Choice.{coming_of}
 use Rattle.engine_choice.specs.declared.choice.Ending.TheVariants.{Blocked, Quiet}
 use Rattle.flow_run.specs.Ending.{EndsOnFaults, IsLimitMet, journal_full}
 use Rattle.flow_run.specs.Going.{IsRunningAt, IsSpared}
 use Rattle.flow_run.specs.Laws.{BlockedRunsEnd, FaultsEnd, LimitedRunsEnd, QuietRunsEnd}
 use Rattle.flow_run.specs.Run.{HasRun, IsTidied, StandsFor}
+use Rattle.flow_run.specs.Turns.{last_worker}
 use Rattle.flow_run.specs.Work.{IsAtWork, IsRefused}
 use Rattle.flow_run.specs.declared.ended.Ended.{Ended}
 use Rattle.flow_run.specs.declared.ended.Ended.TheVariants as ended
 use Rattle.flow_run.specs.declared.ended.Fault.{Fault}
 use Rattle.flow_run.specs.declared.ended.Fault.TheVariants as fault
-use Rattle.flow_engine.specs.Engine.{AreBuilt, EngineState, IsReady}
+use Rattle.flow_engine.specs.Engine.{EngineState}
 use Rattle.flow_engine.specs.Errors.{CountsEachFault, ended_by}
 use Rattle.flow_engine.specs.Opening.{IsOpened}
 use Rattle.flow_engine.specs.Driving.{IsEnded}
-use Rattle.flow_engine.specs.Running.{IsLimited, IsRunning}
+use Rattle.flow_engine.specs.Running.{IsLimited, IsRunning, Stops}
 use Rattle.flow_engine.specs.declared.error.EngineError.{EngineError}
-use Rattle.flow_engine.specs.declared.error.EngineError.TheVariants.{Damaged, Disk, Inbox, Outbox, Limit, Memory}
-use Rattle.flow_engine.proofs.Turning.{IsMet, IsNoLimit}
+use Rattle.flow_engine.specs.declared.error.EngineError.TheVariants.{Damaged, Disk, Inbox, Outbox, Limit, MustReopen, Memory}
 
 -- ---- the store is closed
-
--- a call that ended well met no fault
-still_works : {A : Type 0} (result : Result A StoreError) (s t : StoreState) (answer : A) → result ≡ Ok answer → s.failed ≡ false → (t.failed ≡ true) ↔ ((s.failed ≡ true) ⊎ IsErrOf result refusal.Disk) → t.failed ≡ false
-still_works {A = A} result s t answer is works fails = by t.failed refl
-  where
-    by : (b : Bool) → t.failed ≡ b → t.failed ≡ false
-    by false so = so
-    by true so =
-        absurd
-        (⊎_elim (λ (was : s.failed ≡ true). false≢true (sym works ∙ was)) (λ (failed : result ≡ Err refusal.Disk). let both : ◌≡◌ {A = Result A StoreError} (Ok answer) (Err refusal.Disk) = sym is ∙ failed in cc)
-        (fails.0 so))
-
--- what its claims hold is needed
-pub tidied : (flow : Flow) (tells : Bool) {D : Type 0} (held : D → Files) (moment : D → ℕ) (images : D → ℕ → Files → Type 0) {A : Type 0} (result : Result A StoreError) (s t : StoreState) (new : D) (answer : A)
-    → result ≡ Ok answer → s.failed ≡ false → (t.failed ≡ true) ↔ ((s.failed ≡ true) ⊎ IsErrOf result refusal.Disk) → flow_in (kept_by s) ≡ identity_of flow → kept_by t ≡ kept_by s → t.lot ≡ s.lot → IsKeptOn tells held moment images t new
-    → images new (moment new) (held new) → IsTidy (kept_by t) (held new) → IsTidied flow s.lot (held new)
-tidied flow tells held moment images result s t new answer is works fails flow_is kept lot on is_left tidy = record {
-  kept = kept_by t;
-  keeps =
-      ap (λ (f : store.Flow). kept_in f s.lot (held new)) (sym (ap flow_in kept ∙ flow_is))
-      ∙ ap (λ (l : ℕ). kept_in (flow_in (kept_by t)) l (held new)) (sym lot)
-      ∙ (on.holds (still_works result s t answer is works fails) (held new) is_left).kept;
-  tidy = tidy;
-}
 
 -- whatever a stop leaves still stands for the machine's state
 pub spares : (flow : Flow) {D : Type 0} (moment : D → ℕ) (images : D → ℕ → Files → Type 0) (s : StoreState) (old new : D) → flow_in (kept_by s) ≡ identity_of flow
@@ -77,102 +49,130 @@ spares flow moment images s old new flow_is states m stands =
     subst (λ (f : store.Flow). Since moment images old new (λ c. stands_for f s.lot c ≡ Ok m.state)) flow_is
     (states m.state (λ c left. ap (λ (f : store.Flow). stands_for f s.lot c) flow_is ∙ stands c left))
 
--- a run ends as it was to, or by a fault of the disk
-pub closed_so : (flow : Flow) (result wanted : Ended) (time : ℕ) (tells : Bool) {D : Type 0} (held : D → Files) (moment : D → ℕ) (images : D → ℕ → Files → Type 0) (lot : ℕ) (opened : Machine) (first new : D) (left : List NamedFile)
-    (standing : List ℕ → Option (List ℕ)) → (result ≡ wanted) ⊎ (result ≡ ended.Fault fault.Disk) → (result ≡ wanted → HasRun flow wanted time tells held moment images lot opened first new left standing)
-    → HasRun flow (ended.Fault fault.Disk) time tells held moment images lot opened first new left standing → HasRun flow result time tells held moment images lot opened first new left standing
-closed_so flow result wanted time tells held moment images lot opened first new left standing (inl so) ends fails = subst (λ (r : Ended). HasRun flow r time tells held moment images lot opened first new left standing) (sym so) (ends so)
-closed_so flow result wanted time tells held moment images lot opened first new left standing (inr failed) ends fails = subst (λ (r : Ended). HasRun flow r time tells held moment images lot opened first new left standing) (sym failed) fails
+-- it ends as it was to, and this holds, or by a fault of the disk
+abbrev pub ClosesSo : {A : Type 0} → Result A EngineError → (result wanted : Ended) → (so : Type 0) → Type 0
+ClosesSo closed result wanted so = ((result ≡ wanted) × so) ⊎ ((result ≡ ended.Fault fault.Disk) × IsErrOf closed Disk)
+
+-- the store of an engine that works can be closed
+pub closes_so : {A : Type 0} (closed : Result A EngineError) (failed : Bool) (result wanted : Ended) (so : Type 0) → failed ≡ false → OnOk closed (result ≡ wanted) → IfErr closed (λ error. result ≡ ended_by error) → OnOk closed so
+    → IsErrOf closed MustReopen ↔ (failed ≡ true) → IfErr closed (λ error. (error ≡ Disk) ⊎ (error ≡ MustReopen)) → ClosesSo closed result wanted so
+closes_so (Ok answer) failed result wanted so works ok err holds exactly kinds = inl (ok, holds)
+closes_so (Err error) failed result wanted so works ok err holds exactly kinds =
+    ⊎_elim
+    (λ (disk : error ≡ Disk). inr (err ∙ ap ended_by disk, ap Err disk))
+    (λ (reopen : error ≡ MustReopen). absurd (false≢true (sym works ∙ exactly.0 (ap Err reopen))))
+    kinds
+
+pub wanted_or_disk : {A : Type 0} (closed : Result A EngineError) (result wanted : Ended) (so : Type 0) → ClosesSo closed result wanted so → (result ≡ wanted) ⊎ (result ≡ ended.Fault fault.Disk)
+wanted_or_disk closed result wanted so (inl ends) = inl ends.0
+wanted_or_disk closed result wanted so (inr fails) = inr fails.0
+
+-- an engine works behind a call that didn't fail so
+still_works : (failed : Bool) → (failed ≡ true → ⊥) → failed ≡ false
+still_works false none = refl
+still_works true none = absurd (none refl)
+
+pub works_behind : {A : Type 0} (result : Result A EngineError) (failed : Bool) (answer : A) → result ≡ Ok answer → (failed ≡ true → IsErrOf result Disk ⊎ IsErrOf result Outbox) → failed ≡ false
+works_behind {A = A} result failed answer is fails =
+    still_works failed (λ so.
+    ⊎_elim
+    (λ (disk : result ≡ Err Disk). let both : ◌≡◌ {A = Result A EngineError} (Ok answer) (Err Disk) = sym is ∙ disk in cc)
+    (λ (outbox : result ≡ Err Outbox). let both : ◌≡◌ {A = Result A EngineError} (Ok answer) (Err Outbox) = sym is ∙ outbox in cc)
+    (fails so))
+
+pub works_at_limit : {A : Type 0} (result : Result A EngineError) (failed : Bool) (limit : TheLimit) → result ≡ Err (Limit limit) → (failed ≡ true → IsErrOf result Disk ⊎ IsErrOf result Outbox) → failed ≡ false
+works_at_limit {A = A} result failed limit is fails =
+    still_works failed (λ so.
+    ⊎_elim
+    (λ (disk : result ≡ Err Disk). let both : ◌≡◌ {A = Result A EngineError} (Err (Limit limit)) (Err Disk) = sym is ∙ disk in cc)
+    (λ (outbox : result ≡ Err Outbox). let both : ◌≡◌ {A = Result A EngineError} (Err (Limit limit)) (Err Outbox) = sym is ∙ outbox in cc)
+    (fails so))
 
 -- ---- the ends of a run that goes on, with another state of its engine
 
 -- the run of an engine, told of its flow and a store like its own
-pub told_of : {D : Type 0} (moment : D → ℕ) (images : D → ℕ → Files → Type 0) (flow other : Flow) (lot other_lot : ℕ) (opened reached : Machine) (first now : D) (journal : List Entry) (left : List NamedFile)
-    (standing : List ℕ → Option (List ℕ)) → other ≡ flow → other_lot ≡ lot → IsRunningAt other moment images other_lot opened first now journal reached left standing
-    → IsRunningAt flow moment images lot opened first now journal reached left standing
-told_of moment images flow other lot other_lot opened reached first now journal left standing flow_is lot_is run =
-    subst (λ (f : Flow). IsRunningAt f moment images lot opened first now journal reached left standing) flow_is
-    (subst (λ (l : ℕ). IsRunningAt other moment images l opened first now journal reached left standing) lot_is run)
-
-pub run_of : (flow other : Flow) (result : Ended) (time : ℕ) (tells : Bool) {D : Type 0} (held : D → Files) (moment : D → ℕ) (images : D → ℕ → Files → Type 0) (lot other_lot : ℕ) (opened : Machine) (first new : D) (left : List NamedFile)
-    (standing : List ℕ → Option (List ℕ)) → other ≡ flow → other_lot ≡ lot → HasRun other result time tells held moment images other_lot opened first new left standing
-    → HasRun flow result time tells held moment images lot opened first new left standing
-run_of flow other result time tells held moment images lot other_lot opened first new left standing flow_is lot_is run =
-    subst (λ (f : Flow). HasRun f result time tells held moment images lot opened first new left standing) flow_is
-    (subst (λ (l : ℕ). HasRun other result time tells held moment images l opened first new left standing) lot_is run)
+pub run_of : (flow other : Flow) (result : Ended) (start time : ℕ) (tells : Bool) {D : Type 0} (held : D → Files) (moment : D → ℕ) (images : D → ℕ → Files → Type 0) (lot other_lot : ℕ) (opened : Machine) (first new : D) (left : List NamedFile)
+    (standing : List ℕ → Option (List ℕ)) (journal : List Entry) → other ≡ flow → other_lot ≡ lot → HasRun other result start time tells held moment images other_lot opened first new left standing journal
+    → HasRun flow result start time tells held moment images lot opened first new left standing journal
+run_of flow other result start time tells held moment images lot other_lot opened first new left standing journal flow_is lot_is run =
+    subst (λ (f : Flow). HasRun f result start time tells held moment images lot opened first new left standing journal) flow_is
+    (subst (λ (l : ℕ). HasRun other result start time tells held moment images l opened first new left standing journal) lot_is run)
 
 module _ {D : Type 0} (tells : Bool) (held : D → Files) (moment : D → ℕ) (images : D → ℕ → Files → Type 0) (faults : FaultsEnd tells held moment images) (e : EngineState) (flow : Flow) (lot : ℕ) (flow_is : e.flow ≡ flow) (lot_is : e.store.lot ≡ lot)
-    (s : StoreState) (s_is : s ≡ e.store) (flow_in_is : flow_in (kept_by e.store) ≡ identity_of e.flow) (opened : Machine) (first old new : D) (left : List NamedFile) (standing : List ℕ → Option (List ℕ)) (time : ℕ) (result : Ended)
-    (states : (state : State) → EachStandsFor (flow_in (kept_by s)) s.lot state (images old (moment old)) → Since moment images old new (λ c. stands_for (flow_in (kept_by s)) s.lot c ≡ Ok state))
+    (flow_in_is : flow_in (kept_by e.store) ≡ identity_of e.flow) (opened : Machine) (first old new : D) (left : List NamedFile) (standing : List ℕ → Option (List ℕ)) (start time : ℕ) (result : Ended)
+    (states : (state : State) → EachStandsFor (flow_in (kept_by e.store)) e.store.lot state (images old (moment old)) → Since moment images old new (λ c. stands_for (flow_in (kept_by e.store)) e.store.lot c ≡ Ok state))
     (is_left : images new (moment new) (held new)) where
-  spared_by : (journal : List Entry) (reached : Machine) → IsRunningAt e.flow moment images e.store.lot opened first old journal reached left standing → IsSpared e.flow moment images e.store.lot reached old new
-  spared_by journal reached run =
-      spares e.flow moment images e.store old new flow_in_is
-      (subst (λ (t : StoreState). (state : State) → EachStandsFor (flow_in (kept_by t)) t.lot state (images old (moment old)) → Since moment images old new (λ c. stands_for (flow_in (kept_by t)) t.lot c ≡ Ok state)) s_is states)
-      reached run.holds
+  abbrev RunsTo : Machine → Type 0
+  RunsTo reached = IsRunningAt e.flow start time moment images e.store.lot opened first old e.journal reached left standing
 
-  tidied_of : (wanted : Ended) → (result ≡ wanted → (f : Flow) → flow_in (kept_by s) ≡ identity_of f → IsTrue tells → IsTidied f s.lot (held new)) → IsTrue tells → result ≡ wanted → IsTidied e.flow e.store.lot (held new)
-  tidied_of wanted tidied telling so =
-      subst (λ (t : StoreState). IsTidied e.flow t.lot (held new)) s_is
-      (tidied so e.flow (ap (λ (t : StoreState). flow_in (kept_by t)) s_is ∙ flow_in_is) telling)
+  abbrev Ran : Ended → Type 0
+  Ran end = HasRun e.flow end start time tells held moment images e.store.lot opened first new left standing e.journal
 
-  by_wanted : (wanted : Ended) (journal : List Entry) (reached : Machine) → IsRunningAt e.flow moment images e.store.lot opened first old journal reached left standing → (result ≡ wanted) ⊎ (result ≡ ended.Fault fault.Disk)
-      → (result ≡ wanted → HasRun e.flow wanted time tells held moment images e.store.lot opened first new left standing) → HasRun flow result time tells held moment images lot opened first new left standing
-  by_wanted wanted journal reached run told ends =
-      run_of flow e.flow result time tells held moment images lot e.store.lot opened first new left standing flow_is lot_is
-      (closed_so e.flow result wanted time tells held moment images e.store.lot opened first new left standing told ends
-      (faults e.flow e.store.lot time opened reached first old new journal left standing fault.Disk run (spared_by journal reached run)))
+  spared_by : (reached : Machine) → RunsTo reached → IsSpared e.flow moment images e.store.lot reached old new
+  spared_by reached run = spares e.flow moment images e.store old new flow_in_is states reached run.holds
 
-  pub closes_blocked : BlockedRunsEnd tells held moment images → (connection : ℕ) → IsEnded moment images e opened first old left standing time (Blocked connection) → (result ≡ ended.Blocked connection) ⊎ (result ≡ ended.Fault fault.Disk)
-      → (result ≡ ended.Blocked connection → (f : Flow) → flow_in (kept_by s) ≡ identity_of f → IsTrue tells → IsTidied f s.lot (held new)) → IsTrue tells
-      → HasRun flow result time tells held moment images lot opened first new left standing
-  closes_blocked law connection end told tidied telling =
-      by_wanted (ended.Blocked connection) end.journal end.reached end.to.run told (λ so.
-      law e.flow e.store.lot time connection opened end.reached first old new end.journal left standing end.to.run (spared_by end.journal end.reached end.to.run) is_left (tidied_of (ended.Blocked connection) tidied telling so) end.ends)
+  by_wanted : {A : Type 0} (closed : Result A EngineError) (wanted : Ended) (reached : Machine) → RunsTo reached → ClosesSo closed result wanted (IsTrue tells → IsTidied e.flow e.store.lot (held new)) → IsTrue tells
+      → (IsTidied e.flow e.store.lot (held new) → Ran wanted) → HasRun flow result start time tells held moment images lot opened first new left standing e.journal
+  by_wanted closed wanted reached run closes telling ends =
+      run_of flow e.flow result start time tells held moment images lot e.store.lot opened first new left standing e.journal flow_is lot_is
+      (⊎_elim
+      (λ (so : (result ≡ wanted) × (IsTrue tells → IsTidied e.flow e.store.lot (held new))). subst Ran (sym so.0) (ends (so.1 telling)))
+      (λ (fails : (result ≡ ended.Fault fault.Disk) × IsErrOf closed Disk).
+      subst Ran (sym fails.0) (faults e.flow start time time e.store.lot opened reached first old new e.journal left standing fault.Disk run (omega arith) (spared_by reached run)))
+      closes)
 
-  pub closes_quiet : QuietRunsEnd tells held moment images → IsEnded moment images e opened first old left standing time Quiet → (result ≡ ended.Quiet) ⊎ (result ≡ ended.Fault fault.Disk)
-      → (result ≡ ended.Quiet → (f : Flow) → flow_in (kept_by s) ≡ identity_of f → IsTrue tells → IsTidied f s.lot (held new)) → IsTrue tells
-      → HasRun flow result time tells held moment images lot opened first new left standing
-  closes_quiet law end told tidied telling =
-      by_wanted ended.Quiet end.journal end.reached end.to.run told (λ so.
-      law e.flow e.store.lot time opened end.reached first old new end.journal left standing end.to.run (spared_by end.journal end.reached end.to.run) is_left (tidied_of ended.Quiet tidied telling so) end.ends)
+  pub closes_blocked : {A : Type 0} (closed : Result A EngineError) → BlockedRunsEnd tells held moment images → (connection : ℕ) → IsEnded moment images e opened first start time old left standing (Blocked connection)
+      → ClosesSo closed result (ended.Blocked connection) (IsTrue tells → IsTidied e.flow e.store.lot (held new)) → IsTrue tells → HasRun flow result start time tells held moment images lot opened first new left standing e.journal
+  closes_blocked closed law connection end closes telling =
+      by_wanted closed (ended.Blocked connection) end.reached end.to.run closes telling (λ tidied.
+      law e.flow start time time e.store.lot connection opened end.reached first old new e.journal left standing end.to.run (omega arith) (spared_by end.reached end.to.run) is_left tidied end.ends)
 
-  pub closes_limited : LimitedRunsEnd tells held moment images → (limit : TheLimit) → IsLimited tells held moment images e limit opened first old left standing → (result ≡ ended.Limit limit) ⊎ (result ≡ ended.Fault fault.Disk)
-      → (result ≡ ended.Limit limit → (f : Flow) → flow_in (kept_by s) ≡ identity_of f → IsTrue tells → IsTidied f s.lot (held new)) → IsTrue tells
-      → HasRun flow result time tells held moment images lot opened first new left standing
-  closes_limited law limit stop told tidied telling =
-      by_wanted (ended.Limit limit) stop.journal stop.reached stop.to.run told (λ so.
-      law e.flow e.store.lot time opened stop.reached first old new stop.journal left standing limit stop.to.run stop.met (spared_by stop.journal stop.reached stop.to.run) is_left (tidied_of (ended.Limit limit) tidied telling so))
+  pub closes_quiet : {A : Type 0} (closed : Result A EngineError) → QuietRunsEnd tells held moment images → IsEnded moment images e opened first start time old left standing Quiet
+      → ClosesSo closed result ended.Quiet (IsTrue tells → IsTidied e.flow e.store.lot (held new)) → IsTrue tells → HasRun flow result start time tells held moment images lot opened first new left standing e.journal
+  closes_quiet closed law end closes telling =
+      by_wanted closed ended.Quiet end.reached end.to.run closes telling (λ tidied.
+      law e.flow start time time e.store.lot opened end.reached first old new e.journal left standing end.to.run (omega arith) (spared_by end.reached end.to.run) is_left tidied end.ends)
+
+  pub closes_limited : {A : Type 0} (closed : Result A EngineError) → LimitedRunsEnd tells held moment images → (limit : TheLimit) → IsLimited tells held moment images e limit opened first start time old left standing
+      → ClosesSo closed result (ended.Limit limit) (IsTrue tells → IsTidied e.flow e.store.lot (held new)) → IsTrue tells → HasRun flow result start time tells held moment images lot opened first new left standing e.journal
+  closes_limited closed law limit stop closes telling =
+      by_wanted closed (ended.Limit limit) stop.reached stop.to.run closes telling (λ tidied.
+      law e.flow start time time e.store.lot opened stop.reached first old new e.journal left standing limit stop.to.run (omega arith) stop.met (spared_by stop.reached stop.to.run) is_left tidied)
 
 -- ---- an engine that was opened
 
-module _ {D : Type 0} (tells : Bool) (held : D → Files) (moment : D → ℕ) (images : D → ℕ → Files → Type 0) (flow : Flow) (s : StoreState) (most : ℕ) (e : EngineState) (is : IsOpened flow s most e) where
-  pub ready : (disk : D) → IsSound flow → AreBuilt flow → IsAtWork flow tells held moment images s disk → IsReady tells held moment images e disk
-  ready disk sound built work = record {
-    sound = subst IsSound (sym is.flow_is) sound;
-    built = subst AreBuilt (sym is.flow_is) built;
-    work = subst (λ (f : Flow). IsAtWork f tells held moment images e.store disk) (sym is.flow_is) (subst (λ (t : StoreState). IsAtWork flow tells held moment images t disk) (sym is.store_is) work);
-    queues = subst (λ (f : Flow). AreQueuesOf f (kept_by e.store) e.queues) (sym is.flow_is) (subst (λ (t : StoreState). AreQueuesOf flow (kept_by t) e.queues) (sym is.store_is) is.queues);
-    listing = is.listing ∙ sym is.flow_is;
-    distinct = is.distinct;
-    entries = omega (arith, is.entries);
-  }
-
-  pub begun : (opened : Machine) (first disk : D) (left now_left : List NamedFile) (standing : List ℕ → Option (List ℕ)) → now_left ≡ left → coming_of opened.world ≡ e.listing.names
-      → IsRunningAt flow moment images s.lot opened first disk [] opened left standing → IsRunning moment images e opened first disk now_left standing
-  begun opened first disk left now_left standing left_is coming run = record {
-    journal = [];
-    reached = opened;
-    to = record {
-      run = subst (λ (l : List NamedFile). IsRunningAt e.flow moment images e.store.lot opened first disk [] opened l standing) (sym left_is)
-          (subst (λ (f : Flow). IsRunningAt f moment images e.store.lot opened first disk [] opened left standing) (sym is.flow_is)
-          (subst (λ (t : StoreState). IsRunningAt flow moment images t.lot opened first disk [] opened left standing) (sym is.store_is) run));
-      count = sym is.entries;
-      coming = coming;
-    };
-  }
+pub begun : {D : Type 0} (moment : D → ℕ) (images : D → ℕ → Files → Type 0) (flow : Flow) (s : StoreState) (most : ℕ) (e : EngineState) → IsOpened flow s most e → (opened : Machine) (first disk : D) (start time : ℕ) (left now_left : List NamedFile)
+    (standing : List ℕ → Option (List ℕ)) → now_left ≡ left → coming_of opened.world ≡ e.listing.names
+    → IsRunningAt flow start time moment images s.lot opened first disk [] opened left standing → IsRunning moment images e opened first start time disk now_left standing
+begun moment images flow s most e is opened first disk start time left now_left standing left_is coming run = record {
+  reached = opened;
+  to = record {
+    run = subst (λ (l : List NamedFile). IsRunningAt e.flow start time moment images e.store.lot opened first disk e.journal opened l standing) (sym left_is)
+        (subst (λ (j : List Entry). IsRunningAt e.flow start time moment images e.store.lot opened first disk j opened left standing) (sym is.journal)
+        (subst (λ (f : Flow). IsRunningAt f start time moment images e.store.lot opened first disk [] opened left standing) (sym is.flow_is)
+        (subst (λ (t : StoreState). IsRunningAt flow start time moment images t.lot opened first disk [] opened left standing) (sym is.store_is) run)));
+    coming = coming;
+    last = is.last ∙ ap (λ (j : List Entry). last_worker None (steps j)) (sym is.journal);
+  };
+}
 
 -- ---- errors
+
+-- an error that isn't a limit ..
+abbrev pub IsNoLimit : EngineError → Type 0
+IsNoLimit error = (limit : TheLimit) → error ≡ Limit limit → ⊥
+
+-- .. has ended the run
+pub has_ended : {D : Type 0} (tells : Bool) (held : D → Files) (moment : D → ℕ) (images : D → ℕ → Files → Type 0) (e : EngineState) (opened : Machine) (first now : D) (left : List NamedFile) (standing : List ℕ → Option (List ℕ)) (start time : ℕ)
+    (error : EngineError) → IsNoLimit error → Stops error tells held moment images e opened first start time now left standing
+    → HasRun e.flow (ended_by error) start time tells held moment images e.store.lot opened first now left standing e.journal
+has_ended tells held moment images e opened first now left standing start time (Damaged damage) none stops = stops time (omega arith)
+has_ended tells held moment images e opened first now left standing start time Disk none stops = stops time (omega arith)
+has_ended tells held moment images e opened first now left standing start time Inbox none stops = stops time (omega arith)
+has_ended tells held moment images e opened first now left standing start time Outbox none stops = stops time (omega arith)
+has_ended tells held moment images e opened first now left standing start time (Limit limit) none stops = absurd (none limit refl)
+has_ended tells held moment images e opened first now left standing start time MustReopen none stops = stops time (omega arith)
+has_ended tells held moment images e opened first now left standing start time Memory none stops = stops time (omega arith)
 
 pub no_limit_faults : (error : EngineError) → IsNoLimit error → (limit : TheLimit) → ended_by error ≡ ended.Limit limit → ⊥
 no_limit_faults (Damaged damage) none limit is = cc
@@ -180,15 +180,17 @@ no_limit_faults Disk none limit is = cc
 no_limit_faults Inbox none limit is = cc
 no_limit_faults Outbox none limit is = cc
 no_limit_faults (Limit other) none limit is = none other refl
+no_limit_faults MustReopen none limit is = cc
 no_limit_faults Memory none limit is = cc
 
-pub by_disk : (error : EngineError) → ended_by error ≡ ended.Fault fault.Disk → error ≡ Disk
-by_disk (Damaged damage) is = absurd cc
-by_disk Disk is = refl
-by_disk Inbox is = absurd cc
-by_disk Outbox is = absurd cc
-by_disk (Limit limit) is = absurd cc
-by_disk Memory is = absurd cc
+pub by_disk : (error : EngineError) → (error ≡ MustReopen → ⊥) → ended_by error ≡ ended.Fault fault.Disk → error ≡ Disk
+by_disk (Damaged damage) works is = absurd cc
+by_disk Disk works is = refl
+by_disk Inbox works is = absurd cc
+by_disk Outbox works is = absurd cc
+by_disk (Limit limit) works is = absurd cc
+by_disk MustReopen works is = absurd (works refl)
+by_disk Memory works is = absurd cc
 
 pub by_inbox : (error : EngineError) → ended_by error ≡ ended.Fault fault.Inbox → error ≡ Inbox
 by_inbox (Damaged damage) is = absurd cc
@@ -196,6 +198,7 @@ by_inbox Disk is = absurd cc
 by_inbox Inbox is = refl
 by_inbox Outbox is = absurd cc
 by_inbox (Limit limit) is = absurd cc
+by_inbox MustReopen is = absurd cc
 by_inbox Memory is = absurd cc
 
 pub by_outbox : (error : EngineError) → ended_by error ≡ ended.Fault fault.Outbox → error ≡ Outbox
@@ -204,6 +207,7 @@ by_outbox Disk is = absurd cc
 by_outbox Inbox is = absurd cc
 by_outbox Outbox is = refl
 by_outbox (Limit limit) is = absurd cc
+by_outbox MustReopen is = absurd cc
 by_outbox Memory is = absurd cc
 
 pub by_damage : (error : EngineError) (damage : TheDamage) → ended_by error ≡ ended.Fault (fault.Damaged damage) → error ≡ Damaged damage
@@ -212,12 +216,13 @@ by_damage Disk damage is = absurd cc
 by_damage Inbox damage is = absurd cc
 by_damage Outbox damage is = absurd cc
 by_damage (Limit limit) damage is = absurd cc
+by_damage MustReopen damage is = absurd cc
 by_damage Memory damage is = absurd cc
 
-pub ends_on_faults : {A : Type 0} (result : Result A EngineError) (error : EngineError) (end : Ended) (disk_old disk_new inbox_old inbox_new outbox_old outbox_new : ℕ) → result ≡ Err error → end ≡ ended_by error
+pub ends_on_faults : {A : Type 0} (result : Result A EngineError) (error : EngineError) (end : Ended) (disk_old disk_new inbox_old inbox_new outbox_old outbox_new : ℕ) → result ≡ Err error → (error ≡ MustReopen → ⊥) → end ≡ ended_by error
     → CountsEachFault result disk_old disk_new inbox_old inbox_new outbox_old outbox_new → EndsOnFaults end disk_old disk_new inbox_old inbox_new outbox_old outbox_new
-ends_on_faults result error end disk_old disk_new inbox_old inbox_new outbox_old outbox_new was is counts = record {
-  disk = record { never_falls = counts.disk.never_falls; rose = λ so. counts.disk.rose (was ∙ ap Err (by_disk error (sym is ∙ so))) };
+ends_on_faults result error end disk_old disk_new inbox_old inbox_new outbox_old outbox_new was works is counts = record {
+  disk = record { never_falls = counts.disk.never_falls; rose = λ so. counts.disk.rose (was ∙ ap Err (by_disk error works (sym is ∙ so))) };
   inbox = record { never_falls = counts.inbox.never_falls; rose = λ so. counts.inbox.rose (was ∙ ap Err (by_inbox error (sym is ∙ so))) };
   outbox = record { never_falls = counts.outbox.never_falls; rose = λ so. counts.outbox.rose (was ∙ ap Err (by_outbox error (sym is ∙ so))) };
 }
@@ -229,35 +234,38 @@ limit_of result met limit (inl so) is = let same : ended.Limit met ≡ ended.Lim
 limit_of result met limit (inr failed) is = absurd cc
 
 module _ {D : Type 0} (tells : Bool) (held : D → Files) (moment : D → ℕ) (images : D → ℕ → Files → Type 0) where
-  -- where a limit was met the store works
-  pub works_on : (flow : Flow) (most : ℕ) (limit : TheLimit) (e : EngineState) (disk : D) → IsMet tells held moment images flow most limit e disk → IsAtWork flow tells held moment images e.store disk
-  works_on flow most limit e disk (inl refused) = refused.work
-  works_on flow most limit e disk (inr full) = full.1
+  abbrev IsMet : (flow : Flow) (most : ℕ) (limit : TheLimit) (s : StoreState) (disk : D) → Type 0
+  IsMet flow most limit s disk = IsRefused flow tells held moment images limit s disk ⊎ ((limit ≡ journal_full most) × IsAtWork flow tells held moment images s disk)
 
-  pub limit_met : (flow other : Flow) (lot start most other_most : ℕ) (met limit : TheLimit) (e : EngineState) (s : StoreState) (old new : D) → met ≡ limit → other ≡ flow → other_most ≡ most → e.store.lot ≡ lot → s ≡ e.store → start ≤ moment old
-      → IsMet tells held moment images other other_most met e old → Since moment images old new (After (Frees (live_in s)) (images old (moment old)))
+  -- where a limit was met the store works
+  pub works_on : (flow : Flow) (most : ℕ) (limit : TheLimit) (s : StoreState) (disk : D) → IsMet flow most limit s disk → IsAtWork flow tells held moment images s disk
+  works_on flow most limit s disk (inl refused) = refused.work
+  works_on flow most limit s disk (inr full) = full.1
+
+  pub limit_met : (flow other : Flow) (lot start most other_most : ℕ) (met limit : TheLimit) (s : StoreState) (old new : D) → met ≡ limit → other ≡ flow → other_most ≡ most → s.lot ≡ lot → start ≤ moment old
+      → IsMet other other_most met s old → Since moment images old new (After (Frees (live_in s)) (images old (moment old)))
       → IsLimitMet flow tells held moment images lot start most limit new
-  limit_met flow other lot start most other_most met limit e s old new same flow_is most_is lot_is s_is from (inl refused) closed = inl (record {
+  limit_met flow other lot start most other_most met limit s old new same flow_is most_is lot_is from (inl refused) closed = inl (record {
     at = old;
     from = from;
-    store = e.store;
+    store = s;
     lot_is = lot_is;
-    refused = subst (λ (f : Flow). IsRefused f tells held moment images limit e.store old) flow_is (subst (λ (l : TheLimit). IsRefused other tells held moment images l e.store old) same refused);
-    closed = subst (λ (t : StoreState). Since moment images old new (After (Frees (live_in t)) (images old (moment old)))) s_is closed;
+    refused = subst (λ (f : Flow). IsRefused f tells held moment images limit s old) flow_is (subst (λ (l : TheLimit). IsRefused other tells held moment images l s old) same refused);
+    closed = closed;
   })
-  limit_met flow other lot start most other_most met limit e s old new same flow_is most_is lot_is s_is from (inr full) closed = inr (sym same ∙ full.0 ∙ ap journal_full most_is)
+  limit_met flow other lot start most other_most met limit s old new same flow_is most_is lot_is from (inr full) closed = inr (sym same ∙ full.0 ∙ ap journal_full most_is)
 
   -- an engine that wasn't opened has done nothing
-  pub not_opened : FaultsEnd tells held moment images → (flow : Flow) (lot time : ℕ) (opened : Machine) (first disk : D) (left now_left : List NamedFile) (standing : List ℕ → Option (List ℕ)) (error : EngineError) (end : Ended)
-      → (error ≡ Inbox) ⊎ (error ≡ Memory) → end ≡ ended_by error → now_left ≡ left → IsRunningAt flow moment images lot opened first disk [] opened left standing
-      → HasRun flow end time tells held moment images lot opened first disk now_left standing
-  not_opened law flow lot time opened first disk left now_left standing error end kinds is left_is run =
-      subst (λ (l : List NamedFile). HasRun flow end time tells held moment images lot opened first disk l standing) (sym left_is) (⊎_elim
+  pub not_opened : FaultsEnd tells held moment images → (flow : Flow) (lot start time : ℕ) (opened : Machine) (first disk : D) (left now_left : List NamedFile) (standing : List ℕ → Option (List ℕ)) (error : EngineError) (end : Ended)
+      → (error ≡ Inbox) ⊎ (error ≡ Memory) → end ≡ ended_by error → now_left ≡ left → IsRunningAt flow start time moment images lot opened first disk [] opened left standing
+      → HasRun flow end start time tells held moment images lot opened first disk now_left standing []
+  not_opened law flow lot start time opened first disk left now_left standing error end kinds is left_is run =
+      subst (λ (l : List NamedFile). HasRun flow end start time tells held moment images lot opened first disk l standing []) (sym left_is) (⊎_elim
       (λ (so : error ≡ Inbox). by fault.Inbox (is ∙ ap ended_by so))
       (λ (so : error ≡ Memory). by fault.Memory (is ∙ ap ended_by so))
       kinds)
     where
-      by : (cause : Fault) → end ≡ ended.Fault cause → HasRun flow end time tells held moment images lot opened first disk left standing
+      by : (cause : Fault) → end ≡ ended.Fault cause → HasRun flow end start time tells held moment images lot opened first disk left standing []
       by cause so =
-          subst (λ (r : Ended). HasRun flow r time tells held moment images lot opened first disk left standing) (sym so)
-          (law flow lot time opened opened first disk disk [] left standing cause run (wider moment images disk disk (images disk (moment disk)) (StandsFor flow lot opened) (nothing moment images disk) run.holds))
+          subst (λ (r : Ended). HasRun flow r start time tells held moment images lot opened first disk left standing []) (sym so)
+          (law flow start time time lot opened opened first disk disk [] left standing cause run (omega arith) (wider moment images disk disk (images disk (moment disk)) (StandsFor flow lot opened) (nothing moment images disk) run.holds))

@@ -1,6 +1,6 @@
 -- How an engine ends where no session comes.
-use Rattle.std.proofs.Common.{◌≡◌, ℕ, ◌<◌, ◌≤◌, Bool, true, false, cond, List, refl, sym, ◌∙◌, ap, subst}
-use Rattle.std.proofs.lemmas.Bool.{ltb-true, ltb-false}
+use Rattle.std.proofs.Common.{◌≡◌, ℕ, ◌≤◌, Bool, true, false, cond, List, length, refl, sym, ◌∙◌, ap, subst}
+use Rattle.std.proofs.lemmas.Bool.{ltb-false}
 use Rattle.std.specs.Prelude.{nat_le, nat_lt, Option, None, Some, is_some}
 use Rattle.disk_trait.specs.Files.{Files}
 use Rattle.flowfile_record.specs.NamedFile.{NamedFile}
@@ -18,26 +18,29 @@ use Rattle.engine_queues.specs.Laws.{SeesTheSame}
 use Rattle.engine_queues.specs.Queues.{queue_seen}
 use Rattle.store_core.specs.Store.{kept_by}
 use Rattle.flow_run.specs.Ending.{journal_full}
-use Rattle.flow_engine.specs.Checkout.{choice_in, ended_as, ending_in, next_of}
+use Rattle.flow_engine.specs.Checkout.{checkout_in, choice_in, ended_as, ending_in, next_behind, next_of}
 use Rattle.flow_engine.specs.Driving.{IsEnded, IsTurned}
 use Rattle.flow_engine.specs.Engine.{EngineState}
 use Rattle.flow_engine.specs.Running.{IsRunning}
-use Rattle.flow_engine.specs.Tending.{due_in, first_of, is_log_due}
+use Rattle.flow_engine.specs.Ready.{due_in, first_of, is_log_due}
+use Rattle.flow_engine.specs.declared.checkout.Checkout.{Checkout}
 use Rattle.flow_engine.specs.declared.checkout.Checkout.TheVariants as next
+use Rattle.flow_engine.specs.declared.tending.Tended.{Tended}
 use Rattle.flow_engine.specs.declared.tending.Tended.TheVariants.{Nothing}
 
 -- ---- what comes next
-
--- where nothing is due, no file has expired
-abbrev pub IsNoneExpired : EngineState → (moment : ℕ) → Type 0
-IsNoneExpired e moment = due_expiry e.flow (queue_seen e.queues) moment ≡ None
 
 none_by : {A : Type 0} (o : Option A) (log claims : Bool) → first_of (is_some o) log claims ≡ Nothing → o ≡ None
 none_by None log claims is = refl
 none_by (Some a) log claims is = absurd cc
 
-pub none_expired : (e : EngineState) (moment : ℕ) → due_in e moment ≡ Nothing → IsNoneExpired e moment
+-- where nothing is due, no file has expired
+pub none_expired : (e : EngineState) (moment : ℕ) → due_in e moment ≡ Nothing → due_expiry e.flow (queue_seen e.queues) moment ≡ None
 none_expired e moment is = none_by (due_expiry e.flow (queue_seen e.queues) moment) (is_log_due e.checkpoint e.store) (nat_le RECLAIM_ENTRIES e.since_reclaim) is
+
+-- .. and this comes next
+pub comes_next : (e : EngineState) (moment : ℕ) (next : Checkout) → due_in e moment ≡ Nothing → next ≡ checkout_in e moment → next_of (length e.journal) e.most (choice_in e moment) (ending_in e moment) ≡ next
+comes_next e moment next none is = sym (is ∙ ap (λ (due : Tended). next_behind due (next_of (length e.journal) e.most (choice_in e moment) (ending_in e moment))) none)
 
 same_end : (one other : Ending) → ended_as one ≡ ended_as other → one ≡ other
 same_end (Rest until) (Rest later) is = let same : until ≡ later = cc in ap (λ (n : ℕ). Rest n) same
@@ -63,26 +66,12 @@ pub ends_as : (entries most : ℕ) (choice : Option Choice) (end answer : Ending
 ends_as entries most None end answer is = (refl, sym (same_end end answer is))
 ends_as entries most (Some choice) end answer is = absurd (no_end (nat_lt entries most) choice (journal_full most) answer is)
 
-not_session : (end : Ending) (one : Choice) → ended_as end ≡ next.Session one → ⊥
-not_session (Rest until) one is = cc
-not_session (Blocked connection) one is = cc
-not_session Quiet one is = cc
-
 not_limit : (end : Ending) (limit : TheLimit) → ended_as end ≡ next.Limit limit → ⊥
 not_limit (Rest until) limit is = cc
 not_limit (Blocked connection) limit is = cc
 not_limit Quiet limit is = cc
 
--- a session comes, and the journal has room for its entry
-pub goes_as : (entries most : ℕ) (choice : Option Choice) (end : Ending) (one : Choice) → next_of entries most choice end ≡ next.Session one → (choice ≡ Some one) × (entries < most)
-goes_as entries most None end one is = absurd (not_session end one is)
-goes_as entries most (Some choice) end one is = by (nat_lt entries most) refl is
-  where
-    by : (b : Bool) → nat_lt entries most ≡ b → cond b (next.Session choice) (next.Limit (journal_full most)) ≡ next.Session one → (◌≡◌ {A = Option Choice} (Some choice) (Some one)) × (entries < most)
-    by true room is = let same : choice ≡ one = cc in (ap (λ (c : Choice). Some c) same, ltb-true entries most room)
-    by false room is = absurd cc
-
--- a session comes, and the journal has none
+-- a session comes, and the journal has no room for its entry
 pub full_as : (entries most : ℕ) (choice : Option Choice) (end : Ending) (limit : TheLimit) → next_of entries most choice end ≡ next.Limit limit
     → (one : Choice) × (choice ≡ Some one) × (limit ≡ journal_full most) × (most ≤ entries)
 full_as entries most None end limit is = absurd (not_limit end limit is)
@@ -96,49 +85,48 @@ full_as entries most (Some choice) end limit is = by (nat_lt entries most) refl 
 -- ---- the end is the machine's
 
 module _ (law : EndsAreMachineEnds) {D : Type 0} (moment : D → ℕ) (images : D → ℕ → Files → Type 0) (e : EngineState) (opened : Machine) (first now : D) (left : List NamedFile) (standing : List ℕ → Option (List ℕ))
-    (time : ℕ) (run : IsRunning moment images e opened first now left standing) (seen : SeesTheSame e.flow (queue_seen e.queues) (queues_of run.reached.state)) (counts : (kept_by e.store).counts ≡ run.reached.state.counts) where
-  machine_end : IsNoneExpired e time → choice_in e time ≡ None → IsMachineEnd e.flow run.reached.state run.reached.world time (ending_in e time)
-  machine_end fresh none =
+    (start time : ℕ) (run : IsRunning moment images e opened first start time now left standing) (seen : SeesTheSame e.flow (queue_seen e.queues) (queues_of run.reached.state)) (counts : (kept_by e.store).counts ≡ run.reached.state.counts)
+    (due : due_in e time ≡ Nothing) where
+  machine_end : choice_in e time ≡ None → IsMachineEnd e.flow run.reached.state run.reached.world time (ending_in e time)
+  machine_end none =
       let choice_of_counts = λ (made : List ℕ). next_choice e.flow (queue_seen e.queues) made (coming_of run.reached.world) time e.last in
       let choice_of_names = λ (names : List (List ℕ)). next_choice e.flow (queue_seen e.queues) (kept_by e.store).counts names time e.last in
       let end_of_counts = λ (made : List ℕ). ending_of e.flow (queue_seen e.queues) made (coming_of run.reached.world) time in
       let end_of_names = λ (names : List (List ℕ)). ending_of e.flow (queue_seen e.queues) (kept_by e.store).counts names time in
       let is : IsMachineEnd e.flow run.reached.state run.reached.world time (end_of_counts run.reached.state.counts) =
-      law e.flow (queue_seen e.queues) run.reached.state run.reached.world time e.last seen fresh (ap choice_of_counts (sym counts) ∙ ap choice_of_names run.to.coming ∙ none) in
+      law e.flow (queue_seen e.queues) run.reached.state run.reached.world time e.last seen (none_expired e time due) (ap choice_of_counts (sym counts) ∙ ap choice_of_names run.to.coming ∙ none) in
       subst (IsMachineEnd e.flow run.reached.state run.reached.world time) (ap end_of_counts (sym counts) ∙ ap end_of_names run.to.coming) is
 
-  ended : (ending : Ending) → IsEndAt e.flow run.reached.state run.reached.world time ending → IsEnded moment images e opened first now left standing time ending
+  ended : (ending : Ending) → IsEndAt e.flow run.reached.state run.reached.world time ending → IsEnded moment images e opened first start time now left standing ending
   ended ending ends = record {
-    journal = run.journal;
     reached = run.reached;
     to = run.to;
     ends = ends;
   }
 
-  pub turned_at_end : (ending : Ending) → ending ≡ ending_in e time → IsNoneExpired e time → choice_in e time ≡ None
-      → IsTurned moment images e opened first now left standing time (Some ending)
-  turned_at_end (Rest until) is fresh none = run
-  turned_at_end (Blocked connection) is fresh none = ended (Blocked connection) (((machine_end fresh none).is_blocked connection).0 (sym is))
-  turned_at_end Quiet is fresh none = ended Quiet ((machine_end fresh none).is_quiet.0 (sym is))
+  pub turned_at_end : (ending : Ending) → ending ≡ ending_in e time → choice_in e time ≡ None → IsTurned moment images e opened first start time now left standing (Some ending)
+  turned_at_end (Rest until) is none = run
+  turned_at_end (Blocked connection) is none = ended (Blocked connection) (((machine_end none).is_blocked connection).0 (sym is))
+  turned_at_end Quiet is none = ended Quiet ((machine_end none).is_quiet.0 (sym is))
 
 -- ---- what a turn answered
 
-module _ {D : Type 0} (moment : D → ℕ) (images : D → ℕ → Files → Type 0) (e : EngineState) (opened : Machine) (first now : D) (left : List NamedFile) (standing : List ℕ → Option (List ℕ)) (time : ℕ) (answer : Option Ending)
-    (turned : IsTurned moment images e opened first now left standing time answer) where
+module _ {D : Type 0} (moment : D → ℕ) (images : D → ℕ → Files → Type 0) (e : EngineState) (opened : Machine) (first now : D) (start : ℕ) (left : List NamedFile) (standing : List ℕ → Option (List ℕ)) (time : ℕ) (answer : Option Ending)
+    (turned : IsTurned moment images e opened first start time now left standing answer) where
   -- it went on, or it rests
-  pub went_on : answer ≡ None → IsRunning moment images e opened first now left standing
-  went_on is = subst (λ (a : Option Ending). IsTurned moment images e opened first now left standing time a) is turned
+  pub went_on : answer ≡ None → IsRunning moment images e opened first start time now left standing
+  went_on is = subst (λ (a : Option Ending). IsTurned moment images e opened first start time now left standing a) is turned
 
-  pub rests : (until : ℕ) → answer ≡ Some (Rest until) → IsRunning moment images e opened first now left standing
-  rests until is = subst (λ (a : Option Ending). IsTurned moment images e opened first now left standing time a) is turned
+  pub rests : (until : ℕ) → answer ≡ Some (Rest until) → IsRunning moment images e opened first start time now left standing
+  rests until is = subst (λ (a : Option Ending). IsTurned moment images e opened first start time now left standing a) is turned
 
   -- it ended, by a clock that tells this moment
-  pub ends_blocked : (connection later : ℕ) → answer ≡ Some (Blocked connection) → time ≡ later → IsEnded moment images e opened first now left standing later (Blocked connection)
+  pub ends_blocked : (connection later : ℕ) → answer ≡ Some (Blocked connection) → time ≡ later → IsEnded moment images e opened first start later now left standing (Blocked connection)
   ends_blocked connection later is same =
-      subst (λ (t : ℕ). IsEnded moment images e opened first now left standing t (Blocked connection)) same
-      (subst (λ (a : Option Ending). IsTurned moment images e opened first now left standing time a) is turned)
+      subst (λ (t : ℕ). IsEnded moment images e opened first start t now left standing (Blocked connection)) same
+      (subst (λ (a : Option Ending). IsTurned moment images e opened first start time now left standing a) is turned)
 
-  pub ends_quiet : (later : ℕ) → answer ≡ Some Quiet → time ≡ later → IsEnded moment images e opened first now left standing later Quiet
+  pub ends_quiet : (later : ℕ) → answer ≡ Some Quiet → time ≡ later → IsEnded moment images e opened first start later now left standing Quiet
   ends_quiet later is same =
-      subst (λ (t : ℕ). IsEnded moment images e opened first now left standing t Quiet) same
-      (subst (λ (a : Option Ending). IsTurned moment images e opened first now left standing time a) is turned)
+      subst (λ (t : ℕ). IsEnded moment images e opened first start t now left standing Quiet) same
+      (subst (λ (a : Option Ending). IsTurned moment images e opened first start time now left standing a) is turned)

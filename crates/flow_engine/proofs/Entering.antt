@@ -14,7 +14,9 @@ use Rattle.machine_model.specs.declared.journal.Step.TheVariants.{Session}
 use Rattle.machine_model.specs.State.{Machine}
 use Rattle.store_core.specs.Store.{Holds, kept_by}
 use Rattle.engine_queues.specs.Laws.{HeldContentsHaveSizes, QueuesAreSeen, QueuesShowKept}
-use Rattle.engine_choice.specs.Laws.{ChoicesAreSessions}
+use Rattle.engine_queues.specs.Queues.{queue_seen}
+use Rattle.engine_choice.specs.Choice.{next_choice}
+use Rattle.engine_choice.specs.Laws.{ChoicesAreSeen, ChoicesAreSessions}
 use Rattle.engine_choice.specs.Listing.{first_passed}
 use Rattle.engine_choice.specs.declared.choice.Choice.{Choice}
 use Rattle.engine_session.specs.Laws.{MachinesFilesAreLive}
@@ -24,13 +26,16 @@ use Rattle.flow_run.specs.Work.{IsAtWork}
 use Rattle.flow_engine.specs.Change.{IsStepOf, MakesStep, step_of}
 use Rattle.flow_engine.specs.Commit.{StandsSo}
 use Rattle.flow_engine.specs.Done.{IsWorkOn, step_done}
-use Rattle.flow_engine.specs.Engine.{AreTakeable, EngineState, IsReady}
+use Rattle.flow_engine.specs.Engine.{AreTakeable, EngineState}
+use Rattle.flow_engine.specs.Ready.{IsReady}
 use Rattle.flow_engine.specs.Handing.{IsHanded, IsHandedAs, received_in}
 use Rattle.flow_engine.specs.Job.{MayHand}
 use Rattle.flow_engine.specs.Running.{IsRunning}
 use Rattle.flow_engine.specs.declared.change.Changed.{Changed}
 use Rattle.flow_engine.specs.declared.done.Done.{Done}
 use Rattle.flow_engine.specs.declared.job.Job.{Job}
+use Rattle.flow_engine.proofs.Due.{chosen_of, nothing_due}
+use Rattle.flow_engine.proofs.Ending.{none_expired}
 use Rattle.flow_engine.proofs.Chosen.{IsNext, job_receives, next_first, next_is_left, next_takes_it, next_there_is}
 use Rattle.flow_engine.proofs.Goes.{takes_received}
 use Rattle.flow_engine.proofs.Steps.{next_there, step_so}
@@ -43,6 +48,9 @@ module _ (tells : Bool) {D : Type 0} (held : D → Files) (moment : D → ℕ) (
 
   abbrev pub choice_at : Choice
   choice_at = stands.1.choice
+
+  chosen_at : next_choice e.flow (queue_seen e.queues) (kept_by e.store).counts e.listing.names done.given.moment e.last ≡ Some choice_at
+  chosen_at = chosen_of e done.given.moment choice_at stands.1.chosen
 
   pub may_in : MayHand v.flow (kept_by v.store) job_in
   may_in = subst (λ (x : EngineState). MayHand x.flow (kept_by x.store) job_in) (sym is) stands.1.may
@@ -57,7 +65,7 @@ module _ (tells : Bool) {D : Type 0} (held : D → Files) (moment : D → ℕ) (
   told_in told = subst (λ (x : EngineState). IsHandedAs (kept_by x.store) (content_in (held disk)) left standing choice_at job_in) (sym is) (stands.1.told told)
 
   pub next_in : QueuesShowKept → IsNext v.flow (kept_by v.store) v.listing.names done.given.moment choice_at
-  next_in shown = next_there tells held moment images v e is disk ready consistent done.given.moment choice_at stands.1.chosen shown
+  next_in shown = next_there tells held moment images v e is disk ready consistent done.given.moment choice_at chosen_at shown
 
   pub processor_in : done.processor ≡ choice_at.processor
   processor_in = stands.2.processor ∙ stands.1.handed.processor
@@ -75,14 +83,15 @@ module _ (tells : Bool) {D : Type 0} (held : D → Files) (moment : D → ℕ) (
       let time : job_in.given.moment ≡ done.given.moment = sym (ap (λ (g : Given). g.moment) stands.2.given.but_bytes) in
       λ i. Session (sym stands.2.processor i) (sym stands.2.numbers i) (time i) (given i)
 
-  -- what it makes is a step
-  pub steps_in : QueuesShowKept → QueuesAreSeen → HeldContentsHaveSizes → ChoicesAreSessions → MachinesFilesAreLive → (kept_by v.store).batches ≡ [] → Holds v.store (held disk)
+  -- what it makes is the step that comes next
+  pub steps_in : QueuesShowKept → QueuesAreSeen → HeldContentsHaveSizes → ChoicesAreSessions → ChoicesAreSeen → MachinesFilesAreLive → (kept_by v.store).batches ≡ [] → Holds v.store (held disk)
       → ((flow : Flow) → IsAtWork flow tells held moment images v.store disk → (m : Machine) → InEach (images disk (moment disk)) (StandsFor flow v.store.lot m) → IsStateOf m (content_in (held disk)) (kept_by v.store))
-      → telling → (opened : Machine) (first : D) (run : IsRunning moment images e opened first disk left standing) → (changed : Changed)
+      → telling → (opened : Machine) (first : D) (start time : ℕ) (run : IsRunning moment images e opened first start time disk left standing) → (changed : Changed)
       → ((job : Job) → MayHand v.flow (kept_by v.store) job → IsWorkOn v.flow (kept_by v.store).store job done → MakesStep v.flow (kept_by v.store) job changed)
-      → IsStepOf e.flow (content_in (held disk)) run.reached job_in changed × IsStateOf run.reached (content_in (held disk)) (kept_by v.store)
-  steps_in shown seen sizes sessions live no_batches holds tied told opened first run changed makes =
-      step_so tells held moment images v e is disk ready consistent done.given.moment choice_at stands.1.chosen shown seen sizes sessions live no_batches holds tied v.store refl opened first left standing run job_in changed
+      → IsStepOf e.flow e.last (content_in (held disk)) run.reached job_in changed × IsStateOf run.reached (content_in (held disk)) (kept_by v.store)
+  steps_in shown seen sizes sessions choices live no_batches holds tied told opened first start time run changed makes =
+      step_so tells held moment images v e is disk ready consistent done.given.moment choice_at chosen_at shown seen sizes sessions choices live
+      (none_expired e done.given.moment (nothing_due e done.given.moment choice_at stands.1.chosen)) no_batches holds tied v.store refl opened first start time left standing run job_in changed
       handed_in (told_in told) (makes job_in may_in work_in)
 
   -- ---- the file that it receives

@@ -68,14 +68,14 @@ pub handed_index : (k : Kept) (moment index : ℕ) (choice : Choice) (job : Job)
 handed_index k moment index choice job takes is =
     subst (λ (j : Job). IsHanded k moment choice j) (sym is)
     (subst (λ (t : Taking). IsHanded k moment (record { processor = choice.processor; taking = t }) (without_files choice.processor (record { moment = moment; index = index; there = false; file = None; bytes = None }))) (sym takes)
-    (record { processor = refl; numbers = refl; given = refl; has = refl; bytes = λ at. []; taken = none_taken k }))
+    (record { processor = refl; connection = refl; numbers = refl; given = refl; has = refl; bytes = λ at. []; taken = none_taken k }))
 
 pub handed_name : (k : Kept) (moment : ℕ) (name bytes : List ℕ) (choice : Choice) (job : Job) → choice.taking ≡ Receive name → length bytes ≤ CONTENT_MAX
     → job ≡ without_files choice.processor (record { moment = moment; index = 0; there = false; file = Some name; bytes = Some bytes }) → IsHanded k moment choice job
 handed_name k moment name bytes choice job takes most is =
     subst (λ (j : Job). IsHanded k moment choice j) (sym is)
     (subst (λ (t : Taking). IsHanded k moment (record { processor = choice.processor; taking = t }) (without_files choice.processor (record { moment = moment; index = 0; there = false; file = Some name; bytes = Some bytes }))) (sym takes)
-    (record { processor = refl; numbers = refl; given = refl; has = most; bytes = λ at. []; taken = none_taken k }))
+    (record { processor = refl; connection = refl; numbers = refl; given = refl; has = most; bytes = λ at. []; taken = none_taken k }))
 
 pub if_ok : {A E : Type 0} (r : Result A E) (P Q : A → Type 0) → ((a : A) → P a → Q a) → IfOk r P → IfOk r Q
 if_ok (Ok a) P Q to is = to a is

@@ -1,6 +1,6 @@
 -- How a run goes on by a session, and how it stops within one.
-use Rattle.std.proofs.Common.{◌≡◌, ◌⊎◌, inl, ℕ, ◌+◌, Bool, List, [], ◌∷◌, ◌++◌, refl, sym, ap, subst, ◌∙◌, arith, length-append}
-use Rattle.std.specs.Prelude.{Option, None, Some, Result, Ok, Err, OnOk, IsSome, Contains, slice_get}
+use Rattle.std.proofs.Common.{◌≡◌, ◌⊎◌, inl, ℕ, ◌≤◌, Bool, List, [], ◌∷◌, ◌++◌, refl, sym, ap, subst, ◌∙◌, arith}
+use Rattle.std.specs.Prelude.{Option, None, Some, Result, Ok, Err, IfOk, OnOk, IsSome, IsTrue, Contains, slice_get}
 use Rattle.std.specs.Option.{option_map_or}
 use Rattle.disk_trait.specs.Files.{Files}
 use Rattle.disk_trait.specs.Images.{Stays}
@@ -12,33 +12,43 @@ use Rattle.content_repo.specs.Claims.{content_in}
 use Rattle.kept_state.specs.declared.limit.Limit.{Limit}
 use Rattle.machine_model.specs.declared.flow.Flow.{Flow}
 use Rattle.machine_model.specs.declared.flow.Processor.{Processor}
+use Rattle.flow_queue.specs.Queue.{QueueState}
+use Rattle.machine_model.specs.Acknowledged.{steps}
 use Rattle.machine_model.specs.declared.journal.Entry.{Entry}
+use Rattle.machine_model.specs.declared.journal.Step.{Step}
 use Rattle.machine_model.specs.declared.kind.Kind.{Kind}
 use Rattle.machine_model.specs.declared.kind.Kind.TheVariants.{GetFile}
 use Rattle.machine_model.specs.Changing.{state_after}
 use Rattle.machine_model.specs.Laws.{names_of_step, received_name}
+use Rattle.flowfile_record.specs.declared.change.Settled.{Settled}
 use Rattle.machine_model.specs.State.{Machine}
+use Rattle.machine_model.specs.Stepping.{step}
 use Rattle.engine_choice.specs.Listing.{first_passed}
 use Rattle.store_core.specs.Change.{IsLimitOf}
 use Rattle.store_core.specs.Store.{StoreState, kept_by}
 use Rattle.flow_run.specs.Going.{IsBetween, IsRunningAt, IsSpared, IsStepped}
 use Rattle.flow_run.specs.Journal.{Takes}
-use Rattle.flow_run.specs.Laws.{DiskFaultsEnd, FaultsEnd, InboxFaultsEnd, OutboxFaultsEnd, SparedRunsGoOn, SteppedRunsGoOn}
-use Rattle.flow_run.specs.Run.{HasRun, IsAtLimit, IsStateOf, StandsFor}
+use Rattle.flow_run.specs.Laws.{DiskFaultsEnd, FaultsEnd, InboxFaultsEnd, NextStepsAreInTurn, OutboxFaultsEnd, SparedRunsGoOn, SteppedRunsGoOn}
+use Rattle.flow_run.specs.Run.{HasRun, IsAtJournalLimit, IsAtLimit, IsAtStoreLimit, IsPut, IsStateOf, StandsFor}
+use Rattle.flow_run.specs.Turns.{ComesNext, last_worker, moment_of, worker_behind}
 use Rattle.flow_run.specs.Work.{IsAtWork}
+use Rattle.flow_run.specs.declared.ended.Ended.{Ended}
 use Rattle.flow_run.specs.declared.ended.Ended.TheVariants as ending
 use Rattle.flow_run.specs.declared.ended.Fault.{Fault}
 use Rattle.flow_run.specs.declared.ended.Fault.TheVariants as fault
-use Rattle.flow_engine.specs.Change.{IsSentFrom, IsStepOf, names_without, step_of, with_sending, without_received}
-use Rattle.flow_engine.specs.Commit.{HasEntry}
-use Rattle.flow_engine.specs.Committing.{IsLeftBySend, with_room}
+use Rattle.flow_engine.specs.Change.{IsSentBy, IsStepOf, names_without, step_of, with_sending, without_received}
+use Rattle.flow_engine.specs.Committing.{HasWritten, IsLeftBySend, with_room}
 use Rattle.flow_engine.specs.Engine.{EngineState}
+use Rattle.flow_engine.specs.Journal.{journaled}
 use Rattle.flow_engine.specs.Running.{IsRunning, Stops}
 use Rattle.flow_engine.specs.declared.change.Changed.{Changed}
 use Rattle.flow_engine.specs.declared.change.Sending.{Sending}
 use Rattle.flow_engine.specs.declared.error.EngineError.{EngineError}
 use Rattle.flow_engine.specs.declared.job.Job.{Job}
 use Rattle.flow_engine.proofs.Commits.{work_roomy}
+use Rattle.flow_engine.proofs.LastWorker.{last_behind}
+use Rattle.flow_engine.proofs.RunsOn.{spared_by_none}
+use Rattle.flow_engine.proofs.Steps.{runs_on}
 
 abbrev pub IsNoLimit : EngineError → Type 0
 IsNoLimit error = (limit : Limit) → error ≡ EngineError.Limit limit → ⊥
@@ -64,179 +74,304 @@ module _ (tells : Bool) {D : Type 0} (held : D → Files) (moment : D → ℕ) (
       → InEach (images old (moment old)) (StandsFor flow lot before) → IsSpared flow moment images lot before old new
   spared_by_read flow lot before old new stays stands = wider moment images old new (images old (moment old)) (StandsFor flow lot before) (only_read moment images held old new stays) stands
 
-  module _ (e f : EngineState) (opened : Machine) (first old new : D) (left : List NamedFile) (standing : List ℕ → Option (List ℕ)) (run : IsRunning moment images e opened first old left standing)
-      (flow_is : f.flow ≡ e.flow) (lot_is : f.store.lot ≡ e.store.lot) where
+  -- as time goes by
+  pub waits : SparedRunsGoOn moment images → (e : EngineState) (opened : Machine) (first : D) (start time by : ℕ) (disk : D) (left : List NamedFile) (standing : List ℕ → Option (List ℕ)) → time ≤ by
+      → IsRunning moment images e opened first start time disk left standing → IsRunning moment images e opened first start by disk left standing
+  waits law e opened first start time by disk left standing le run =
+      runs_on moment images law e opened first start time by disk disk left standing run le
+      (spared_by_none tells held moment images e.flow e.store.lot run.reached disk run.to.run.holds)
+
+  -- what is said by parts of an engine is said of it
+  module _ (f : EngineState) (flow : Flow) (lot : ℕ) (journal : List Entry) (flow_is : f.flow ≡ flow) (lot_is : f.store.lot ≡ lot) (journal_is : f.journal ≡ journal)
+      (opened : Machine) (first : D) (start : ℕ) (new : D) (left : List NamedFile) (standing : List ℕ → Option (List ℕ)) where
+    pub has_as : (ended : Ended) (later : ℕ) → HasRun flow ended start later tells held moment images lot opened first new left standing journal
+        → HasRun f.flow ended start later tells held moment images f.store.lot opened first new left standing f.journal
+    has_as ended later has =
+        subst (λ (fl : Flow). HasRun fl ended start later tells held moment images f.store.lot opened first new left standing f.journal) (sym flow_is)
+        (subst (λ (l : ℕ). HasRun flow ended start later tells held moment images l opened first new left standing f.journal) (sym lot_is)
+        (subst (λ (j : List Entry). HasRun flow ended start later tells held moment images lot opened first new left standing j) (sym journal_is) has))
+
+    pub runs_as : (time : ℕ) (reached : Machine) → IsRunningAt flow start time moment images lot opened first new journal reached left standing
+        → IsRunningAt f.flow start time moment images f.store.lot opened first new f.journal reached left standing
+    runs_as time reached run =
+        subst (λ (fl : Flow). IsRunningAt fl start time moment images f.store.lot opened first new f.journal reached left standing) (sym flow_is)
+        (subst (λ (l : ℕ). IsRunningAt flow start time moment images l opened first new f.journal reached left standing) (sym lot_is)
+        (subst (λ (j : List Entry). IsRunningAt flow start time moment images lot opened first new j reached left standing) (sym journal_is) run))
+
+    pub limit_as : (time : ℕ) (reached : Machine) (limit : Limit) → IsAtLimit flow start time tells held moment images lot opened journal reached limit new
+        → IsAtLimit f.flow start time tells held moment images f.store.lot opened f.journal reached limit new
+    limit_as time reached limit at =
+        subst (λ (fl : Flow). IsAtLimit fl start time tells held moment images f.store.lot opened f.journal reached limit new) (sym flow_is)
+        (subst (λ (l : ℕ). IsAtLimit flow start time tells held moment images l opened f.journal reached limit new) (sym lot_is)
+        (subst (λ (j : List Entry). IsAtLimit flow start time tells held moment images lot opened j reached limit new) (sym journal_is) at))
+
+  module _ (e f : EngineState) (opened : Machine) (first : D) (start time : ℕ) (old new : D) (left : List NamedFile) (standing : List ℕ → Option (List ℕ))
+      (run : IsRunning moment images e opened first start time old left standing) (flow_is : f.flow ≡ e.flow) (lot_is : f.store.lot ≡ e.store.lot) where
     -- a fault between two steps
-    ends_between : FaultsEnd tells held moment images → IsSpared e.flow moment images e.store.lot run.reached old new → (cause : Fault) (time : ℕ)
-        → HasRun f.flow (ending.Fault cause) time tells held moment images f.store.lot opened first new left standing
-    ends_between law spared cause time =
-        subst (λ (fl : Flow). HasRun fl (ending.Fault cause) time tells held moment images f.store.lot opened first new left standing) (sym flow_is)
-        (subst (λ (lot : ℕ). HasRun e.flow (ending.Fault cause) time tells held moment images lot opened first new left standing) (sym lot_is)
-        (law e.flow e.store.lot time opened run.reached first old new run.journal left standing cause run.to.run spared))
+    ends_between : FaultsEnd tells held moment images → f.journal ≡ e.journal → IsSpared e.flow moment images e.store.lot run.reached old new → (cause : Fault) (later : ℕ) → time ≤ later
+        → HasRun f.flow (ending.Fault cause) start later tells held moment images f.store.lot opened first new left standing f.journal
+    ends_between law journal_is spared cause later le =
+        has_as f e.flow e.store.lot e.journal flow_is lot_is journal_is opened first start new left standing (ending.Fault cause) later
+        (law e.flow start time later e.store.lot opened run.reached first old new e.journal left standing cause run.to.run le spared)
 
-    pub stops_between : FaultsEnd tells held moment images → IsSpared e.flow moment images e.store.lot run.reached old new → (error : EngineError) → IsNoLimit error
-        → Stops error tells held moment images f opened first new left standing
-    stops_between law spared (EngineError.Damaged damage) none = ends_between law spared (fault.Damaged damage)
-    stops_between law spared EngineError.Disk none = ends_between law spared fault.Disk
-    stops_between law spared EngineError.Inbox none = ends_between law spared fault.Inbox
-    stops_between law spared EngineError.Outbox none = ends_between law spared fault.Outbox
-    stops_between law spared (EngineError.Limit limit) none = absurd (none limit refl)
-    stops_between law spared EngineError.Memory none = ends_between law spared fault.Memory
-
-    pub stops_unmoved : FaultsEnd tells held moment images → IsSpared e.flow moment images e.store.lot run.reached old new → (error : EngineError) → IsNoLimit error
-        → (now_left : List NamedFile) (now_standing : List ℕ → Option (List ℕ)) → now_left ≡ left → now_standing ≡ standing
-        → Stops error tells held moment images f opened first new now_left now_standing
-    stops_unmoved law spared error none now_left now_standing lies stands =
-        subst (λ (l : List NamedFile). Stops error tells held moment images f opened first new l now_standing) (sym lies)
-        (subst (λ (o : List ℕ → Option (List ℕ)). Stops error tells held moment images f opened first new left o) (sym stands) (stops_between law spared error none))
-
-    -- the disk's within the step
-    pub stops_within : DiskFaultsEnd tells held moment images → (contents : ContentRef → List ℕ) (job : Job) (changed : Changed) (s : IsStepOf e.flow contents run.reached job changed)
-        → IsBetween e.flow moment images e.store.lot run.reached s.after old new → (now_standing : List ℕ → Option (List ℕ)) → now_standing ≡ with_sending changed.sending standing
-        → Stops EngineError.Disk tells held moment images f opened first new left now_standing
-    stops_within law contents job changed s between now_standing sent time =
-        subst (λ (fl : Flow). HasRun fl (ending.Fault fault.Disk) time tells held moment images f.store.lot opened first new left now_standing) (sym flow_is)
-        (subst (λ (lot : ℕ). HasRun e.flow (ending.Fault fault.Disk) time tells held moment images lot opened first new left now_standing) (sym lot_is)
-        (law e.flow e.store.lot time opened run.reached s.after first old new run.journal (step_of job) left standing now_standing run.to.run s.goes s.first between
-        (sent ∙ ap (with_sending changed.sending) run.to.run.stands ∙ sym s.outbox)))
-
-    -- the outbox's at the put
-    pub stops_at_put : OutboxFaultsEnd tells held moment images → (contents : ContentRef → List ℕ) (job : Job) (changed : Changed) (s : IsStepOf e.flow contents run.reached job changed)
-        → IsSpared e.flow moment images e.store.lot run.reached old new → (now_standing : List ℕ → Option (List ℕ)) → IsLeftBySend changed.sending standing now_standing
-        → Stops EngineError.Outbox tells held moment images f opened first new left now_standing
-    stops_at_put law contents job changed s spared now_standing is time = at_put changed.sending s.sent is
+    pub stops_between : FaultsEnd tells held moment images → f.journal ≡ e.journal → IsSpared e.flow moment images e.store.lot run.reached old new → (error : EngineError) → IsNoLimit error
+        → (by : ℕ) → time ≤ by → Stops error tells held moment images f opened first start by new left standing
+    stops_between law journal_is spared error none by le = of error none
       where
-        at_put : (sending : Option Sending) → IsSentFrom run.reached sending → IsLeftBySend sending standing now_standing
-            → HasRun f.flow (ending.Fault fault.Outbox) time tells held moment images f.store.lot opened first new left now_standing
-        at_put None from is = absurd is
-        at_put (Some sending) from is =
-            subst (λ (fl : Flow). HasRun fl (ending.Fault fault.Outbox) time tells held moment images f.store.lot opened first new left now_standing) (sym flow_is)
-            (subst (λ (lot : ℕ). HasRun e.flow (ending.Fault fault.Outbox) time tells held moment images lot opened first new left now_standing) (sym lot_is)
-            (law e.flow e.store.lot time opened run.reached first old new run.journal left standing now_standing from.0 from.1 sending.name run.to.run spared from.2 from.3 is))
+        ends : (cause : Fault) (later : ℕ) → by ≤ later → HasRun f.flow (ending.Fault cause) start later tells held moment images f.store.lot opened first new left standing f.journal
+        ends cause later more = ends_between law journal_is spared cause later (omega (arith, le, more))
 
-    -- the inbox's behind the step
-    pub stops_behind : InboxFaultsEnd tells held moment images → (contents : ContentRef → List ℕ) (job : Job) (changed : Changed) (s : IsStepOf e.flow contents run.reached job changed)
-        → IsStepped e.flow moment images e.store.lot run.reached s.after old new → (name : List ℕ) → Takes e.flow (step_of job) name
-        → (now_left : List NamedFile) → (now_left ≡ left) ⊎ (now_left ≡ without name left)
-        → (now_standing : List ℕ → Option (List ℕ)) → now_standing ≡ with_sending changed.sending standing
-        → Stops EngineError.Inbox tells held moment images f opened first new now_left now_standing
-    stops_behind law contents job changed s stepped name takes now_left either now_standing sent time =
-        subst (λ (fl : Flow). HasRun fl (ending.Fault fault.Inbox) time tells held moment images f.store.lot opened first new now_left now_standing) (sym flow_is)
-        (subst (λ (lot : ℕ). HasRun e.flow (ending.Fault fault.Inbox) time tells held moment images lot opened first new now_left now_standing) (sym lot_is)
-        (law e.flow e.store.lot time opened run.reached s.after first old new run.journal (step_of job) name left now_left standing now_standing run.to.run s.goes s.first stepped takes either
-        (sent ∙ ap (with_sending changed.sending) run.to.run.stands ∙ sym s.outbox)))
+        of : (error : EngineError) → IsNoLimit error → Stops error tells held moment images f opened first start by new left standing
+        of (EngineError.Damaged damage) none = ends (fault.Damaged damage)
+        of EngineError.Disk none = ends fault.Disk
+        of EngineError.Inbox none = ends fault.Inbox
+        of EngineError.Outbox none = ends fault.Outbox
+        of (EngineError.Limit limit) none = absurd (none limit refl)
+        of EngineError.MustReopen none = ends fault.Disk
+        of EngineError.Memory none = ends fault.Memory
 
-    -- a limit, before the put
-    pub stops_at_limit : SparedRunsGoOn moment images → (limit : Limit) (job : Job) (changed : Changed) (s : IsStepOf e.flow (content_in (held new)) run.reached job changed)
-        → IsSpared e.flow moment images e.store.lot run.reached old new → f.entries ≡ e.entries → f.listing.names ≡ e.listing.names
-        → images new (moment new) (held new) → (room : ℕ) (was : StoreState) → f.store ≡ with_room room was → IsAtWork e.flow tells held moment images was new
-        → IsStateOf run.reached (content_in (held new)) (kept_by was) → IsLimitOf was changed.settled limit
-        → Stops (EngineError.Limit limit) tells held moment images f opened first new left standing
-    stops_at_limit law limit job changed s spared entries names image room was is work tied passes =
-        let on = law e.flow e.store.lot opened run.reached first old new run.journal left standing run.to.run spared in
-        let works = work_roomy e.flow tells held moment images was f.store room new is work in
-        record {
-          journal = run.journal;
-          reached = run.reached;
-          to = record {
-            run = subst (λ (fl : Flow). IsRunningAt fl moment images f.store.lot opened first new run.journal run.reached left standing) (sym flow_is)
-                (subst (λ (lot : ℕ). IsRunningAt e.flow moment images lot opened first new run.journal run.reached left standing) (sym lot_is) on);
-            count = run.to.count ∙ sym entries;
-            coming = run.to.coming ∙ sym names;
-          };
-          met = subst (λ (fl : Flow). IsAtLimit fl tells held moment images f.store.lot run.journal run.reached limit new) (sym flow_is)
-              (subst (λ (lot : ℕ). IsAtLimit e.flow tells held moment images lot run.journal run.reached limit new) (sym lot_is)
-              (record {
-                next = step_of job;
-                after = s.after;
-                goes = s.goes;
-                stands = on.holds (held new) image;
-                met = inl (record {
-                  store = f.store;
-                  works = works.works;
-                  kept = works.kept;
-                  tied = subst (λ (u : StoreState). IsStateOf run.reached (content_in (held new)) (kept_by u)) (sym is) tied;
-                  settled = changed.settled;
-                  makes = s.state;
-                  passes = subst (λ (u : StoreState). IsLimitOf u changed.settled limit) (sym is) passes;
-                });
-              }));
-        }
+    pub stops_unmoved : FaultsEnd tells held moment images → f.journal ≡ e.journal → IsSpared e.flow moment images e.store.lot run.reached old new → (error : EngineError) → IsNoLimit error
+        → (by : ℕ) → time ≤ by → (now_left : List NamedFile) (now_standing : List ℕ → Option (List ℕ)) → now_left ≡ left → now_standing ≡ standing
+        → Stops error tells held moment images f opened first start by new now_left now_standing
+    stops_unmoved law journal_is spared error none by le now_left now_standing lies stands =
+        subst (λ (l : List NamedFile). Stops error tells held moment images f opened first start by new l now_standing) (sym lies)
+        (subst (λ (o : List ℕ → Option (List ℕ)). Stops error tells held moment images f opened first start by new left o) (sym stands) (stops_between law journal_is spared error none by le))
 
-    -- a step: the journal has one entry more
-    pub enters : SteppedRunsGoOn moment images → (contents : ContentRef → List ℕ) (job : Job) (changed : Changed) (s : IsStepOf e.flow contents run.reached job changed)
-        → IsStepped e.flow moment images e.store.lot run.reached s.after old new
-        → (now_left : List NamedFile) → now_left ≡ without_received job.given.file left
-        → (now_standing : List ℕ → Option (List ℕ)) → now_standing ≡ with_sending changed.sending standing
-        → f.entries ≡ e.entries + 1 → f.listing.names ≡ names_without job.given.file e.listing.names
-        → HasEntry (step_of job) (moment new) moment images f opened first new now_left now_standing run.journal
-    enters law contents job changed s stepped now_left lies now_standing stands entries names =
-        let entry : Entry = record { step = step_of job; acked = Some (moment new) } in (
-          s.after,
+    -- the step that the session is
+    module _ (contents : ContentRef → List ℕ) (job : Job) (changed : Changed) (s : IsStepOf e.flow e.last contents run.reached job changed) (one : Step) (one_is : step_of job ≡ one) (le : time ≤ moment_of one) where
+      goes_one : step e.flow run.reached one ≡ Some s.after
+      goes_one = ap (step e.flow run.reached) (sym one_is) ∙ s.goes
+
+      comes_one : ComesNext e.flow (last_worker None (steps e.journal)) run.reached one
+      comes_one = subst (λ (o : Option ℕ). ComesNext e.flow o run.reached one) run.to.last (subst (λ (x : Step). ComesNext e.flow e.last run.reached x) one_is s.comes)
+
+      -- the disk's within the step
+      pub stops_within : DiskFaultsEnd tells held moment images → f.journal ≡ e.journal ++ record { step = one; acked = None } ∷ []
+          → IsBetween e.flow moment images e.store.lot run.reached s.after old new → (now_standing : List ℕ → Option (List ℕ)) → now_standing ≡ with_sending changed.sending standing
+          → Stops EngineError.Disk tells held moment images f opened first start (moment_of one) new left now_standing
+      stops_within law journal_is between now_standing sent later by =
+          has_as f e.flow e.store.lot (e.journal ++ record { step = one; acked = None } ∷ []) flow_is lot_is journal_is opened first start new left now_standing (ending.Fault fault.Disk) later
+          (law e.flow start time later e.store.lot opened run.reached s.after first old new e.journal one left standing now_standing run.to.run le by comes_one goes_one between
+          (sent ∙ ap (with_sending changed.sending) run.to.run.stands ∙ sym s.outbox))
+
+      -- the outbox's at the put
+      pub stops_at_put : OutboxFaultsEnd tells held moment images → f.journal ≡ e.journal
+          → IsSpared e.flow moment images e.store.lot run.reached old new → (now_standing : List ℕ → Option (List ℕ)) → IsLeftBySend changed.sending standing now_standing
+          → Stops EngineError.Outbox tells held moment images f opened first start (moment_of one) new left now_standing
+      stops_at_put law journal_is spared now_standing is later by = at_put changed.sending s.sent s.outbox is
+        where
+          at_put : (sending : Option Sending) → IsSentBy e.flow run.reached (step_of job) sending → s.after.world.outbox ≡ with_sending sending run.reached.world.outbox → IsLeftBySend sending standing now_standing
+              → HasRun f.flow (ending.Fault fault.Outbox) start later tells held moment images f.store.lot opened first new left now_standing f.journal
+          at_put None from puts is = absurd is
+          at_put (Some sending) from puts is =
+              has_as f e.flow e.store.lot e.journal flow_is lot_is journal_is opened first start new left now_standing (ending.Fault fault.Outbox) later
+              (law e.flow start time later e.store.lot opened run.reached s.after first old new e.journal one left standing now_standing sending.name sending.bytes run.to.run spared le by comes_one goes_one
+              (subst (λ (x : Step). IsPut e.flow run.reached x sending.name) one_is from) puts is)
+
+      -- the inbox's behind the step
+      pub stops_behind : InboxFaultsEnd tells held moment images → f.journal ≡ e.journal ++ record { step = one; acked = Some (moment new) } ∷ []
+          → IsStepped e.flow moment images e.store.lot run.reached s.after old new → (name : List ℕ) → Takes e.flow (step_of job) name
+          → (now_left : List NamedFile) → (now_left ≡ left) ⊎ (now_left ≡ without name left)
+          → (now_standing : List ℕ → Option (List ℕ)) → now_standing ≡ with_sending changed.sending standing
+          → Stops EngineError.Inbox tells held moment images f opened first start (moment_of one) new now_left now_standing
+      stops_behind law journal_is stepped name takes now_left either now_standing sent later by =
+          has_as f e.flow e.store.lot (e.journal ++ record { step = one; acked = Some (moment new) } ∷ []) flow_is lot_is journal_is opened first start new now_left now_standing (ending.Fault fault.Inbox) later
+          (law e.flow start time later e.store.lot opened run.reached s.after first old new e.journal one name left now_left standing now_standing run.to.run le by comes_one goes_one stepped
+          (subst (λ (x : Step). Takes e.flow x name) one_is takes) either
+          (sent ∙ ap (with_sending changed.sending) run.to.run.stands ∙ sym s.outbox))
+
+      -- a limit, before the put
+      pub stops_at_limit : SparedRunsGoOn moment images → NextStepsAreInTurn moment images → (limit : Limit)
+          → IsSpared e.flow moment images e.store.lot run.reached old new → f.journal ≡ e.journal → f.listing.names ≡ e.listing.names → f.last ≡ e.last
+          → images new (moment new) (held new)
+          → IsAtStoreLimit tells held moment images limit run.reached s.after new ⊎ IsAtJournalLimit limit e.journal
+          → Stops (EngineError.Limit limit) tells held moment images f opened first start (moment_of one) new left standing
+      stops_at_limit law turns limit spared journal_is names last image met =
+          let on = law e.flow start time (moment_of one) e.store.lot opened run.reached first old new e.journal left standing run.to.run le spared in
           record {
-            run = subst (λ (fl : Flow). IsRunningAt fl moment images f.store.lot opened first new (run.journal ++ entry ∷ []) s.after now_left now_standing) (sym flow_is)
-                (subst (λ (lot : ℕ). IsRunningAt e.flow moment images lot opened first new (run.journal ++ entry ∷ []) s.after now_left now_standing) (sym lot_is)
-                (law e.flow e.store.lot opened run.reached s.after first old new run.journal (step_of job) left now_left standing now_standing run.to.run s.goes s.first stepped
-                (lies ∙ ap (without_received job.given.file) run.to.run.lies ∙ sym s.inbox)
-                (stands ∙ ap (with_sending changed.sending) run.to.run.stands ∙ sym s.outbox)));
-            count = length-append run.journal (entry ∷ []) ∙ ap (λ n. n + 1) run.to.count ∙ sym entries;
-            coming = s.coming ∙ ap (names_without job.given.file) run.to.coming ∙ sym names;
-          },
-        )
+            reached = run.reached;
+            to = record {
+              run = runs_as f e.flow e.store.lot e.journal flow_is lot_is journal_is opened first start new left standing (moment_of one) run.reached on;
+              coming = run.to.coming ∙ sym names;
+              last = last ∙ run.to.last ∙ ap (λ (j : List Entry). last_worker None (steps j)) (sym journal_is);
+            };
+            met = limit_as f e.flow e.store.lot e.journal flow_is lot_is journal_is opened first start new left standing (moment_of one) run.reached limit (record {
+              next = one;
+              turn = turns e.flow start time (moment_of one) e.store.lot opened run.reached first old e.journal one left standing run.to.run le (omega arith) comes_one;
+              after = s.after;
+              goes = goes_one;
+              stands = on.holds (held new) image;
+              met = met;
+            });
+          }
 
-  -- an error of the commit
-  module _ (e f : EngineState) (opened : Machine) (first mid new : D) (left : List NamedFile) (standing now_standing : List ℕ → Option (List ℕ)) (run : IsRunning moment images e opened first mid left standing)
-      (flow_is : f.flow ≡ e.flow) (lot_is : f.store.lot ≡ e.store.lot) (entries : f.entries ≡ e.entries) (names : f.listing.names ≡ e.listing.names)
-      (job : Job) (changed : Changed) (s : IsStepOf e.flow (content_in (held mid)) run.reached job changed) (t : StoreState) (same_lot : t.lot ≡ e.store.lot)
-      (work : IsAtWork e.flow tells held moment images t mid) (tied : IsStateOf run.reached (content_in (held mid)) (kept_by t))
-      (image : images mid (moment mid) (held mid)) where
-    pub record IsCommitError (error : EngineError) : Type 0 where
-      pub cut_off : error ≡ EngineError.Disk → (flow : Flow) (before after : Machine) → IsAtWork flow tells held moment images t mid → InEach (images mid (moment mid)) (StandsFor flow t.lot before)
-          → state_after (content_in (held mid)) before.state changed.settled ≡ after.state → IsBetween flow moment images t.lot before after mid new
-      pub sent_before : error ≡ EngineError.Disk → now_standing ≡ with_sending changed.sending standing
-      pub unwritten : (error ≡ EngineError.Disk → ⊥) → (new ≡ mid) × (f.store ≡ with_room f.store.memory.room t)
-      pub unsent : (error ≡ EngineError.Disk → ⊥) → (error ≡ EngineError.Outbox → ⊥) → now_standing ≡ standing
-      pub put : error ≡ EngineError.Outbox → IsLeftBySend changed.sending standing now_standing
-      pub passes : (limit : Limit) → error ≡ EngineError.Limit limit → IsLimitOf t changed.settled limit
+      -- a step: the journal has one entry more
+      pub enters : SteppedRunsGoOn moment images → f.journal ≡ e.journal ++ record { step = one; acked = Some (moment new) } ∷ []
+          → IsStepped e.flow moment images e.store.lot run.reached s.after old new
+          → (now_left : List NamedFile) → now_left ≡ without_received job.given.file left
+          → (now_standing : List ℕ → Option (List ℕ)) → now_standing ≡ with_sending changed.sending standing
+          → f.last ≡ worker_behind None one → f.listing.names ≡ names_without job.given.file e.listing.names
+          → worker_behind (last_worker None (steps e.journal)) one ≡ worker_behind None one
+          → IsRunning moment images f opened first start (moment_of one) new now_left now_standing
+      enters law journal_is stepped now_left lies now_standing stands last names worked =
+          let entry : Entry = record { step = one; acked = Some (moment new) } in
+          record {
+            reached = s.after;
+            to = record {
+              run = runs_as f e.flow e.store.lot (e.journal ++ entry ∷ []) flow_is lot_is journal_is opened first start new now_left now_standing (moment_of one) s.after
+                  (law e.flow start time e.store.lot opened run.reached s.after first old new e.journal one left now_left standing now_standing run.to.run le comes_one goes_one stepped
+                  (lies ∙ ap (without_received job.given.file) run.to.run.lies ∙ sym s.inbox)
+                  (stands ∙ ap (with_sending changed.sending) run.to.run.stands ∙ sym s.outbox));
+              coming = s.coming ∙ ap (names_without job.given.file) run.to.coming ∙ sym names;
+              last = last ∙ sym worked ∙ sym (last_behind None e.journal entry) ∙ ap (λ (j : List Entry). last_worker None (steps j)) (sym journal_is);
+            };
+          }
 
+  -- the limit that a change would pass, by a store with other room
+  pub store_limit : (flow : Flow) (before after : Machine) (settled : Settled) (limit : Limit) (room : ℕ) (was t : StoreState) (disk : D) → t ≡ with_room room was → IsAtWork flow tells held moment images was disk
+      → IsStateOf before (content_in (held disk)) (kept_by was) → state_after (content_in (held disk)) before.state settled ≡ after.state → IsLimitOf was settled limit
+      → IsAtStoreLimit tells held moment images limit before after disk
+  store_limit flow before after settled limit room was t disk is work tied makes passes =
+      let works = work_roomy flow tells held moment images was t room disk is work in
+      record {
+        store = t;
+        works = works.works;
+        kept = works.kept;
+        tied = subst (λ (u : StoreState). IsStateOf before (content_in (held disk)) (kept_by u)) (sym is) tied;
+        settled = settled;
+        makes = makes;
+        passes = subst (λ (u : StoreState). IsLimitOf u settled limit) (sym is) passes;
+      }
+
+  -- a session that is written: its change is sent and committed, with this answer
+  module _ (e : EngineState) (opened : Machine) (first : D) (start time : ℕ) (mid new : D) (left : List NamedFile) (standing now_standing : List ℕ → Option (List ℕ)) (run : IsRunning moment images e opened first start time mid left standing)
+      (job : Job) (changed : Changed) (s : IsStepOf e.flow e.last (content_in (held mid)) run.reached job changed) (one : Step) (one_is : step_of job ≡ one) (le : time ≤ moment_of one)
+      (was t : StoreState) (queues now_queues : List QueueState) (same_lot : was.lot ≡ e.store.lot)
+      (work : IsAtWork e.flow tells held moment images was mid) (tied : IsStateOf run.reached (content_in (held mid)) (kept_by was))
+      (out_tells : Bool) (out_telling : IsTrue out_tells) (result : Result ℕ EngineError)
+      (written : HasWritten result tells held moment images out_tells was t queues now_queues changed standing now_standing mid new) where
     still : IsSpared e.flow moment images e.store.lot run.reached mid mid
     still = wider moment images mid mid (images mid (moment mid)) (StandsFor e.flow e.store.lot run.reached) (nothing moment images mid) run.to.run.holds
 
-    unmoved : FaultsEnd tells held moment images → (error : EngineError) → IsNoLimit error → (error ≡ EngineError.Disk → ⊥) → (error ≡ EngineError.Outbox → ⊥) → IsCommitError error
-        → Stops error tells held moment images f opened first new left now_standing
-    unmoved law error none disk outbox is =
-        subst (λ (d : D). Stops error tells held moment images f opened first d left now_standing) (sym (is.unwritten disk).0)
-        (stops_unmoved e f opened first mid mid left standing run flow_is lot_is law still error none left now_standing refl (is.unsent disk outbox))
+    lot_now : t.lot ≡ e.store.lot
+    lot_now = written.lot.0 ∙ same_lot
 
-    pub stops_in_commit : FaultsEnd tells held moment images → DiskFaultsEnd tells held moment images → OutboxFaultsEnd tells held moment images → SparedRunsGoOn moment images
-        → (error : EngineError) → IsCommitError error → Stops error tells held moment images f opened first new left now_standing
-    stops_in_commit between disk outbox spared (EngineError.Damaged damage) is = unmoved between (EngineError.Damaged damage) (λ limit e. cc) (λ e. cc) (λ e. cc) is
-    stops_in_commit between disk outbox spared EngineError.Inbox is = unmoved between EngineError.Inbox (λ limit e. cc) (λ e. cc) (λ e. cc) is
-    stops_in_commit between disk outbox spared EngineError.Memory is = unmoved between EngineError.Memory (λ limit e. cc) (λ e. cc) (λ e. cc) is
-    stops_in_commit between disk outbox spared EngineError.Disk is =
-        stops_within e f opened first mid new left standing run flow_is lot_is disk (content_in (held mid)) job changed s
-        (subst (λ (lot : ℕ). IsBetween e.flow moment images lot run.reached s.after mid new) same_lot
-        (is.cut_off refl e.flow run.reached s.after work (subst (λ (lot : ℕ). InEach (images mid (moment mid)) (StandsFor e.flow lot run.reached)) (sym same_lot) run.to.run.holds) s.state))
-        now_standing (is.sent_before refl)
-    stops_in_commit between disk outbox spared EngineError.Outbox is =
+    holds_there : InEach (images mid (moment mid)) (StandsFor e.flow was.lot run.reached)
+    holds_there = subst (λ (lot : ℕ). InEach (images mid (moment mid)) (StandsFor e.flow lot run.reached)) (sym same_lot) run.to.run.holds
+
+    -- ---- it is acknowledged
+
+    module _ (m : ℕ) (is : result ≡ Ok m) (f : EngineState) (flow_is : f.flow ≡ e.flow) (lot_is : f.store.lot ≡ t.lot) (journal_is : f.journal ≡ journaled result one e.journal) where
+      moment_now : m ≡ moment new
+      moment_now = subst (λ (r : Result ℕ EngineError). IfOk r (λ answer. answer ≡ moment new)) is written.moment_is
+
+      stepped_now : IsStepped e.flow moment images e.store.lot run.reached s.after mid new
+      stepped_now =
+          subst (λ (lot : ℕ). IsStepped e.flow moment images lot run.reached s.after mid new) same_lot
+          ((subst (λ (r : Result ℕ EngineError). OnOk r ((flow : Flow) (before after : Machine) → IsAtWork flow tells held moment images was mid → InEach (images mid (moment mid)) (StandsFor flow was.lot before)
+          → state_after (content_in (held mid)) before.state changed.settled ≡ after.state → IsStepped flow moment images was.lot before after mid new)) is written.stepped)
+          e.flow run.reached s.after work holds_there s.state)
+
+      sent_now : now_standing ≡ with_sending changed.sending standing
+      sent_now = (subst (λ (r : Result ℕ EngineError). OnOk r (IsTrue out_tells → now_standing ≡ with_sending changed.sending standing)) is written.sent) out_telling
+
+      journal_now : f.journal ≡ e.journal ++ record { step = one; acked = Some (moment new) } ∷ []
+      journal_now = journal_is ∙ ap (λ (r : Result ℕ EngineError). journaled r one e.journal) is ∙ ap (λ (n : ℕ). e.journal ++ record { step = one; acked = Some n } ∷ []) moment_now
+
+      pub enters_written : SteppedRunsGoOn moment images → (now_left : List NamedFile) → now_left ≡ without_received job.given.file left
+          → f.last ≡ worker_behind None one → f.listing.names ≡ names_without job.given.file e.listing.names → worker_behind (last_worker None (steps e.journal)) one ≡ worker_behind None one
+          → IsRunning moment images f opened first start (moment_of one) new now_left now_standing
+      enters_written law now_left lies last names worked =
+          enters e f opened first start time mid new left standing run flow_is (lot_is ∙ lot_now) (content_in (held mid)) job changed s one one_is le law journal_now stepped_now now_left lies now_standing sent_now last names worked
+
+      pub stops_unremoved : InboxFaultsEnd tells held moment images → (name : List ℕ) → Takes e.flow (step_of job) name → (now_left : List NamedFile) → (now_left ≡ left) ⊎ (now_left ≡ without name left)
+          → Stops EngineError.Inbox tells held moment images f opened first start (moment_of one) new now_left now_standing
+      stops_unremoved law name takes now_left either =
+          stops_behind e f opened first start time mid new left standing run flow_is (lot_is ∙ lot_now) (content_in (held mid)) job changed s one one_is le law journal_now stepped_now name takes now_left either now_standing sent_now
+
+    -- ---- it is refused
+
+    module _ (error : EngineError) (is : result ≡ Err error) (f : EngineState) (flow_is : f.flow ≡ e.flow) (store_is : f.store ≡ t) (journal_is : f.journal ≡ journaled result one e.journal) where
+      lot_is : f.store.lot ≡ e.store.lot
+      lot_is = ap (λ (u : StoreState). u.lot) store_is ∙ lot_now
+
+      -- the journal stays where the commit hadn't begun
+      unjournaled : (error ≡ EngineError.Disk → ⊥) → f.journal ≡ e.journal
+      unjournaled other = journal_is ∙ ap (λ (r : Result ℕ EngineError). journaled r one e.journal) is ∙ stays error other
+        where
+          stays : (er : EngineError) → (er ≡ EngineError.Disk → ⊥) → journaled (Err er) one e.journal ≡ e.journal
+          stays (EngineError.Damaged damage) apart = refl
+          stays EngineError.Disk apart = absurd (apart refl)
+          stays EngineError.Inbox apart = refl
+          stays EngineError.Outbox apart = refl
+          stays (EngineError.Limit limit) apart = refl
+          stays EngineError.MustReopen apart = refl
+          stays EngineError.Memory apart = refl
+
+      -- where the commit hadn't begun and nothing was put, the run goes on
+      pub goes_on_unwritten : SparedRunsGoOn moment images → f.listing.names ≡ e.listing.names → f.last ≡ e.last → (error ≡ EngineError.Disk → ⊥) → (error ≡ EngineError.Outbox → ⊥)
+          → IsRunning moment images f opened first start (moment_of one) new left now_standing
+      goes_on_unwritten law names last disk outbox =
+          subst (λ (d : D). IsRunning moment images f opened first start (moment_of one) d left now_standing) (sym (written.unwritten error is disk).0)
+          (subst (λ (o : List ℕ → Option (List ℕ)). IsRunning moment images f opened first start (moment_of one) mid left o) (sym (written.unsent error is disk outbox))
+          (record {
+            reached = run.reached;
+            to = record {
+              run = runs_as f e.flow e.store.lot e.journal flow_is lot_is (unjournaled disk) opened first start mid left standing (moment_of one) run.reached
+                  (law e.flow start time (moment_of one) e.store.lot opened run.reached first mid mid e.journal left standing run.to.run le still);
+              coming = run.to.coming ∙ sym names;
+              last = last ∙ run.to.last ∙ ap (λ (j : List Entry). last_worker None (steps j)) (sym (unjournaled disk));
+            };
+          }))
+
+      stops_unwritten : FaultsEnd tells held moment images → IsNoLimit error → (error ≡ EngineError.Disk → ⊥) → (error ≡ EngineError.Outbox → ⊥)
+          → Stops error tells held moment images f opened first start (moment_of one) new left now_standing
+      stops_unwritten law none disk outbox =
+          subst (λ (d : D). Stops error tells held moment images f opened first start (moment_of one) d left now_standing) (sym (written.unwritten error is disk).0)
+          (stops_unmoved e f opened first start time mid mid left standing run flow_is lot_is law (unjournaled disk) still error none (moment_of one) le left now_standing refl (written.unsent error is disk outbox))
+
+    stops_cut_off : DiskFaultsEnd tells held moment images → result ≡ Err EngineError.Disk → (f : EngineState) → f.flow ≡ e.flow → f.store.lot ≡ e.store.lot → f.journal ≡ journaled result one e.journal
+        → Stops EngineError.Disk tells held moment images f opened first start (moment_of one) new left now_standing
+    stops_cut_off law is f flow_is lot_is journal_is =
+        stops_within e f opened first start time mid new left standing run flow_is lot_is (content_in (held mid)) job changed s one one_is le law
+        (journal_is ∙ ap (λ (r : Result ℕ EngineError). journaled r one e.journal) is)
+        (subst (λ (lot : ℕ). IsBetween e.flow moment images lot run.reached s.after mid new) same_lot (written.cut_off is e.flow run.reached s.after work holds_there s.state))
+        now_standing (written.sent_before is out_telling)
+
+    stops_put : OutboxFaultsEnd tells held moment images → (is : result ≡ Err EngineError.Outbox) → (f : EngineState) → f.flow ≡ e.flow → f.store ≡ t → f.journal ≡ journaled result one e.journal
+        → Stops EngineError.Outbox tells held moment images f opened first start (moment_of one) new left now_standing
+    stops_put law is f flow_is store_is journal_is =
         let other : EngineError.Outbox ≡ EngineError.Disk → ⊥ = λ e. cc in
-        subst (λ (d : D). Stops EngineError.Outbox tells held moment images f opened first d left now_standing) (sym (is.unwritten other).0)
-        (stops_at_put e f opened first mid mid left standing run flow_is lot_is outbox (content_in (held mid)) job changed s still now_standing (is.put refl))
-    stops_in_commit between disk outbox spared (EngineError.Limit limit) is =
-        let other : EngineError.Limit limit ≡ EngineError.Disk → ⊥ = λ e. cc in
-        let another : EngineError.Limit limit ≡ EngineError.Outbox → ⊥ = λ e. cc in
-        subst (λ (d : D). Stops (EngineError.Limit limit) tells held moment images f opened first d left now_standing) (sym (is.unwritten other).0)
-        (subst (λ (o : List ℕ → Option (List ℕ)). Stops (EngineError.Limit limit) tells held moment images f opened first mid left o) (sym (is.unsent other another))
-        (stops_at_limit e f opened first mid mid left standing run flow_is lot_is spared limit job changed s still entries names image f.store.memory.room t (is.unwritten other).1 work tied (is.passes limit refl)))
+        subst (λ (d : D). Stops EngineError.Outbox tells held moment images f opened first start (moment_of one) d left now_standing) (sym (written.unwritten EngineError.Outbox is other).0)
+        (stops_at_put e f opened first start time mid mid left standing run flow_is (ap (λ (u : StoreState). u.lot) store_is ∙ lot_now) (content_in (held mid)) job changed s one one_is le law
+        (unjournaled EngineError.Outbox is f flow_is store_is journal_is other) still now_standing (written.put is out_telling))
 
--- what an answer's Ok has
-pub on_one : {A E : Type 0} (result : Result A E) (P Q : Type 0) → (P → Q) → OnOk result P → OnOk result Q
-on_one (Ok a) P Q to p = to p
-on_one (Err error) P Q to p = tt
+    module _ (turns : NextStepsAreInTurn moment images) (spared : SparedRunsGoOn moment images) (image : images mid (moment mid) (held mid)) (limit : Limit) (f : EngineState)
+        (flow_is : f.flow ≡ e.flow) (store_is : f.store ≡ t) (names : f.listing.names ≡ e.listing.names) (last : f.last ≡ e.last) where
+      stops_past : (is : result ≡ Err (EngineError.Limit limit)) → f.journal ≡ journaled result one e.journal
+          → Stops (EngineError.Limit limit) tells held moment images f opened first start (moment_of one) new left now_standing
+      stops_past is journal_is =
+          let other : EngineError.Limit limit ≡ EngineError.Disk → ⊥ = λ e. cc in
+          let another : EngineError.Limit limit ≡ EngineError.Outbox → ⊥ = λ e. cc in
+          let same = written.unwritten (EngineError.Limit limit) is other in
+          subst (λ (d : D). Stops (EngineError.Limit limit) tells held moment images f opened first start (moment_of one) d left now_standing) (sym same.0)
+          (subst (λ (o : List ℕ → Option (List ℕ)). Stops (EngineError.Limit limit) tells held moment images f opened first start (moment_of one) mid left o) (sym (written.unsent (EngineError.Limit limit) is other another))
+          (stops_at_limit e f opened first start time mid mid left standing run flow_is (ap (λ (u : StoreState). u.lot) store_is ∙ lot_now) (content_in (held mid)) job changed s one one_is le spared turns limit still
+          (unjournaled (EngineError.Limit limit) is f flow_is store_is journal_is other) names last image
+          (inl (store_limit e.flow run.reached s.after changed.settled limit t.memory.room was t mid same.1 work tied s.state (written.passes limit is)))))
 
-pub on_any : {A E : Type 0} (result : Result A E) (Q : Type 0) → Q → OnOk result Q
-on_any (Ok a) Q q = q
-on_any (Err error) Q q = tt
+    -- whichever error it is
+    pub stops_written : FaultsEnd tells held moment images → DiskFaultsEnd tells held moment images → OutboxFaultsEnd tells held moment images → NextStepsAreInTurn moment images → SparedRunsGoOn moment images → images mid (moment mid) (held mid)
+        → (error : EngineError) → result ≡ Err error → (f : EngineState) → f.flow ≡ e.flow → f.store ≡ t → f.journal ≡ journaled result one e.journal → f.listing.names ≡ e.listing.names → f.last ≡ e.last
+        → Stops error tells held moment images f opened first start (moment_of one) new left now_standing
+    stops_written between disk outbox turns spared image (EngineError.Damaged damage) is f flow_is store_is journal_is names last =
+        stops_unwritten (EngineError.Damaged damage) is f flow_is store_is journal_is between (λ limit e. cc) (λ e. cc) (λ e. cc)
+    stops_written between disk outbox turns spared image EngineError.Inbox is f flow_is store_is journal_is names last = stops_unwritten EngineError.Inbox is f flow_is store_is journal_is between (λ limit e. cc) (λ e. cc) (λ e. cc)
+    stops_written between disk outbox turns spared image EngineError.MustReopen is f flow_is store_is journal_is names last = stops_unwritten EngineError.MustReopen is f flow_is store_is journal_is between (λ limit e. cc) (λ e. cc) (λ e. cc)
+    stops_written between disk outbox turns spared image EngineError.Memory is f flow_is store_is journal_is names last = stops_unwritten EngineError.Memory is f flow_is store_is journal_is between (λ limit e. cc) (λ e. cc) (λ e. cc)
+    stops_written between disk outbox turns spared image EngineError.Disk is f flow_is store_is journal_is names last = stops_cut_off disk is f flow_is (ap (λ (u : StoreState). u.lot) store_is ∙ lot_now) journal_is
+    stops_written between disk outbox turns spared image EngineError.Outbox is f flow_is store_is journal_is names last = stops_put outbox is f flow_is store_is journal_is
+    stops_written between disk outbox turns spared image (EngineError.Limit limit) is f flow_is store_is journal_is names last = stops_past turns spared image limit f flow_is store_is names last is journal_is
 
 pub named_so : (o : Option (List ℕ)) → IsSome o → (name : List ℕ) × (o ≡ Some name)
 named_so None some = absurd cc

@@ -59,6 +59,19 @@ pub takeable_without : (received : Option (List ℕ)) (left : List NamedFile) (n
 takeable_without None left names all = all
 takeable_without (Some name) left names all = still_come name left names all
 
+-- fewer names of files that are all left
+fewer : (name : List ℕ) (left : List NamedFile) (names : List (List ℕ)) → AreTakeable left names → AreTakeable left (without_name names name)
+fewer name left [] all = All-nil (MayCome left)
+fewer name left (other ∷ names) all = by_test (bytes_eq other name) (fewer name left names (All-tail (MayCome left) other names all))
+  where
+    by_test : (b : Bool) → AreTakeable left (without_name names name) → AreTakeable left (cond (not b) (other ∷ without_name names name) (without_name names name))
+    by_test true rest = rest
+    by_test false rest = All-cons (MayCome left) other (without_name names name) (All-head (MayCome left) other names all) rest
+
+pub takeable_fewer : (received : Option (List ℕ)) (left : List NamedFile) (names : List (List ℕ)) → AreTakeable left names → AreTakeable left (names_without received names)
+takeable_fewer None left names all = all
+takeable_fewer (Some name) left names all = fewer name left names all
+
 -- the listing without the name that its processor takes first
 pub taken_first : (listing after : Left) (place : ℕ) (received : Option (List ℕ)) (name : List ℕ) → place < length listing.flow.processors → received ≡ Some name
     → IfSome received (λ name. (p : Processor) → slice_get listing.flow.processors place ≡ Some p → first_passed p.kind listing.names ≡ Some name)

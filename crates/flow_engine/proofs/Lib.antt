@@ -1,19 +1,23 @@
+mod AsRead
 pub mod Choosing
 mod Chosen
 pub mod Closing
 mod Commits
 mod ContentsRead
+mod Due
 pub mod Ending
 mod Entering
 pub mod Expired
 mod Files
-mod FirstNames
 pub mod Fitting
 mod Goes
+pub mod LastWorker
 mod Left
 pub mod Names
 pub mod Outbox
+mod NextJob
 mod Picked
+mod Readied
 mod Reread
 pub mod RunsOn
 pub mod Sends
@@ -22,6 +26,8 @@ mod Short
 mod Stands
 mod Steps
 pub mod Tends
+mod Tidied
 pub mod Turning
 mod Worked
+mod Written
 pub mod Writes

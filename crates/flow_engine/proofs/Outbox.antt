@@ -13,11 +13,12 @@ use Rattle.flowfile_record.specs.declared.worked.Outcome.{Outcome}
 use Rattle.flowfile_record.specs.declared.worked.Sent.{Sent}
 use Rattle.record_codec.specs.ActiveFile.{active}
 use Rattle.checkpoint_store.specs.Consistent.{IsConsistent, IsFileIn}
+use Rattle.machine_model.specs.declared.flow.Flow.{Flow}
+use Rattle.machine_model.specs.declared.journal.Step.{Step}
 use Rattle.machine_model.specs.declared.kind.Conflict.{Conflict}
 use Rattle.machine_model.specs.declared.kind.Kind.{Kind}
 use Rattle.machine_model.specs.declared.kind.Kind.TheVariants.{PutFile}
 use Rattle.machine_model.specs.Acting.{act, name_in}
-use Rattle.machine_model.specs.Files.{queue_at}
 use Rattle.machine_model.specs.Placing.{EndedSession}
 use Rattle.machine_model.specs.State.{Machine, QueuedFile}
 use Rattle.machine_model.specs.Stepping.{as_taken, session_after}
@@ -26,7 +27,8 @@ use Rattle.process_session.specs.declared.file.Source.{Source}
 use Rattle.settlement.specs.Contents.{source_bytes}
 use Rattle.engine_session.specs.Handing.{AreReadOf, fit_a_content, taken_from}
 use Rattle.flow_run.specs.Laws.{OtherSessionsPutNone, PutsSendTheTakenBytes}
-use Rattle.flow_engine.specs.Change.{IsSentFrom, with_sending}
+use Rattle.flow_run.specs.Run.{IsPut}
+use Rattle.flow_engine.specs.Change.{IsSentBy, with_sending}
 use Rattle.flow_engine.specs.Sending.{sending_of}
 use Rattle.flow_engine.proofs.Sends.{sends_or_puts}
 
@@ -43,7 +45,6 @@ fits_alone k connection file consistent there =
 pub record IsAlone (store connection : ℕ) (k : Kept) (bytes : ContentRef → List ℕ) (files : List FlowFile) (contents : List (Option (List ℕ))) : Type 0 where
   pub file : FlowFile
   pub is : files ≡ file ∷ []
-  pub there : Contains k.files (active connection file)
   pub read : source_bytes (map source_of (taken_from store files contents)) 0 ≡ bytes file.content
 
 all_read : (content : List ℕ) (read : Option (List ℕ)) → is_some read ≡ true → IfSome read (λ r. r ≡ content) → unwrap_or read [] ≡ content
@@ -59,7 +60,6 @@ alone store connection k bytes (file ∷ files) [] consistent there are one = ab
 alone store connection k bytes (file ∷ []) (read ∷ []) consistent there are one = record {
   file = file;
   is = refl;
-  there = All-head (λ f. Contains k.files (active connection f)) file [] there;
   read = all_read (bytes file.content) read (are.0.filled ∙ fits_alone k connection file consistent there) are.0.is;
 }
 alone store connection k bytes (file ∷ []) (read ∷ more ∷ contents) consistent there are one = absurd are.1
@@ -68,37 +68,36 @@ alone store connection k bytes (file ∷ other ∷ files) (read ∷ more ∷ con
 
 -- ---- the outbox
 
--- where a PutFile took a file of a queue alone, whose bytes are these
-pub record IsPutOf (machine : Machine) (session : EndedSession) (sources : List Source) : Type 0 where
+-- a PutFile took a file alone, whose bytes are these: its session puts it under its name
+pub record IsPutOf (flow : Flow) (machine : Machine) (one : Step) (session : EndedSession) (sources : List Source) : Type 0 where
   pub file : QueuedFile
   pub taken : session.taken ≡ file ∷ []
-  pub place : ℕ
-  pub waits : Contains (queue_at machine.state place) file
   pub bytes : source_bytes sources 0 ≡ file.bytes
+  pub puts : (name : List ℕ) → name_in file.attributes ≡ Some name → IsPut flow machine one name
 
--- what is sent stands in the outbox, and waited under its name
-pub record IsSent (machine : Machine) (session : EndedSession) (outcome : Outcome) (sources : List Source) : Type 0 where
+-- what is sent stands in the outbox, and this session of a PutFile put it
+pub record IsSent (flow : Flow) (machine : Machine) (one : Step) (session : EndedSession) (outcome : Outcome) (sources : List Source) : Type 0 where
   pub outbox : (session_after machine session outcome).world.outbox ≡ with_sending (sending_of outcome.sent sources) machine.world.outbox
-  pub sent : IsSentFrom machine (sending_of outcome.sent sources)
+  pub sent : IsSentBy flow machine one (sending_of outcome.sent sources)
 
-module _ (none : OtherSessionsPutNone) (puts : PutsSendTheTakenBytes) (machine : Machine) (session : EndedSession) (outcome : Outcome) (sources : List Source) where
+module _ (none : OtherSessionsPutNone) (puts : PutsSendTheTakenBytes) (flow : Flow) (machine : Machine) (one : Step) (session : EndedSession) (outcome : Outcome) (sources : List Source) where
   abbrev standing : List ℕ → Option (List ℕ)
   standing = (session_after machine session outcome).world.outbox
 
   abbrev SendsSo : Option Sent → Type 0
-  SendsSo sent = (standing ≡ with_sending (sending_of sent sources) machine.world.outbox) × IsSentFrom machine (sending_of sent sources)
+  SendsSo sent = (standing ≡ with_sending (sending_of sent sources) machine.world.outbox) × IsSentBy flow machine one (sending_of sent sources)
 
   nothing : outcome.sent ≡ None → SendsSo outcome.sent
   nothing is = subst SendsSo (sym is) (none machine session outcome is, tt)
 
-  by_sent : (of : IsPutOf machine session sources) (sent : Option Sent)
+  by_sent : (of : IsPutOf flow machine one session sources) (sent : Option Sent)
       → MatchOption sent (standing ≡ machine.world.outbox) (λ s. (name_in of.file.attributes ≡ Some s.name) × (standing ≡ with_file machine.world.outbox s.name of.file.bytes))
       → SendsSo sent
   by_sent of None same = (same, tt)
   by_sent of (Some sent) put =
-      (put.1 ∙ ap (with_file machine.world.outbox sent.name) (sym of.bytes), (of.place, of.file, of.waits, put.0))
+      (put.1 ∙ ap (with_file machine.world.outbox sent.name) (sym of.bytes), of.puts sent.name put.0)
 
-  put_of : (conflict : Conflict) → session.processor.kind ≡ PutFile conflict → IsPutOf machine session sources
+  put_of : (conflict : Conflict) → session.processor.kind ≡ PutFile conflict → IsPutOf flow machine one session sources
       → act session.processor.kind (map (as_taken machine.state) session.taken) session.given ≡ Some outcome → SendsSo outcome.sent
   put_of conflict is of acts =
       by_sent of outcome.sent
@@ -107,8 +106,8 @@ module _ (none : OtherSessionsPutNone) (puts : PutsSendTheTakenBytes) (machine :
       (subst (λ (taken : List QueuedFile). act session.processor.kind (map (as_taken machine.state) taken) session.given ≡ Some outcome) of.taken acts)))
 
   pub is_sent : act session.processor.kind (map (as_taken machine.state) session.taken) session.given ≡ Some outcome
-      → ((conflict : Conflict) → session.processor.kind ≡ PutFile conflict → IsPutOf machine session sources)
-      → IsSent machine session outcome sources
+      → ((conflict : Conflict) → session.processor.kind ≡ PutFile conflict → IsPutOf flow machine one session sources)
+      → IsSent flow machine one session outcome sources
   is_sent acts of =
       let both : SendsSo outcome.sent = ⊎_elim
       nothing

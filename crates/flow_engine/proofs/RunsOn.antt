@@ -1,6 +1,6 @@
 -- How a run goes on over what an engine tends, and how it stops there.
-use Rattle.std.proofs.Common.{◌≡◌, ◌⊎◌, inl, inr, ℕ, ◌+◌, Bool, List, [], ◌∷◌, ◌++◌, refl, sym, ap, subst, ◌∙◌, length-append}
-use Rattle.std.specs.Prelude.{Err, Ok, OnOk, Option, Result, Some}
+use Rattle.std.proofs.Common.{◌≡◌, ◌⊎◌, inl, inr, ℕ, ◌≤◌, Bool, List, [], ◌∷◌, ◌++◌, refl, sym, ap, subst, ◌∙◌, arith}
+use Rattle.std.specs.Prelude.{Err, Ok, OnOk, Option, None, Result, Some}
 use Rattle.disk_trait.specs.Files.{Files}
 use Rattle.disk_trait.proofs.Moments.{nothing, wider}
 use Rattle.flowfile_record.specs.NamedFile.{NamedFile}
@@ -10,30 +10,31 @@ use Rattle.machine_model.specs.declared.flow.Flow.{Flow}
 use Rattle.machine_model.specs.declared.journal.Entry.{Entry}
 use Rattle.machine_model.specs.declared.journal.Step.{Step}
 use Rattle.machine_model.specs.declared.journal.Step.TheVariants.{Expire, Session, SwapIn, SwapOut}
+use Rattle.machine_model.specs.Acknowledged.{steps}
 use Rattle.machine_model.specs.State.{Machine, World}
-use Rattle.machine_model.specs.Stepping.{step}
 use Rattle.engine_choice.specs.Choice.{coming_of}
-use Rattle.flow_run.specs.Ending.{journal_full}
 use Rattle.flow_run.specs.Going.{IsRunningAt, IsSpared}
-use Rattle.flow_run.specs.Journal.{files_left, TakesFirst}
-use Rattle.flow_run.specs.Laws.{DiskFaultsEnd, FaultsEnd, IsOfQueue, QueuesLeaveTheWorld, SparedRunsGoOn, SteppedRunsGoOn}
-use Rattle.flow_run.specs.Run.{HasRun, IsAtLimit, StandsFor}
+use Rattle.flow_run.specs.Journal.{files_left}
+use Rattle.flow_run.specs.Laws.{DiskFaultsEnd, FaultsEnd, IsOfQueue, NextStepsAreInTurn, QueuesLeaveTheWorld, SparedRunsGoOn, SteppedRunsGoOn}
+use Rattle.flow_run.specs.Run.{HasRun, IsAtJournalLimit, IsAtLimit, IsAtStoreLimit, StandsFor}
+use Rattle.flow_run.specs.Turns.{ComesNext, last_worker, moment_of, worker_behind}
 use Rattle.flow_run.specs.declared.ended.Ended.{Ended}
 use Rattle.flow_run.specs.declared.ended.Ended.TheVariants as ending
 use Rattle.flow_run.specs.declared.ended.Fault.{Fault}
 use Rattle.flow_run.specs.declared.ended.Fault.TheVariants as fault
 use Rattle.flow_engine.specs.Engine.{EngineState, IsOfSameRun}
 use Rattle.flow_engine.specs.Errors.{ended_by}
-use Rattle.flow_engine.specs.Running.{IsLimited, IsRunning, Stops}
-use Rattle.flow_engine.specs.Tending.{IsCutOff, IsDone}
+use Rattle.flow_engine.specs.Running.{IsLimited, IsRunning, IsRunningTo, Stops}
+use Rattle.flow_engine.specs.Tending.{GoesTo, IsCutOff, IsDone}
 use Rattle.flow_engine.specs.declared.error.EngineError.{EngineError}
+use Rattle.flow_engine.proofs.LastWorker.{last_behind}
 
--- a step of a queue takes no file of the inbox
-queues_take_none : (flow : Flow) (before : Machine) (one : Step) → IsOfQueue one → TakesFirst flow before one
-queues_take_none flow before (Session processor numbers moment given) queue = absurd queue
-queues_take_none flow before (Expire connection numbers moment) queue = tt
-queues_take_none flow before (SwapOut connection numbers batch) queue = tt
-queues_take_none flow before (SwapIn connection batch) queue = tt
+-- a step of a queue is no session
+queues_leave_the_worker : (last : Option ℕ) (one : Step) → IsOfQueue one → worker_behind last one ≡ last
+queues_leave_the_worker last (Session processor numbers moment given) queue = absurd queue
+queues_leave_the_worker last (Expire connection numbers moment) queue = refl
+queues_leave_the_worker last (SwapOut connection numbers batch) queue = refl
+queues_leave_the_worker last (SwapIn connection batch) queue = refl
 
 module _ {D : Type 0} (tells : Bool) (held : D → Files) (moment : D → ℕ) (images : D → ℕ → Files → Type 0) where
   -- nothing was called
@@ -44,128 +45,172 @@ module _ {D : Type 0} (tells : Bool) (held : D → Files) (moment : D → ℕ) (
   abbrev pub StandsIn : EngineState → D → Machine → Type 0
   StandsIn e disk m = InEach (images disk (moment disk)) (StandsFor e.flow e.store.lot m)
 
-  module _ (e f : EngineState) (same : IsOfSameRun e f) (opened : Machine) (first old new : D) (left : List NamedFile) (standing : List ℕ → Option (List ℕ)) where
-    runs_at : (journal : List Entry) (reached : Machine) → IsRunningAt e.flow moment images e.store.lot opened first new journal reached left standing → IsRunningAt f.flow moment images f.store.lot opened first new journal reached left standing
-    runs_at journal reached run =
-        subst (λ (lot : ℕ). IsRunningAt f.flow moment images lot opened first new journal reached left standing) (sym same.lot)
-        (subst (λ (flow : Flow). IsRunningAt flow moment images e.store.lot opened first new journal reached left standing) (sym same.flow) run)
+  -- It runs on as another of the same run, behind calls of the disk.
+  module _ (e f : EngineState) (same : IsOfSameRun e f) (opened : Machine) (first old new : D) (start time : ℕ) (left : List NamedFile) (standing : List ℕ → Option (List ℕ)) where
+    runs_at : (later : ℕ) (journal : List Entry) (reached : Machine) → f.journal ≡ journal → IsRunningAt e.flow start later moment images e.store.lot opened first new journal reached left standing
+        → IsRunningAt f.flow start later moment images f.store.lot opened first new f.journal reached left standing
+    runs_at later journal reached is run =
+        subst (λ (j : List Entry). IsRunningAt f.flow start later moment images f.store.lot opened first new j reached left standing) (sym is)
+        (subst (λ (lot : ℕ). IsRunningAt f.flow start later moment images lot opened first new journal reached left standing) (sym same.lot)
+        (subst (λ (flow : Flow). IsRunningAt flow start later moment images e.store.lot opened first new journal reached left standing) (sym same.flow) run))
 
-    has_run : (ended : Ended) (time : ℕ) → HasRun e.flow ended time tells held moment images e.store.lot opened first new left standing → HasRun f.flow ended time tells held moment images f.store.lot opened first new left standing
-    has_run ended time has =
-        subst (λ (lot : ℕ). HasRun f.flow ended time tells held moment images lot opened first new left standing) (sym same.lot)
-        (subst (λ (flow : Flow). HasRun flow ended time tells held moment images e.store.lot opened first new left standing) (sym same.flow) has)
+    has_run : (ended : Ended) (later : ℕ) (journal : List Entry) → f.journal ≡ journal → HasRun e.flow ended start later tells held moment images e.store.lot opened first new left standing journal
+        → HasRun f.flow ended start later tells held moment images f.store.lot opened first new left standing f.journal
+    has_run ended later journal is has =
+        subst (λ (j : List Entry). HasRun f.flow ended start later tells held moment images f.store.lot opened first new left standing j) (sym is)
+        (subst (λ (lot : ℕ). HasRun f.flow ended start later tells held moment images lot opened first new left standing journal) (sym same.lot)
+        (subst (λ (flow : Flow). HasRun flow ended start later tells held moment images e.store.lot opened first new left standing journal) (sym same.flow) has))
 
     -- calls that leave what the disk stands for
-    pub runs_spared : SparedRunsGoOn moment images → f.entries ≡ e.entries → f.listing ≡ e.listing → ((m : Machine) → StandsIn e old m → IsSpared e.flow moment images e.store.lot m old new)
-        → IsRunning moment images e opened first old left standing → IsRunning moment images f opened first new left standing
-    runs_spared law entries names spared run = record {
-      journal = run.journal;
-      reached = run.reached;
-      to = record {
-        run = runs_at run.journal run.reached (law e.flow e.store.lot opened run.reached first old new run.journal left standing run.to.run (spared run.reached run.to.run.holds));
-        count = run.to.count ∙ sym entries;
-        coming = run.to.coming ∙ sym (ap (λ l. l.names) names);
-      };
+    runs_to : SparedRunsGoOn moment images → (later : ℕ) → time ≤ later → f.journal ≡ e.journal → f.listing ≡ e.listing → f.last ≡ e.last
+        → (reached : Machine) → (StandsIn e old reached → IsSpared e.flow moment images e.store.lot reached old new)
+        → IsRunningTo moment images e opened first start time old left standing reached → IsRunningTo moment images f opened first start later new left standing reached
+    runs_to law later by journal names last reached spared to = record {
+      run = runs_at later e.journal reached journal (law e.flow start time later e.store.lot opened reached first old new e.journal left standing to.run by (spared to.run.holds));
+      coming = to.coming ∙ sym (ap (λ l. l.names) names);
+      last = last ∙ to.last ∙ ap (λ (j : List Entry). last_worker None (steps j)) (sym journal);
     }
 
+    pub runs_spared : SparedRunsGoOn moment images → (later : ℕ) → time ≤ later → f.journal ≡ e.journal → f.listing ≡ e.listing → f.last ≡ e.last
+        → ((m : Machine) → StandsIn e old m → IsSpared e.flow moment images e.store.lot m old new)
+        → IsRunning moment images e opened first start time old left standing → IsRunning moment images f opened first start later new left standing
+    runs_spared law later by journal names last spared run = record { reached = run.reached; to = runs_to law later by journal names last run.reached (spared run.reached) run.to }
+
+    -- or none was made
+    pub runs_unwritten : SparedRunsGoOn moment images → (later : ℕ) → time ≤ later → new ≡ old → f.journal ≡ e.journal → f.listing ≡ e.listing → f.last ≡ e.last
+        → IsRunning moment images e opened first start time old left standing → IsRunning moment images f opened first start later new left standing
+    runs_unwritten law later by disk journal names last run =
+        runs_spared law later by journal names last (λ m stands. subst (λ (d : D). IsSpared e.flow moment images e.store.lot m old d) (sym disk) (spared_by_none e.flow e.store.lot m old stands)) run
+
     -- a fault between two steps
-    pub stops_spared : FaultsEnd tells held moment images → (error : EngineError) (cause : Fault) → ended_by error ≡ ending.Fault cause → ((m : Machine) → StandsIn e old m → IsSpared e.flow moment images e.store.lot m old new)
-        → IsRunning moment images e opened first old left standing → (time : ℕ) → HasRun f.flow (ended_by error) time tells held moment images f.store.lot opened first new left standing
-    stops_spared law error cause is spared run time =
-        has_run (ended_by error) time
-        (subst (λ (ended : Ended). HasRun e.flow ended time tells held moment images e.store.lot opened first new left standing) (sym is)
-        (law e.flow e.store.lot time opened run.reached first old new run.journal left standing cause run.to.run (spared run.reached run.to.run.holds)))
+    pub stops_spared : FaultsEnd tells held moment images → (error : EngineError) (cause : Fault) → ended_by error ≡ ending.Fault cause → f.journal ≡ e.journal
+        → ((m : Machine) → StandsIn e old m → IsSpared e.flow moment images e.store.lot m old new) → IsRunning moment images e opened first start time old left standing
+        → (later : ℕ) → time ≤ later → HasRun f.flow (ended_by error) start later tells held moment images f.store.lot opened first new left standing f.journal
+    stops_spared law error cause is journal spared run later by =
+        has_run (ended_by error) later e.journal journal
+        (subst (λ (ended : Ended). HasRun e.flow ended start later tells held moment images e.store.lot opened first new left standing e.journal) (sym is)
+        (law e.flow start time later e.store.lot opened run.reached first old new e.journal left standing cause run.to.run by (spared run.reached run.to.run.holds)))
 
     -- the disk's, or want of memory
-    pub stops_by : FaultsEnd tells held moment images → (error : EngineError) → (error ≡ EngineError.Disk) ⊎ (error ≡ EngineError.Memory) → ((m : Machine) → StandsIn e old m → IsSpared e.flow moment images e.store.lot m old new)
-        → IsRunning moment images e opened first old left standing → Stops error tells held moment images f opened first new left standing
-    stops_by law error (inl is) spared run =
-        subst (λ (er : EngineError). Stops er tells held moment images f opened first new left standing) (sym is) (stops_spared law EngineError.Disk fault.Disk refl spared run)
-    stops_by law error (inr is) spared run =
-        subst (λ (er : EngineError). Stops er tells held moment images f opened first new left standing) (sym is) (stops_spared law EngineError.Memory fault.Memory refl spared run)
+    pub stops_by : FaultsEnd tells held moment images → (error : EngineError) → (error ≡ EngineError.Disk) ⊎ (error ≡ EngineError.Memory) → (later : ℕ) → time ≤ later → f.journal ≡ e.journal
+        → ((m : Machine) → StandsIn e old m → IsSpared e.flow moment images e.store.lot m old new)
+        → IsRunning moment images e opened first start time old left standing → Stops error tells held moment images f opened first start later new left standing
+    stops_by law error (inl is) later by journal spared run =
+        subst (λ (er : EngineError). Stops er tells held moment images f opened first start later new left standing) (sym is)
+        (λ end le. stops_spared law EngineError.Disk fault.Disk refl journal spared run end (omega (arith, by, le)))
+    stops_by law error (inr is) later by journal spared run =
+        subst (λ (er : EngineError). Stops er tells held moment images f opened first start later new left standing) (sym is)
+        (λ end le. stops_spared law EngineError.Memory fault.Memory refl journal spared run end (omega (arith, by, le)))
 
-    -- a step of a queue
-    module _ (leaves : QueuesLeaveTheWorld) (one : Step) (queue : IsOfQueue one) where
-      pub runs_stepped : SteppedRunsGoOn moment images → f.entries ≡ e.entries + 1 → f.listing ≡ e.listing → ((m : Machine) → StandsIn e old m → IsDone e.flow moment images e.store.lot m one old new)
-          → IsRunning moment images e opened first old left standing → IsRunning moment images f opened first new left standing
-      runs_stepped law entries names done run =
+    -- a step of a queue that comes next
+    module _ (leaves : QueuesLeaveTheWorld) (one : Step) (queue : IsOfQueue one) (by : time ≤ moment_of one) (comes : (m : Machine) → StandsIn e old m → ComesNext e.flow (last_worker None (steps e.journal)) m one) where
+      pub runs_stepped : SteppedRunsGoOn moment images → f.journal ≡ e.journal ++ record { step = one; acked = Some (moment new) } ∷ [] → f.listing ≡ e.listing → f.last ≡ e.last
+          → ((m : Machine) → StandsIn e old m → IsDone e.flow moment images e.store.lot m one old new)
+          → IsRunning moment images e opened first start time old left standing → IsRunning moment images f opened first start (moment_of one) new left standing
+      runs_stepped law journal names last done run =
           let it = done run.reached run.to.run.holds in
           let world : it.after.world ≡ run.reached.world = leaves e.flow run.reached it.after one it.goes queue in
-          let last : Entry = record { step = one; acked = Some (moment new) } in
+          let entry : Entry = record { step = one; acked = Some (moment new) } in
           record {
-            journal = run.journal ++ last ∷ [];
             reached = it.after;
             to = record {
-              run = runs_at (run.journal ++ last ∷ []) it.after
-                  (law e.flow e.store.lot opened run.reached it.after first old new run.journal one left left standing standing run.to.run it.goes (queues_take_none e.flow run.reached one queue) it.is_so
+              run = runs_at (moment_of one) (e.journal ++ entry ∷ []) it.after journal
+                  (law e.flow start time e.store.lot opened run.reached it.after first old new e.journal one left left standing standing run.to.run by (comes run.reached run.to.run.holds) it.goes it.is_so
                   (run.to.run.lies ∙ ap files_left (sym world)) (run.to.run.stands ∙ ap (λ (w : World). w.outbox) (sym world)));
-              count = length-append run.journal (last ∷ []) ∙ ap (λ n. n + 1) run.to.count ∙ sym entries;
               coming = ap coming_of world ∙ run.to.coming ∙ sym (ap (λ l. l.names) names);
+              last = last ∙ run.to.last ∙ sym (ap (λ (j : List Entry). last_worker None (steps j)) journal ∙ last_behind None e.journal entry ∙ queues_leave_the_worker (last_worker None (steps e.journal)) one queue);
             };
           }
 
-      pub stops_cut_off : DiskFaultsEnd tells held moment images → ((m : Machine) → StandsIn e old m → IsCutOff e.flow moment images e.store.lot m one old new)
-          → IsRunning moment images e opened first old left standing → (time : ℕ) → HasRun f.flow (ended_by EngineError.Disk) time tells held moment images f.store.lot opened first new left standing
-      stops_cut_off law cut run time =
+      pub stops_cut_off : DiskFaultsEnd tells held moment images → f.journal ≡ e.journal ++ record { step = one; acked = None } ∷ []
+          → ((m : Machine) → StandsIn e old m → IsCutOff e.flow moment images e.store.lot m one old new) → IsRunning moment images e opened first start time old left standing
+          → (later : ℕ) → moment_of one ≤ later → HasRun f.flow (ended_by EngineError.Disk) start later tells held moment images f.store.lot opened first new left standing f.journal
+      stops_cut_off law journal cut run later le =
           let it = cut run.reached run.to.run.holds in
           let world : it.after.world ≡ run.reached.world = leaves e.flow run.reached it.after one it.goes queue in
-          has_run (ended_by EngineError.Disk) time
-          (law e.flow e.store.lot time opened run.reached it.after first old new run.journal one left standing standing run.to.run it.goes (queues_take_none e.flow run.reached one queue) it.is_so
+          has_run (ended_by EngineError.Disk) later (e.journal ++ record { step = one; acked = None } ∷ []) journal
+          (law e.flow start time later e.store.lot opened run.reached it.after first old new e.journal one left standing standing run.to.run by le (comes run.reached run.to.run.holds) it.goes it.is_so
           (run.to.run.stands ∙ ap (λ (w : World). w.outbox) (sym world)))
 
-  -- a limit, before anything was called
-  module _ (e : EngineState) (opened : Machine) (first disk : D) (left : List NamedFile) (standing : List ℕ → Option (List ℕ)) (limit : Limit) where
-    stops_limited : ((m : Machine) → StandsIn e disk m → (journal : List Entry) → IsAtLimit e.flow tells held moment images e.store.lot journal m limit disk)
-        → IsRunning moment images e opened first disk left standing → IsLimited tells held moment images e limit opened first disk left standing
-    stops_limited met run = record { journal = run.journal; reached = run.reached; to = run.to; met = met run.reached run.to.run.holds run.journal }
+    -- a limit, of the store or of the journal, before anything was called for the step that comes next
+    module _ (one : Step) (limit : Limit) (by : time ≤ moment_of one) (comes : (m : Machine) → StandsIn e old m → ComesNext e.flow (last_worker None (steps e.journal)) m one) where
+      abbrev pub IsMet : Machine → Machine → Type 0
+      IsMet m after = StandsFor e.flow e.store.lot m (held old) × (IsAtStoreLimit tells held moment images limit m after old ⊎ IsAtJournalLimit limit e.journal)
 
-    pub stops_full : images disk (moment disk) (held disk) → e.entries ≡ e.most → limit ≡ journal_full e.most → (one : Step) → ((m : Machine) → StandsIn e disk m → (after : Machine) × (step e.flow m one ≡ Some after))
-        → IsRunning moment images e opened first disk left standing → IsLimited tells held moment images e limit opened first disk left standing
-    stops_full left_now full is one goes run =
-        let it = goes run.reached run.to.run.holds in
-        record {
-          journal = run.journal;
-          reached = run.reached;
-          to = run.to;
-          met = record {
-            next = one;
-            after = it.0;
-            goes = it.1;
-            stands = run.to.run.holds (held disk) left_now;
-            met = inr (is ∙ ap journal_full (sym (run.to.count ∙ full)));
-          };
-        }
+      limit_at : (m : Machine) → new ≡ old → f.journal ≡ e.journal → IsAtLimit e.flow start (moment_of one) tells held moment images e.store.lot opened e.journal m limit old
+          → IsAtLimit f.flow start (moment_of one) tells held moment images f.store.lot opened f.journal m limit new
+      limit_at m disk journal met =
+          subst (λ (d : D). IsAtLimit f.flow start (moment_of one) tells held moment images f.store.lot opened f.journal m limit d) (sym disk)
+          (subst (λ (j : List Entry). IsAtLimit f.flow start (moment_of one) tells held moment images f.store.lot opened j m limit old) (sym journal)
+          (subst (λ (lot : ℕ). IsAtLimit f.flow start (moment_of one) tells held moment images lot opened e.journal m limit old) (sym same.lot)
+          (subst (λ (flow : Flow). IsAtLimit flow start (moment_of one) tells held moment images e.store.lot opened e.journal m limit old) (sym same.flow) met)))
 
-  -- a step of a queue that failed
-  module _ (e f : EngineState) (same : IsOfSameRun e f) (opened : Machine) (first old new : D) (left : List NamedFile) (standing : List ℕ → Option (List ℕ)) (leaves : QueuesLeaveTheWorld) (one : Step) (queue : IsOfQueue one)
-      (between : FaultsEnd tells held moment images) (disk_fails : DiskFaultsEnd tells held moment images) (error : EngineError)
-      (cut : error ≡ EngineError.Disk → (m : Machine) → StandsIn e old m → IsCutOff e.flow moment images e.store.lot m one old new) (unwritten : (error ≡ EngineError.Disk → ⊥) → (new ≡ old) × (f ≡ e))
-      (limited : (limit : Limit) → error ≡ EngineError.Limit limit → (m : Machine) → StandsIn e old m → (journal : List Entry) → IsAtLimit e.flow tells held moment images e.store.lot journal m limit old)
-      (run : IsRunning moment images e opened first old left standing) where
-    by_memory : error ≡ EngineError.Memory → Stops error tells held moment images f opened first new left standing
-    by_memory is =
-        let stays = unwritten (λ disk. let both : EngineError.Memory ≡ EngineError.Disk = sym is ∙ disk in cc) in
-        subst (λ (er : EngineError). Stops er tells held moment images f opened first new left standing) (sym is)
-        (stops_spared e f same opened first old new left standing between EngineError.Memory fault.Memory refl
-        (λ m stands. subst (λ (d : D). IsSpared e.flow moment images e.store.lot m old d) (sym stays.0) (spared_by_none e.flow e.store.lot m old stands)) run)
+      pub stops_limited : SparedRunsGoOn moment images → NextStepsAreInTurn moment images → new ≡ old → f.journal ≡ e.journal → f.listing ≡ e.listing → f.last ≡ e.last
+          → ((m : Machine) → StandsIn e old m → GoesTo e.flow m one (IsMet m))
+          → IsRunning moment images e opened first start time old left standing → IsLimited tells held moment images f limit opened first start (moment_of one) new left standing
+      stops_limited law turn disk journal names last limited run =
+          let it = limited run.reached run.to.run.holds in
+          record {
+            reached = run.reached;
+            to = runs_to law (moment_of one) by journal names last run.reached (λ stands. subst (λ (d : D). IsSpared e.flow moment images e.store.lot run.reached old d) (sym disk) (spared_by_none e.flow e.store.lot run.reached old stands)) run.to;
+            met = limit_at run.reached disk journal (record {
+              next = one;
+              turn = turn e.flow start time (moment_of one) e.store.lot opened run.reached first old e.journal one left standing run.to.run by (omega arith) (comes run.reached run.to.run.holds);
+              after = it.after;
+              goes = it.goes;
+              stands = it.is_so.0;
+              met = it.is_so.1;
+            });
+          }
 
-    by_disk : error ≡ EngineError.Disk → Stops error tells held moment images f opened first new left standing
-    by_disk is =
-        subst (λ (er : EngineError). Stops er tells held moment images f opened first new left standing) (sym is)
-        (stops_cut_off e f same opened first old new left standing leaves one queue disk_fails (cut is) run)
+    -- a step of a queue that failed
+    module _ (leaves : QueuesLeaveTheWorld) (one : Step) (queue : IsOfQueue one) (by : time ≤ moment_of one) (comes : (m : Machine) → StandsIn e old m → ComesNext e.flow (last_worker None (steps e.journal)) m one)
+        (law : SparedRunsGoOn moment images) (turn : NextStepsAreInTurn moment images) (between : FaultsEnd tells held moment images) (disk_fails : DiskFaultsEnd tells held moment images) (error : EngineError)
+        (names : f.listing ≡ e.listing) (last : f.last ≡ e.last) (open_journal : error ≡ EngineError.Disk → f.journal ≡ e.journal ++ record { step = one; acked = None } ∷ [])
+        (cut : error ≡ EngineError.Disk → (m : Machine) → StandsIn e old m → IsCutOff e.flow moment images e.store.lot m one old new) (unwritten : (error ≡ EngineError.Disk → ⊥) → (new ≡ old) × (f.journal ≡ e.journal))
+        (limited : (limit : Limit) → error ≡ EngineError.Limit limit → (m : Machine) → StandsIn e old m
+        → GoesTo e.flow m one (λ after. StandsFor e.flow e.store.lot m (held old) × IsAtStoreLimit tells held moment images limit m after old))
+        (run : IsRunning moment images e opened first start time old left standing) where
+      by_memory : error ≡ EngineError.Memory → Stops error tells held moment images f opened first start (moment_of one) new left standing
+      by_memory is =
+          let stays = unwritten (λ disk. let both : EngineError.Memory ≡ EngineError.Disk = sym is ∙ disk in cc) in
+          stops_by between error (inr is) (moment_of one) by stays.1
+          (λ m stands. subst (λ (d : D). IsSpared e.flow moment images e.store.lot m old d) (sym stays.0) (spared_by_none e.flow e.store.lot m old stands)) run
 
-    by_limit : (limit : Limit) → error ≡ EngineError.Limit limit → Stops error tells held moment images f opened first new left standing
-    by_limit limit is =
-        let stays = unwritten (λ disk. let both : EngineError.Limit limit ≡ EngineError.Disk = sym is ∙ disk in cc) in
-        subst (λ (er : EngineError). Stops er tells held moment images f opened first new left standing) (sym is)
-        (subst (λ (u : EngineState). IsLimited tells held moment images u limit opened first new left standing) (sym stays.1)
-        (subst (λ (d : D). IsLimited tells held moment images e limit opened first d left standing) (sym stays.0)
-        (stops_limited e opened first old left standing limit (limited limit is) run)))
+      by_disk : error ≡ EngineError.Disk → Stops error tells held moment images f opened first start (moment_of one) new left standing
+      by_disk is =
+          subst (λ (er : EngineError). Stops er tells held moment images f opened first start (moment_of one) new left standing) (sym is)
+          (stops_cut_off leaves one queue by comes disk_fails (open_journal is) (cut is) run)
 
-    pub stops_failed : (error ≡ EngineError.Disk) ⊎ (error ≡ EngineError.Memory) ⊎ ((limit : Limit) × (error ≡ EngineError.Limit limit)) → Stops error tells held moment images f opened first new left standing
-    stops_failed (inl is) = by_disk is
-    stops_failed (inr (inl is)) = by_memory is
-    stops_failed (inr (inr is)) = by_limit is.0 is.1
+      by_limit : (limit : Limit) → error ≡ EngineError.Limit limit → Stops error tells held moment images f opened first start (moment_of one) new left standing
+      by_limit limit is =
+          let stays = unwritten (λ disk. let both : EngineError.Limit limit ≡ EngineError.Disk = sym is ∙ disk in cc) in
+          subst (λ (er : EngineError). Stops er tells held moment images f opened first start (moment_of one) new left standing) (sym is)
+          (stops_limited one limit by comes law turn stays.0 stays.1 names last
+          (λ m stands. let it = limited limit is m stands in record { after = it.after; goes = it.goes; is_so = (it.is_so.0, inl it.is_so.1) }) run)
+
+      pub stops_failed : (error ≡ EngineError.Disk) ⊎ (error ≡ EngineError.Memory) ⊎ ((limit : Limit) × (error ≡ EngineError.Limit limit))
+          → Stops error tells held moment images f opened first start (moment_of one) new left standing
+      stops_failed (inl is) = by_disk is
+      stops_failed (inr (inl is)) = by_memory is
+      stops_failed (inr (inr is)) = by_limit is.0 is.1
+
+  -- nothing was called, and time went by
+  module _ (e : EngineState) (opened : Machine) (first disk : D) (start time later : ℕ) (by : time ≤ later) (left : List NamedFile) (standing : List ℕ → Option (List ℕ)) (run : IsRunning moment images e opened first start time disk left standing) where
+    pub runs_idle : SparedRunsGoOn moment images → IsRunning moment images e opened first start later disk left standing
+    runs_idle law =
+        runs_spared e e (record { flow = refl; most = refl; checkpoint = refl; lot = refl }) opened first disk disk start time left standing law later by refl refl refl
+        (λ m stands. spared_by_none e.flow e.store.lot m disk stands) run
+
+    pub stops_wanting : FaultsEnd tells held moment images → (error : EngineError) → error ≡ EngineError.Memory → Stops error tells held moment images e opened first start later disk left standing
+    stops_wanting law error is =
+        stops_by e e (record { flow = refl; most = refl; checkpoint = refl; lot = refl }) opened first disk disk start time left standing law error (inr is) later by refl
+        (λ m stands. spared_by_none e.flow e.store.lot m disk stands) run
+
+  -- at which moment nothing was due is no part of the run
+  pub runs_tended : (e : EngineState) (tended : Option ℕ) (opened : Machine) (first disk : D) (start time : ℕ) (left : List NamedFile) (standing : List ℕ → Option (List ℕ)) → IsRunning moment images e opened first start time disk left standing
+      → IsRunning moment images (record e { tended = tended }) opened first start time disk left standing
+  runs_tended e tended opened first disk start time left standing run = record { reached = run.reached; to = record { run = run.to.run; coming = run.to.coming; last = run.to.last } }
 
 -- ---- results
 

@@ -1,6 +1,6 @@
 -- That a session whose change was made is a step of the machine.
 use Rattle.std.proofs.Common.{◌≡◌, ℕ, zero, suc, List, [], ◌∷◌, length, map, refl, sym, ◌∙◌, ap, subst}
-use Rattle.std.specs.Prelude.{All, Contains, Option, Some, slice_get}
+use Rattle.std.specs.Prelude.{All, Option, Some, slice_get}
 use Rattle.std.specs.Option.{option_to_list}
 use Rattle.std.proofs.lemmas.List.Elements.{All-head, All-tail}
 use Rattle.flowfile_record.specs.Stored.{Kept}
@@ -8,7 +8,6 @@ use Rattle.flowfile_record.specs.declared.change.Settled.{Settled}
 use Rattle.flowfile_record.specs.declared.content.ContentRef.{ContentRef}
 use Rattle.flowfile_record.specs.declared.flow_file.FlowFile.{FlowFile}
 use Rattle.flowfile_record.specs.declared.worked.Outcome.{Outcome}
-use Rattle.record_codec.specs.ActiveFile.{active}
 use Rattle.checkpoint_store.specs.Consistent.{IsConsistent}
 use Rattle.machine_model.specs.declared.flow.Flow.{Flow}
 use Rattle.machine_model.specs.declared.flow.Processor.{Processor}
@@ -18,7 +17,6 @@ use Rattle.machine_model.specs.declared.kind.Kind.{Kind}
 use Rattle.machine_model.specs.declared.kind.Kind.TheVariants.{PutFile}
 use Rattle.machine_model.specs.Acting.{act}
 use Rattle.machine_model.specs.Changing.{queued_file, state_after}
-use Rattle.machine_model.specs.Files.{queue_at}
 use Rattle.machine_model.specs.Kinds.{take_rule_of}
 use Rattle.machine_model.specs.Laws.{MayTake, received_name}
 use Rattle.machine_model.specs.Placing.{EndedSession}
@@ -32,7 +30,6 @@ use Rattle.processor_api.specs.Acts.{KeepsGiven, MayBeHanded}
 use Rattle.settlement.specs.Handed.{session_of}
 use Rattle.settlement.specs.declared.handed.Ended.{Ended}
 use Rattle.store_core.specs.State.{state_with}
-use Rattle.store_core.specs.Valid.{LiveFilesAreQueued}
 use Rattle.engine_core.specs.Committing.{LeavesState, MayCommit}
 use Rattle.engine_session.specs.Handing.{MayEnd, taken_from}
 use Rattle.engine_session.specs.Laws.{TakenFilesAreTheMachines, TakenFilesAreThere, TakenFilesMayBeHanded}
@@ -40,7 +37,7 @@ use Rattle.engine_session.specs.Steps.{IsSession, SettledSessionsAreSteps, machi
 use Rattle.engine_session.specs.Working.{IsWorkAt, MayWork}
 use Rattle.flow_run.specs.Laws.{OtherSessionsLoseNone, OtherSessionsPutNone, PutsSendTheTakenBytes, ReceivingSessionsLoseAFile}
 use Rattle.flow_run.specs.Run.{IsStateOf}
-use Rattle.flow_engine.specs.Change.{IsSentFrom, IsStepOf, MakesStep, step_of, with_sending, without_bytes}
+use Rattle.flow_engine.specs.Change.{IsSentBy, IsStepOf, MakesStep, step_of, with_sending, without_bytes}
 use Rattle.flow_engine.specs.Done.{IsWorkOn}
 use Rattle.flow_engine.specs.Job.{MayHand, StandsIn}
 use Rattle.flow_engine.specs.Sending.{sending_of, sources_left}
@@ -133,7 +130,6 @@ pub record Laws : Type 0 where
   pub kept : OtherSessionsLoseNone
   pub unsent : OtherSessionsPutNone
   pub put : PutsSendTheTakenBytes
-  pub queued : LiveFilesAreQueued
 
 -- a session's work and what it settled
 pub record IsChange (flow : Flow) (k : Kept) (job : Job) (outcome : Outcome) (left : Given) (settled : Settled) : Type 0 where
@@ -145,7 +141,7 @@ pub record IsChange (flow : Flow) (k : Kept) (job : Job) (outcome : Outcome) (le
   pub leaves : LeavesState flow left (left_of k job outcome) k settled
 
 module _ (laws : Laws) (flow : Flow) (k : Kept) (job : Job) (outcome : Outcome) (left : Given) (settled : Settled) (is : IsChange flow k job outcome left settled)
-    (contents : ContentRef → List ℕ) (before : Machine) (tied : IsStateOf before contents k) (stands : StandsIn flow k contents before job) where
+    (contents : ContentRef → List ℕ) (before : Machine) (tied : IsStateOf before contents k) (last : Option ℕ) (stands : StandsIn flow last k contents before job) where
   abbrev state : State
   state = state_with contents before.state.events k
 
@@ -185,41 +181,54 @@ module _ (laws : Laws) (flow : Flow) (k : Kept) (job : Job) (outcome : Outcome) 
   receives : received_name stands.processor.kind job.given.file ≡ option_to_list job.given.file
   receives = subst (λ (p : Processor). received_name p.kind job.given.file ≡ option_to_list job.given.file) same_processor is.hand.file
 
-  -- a PutFile takes one file, which waits in its connection
-  put_of : (conflict : Conflict) → stands.processor.kind ≡ PutFile conflict → IsPutOf before (session before.state) (sources_of k job)
+  -- a PutFile takes one file
+  put_of : (conflict : Conflict) → stands.processor.kind ≡ PutFile conflict → IsPutOf flow before (step_of job) (session before.state) (sources_of k job)
   put_of conflict is_put =
       let there = laws.there k job.connection job.numbers contents job.files job.contents stands.read in
       let handed = may_be_handed laws.may flow k job is.sound is.consistent is.hand in
       let count : MayTake (take_rule_of (PutFile conflict)) (length (taken_of k job)) =
       subst (λ (kind : Kind). MayTake (take_rule_of kind) (length (taken_of k job))) (ap (λ (p : Processor). p.kind) same_processor ∙ is_put) handed.count in
       let one = alone k.store job.connection k contents job.files job.contents is.consistent there.there stands.read.read count in
+      let file : QueuedFile = queued_file contents one.file in
+      let taken : queued ≡ file ∷ [] = ap (map (queued_file contents)) one.is in
       record {
-        file = queued_file contents one.file;
-        taken = ap (map (queued_file contents)) one.is;
-        place = job.connection;
-        waits = subst (λ (s : State). Contains (queue_at s job.connection) (queued_file contents one.file)) tied.is
-            (laws.queued contents before.state.events k (active job.connection one.file) is.consistent one.there);
+        file = file;
+        taken = taken;
         bytes = one.read;
+        puts = λ name named. record {
+          place = job.processor;
+          numbers = job.numbers;
+          moment = job.given.moment;
+          given = without_bytes job.given;
+          is = refl;
+          processor = stands.processor;
+          conflict = conflict;
+          found = stands.found;
+          kind = is_put;
+          file = file;
+          takes = stands.taken ∙ ap Some taken;
+          named = named;
+        };
       }
 
-  pub is_step : (changed : Changed) → changed.settled ≡ settled → changed.sending ≡ sending_of outcome.sent (sources_of k job) → IsStepOf flow contents before job changed
+  pub is_step : (changed : Changed) → changed.settled ≡ settled → changed.sending ≡ sending_of outcome.sent (sources_of k job) → IsStepOf flow last contents before job changed
   is_step changed same sends =
-      let put = is_sent laws.unsent laws.put before (session before.state) outcome (sources_of k job) (acts before.state tied.is) put_of in
+      let put = is_sent laws.unsent laws.put flow before (step_of job) (session before.state) outcome (sources_of k job) (acts before.state tied.is) put_of in
       record {
         after = behind before.state;
         goes = goes;
-        first = stands.first;
+        comes = stands.comes;
         state = ap (state_after contents before.state) same;
         inbox = inbox_behind laws.received laws.kept before (session before.state) outcome receives;
         coming = coming_behind stands.processor.kind before.world (session before.state) outcome receives;
         outbox = put.outbox ∙ ap (λ s. with_sending s before.world.outbox) (sym sends);
-        sent = subst (IsSentFrom before) (sym sends) put.sent;
+        sent = subst (IsSentBy flow before (step_of job)) (sym sends) put.sent;
       }
 
 pub makes_step : Laws → (flow : Flow) (k : Kept) (job : Job) (outcome : Outcome) (left : Given) (changed : Changed) → IsChange flow k job outcome left changed.settled
     → changed.sending ≡ sending_of outcome.sent (sources_of k job) → MakesStep flow k job changed
-makes_step laws flow k job outcome left changed is sends contents before tied valid stands =
-    is_step laws flow k job outcome left changed.settled is contents before tied stands changed refl sends
+makes_step laws flow k job outcome left changed is sends last contents before tied valid stands =
+    is_step laws flow k job outcome left changed.settled is contents before tied last stands changed refl sends
 
 -- ---- what the calls of the function gave
 

@@ -1,5 +1,5 @@
 -- How long the log is behind the calls of a store, and where a run ends.
-use Rattle.std.proofs.Common.{◌≡◌, ◌⊎◌, inl, inr, ℕ, ◌-◌, ◌^◌, ◌<◌, ◌≤◌, Bool, true, false, List, [], ◌∷◌, length, refl, sym, ◌∙◌, ap, subst, arith}
+use Rattle.std.proofs.Common.{◌≡◌, inl, inr, ℕ, ◌-◌, ◌^◌, ◌<◌, ◌≤◌, Bool, true, false, List, [], ◌∷◌, length, refl, sym, ◌∙◌, ap, subst, arith}
 use Rattle.std.proofs.lemmas.Bool.{ltb-false}
 use Rattle.std.specs.Prelude.{Option, Some, min, nat_le, nat_lt, ◌&&◌}
 use Rattle.std.specs.Option.{option_map_or}
@@ -9,7 +9,6 @@ use Rattle.disk_trait.proofs.Moments.{at_the_end}
 use Rattle.flowfile_record.specs.declared.limits.TheConstants.{NUMBER_LIMIT}
 use Rattle.content_repo.specs.Claims.{OnClaims}
 use Rattle.flowfile_wal.specs.Current.{CurrentLog}
-use Rattle.kept_state.specs.declared.limit.Limit.{Limit as TheLimit}
 use Rattle.machine_model.specs.Due.{is_checkpoint_due}
 use Rattle.store_core.specs.Store.{HasLog, StoreState}
 use Rattle.store_core.proofs.Opening.{claims_log}
@@ -17,11 +16,10 @@ use Rattle.flow_run.specs.Ending.{EndsShort}
 use Rattle.flow_run.specs.Work.{HasShortLog, IsShortOn}
 use Rattle.flow_run.specs.declared.ended.Ended.{Ended}
 use Rattle.flow_run.specs.declared.ended.Ended.TheVariants as ended
-use Rattle.flow_run.specs.declared.ended.Fault.TheVariants as fault
 use Rattle.flow_engine.specs.Errors.{ended_by}
-use Rattle.flow_engine.specs.Tending.{is_log_due}
+use Rattle.flow_engine.specs.Ready.{is_log_due}
 use Rattle.flow_engine.specs.declared.error.EngineError.{EngineError}
-use Rattle.flow_engine.specs.declared.error.EngineError.TheVariants.{Damaged, Disk, Inbox, Outbox, Limit, Memory}
+use Rattle.flow_engine.specs.declared.error.EngineError.TheVariants.{Damaged, Disk, Inbox, Outbox, Limit, MustReopen, Memory}
 
 -- ---- of files, by what a store has in memory
 
@@ -90,6 +88,7 @@ module _ {D : Type 0} (moment : D → ℕ) (images : D → ℕ → Files → Typ
   not_quiet Inbox is = cc
   not_quiet Outbox is = cc
   not_quiet (Limit limit) is = cc
+  not_quiet MustReopen is = cc
   not_quiet Memory is = cc
 
   not_blocked : (error : EngineError) (place : ℕ) → ended_by error ≡ ended.Blocked place → ⊥
@@ -98,15 +97,12 @@ module _ {D : Type 0} (moment : D → ℕ) (images : D → ℕ → Files → Typ
   not_blocked Inbox place is = cc
   not_blocked Outbox place is = cc
   not_blocked (Limit limit) place is = cc
+  not_blocked MustReopen place is = cc
   not_blocked Memory place is = cc
 
   pub ends_by_error : (checkpoint : ℕ) (error : EngineError) (end : Ended) (new : D) → end ≡ ended_by error → EndsShort moment images checkpoint end new
   ends_by_error checkpoint error end new is (inl quiet) = absurd (not_quiet error (sym is ∙ quiet))
   ends_by_error checkpoint error end new is (inr blocked) = absurd (not_blocked error blocked.0 (sym is ∙ blocked.1))
-
-  pub ends_by_limit : (checkpoint : ℕ) (limit : TheLimit) (end : Ended) (new : D) → (end ≡ ended.Limit limit) ⊎ (end ≡ ended.Fault fault.Disk) → EndsShort moment images checkpoint end new
-  ends_by_limit checkpoint limit end new (inl is) = ends_by_error checkpoint (Limit limit) end new is
-  ends_by_limit checkpoint limit end new (inr is) = ends_by_error checkpoint Disk end new is
 
   pub ends_short : (checkpoint other : ℕ) (end : Ended) (old new : D) → other ≡ checkpoint → IsShortOn moment images other old
       → ((n : ℕ) → IsShortOn moment images n old → IsShortOn moment images n new) → EndsShort moment images checkpoint end new

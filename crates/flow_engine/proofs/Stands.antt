@@ -16,6 +16,7 @@ use Rattle.machine_model.specs.declared.kind.Kind.{Kind}
 use Rattle.machine_model.specs.declared.kind.Kind.TheVariants.{GetFile, GenerateFlowFile, PutFile}
 use Rattle.machine_model.specs.declared.pattern.Pattern.{Pattern}
 use Rattle.machine_model.specs.Changing.{queued_file}
+use Rattle.machine_model.specs.Due.{due_expiry}
 use Rattle.machine_model.specs.Files.{queues_of}
 use Rattle.machine_model.specs.Kinds.{is_among, take_rule_of}
 use Rattle.machine_model.specs.State.{Machine, QueuedFile, State, World}
@@ -29,7 +30,7 @@ use Rattle.engine_queues.specs.Laws.{QueuesAreSeen, SeesTheSame}
 use Rattle.engine_queues.specs.Queues.{AreQueuesOf, queue_seen}
 use Rattle.engine_queues.specs.Views.{HaveSizes}
 use Rattle.engine_choice.specs.Choice.{coming_of, next_choice}
-use Rattle.engine_choice.specs.Laws.{ChoicesAreSessions, given_for, numbers_in}
+use Rattle.engine_choice.specs.Laws.{ChoicesAreSeen, ChoicesAreSessions, given_for, numbers_in}
 use Rattle.engine_choice.specs.declared.choice.Choice.{Choice}
 use Rattle.engine_choice.specs.declared.choice.Taking.{Taking}
 use Rattle.engine_choice.specs.declared.choice.Taking.TheVariants.{Files, Generate, Receive}
@@ -37,11 +38,11 @@ use Rattle.engine_session.specs.Handing.{live_files}
 use Rattle.engine_session.specs.Laws.{MachinesFilesAreLive}
 use Rattle.flow_run.specs.Journal.{files_left}
 use Rattle.flow_run.specs.Run.{IsStateOf}
+use Rattle.flow_run.specs.Turns.{IsNextSession}
 use Rattle.flow_engine.specs.Handing.{HasBytes, HasBytesOf, IsHanded, IsHandedAs}
 use Rattle.flow_engine.specs.Job.{StandsIn}
 use Rattle.flow_engine.specs.declared.job.Job.{Job}
 use Rattle.flow_engine.proofs.Chosen.{IsNext, TakesSo}
-use Rattle.flow_engine.proofs.FirstNames.{takes_first}
 
 -- ---- a file that is left
 
@@ -117,13 +118,13 @@ moment_of moment there (Files connection numbers) = refl
 moment_of moment there (Generate index) = refl
 moment_of moment there (Receive name) = refl
 
-module _ (sessions : ChoicesAreSessions) (seen : QueuesAreSeen) (live : MachinesFilesAreLive) (flow : Flow) (k : Kept) (queues : List QueueState) (names : List (List ℕ)) (moment : ℕ) (last : Option ℕ) (choice : Choice)
+module _ (sessions : ChoicesAreSessions) (choices : ChoicesAreSeen) (seen : QueuesAreSeen) (live : MachinesFilesAreLive) (flow : Flow) (k : Kept) (queues : List QueueState) (names : List (List ℕ)) (moment : ℕ) (last : Option ℕ) (choice : Choice)
     (contents : ContentRef → List ℕ) (m : Machine) (left : List NamedFile) (standing : List ℕ → Option (List ℕ)) (job : Job) where
   pub stands_in : IsConsistent k → k.batches ≡ [] → flow_in k ≡ identity_of flow → AreQueuesOf flow k queues → HaveSizes contents k
-      → next_choice flow (queue_seen queues) k.counts names moment last ≡ Some choice → IsNext flow k names moment choice
+      → due_expiry flow (queue_seen queues) moment ≡ None → next_choice flow (queue_seen queues) k.counts names moment last ≡ Some choice → IsNext flow k names moment choice
       → IsStateOf m contents k → IsValid flow m.state → coming_of m.world ≡ names → left ≡ files_left m.world → standing ≡ m.world.outbox
-      → IsHanded k moment choice job → IsHandedAs k contents left standing choice job → StandsIn flow k contents m job
-  stands_in consistent no_batches flow_is are sizes chosen next tied valid coming lies stands handed told =
+      → IsHanded k moment choice job → IsHandedAs k contents left standing choice job → StandsIn flow last k contents m job
+  stands_in consistent no_batches flow_is are sizes nothing chosen next tied valid coming lies stands handed told =
       let count = ap (λ (f : store.Flow). length f.connections) flow_is ∙ length-map flow.connections (λ c. c.id) in
       let sees : SeesTheSame flow (queue_seen queues) (queues_of m.state) =
       subst (λ (s : State). SeesTheSame flow (queue_seen queues) (queues_of s)) tied.is (seen flow contents m.state.events k queues consistent sizes count are) in
@@ -145,11 +146,21 @@ module _ (sessions : ChoicesAreSessions) (seen : QueuesAreSeen) (live : Machines
       let gives : given_in at.processor.kind choice.processor m.state m.world at.files (record job.given { bytes = None }) ≡ Some at.handed =
       ap (given_in at.processor.kind choice.processor m.state m.world at.files) (handed.given ∙ ap (λ b. given_for moment b choice.taking) there) ∙ at.given in
       let back = handed_so k names moment choice.processor m.state m.world at.files left lies job.given at.handed at.processor.kind choice.taking takes handed.given handed.has told.received gives in
+      let turn : IsNextSession flow last m job.processor job.numbers job.given.moment (record job.given { bytes = None }) = record {
+        expired = sym (sees.expiry job.given.moment) ∙ ap (due_expiry flow (queue_seen queues)) time ∙ nothing;
+        choice = choice;
+        chosen = ap (λ (t : ℕ). next_choice flow (queues_of m.state) m.state.counts (coming_of m.world) t last) time
+            ∙ sym (choices flow (queue_seen queues) (queues_of m.state) m.state.counts (coming_of m.world) moment last sees)
+            ∙ comes;
+        place_is = sym handed.processor;
+        numbers_are = sym handed.numbers;
+        given_is = ap (λ (t : ℕ). given_for t job.given.there choice.taking) time ∙ sym handed.given;
+      } in
       record {
         processor = at.processor;
         found = ap (slice_get flow.processors) handed.processor ∙ at.found;
         read = told.read;
         taken = (λ i. taken_files flow m.state (handed.processor i) rule (handed.numbers i) (time i)) ∙ at.taken ∙ ap Some files;
-        first = λ processor filter found is. takes_first flow k names moment choice job m.world next handed coming processor filter found is;
         given = (λ i. given_in at.processor.kind (handed.processor i) m.state m.world (sym files i) (record job.given { bytes = None })) ∙ gives ∙ ap Some back;
+        comes = turn;
       }

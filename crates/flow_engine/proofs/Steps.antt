@@ -1,19 +1,19 @@
 -- The session that comes next is a step of the machine that a run is at.
-use Rattle.std.proofs.Common.{◌≡◌, ℕ, Bool, List, [], sym, subst}
-use Rattle.std.specs.Prelude.{Option, Some}
+use Rattle.std.proofs.Common.{◌≡◌, ℕ, ◌≤◌, Bool, List, [], sym, subst}
+use Rattle.std.specs.Prelude.{Option, None, Some}
 use Rattle.disk_trait.specs.Files.{Files}
-use Rattle.disk_trait.specs.Images.{Stays}
 use Rattle.flowfile_record.specs.NamedFile.{NamedFile}
 use Rattle.flowfile_wal.specs.Calls.{InEach}
 use Rattle.checkpoint_store.specs.Consistent.{IsConsistent}
 use Rattle.content_repo.specs.Claims.{content_in}
 use Rattle.machine_model.specs.declared.flow.Flow.{Flow}
+use Rattle.machine_model.specs.Due.{due_expiry}
 use Rattle.machine_model.specs.State.{Machine}
 use Rattle.store_core.specs.Store.{Holds, StoreState, kept_by}
 use Rattle.engine_queues.specs.Laws.{HeldContentsHaveSizes, QueuesAreSeen, QueuesShowKept}
 use Rattle.engine_queues.specs.Queues.{queue_seen}
 use Rattle.engine_choice.specs.Choice.{next_choice}
-use Rattle.engine_choice.specs.Laws.{ChoicesAreSessions}
+use Rattle.engine_choice.specs.Laws.{ChoicesAreSeen, ChoicesAreSessions}
 use Rattle.engine_choice.specs.declared.choice.Choice.{Choice}
 use Rattle.engine_session.specs.Laws.{MachinesFilesAreLive}
 use Rattle.flow_run.specs.Going.{IsSpared}
@@ -21,14 +21,13 @@ use Rattle.flow_run.specs.Laws.{SparedRunsGoOn}
 use Rattle.flow_run.specs.Run.{IsStateOf, StandsFor}
 use Rattle.flow_run.specs.Work.{IsAtWork}
 use Rattle.flow_engine.specs.Change.{IsStepOf, MakesStep}
-use Rattle.flow_engine.specs.Committing.{IsQueued}
-use Rattle.flow_engine.specs.Engine.{EngineState, IsReady}
+use Rattle.flow_engine.specs.Engine.{EngineState}
+use Rattle.flow_engine.specs.Ready.{IsReady}
 use Rattle.flow_engine.specs.Handing.{IsHanded, IsHandedAs}
 use Rattle.flow_engine.specs.Running.{IsRunning}
 use Rattle.flow_engine.specs.declared.change.Changed.{Changed}
 use Rattle.flow_engine.specs.declared.job.Job.{Job}
 use Rattle.flow_engine.proofs.Chosen.{IsNext, next_takes}
-use Rattle.flow_engine.proofs.Commits.{work_read}
 use Rattle.flow_engine.proofs.Stands.{stands_in}
 
 module _ (tells : Bool) {D : Type 0} (held : D → Files) (moment : D → ℕ) (images : D → ℕ → Files → Type 0) (e : EngineState) (disk : D) (ready : IsReady tells held moment images e disk)
@@ -37,27 +36,28 @@ module _ (tells : Bool) {D : Type 0} (held : D → Files) (moment : D → ℕ) (
   pub next : QueuesShowKept → IsNext e.flow (kept_by e.store) e.listing.names time choice
   next shown = next_takes shown e.flow (kept_by e.store) e.queues e.listing.names time e.last choice consistent ready.work.flow_is ready.sound ready.built ready.queues chosen
 
-  -- what it makes of what it was handed is a step
-  pub steps : QueuesShowKept → QueuesAreSeen → HeldContentsHaveSizes → ChoicesAreSessions → MachinesFilesAreLive → (kept_by e.store).batches ≡ [] → Holds e.store (held disk)
-      → (opened : Machine) (first : D) (left : List NamedFile) (standing : List ℕ → Option (List ℕ)) (run : IsRunning moment images e opened first disk left standing)
+  -- where nothing has expired, what it makes of what it was handed is a step
+  pub steps : QueuesShowKept → QueuesAreSeen → HeldContentsHaveSizes → ChoicesAreSessions → ChoicesAreSeen → MachinesFilesAreLive → due_expiry e.flow (queue_seen e.queues) time ≡ None
+      → (kept_by e.store).batches ≡ [] → Holds e.store (held disk)
+      → (opened : Machine) (first : D) (start since : ℕ) (left : List NamedFile) (standing : List ℕ → Option (List ℕ)) (run : IsRunning moment images e opened first start since disk left standing)
       → IsStateOf run.reached (content_in (held disk)) (kept_by e.store) → (job : Job) (changed : Changed)
       → IsHanded (kept_by e.store) time choice job → IsHandedAs (kept_by e.store) (content_in (held disk)) left standing choice job
-      → MakesStep e.flow (kept_by e.store) job changed → IsStepOf e.flow (content_in (held disk)) run.reached job changed
-  steps shown seen sizes sessions live no_batches holds opened first left standing run tied job changed handed told makes =
-      makes (content_in (held disk)) run.reached tied run.to.run.valid
-      (stands_in sessions seen live e.flow (kept_by e.store) e.queues e.listing.names time e.last choice (content_in (held disk)) run.reached left standing job
-      consistent no_batches ready.work.flow_is ready.queues (sizes e.store (held disk) holds) chosen (next shown) tied run.to.run.valid run.to.coming run.to.run.lies run.to.run.stands handed told)
+      → MakesStep e.flow (kept_by e.store) job changed → IsStepOf e.flow e.last (content_in (held disk)) run.reached job changed
+  steps shown seen sizes sessions choices live nothing no_batches holds opened first start since left standing run tied job changed handed told makes =
+      makes e.last (content_in (held disk)) run.reached tied run.to.run.valid
+      (stands_in sessions choices seen live e.flow (kept_by e.store) e.queues e.listing.names time e.last choice (content_in (held disk)) run.reached left standing job
+      consistent no_batches ready.work.flow_is ready.queues (sizes e.store (held disk) holds) nothing chosen (next shown) tied run.to.run.valid run.to.coming run.to.run.lies run.to.run.stands handed told)
 
--- calls that leave what the disk stands for
-abbrev pub runs_on : {D : Type 0} (moment : D → ℕ) (images : D → ℕ → Files → Type 0) → SparedRunsGoOn moment images → (e : EngineState) (opened : Machine) (first old new : D) (left : List NamedFile) (standing : List ℕ → Option (List ℕ))
-    (run : IsRunning moment images e opened first old left standing) → IsSpared e.flow moment images e.store.lot run.reached old new → IsRunning moment images e opened first new left standing
-runs_on moment images law e opened first old new left standing run spared = record {
-  journal = run.journal;
+-- calls that leave what the disk stands for, and time that goes by
+abbrev pub runs_on : {D : Type 0} (moment : D → ℕ) (images : D → ℕ → Files → Type 0) → SparedRunsGoOn moment images → (e : EngineState) (opened : Machine) (first : D) (start time later : ℕ) (old new : D) (left : List NamedFile)
+    (standing : List ℕ → Option (List ℕ)) (run : IsRunning moment images e opened first start time old left standing) → time ≤ later → IsSpared e.flow moment images e.store.lot run.reached old new
+    → IsRunning moment images e opened first start later new left standing
+runs_on moment images law e opened first start time later old new left standing run no_earlier spared = record {
   reached = run.reached;
   to = record {
-    run = law e.flow e.store.lot opened run.reached first old new run.journal left standing run.to.run spared;
-    count = run.to.count;
+    run = law e.flow start time later e.store.lot opened run.reached first old new e.journal left standing run.to.run no_earlier spared;
     coming = run.to.coming;
+    last = run.to.last;
   };
 }
 
@@ -74,24 +74,20 @@ module _ (tells : Bool) {D : Type 0} (held : D → Files) (moment : D → ℕ) (
       next tells held moment images v disk ready_there consistent time choice
       (subst (λ (x : EngineState). next_choice x.flow (queue_seen x.queues) (kept_by x.store).counts x.listing.names time x.last ≡ Some choice) (sym is) chosen) shown
 
-  pub queued_then : (t : StoreState) (new : D) → t ≡ v.store → Stays held moment images disk new → IsQueued v.flow tells held moment images t v.queues new
-  queued_then t new same stays =
-      subst (λ (s : StoreState). IsQueued v.flow tells held moment images s v.queues new) (sym same)
-      (record { work = work_read v.flow tells held moment images v.store disk new stays ready_there.work; are = ready_there.queues })
-
-  pub step_so : QueuesShowKept → QueuesAreSeen → HeldContentsHaveSizes → ChoicesAreSessions → MachinesFilesAreLive → (kept_by v.store).batches ≡ [] → Holds v.store (held disk)
+  pub step_so : QueuesShowKept → QueuesAreSeen → HeldContentsHaveSizes → ChoicesAreSessions → ChoicesAreSeen → MachinesFilesAreLive → due_expiry e.flow (queue_seen e.queues) time ≡ None
+      → (kept_by v.store).batches ≡ [] → Holds v.store (held disk)
       → ((flow : Flow) → IsAtWork flow tells held moment images v.store disk → (m : Machine) → InEach (images disk (moment disk)) (StandsFor flow v.store.lot m) → IsStateOf m (content_in (held disk)) (kept_by v.store))
       → (t : StoreState) → t ≡ v.store
-      → (opened : Machine) (first : D) (left : List NamedFile) (standing : List ℕ → Option (List ℕ)) (run : IsRunning moment images e opened first disk left standing)
+      → (opened : Machine) (first : D) (start since : ℕ) (left : List NamedFile) (standing : List ℕ → Option (List ℕ)) (run : IsRunning moment images e opened first start since disk left standing)
       → (job : Job) (changed : Changed)
       → IsHanded (kept_by v.store) time choice job → IsHandedAs (kept_by v.store) (content_in (held disk)) left standing choice job
       → MakesStep v.flow (kept_by t) job changed
-      → IsStepOf e.flow (content_in (held disk)) run.reached job changed × IsStateOf run.reached (content_in (held disk)) (kept_by v.store)
-  step_so shown seen sizes sessions live no_batches holds tied t same opened first left standing run job changed handed told makes =
+      → IsStepOf e.flow e.last (content_in (held disk)) run.reached job changed × IsStateOf run.reached (content_in (held disk)) (kept_by v.store)
+  step_so shown seen sizes sessions choices live nothing no_batches holds tied t same opened first start since left standing run job changed handed told makes =
       let tie = tied e.flow (subst (λ (x : EngineState). IsAtWork e.flow tells held moment images x.store disk) (sym is) ready.work) run.reached
       (subst (λ (x : EngineState). InEach (images disk (moment disk)) (StandsFor e.flow x.store.lot run.reached)) (sym is) run.to.run.holds) in (
-        steps tells held moment images e disk ready (subst (λ (x : EngineState). IsConsistent (kept_by x.store)) is consistent) time choice chosen shown seen sizes sessions live
-            (subst (λ (x : EngineState). (kept_by x.store).batches ≡ []) is no_batches) (subst (λ (x : EngineState). Holds x.store (held disk)) is holds) opened first left standing run
+        steps tells held moment images e disk ready (subst (λ (x : EngineState). IsConsistent (kept_by x.store)) is consistent) time choice chosen shown seen sizes sessions choices live nothing
+            (subst (λ (x : EngineState). (kept_by x.store).batches ≡ []) is no_batches) (subst (λ (x : EngineState). Holds x.store (held disk)) is holds) opened first start since left standing run
             (subst (λ (x : EngineState). IsStateOf run.reached (content_in (held disk)) (kept_by x.store)) is tie) job changed
             (subst (λ (x : EngineState). IsHanded (kept_by x.store) time choice job) is handed)
             (subst (λ (x : EngineState). IsHandedAs (kept_by x.store) (content_in (held disk)) left standing choice job) is told)

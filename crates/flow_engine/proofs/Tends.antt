@@ -25,6 +25,8 @@ use Rattle.kept_state.specs.Limits.{numbers_limit}
 use Rattle.kept_state.specs.declared.limit.Limit.{Limit}
 use Rattle.kept_state.proofs.Expiring.{expiry_live}
 use Rattle.machine_model.specs.declared.flow.Flow.{Flow}
+use Rattle.machine_model.specs.declared.journal.Entry.{Entry}
+use Rattle.machine_model.specs.declared.journal.Step.{Step}
 use Rattle.machine_model.specs.Changing.{state_after}
 use Rattle.machine_model.specs.Due.{is_checkpoint_due}
 use Rattle.machine_model.specs.State.{Machine, State}
@@ -45,6 +47,7 @@ use Rattle.flow_run.specs.Run.{StandsFor}
 use Rattle.flow_run.specs.Work.{IsAtWork, IsRefused, WritesLog}
 use Rattle.flow_run.proofs.Writing.{checkpoint_writes, log_writes, writes_as}
 use Rattle.flow_engine.specs.Errors.{error_of}
+use Rattle.flow_engine.specs.Journal.{journaled}
 use Rattle.flow_engine.specs.declared.error.EngineError.{EngineError}
 
 -- ---- errors
@@ -80,6 +83,18 @@ memory_of (StoreError.OtherFlow kept found) kind is =
     absurd
     (⊎_elim (λ (either : IsDiskOrMemory (StoreError.OtherFlow kept found)). ⊎_elim (λ (disk : StoreError.OtherFlow kept found ≡ StoreError.Disk). cc) (λ (memory : StoreError.OtherFlow kept found ≡ StoreError.Memory). cc) either)
     (λ (reopen : StoreError.OtherFlow kept found ≡ StoreError.MustReopen). cc) kind)
+
+-- ---- the journal behind a commit
+
+-- it has no entry more where an error came before the commit
+pub journaled_kept : (error : EngineError) (one : Step) (journal : List Entry) → (error ≡ EngineError.Disk → ⊥) → journaled (Err error) one journal ≡ journal
+journaled_kept (EngineError.Damaged damage) one journal other = refl
+journaled_kept EngineError.Disk one journal other = absurd (other refl)
+journaled_kept EngineError.Inbox one journal other = refl
+journaled_kept EngineError.Outbox one journal other = refl
+journaled_kept (EngineError.Limit limit) one journal other = refl
+journaled_kept EngineError.MustReopen one journal other = refl
+journaled_kept EngineError.Memory one journal other = refl
 
 -- ---- what the files stand for
 

@@ -1,5 +1,5 @@
 -- What a session changes: the store's state, and what it sends.
-use Rattle.std.specs.Prelude.{◌≡◌, ⊤, ℕ, List, Option, None, Some, Contains}
+use Rattle.std.specs.Prelude.{◌≡◌, ⊤, ℕ, List, Option, None, Some}
 use Rattle.flowfile_record.specs.NamedFile.{NamedFile, with_file, without}
 use Rattle.flowfile_record.specs.Stored.{Kept}
 use Rattle.flowfile_record.specs.declared.content.ContentRef.{ContentRef}
@@ -7,15 +7,14 @@ use Rattle.machine_model.specs.declared.flow.Flow.{Flow}
 use Rattle.machine_model.specs.declared.given.Given.{Given}
 use Rattle.machine_model.specs.declared.journal.Step.{Step}
 use Rattle.machine_model.specs.declared.journal.Step.TheVariants.{Session}
-use Rattle.machine_model.specs.Acting.{name_in}
 use Rattle.machine_model.specs.Changing.{state_after}
-use Rattle.machine_model.specs.Files.{queue_at}
-use Rattle.machine_model.specs.State.{Machine, QueuedFile}
+use Rattle.machine_model.specs.State.{Machine}
 use Rattle.machine_model.specs.Stepping.{step, without_name}
 use Rattle.machine_model.specs.Valid.{IsValid}
 use Rattle.engine_choice.specs.Choice.{coming_of}
-use Rattle.flow_run.specs.Journal.{files_left, TakesFirst}
-use Rattle.flow_run.specs.Run.{IsStateOf}
+use Rattle.flow_run.specs.Journal.{files_left}
+use Rattle.flow_run.specs.Run.{IsPut, IsStateOf}
+use Rattle.flow_run.specs.Turns.{ComesNext}
 use Rattle.flow_engine.specs.Job.{StandsIn}
 use Rattle.flow_engine.specs.declared.change.Changed.{Changed}
 use Rattle.flow_engine.specs.declared.change.Sending.{Sending}
@@ -43,28 +42,27 @@ without_bytes given = record given { bytes = None }
 abbrev pub step_of : Job → Step
 step_of job = Session job.processor job.numbers job.given.moment (without_bytes job.given)
 
--- what is sent is a file that waits, under its name
-abbrev pub IsSentFrom : Machine → Option Sending → Type 0
-IsSentFrom before None = ⊤
-IsSentFrom before (Some sending) =
-    (place : ℕ) × (file : QueuedFile) × Contains (queue_at before.state place) file
-    × (name_in file.attributes ≡ Some sending.name)
+-- what is sent is what this session of a PutFile puts
+abbrev pub IsSentBy : Flow → Machine → Step → Option Sending → Type 0
+IsSentBy flow before one None = ⊤
+IsSentBy flow before one (Some sending) = IsPut flow before one sending.name
 
--- There is such a step. Behind it the state is that behind the change; the inbox has lost the file that the session
--- was given, if one, which a GetFile might get first, and the outbox has what it sends.
-pub record IsStepOf (flow : Flow) (contents : ContentRef → List ℕ) (before : Machine) (job : Job) (changed : Changed)
-    : Type 0 where
+-- It is the step that comes next. Behind it the state is that behind the change; the inbox has lost the file that the
+-- session was given, if one, and the outbox has what it sends.
+pub record IsStepOf (flow : Flow) (last : Option ℕ) (contents : ContentRef → List ℕ) (before : Machine) (job : Job)
+    (changed : Changed) : Type 0 where
   pub after : Machine
   pub goes : step flow before (step_of job) ≡ Some after
-  pub first : TakesFirst flow before (step_of job)
+  pub comes : ComesNext flow last before (step_of job)
   pub state : state_after contents before.state changed.settled ≡ after.state
   pub inbox : files_left after.world ≡ without_received job.given.file (files_left before.world)
   pub coming : coming_of after.world ≡ names_without job.given.file (coming_of before.world)
   pub outbox : after.world.outbox ≡ with_sending changed.sending before.world.outbox
-  pub sent : IsSentFrom before changed.sending
+  pub sent : IsSentBy flow before (step_of job) changed.sending
 
 -- wherever what the session was handed stands so, it is such a step
 abbrev pub MakesStep : Flow → Kept → Job → Changed → Type 0
 MakesStep flow k job changed =
-    (contents : ContentRef → List ℕ) (before : Machine) → IsStateOf before contents k → IsValid flow before.state
-    → StandsIn flow k contents before job → IsStepOf flow contents before job changed
+    (last : Option ℕ) (contents : ContentRef → List ℕ) (before : Machine) → IsStateOf before contents k
+    → IsValid flow before.state → StandsIn flow last k contents before job
+    → IsStepOf flow last contents before job changed

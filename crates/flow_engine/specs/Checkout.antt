@@ -1,6 +1,6 @@
 -- What comes next.
-use Rattle.std.specs.Prelude.{ℕ, nat_lt, Option, None, Some, if◌then◌else◌}
-use Rattle.engine_choice.specs.Choice.{ending_of, next_choice}
+use Rattle.std.specs.Prelude.{ℕ, ◌-◌, ◌^◌, ◌<◌, nat_lt, Option, None, Some, length, if◌then◌else◌}
+use Rattle.engine_choice.specs.Choice.{ending_of, next_choice, MayChoose}
 use Rattle.engine_choice.specs.declared.choice.Choice.{Choice}
 use Rattle.engine_choice.specs.declared.choice.Ending.{Ending}
 use Rattle.engine_choice.specs.declared.choice.Ending.TheVariants as ending
@@ -8,13 +8,29 @@ use Rattle.engine_queues.specs.Queues.{queue_seen}
 use Rattle.store_core.specs.Store.{kept_by}
 use Rattle.flow_run.specs.Ending.{journal_full}
 use Rattle.flow_engine.specs.Engine.{EngineState}
+use Rattle.flow_engine.specs.Ready.{KnowsDue, due_in}
 use Rattle.flow_engine.specs.declared.checkout.Checkout.{Checkout}
-use Rattle.flow_engine.specs.declared.checkout.Checkout.TheVariants.{Session, Limit, Rest, Blocked, Quiet}
+use Rattle.flow_engine.specs.declared.checkout.Checkout.TheVariants.{Due, Session, Limit, Rest, Blocked, Quiet}
+use Rattle.flow_engine.specs.declared.tending.Tended.{Tended}
+use Rattle.flow_engine.specs.declared.tending.Tended.TheVariants.{Nothing}
 
--- the session that comes next
+-- ---- a session
+
+-- that of the first processor in turn that is ready
 abbrev pub choice_in : EngineState → (moment : ℕ) → Option Choice
 choice_in e moment =
     next_choice e.flow (queue_seen e.queues) (kept_by e.store).counts e.listing.names moment e.last
+
+-- none, where anything is due
+abbrev pub choice_behind : Tended → Option Choice → Option Choice
+choice_behind Nothing choice = choice
+choice_behind due choice = None
+
+-- the session that comes next
+abbrev pub session_in : EngineState → (moment : ℕ) → Option Choice
+session_in e moment = choice_behind (due_in e moment) (choice_in e moment)
+
+-- ---- what comes next
 
 -- how it ends where no session comes
 abbrev pub ending_in : EngineState → (moment : ℕ) → Ending
@@ -30,5 +46,17 @@ abbrev pub next_of : (entries most : ℕ) → Option Choice → Ending → Check
 next_of entries most None end = ended_as end
 next_of entries most (Some choice) end = if nat_lt entries most then Session choice else Limit (journal_full most)
 
+-- what is due comes before that
+abbrev pub next_behind : Tended → Checkout → Checkout
+next_behind Nothing next = next
+next_behind due next = Due
+
 abbrev pub checkout_in : EngineState → (moment : ℕ) → Checkout
-checkout_in e moment = next_of e.entries e.most (choice_in e moment) (ending_in e moment)
+checkout_in e moment =
+    next_behind (due_in e moment) (next_of (length e.journal) e.most (choice_in e moment) (ending_in e moment))
+
+-- What is in memory is that of the flow, and the engine knows right what is due.
+pub record MayCheckOut (e : EngineState) : Type 0 where
+  pub choose : MayChoose e.flow e.queues (kept_by e.store).counts e.listing
+  pub due : KnowsDue e
+  pub most : e.most < 2 ^ 64 - 1

@@ -1,18 +1,20 @@
 -- What becomes of a session that was worked on.
-use Rattle.std.specs.Prelude.{◌≡◌, ◌⊎◌, ℕ, List, [], ◌∷◌, ◌++◌, Option, None, Some}
-use Rattle.disk_trait.specs.Files.{Files}
+use Rattle.std.specs.Prelude.{◌≡◌, ◌⊎◌, ℕ, true, List, [], ◌∷◌, ◌++◌, length, Option, None, Some, Result, Ok, Err, IsErrOf}
 use Rattle.flowfile_record.specs.NamedFile.{NamedFile}
 use Rattle.flowfile_record.specs.declared.content.ContentRef.{ContentRef}
-use Rattle.machine_model.specs.declared.journal.Entry.{Entry}
-use Rattle.machine_model.specs.declared.journal.Step.{Step}
-use Rattle.machine_model.specs.State.{Machine}
+use Rattle.kept_state.specs.declared.limit.Limit.{Limit as TheLimit}
 use Rattle.store_core.specs.Store.{kept_by}
-use Rattle.flow_engine.specs.Checkout.{choice_in}
-use Rattle.flow_engine.specs.Done.{IsSame, IsWorkOn}
+use Rattle.flow_engine.specs.Checkout.{session_in}
+use Rattle.flow_engine.specs.Change.{names_without, without_received}
+use Rattle.flow_engine.specs.Done.{IsSame, IsWorkOn, step_done}
 use Rattle.flow_engine.specs.Engine.{EngineState}
 use Rattle.flow_engine.specs.Job.{IsNextJob}
-use Rattle.flow_engine.specs.Running.{IsRunningTo}
+use Rattle.flow_engine.specs.Tending.{counted_on}
+use Rattle.flow_engine.specs.declared.commit.Committed.{Committed}
+use Rattle.flow_engine.specs.declared.commit.Committed.TheVariants.{Acked}
 use Rattle.flow_engine.specs.declared.done.Done.{Done}
+use Rattle.flow_engine.specs.declared.error.EngineError.{EngineError}
+use Rattle.flow_engine.specs.declared.error.EngineError.TheVariants.{Disk, Inbox, Limit}
 use Rattle.flow_engine.specs.declared.job.Job.{Job}
 
 -- it is the work on the job that comes next at its moment
@@ -26,13 +28,66 @@ StandsSo telling e contents left standing done =
 abbrev pub StandsOtherwise : (telling : Type 0) → EngineState → (ContentRef → List ℕ) → List NamedFile
     → (List ℕ → Option (List ℕ)) → Done → Type 0
 StandsOtherwise telling e contents left standing done =
-    (choice_in e done.given.moment ≡ None)
+    (session_in e done.given.moment ≡ None)
     ⊎ ((job : Job) × IsNextJob telling e contents left standing done.given.moment job × (IsSame done job → ⊥))
 
--- The journal has one entry more, this step, acknowledged at this moment, and leads to the engine's state.
-abbrev pub HasEntry : {D : Type 0} → Step → (acked : ℕ) → (D → ℕ) → (D → ℕ → Files → Type 0) → EngineState → Machine
-    → (first now : D) → List NamedFile → (List ℕ → Option (List ℕ)) → List Entry → Type 0
-HasEntry one acked moment images e opened first now left standing journal =
-    (after : Machine)
-    × IsRunningTo moment images e opened first now left standing (journal ++ record { step = one; acked = Some acked } ∷ [])
-    after
+-- ---- what it leaves
+
+-- The journal has one entry more, the session, acknowledged at this moment; the file that it received is no longer to
+-- come, and its processor got the last session.
+pub record IsAcknowledged (done : Done) (at : ℕ) (old new : EngineState) : Type 0 where
+  pub journal : new.journal ≡ old.journal ++ record { step = step_done done; acked = Some at } ∷ []
+  pub names : new.listing.names ≡ names_without done.given.file old.listing.names
+  pub last : new.last ≡ Some done.processor
+  pub since : new.since_reclaim ≡ counted_on old.since_reclaim
+
+-- what is to come, who worked last and how many entries came are as before
+pub record IsUncounted (old new : EngineState) : Type 0 where
+  pub names : new.listing.names ≡ old.listing.names
+  pub last : new.last ≡ old.last
+  pub since : new.since_reclaim ≡ old.since_reclaim
+
+-- .. and the journal is
+abbrev pub IsUnjournaled : (old new : EngineState) → Type 0
+IsUnjournaled old new = (new.journal ≡ old.journal) × IsUncounted old new
+
+-- .. but that the session may stand in it, not acknowledged
+abbrev pub IsCutOff : Done → (old new : EngineState) → Type 0
+IsCutOff done old new =
+    (new.journal ≡ old.journal ++ record { step = step_done done; acked = None } ∷ []) × IsUncounted old new
+
+-- What a commit leaves, at a disk whose moment is then this one. Where the disk failed the journal may have the session,
+-- not acknowledged; where the inbox failed, acknowledged by now; and at any other refusal all is as it was.
+abbrev pub IsJournaled : Result Committed EngineError → Done → (now : ℕ) → (old new : EngineState) → Type 0
+IsJournaled (Ok (Acked entry moment)) done now old new =
+    (entry ≡ length old.journal) × (moment ≡ now) × IsAcknowledged done moment old new
+IsJournaled (Err Disk) done now old new = IsUnjournaled old new ⊎ IsCutOff done old new
+IsJournaled (Err Inbox) done now old new = IsUnjournaled old new ⊎ IsAcknowledged done now old new
+IsJournaled _ done now old new = IsUnjournaled old new
+
+-- the same of work whose job stands
+abbrev pub IsEntered : Result ℕ EngineError → Done → (now : ℕ) → (old new : EngineState) → Type 0
+IsEntered (Ok moment) done now old new = (moment ≡ now) × IsAcknowledged done moment old new
+IsEntered (Err Disk) done now old new = IsUnjournaled old new ⊎ IsCutOff done old new
+IsEntered (Err Inbox) done now old new = IsAcknowledged done now old new
+IsEntered _ done now old new = IsUnjournaled old new
+
+-- what the inbox has then: the file that was received goes where it is acknowledged
+abbrev pub IsInboxBehind : Result Committed EngineError → (received : Option (List ℕ)) → (old new : List NamedFile)
+    → Type 0
+IsInboxBehind (Ok (Acked entry moment)) received old new = new ≡ without_received received old
+IsInboxBehind (Err Inbox) received old new = (new ≡ old) ⊎ (new ≡ without_received received old)
+IsInboxBehind _ received old new = new ≡ old
+
+-- the same of work whose job stands
+abbrev pub IsInboxLeft : Result ℕ EngineError → (received : Option (List ℕ)) → (old new : List NamedFile) → Type 0
+IsInboxLeft (Ok moment) received old new = new ≡ without_received received old
+IsInboxLeft (Err Inbox) received old new = (new ≡ old) ⊎ (new ≡ without_received received old)
+IsInboxLeft _ received old new = new ≡ old
+
+-- Nothing was made of the session: there is no entry, no limit was met, and the store must be opened anew only where it had
+-- to be before, or the disk failed.
+pub record IsLeftOut {A : Type 0} (result : Result A EngineError) (old new : EngineState) : Type 0 where
+  pub journal : new.journal ≡ old.journal
+  pub limit : (limit : TheLimit) → IsErrOf result (Limit limit) → ⊥
+  pub failed : new.failed ≡ true → (old.failed ≡ true) ⊎ IsErrOf result Disk

@@ -1,7 +1,19 @@
 -- How the change of a session becomes part of a store at work.
-use Rattle.std.specs.Prelude.{◌≡◌, ◌≢◌, ℕ, Bool, List, Option, None, Some}
+use Rattle.std.specs.Prelude.{◌≡◌, ◌≢◌, ◌⊎◌, ℕ, Bool, List, Option, None, Some, Result, IsTrue, IfOk, OnOk, IfErr, IsErrOf}
 use Rattle.disk_trait.specs.Files.{Files}
+use Rattle.content_repo.specs.Claims.{content_in}
+use Rattle.flowfile_wal.specs.Calls.{InEach}
+use Rattle.kept_state.specs.declared.limit.Limit.{Limit as TheLimit}
 use Rattle.machine_model.specs.declared.flow.Flow.{Flow}
+use Rattle.machine_model.specs.Changing.{state_after}
+use Rattle.machine_model.specs.State.{Machine}
+use Rattle.store_core.specs.Change.{IsLimitOf}
+use Rattle.flow_run.specs.Going.{IsBetween, IsStepped}
+use Rattle.flow_run.specs.Run.{StandsFor}
+use Rattle.flow_engine.specs.Change.{with_sending}
+use Rattle.flow_engine.specs.declared.change.Changed.{Changed}
+use Rattle.flow_engine.specs.declared.error.EngineError.{EngineError}
+use Rattle.flow_engine.specs.declared.error.EngineError.TheVariants.{Disk, Outbox, Limit, Memory}
 use Rattle.flow_queue.specs.Queue.{QueueState}
 use Rattle.store_core.specs.Store.{StoreState, kept_by}
 use Rattle.engine_queues.specs.Queues.{AreQueuesOf}
@@ -22,3 +34,32 @@ with_room room s = record s { memory = record { kept = kept_by s; room = room } 
 abbrev pub IsLeftBySend : Option Sending → (old new : List ℕ → Option (List ℕ)) → Type 0
 IsLeftBySend None old new = ⊥
 IsLeftBySend (Some sending) old new = (other : List ℕ) → other ≢ sending.name → new other ≡ old other
+
+-- What is left where a change was sent and committed, and why it wasn't. Any error but the disk's comes before the commit,
+-- and any but these two devices' before the put.
+pub record HasWritten {D : Type 0} (result : Result ℕ EngineError) (tells : Bool) (held : D → Files) (moment : D → ℕ)
+    (images : D → ℕ → Files → Type 0) (out_tells : Bool) (s t : StoreState) (queues now_queues : List QueueState)
+    (changed : Changed) (standing now_standing : List ℕ → Option (List ℕ)) (old new : D) : Type 0 where
+  pub stepped : OnOk result ((flow : Flow) (before after : Machine) → IsAtWork flow tells held moment images s old
+      → InEach (images old (moment old)) (StandsFor flow s.lot before)
+      → state_after (content_in (held old)) before.state changed.settled ≡ after.state
+      → IsStepped flow moment images s.lot before after old new)
+  pub cut_off : IsErrOf result Disk → (flow : Flow) (before after : Machine)
+      → IsAtWork flow tells held moment images s old
+      → InEach (images old (moment old)) (StandsFor flow s.lot before)
+      → state_after (content_in (held old)) before.state changed.settled ≡ after.state
+      → IsBetween flow moment images s.lot before after old new
+  pub moment_is : IfOk result (λ answer. answer ≡ moment new)
+  pub sent : OnOk result (IsTrue out_tells → now_standing ≡ with_sending changed.sending standing)
+  pub sent_before : IsErrOf result Disk → IsTrue out_tells → now_standing ≡ with_sending changed.sending standing
+  pub unwritten : (error : EngineError) → IsErrOf result error → (error ≡ Disk → ⊥)
+      → (new ≡ old) × (t ≡ with_room t.memory.room s)
+  pub unsent : (error : EngineError) → IsErrOf result error → (error ≡ Disk → ⊥) → (error ≡ Outbox → ⊥)
+      → now_standing ≡ standing
+  pub put : IsErrOf result Outbox → IsTrue out_tells → IsLeftBySend changed.sending standing now_standing
+  pub passes : (limit : TheLimit) → IsErrOf result (Limit limit) → IsLimitOf s changed.settled limit
+  pub kinds : IfErr result (λ error. (error ≡ Disk) ⊎ (error ≡ Memory) ⊎ (error ≡ Outbox)
+      ⊎ ((limit : TheLimit) × (error ≡ Limit limit)))
+  pub work : (IsErrOf result Disk → ⊥) → (flow : Flow)
+      → IsQueued flow tells held moment images s queues old → IsQueued flow tells held moment images t now_queues new
+  pub lot : (t.lot ≡ s.lot) × (t.log.number ≡ s.log.number)

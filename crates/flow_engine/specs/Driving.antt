@@ -3,7 +3,6 @@ use Rattle.std.specs.Prelude.{◌≡◌, ℕ, List, Option, None, Some}
 use Rattle.disk_trait.specs.Files.{Files}
 use Rattle.flowfile_record.specs.NamedFile.{NamedFile}
 use Rattle.machine_model.specs.Files.{queues_of}
-use Rattle.machine_model.specs.declared.journal.Entry.{Entry}
 use Rattle.machine_model.specs.State.{Machine}
 use Rattle.engine_choice.specs.Laws.{IsEndAt}
 use Rattle.engine_choice.specs.declared.choice.Ending.{Ending}
@@ -22,19 +21,18 @@ pub record ShowsState (e : EngineState) (m : Machine) : Type 0 where
 
 -- Nothing is left to do, or all of it is held back, at this moment of the clock.
 pub record IsEnded {D : Type 0} (moment : D → ℕ) (images : D → ℕ → Files → Type 0) (e : EngineState)
-    (opened : Machine) (first now : D) (left : List NamedFile) (standing : List ℕ → Option (List ℕ)) (time : ℕ)
-    (ending : Ending) : Type 0 where
-  pub journal : List Entry
+    (opened : Machine) (first : D) (start time : ℕ) (now : D) (left : List NamedFile)
+    (standing : List ℕ → Option (List ℕ)) (ending : Ending) : Type 0 where
   pub reached : Machine
-  pub to : IsRunningTo moment images e opened first now left standing journal reached
+  pub to : IsRunningTo moment images e opened first start time now left standing reached
   pub ends : IsEndAt e.flow reached.state reached.world time ending
 
--- what a turn leaves: a run that goes on, at once or behind a rest, or one that has ended
+-- what a turn leaves at this moment of the clock: a run that goes on, at once or behind a rest, or one that has ended
 abbrev pub IsTurned : {D : Type 0} → (D → ℕ) → (D → ℕ → Files → Type 0) → EngineState → (opened : Machine)
-    → (first now : D) → List NamedFile → (List ℕ → Option (List ℕ)) → (time : ℕ) → Option Ending → Type 0
-IsTurned moment images e opened first now left standing time None =
-    IsRunning moment images e opened first now left standing
-IsTurned moment images e opened first now left standing time (Some (Rest until)) =
-    IsRunning moment images e opened first now left standing
-IsTurned moment images e opened first now left standing time (Some ending) =
-    IsEnded moment images e opened first now left standing time ending
+    → (first : D) → (start time : ℕ) → (now : D) → List NamedFile → (List ℕ → Option (List ℕ)) → Option Ending → Type 0
+IsTurned moment images e opened first start time now left standing None =
+    IsRunning moment images e opened first start time now left standing
+IsTurned moment images e opened first start time now left standing (Some (Rest until)) =
+    IsRunning moment images e opened first start time now left standing
+IsTurned moment images e opened first start time now left standing (Some ending) =
+    IsEnded moment images e opened first start time now left standing ending

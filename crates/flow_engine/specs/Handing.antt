@@ -53,9 +53,15 @@ abbrev pub HasBytesOf : List NamedFile → Taking → Option (List ℕ) → Type
 HasBytesOf left (Receive name) bytes = bytes_of left name ≡ bytes
 HasBytesOf left _ bytes = ⊤
 
+-- the connection that files are taken from, or the first one where none are
+abbrev pub connection_in : Taking → ℕ
+connection_in (Files connection numbers) = connection
+connection_in _ = 0
+
 -- The job is that of the choice, and its files are those of its numbers, read.
 pub record IsHanded (k : Kept) (moment : ℕ) (choice : Choice) (job : Job) : Type 0 where
   pub processor : job.processor ≡ choice.processor
+  pub connection : job.connection ≡ connection_in choice.taking
   pub numbers : job.numbers ≡ numbers_in choice.taking
   pub given : record job.given { bytes = None } ≡ given_for moment job.given.there choice.taking
   pub has : HasBytes choice.taking job.given.bytes

@@ -18,8 +18,8 @@ use Rattle.store_core.specs.Store.{kept_by}
 use Rattle.engine_choice.specs.declared.choice.Choice.{Choice}
 use Rattle.engine_session.specs.Handing.{AreTaken}
 use Rattle.engine_session.specs.Working.{is_built}
-use Rattle.flow_run.specs.Journal.{TakesFirst}
-use Rattle.flow_engine.specs.Checkout.{choice_in}
+use Rattle.flow_run.specs.Turns.{ComesNext}
+use Rattle.flow_engine.specs.Checkout.{session_in}
 use Rattle.flow_engine.specs.Engine.{EngineState}
 use Rattle.flow_engine.specs.Handing.{IsHanded, IsHandedAs}
 use Rattle.flow_engine.specs.declared.job.Job.{Job}
@@ -37,9 +37,10 @@ pub record MayHand (flow : Flow) (k : Kept) (job : Job) : Type 0 where
   pub file : received_name processor.kind job.given.file ≡ option_to_list job.given.file
   pub index : job.given.index < NUMBER_LIMIT
 
--- Where references stand for these bytes, it stands so in the machine's state and world: its rules let the session take
--- these files, what it is given is what stands, and a file of the inbox is the first that it may get.
-pub record StandsIn (flow : Flow) (k : Kept) (contents : ContentRef → List ℕ) (before : Machine) (job : Job) : Type 0
+-- Where references stand for these bytes, it stands so in the machine's state and world: the session is the one that
+-- comes next behind this last worker, its rules let it take these files, and what it is given is what stands.
+pub record StandsIn (flow : Flow) (last : Option ℕ) (k : Kept) (contents : ContentRef → List ℕ) (before : Machine)
+    (job : Job) : Type 0
   where
     pub processor : Processor
     pub found : slice_get flow.processors job.processor ≡ Some processor
@@ -48,7 +49,7 @@ pub record StandsIn (flow : Flow) (k : Kept) (contents : ContentRef → List ℕ
         ≡ Some (map (queued_file contents) job.files)
     pub given : given_in processor.kind job.processor before.state before.world (map (queued_file contents) job.files)
         (record job.given { bytes = None }) ≡ Some job.given
-    pub first : TakesFirst flow before
+    pub comes : ComesNext flow last before
         (Session job.processor job.numbers job.given.moment (record job.given { bytes = None }))
 
 -- It is the job of the session that comes next at the moment, as that is handed it; where the devices tell, by what they
@@ -56,7 +57,7 @@ pub record StandsIn (flow : Flow) (k : Kept) (contents : ContentRef → List ℕ
 pub record IsNextJob (telling : Type 0) (e : EngineState) (contents : ContentRef → List ℕ) (left : List NamedFile)
     (standing : List ℕ → Option (List ℕ)) (moment : ℕ) (job : Job) : Type 0 where
   pub choice : Choice
-  pub chosen : choice_in e moment ≡ Some choice
+  pub chosen : session_in e moment ≡ Some choice
   pub handed : IsHanded (kept_by e.store) moment choice job
   pub told : telling → IsHandedAs (kept_by e.store) contents left standing choice job
   pub may : MayHand e.flow (kept_by e.store) job

@@ -8,7 +8,9 @@ pub mod Engine
 pub mod Errors
 pub mod Handing
 pub mod Job
+pub mod Journal
 pub mod Opening
+pub mod Ready
 pub mod Running
 pub mod Sending
 pub mod Tending

@@ -1,5 +1,5 @@
 -- An engine before its first step.
-use Rattle.std.specs.Prelude.{◌≡◌, ℕ, nat_le, Bool, false, List, None, length}
+use Rattle.std.specs.Prelude.{◌≡◌, ℕ, nat_le, Bool, false, List, [], None, length}
 use Rattle.std.specs.Option.{option_map_or}
 use Rattle.flowfile_record.specs.NamedFile.{NamedFile, bytes_of}
 use Rattle.flowfile_record.specs.declared.TheConstants.{CONTENT_MAX}
@@ -16,9 +16,11 @@ pub record IsOpened (flow : Flow) (store : StoreState) (most : ℕ) (e : EngineS
   pub queues : AreQueuesOf flow (kept_by store) e.queues
   pub listing : e.listing.flow ≡ flow
   pub distinct : AreDistinct e.listing.names
-  pub entries : e.entries ≡ 0
+  pub journal : e.journal ≡ []
   pub last : e.last ≡ None
   pub since : e.since_reclaim ≡ 0
+  pub works : e.failed ≡ false
+  pub tended : e.tended ≡ None
   pub most_is : e.most ≡ most
 
 -- the file of this name is no longer than any content

@@ -1,47 +1,51 @@
--- What holds between two steps of a run, where the devices tell what they hold.
-use Rattle.std.specs.Prelude.{◌≡◌, ℕ, Bool, List, Option, length}
+-- What holds between two calls of an engine, where the devices tell what they hold.
+use Rattle.std.specs.Prelude.{◌≡◌, ℕ, ◌≤◌, Bool, List, Option, None}
 use Rattle.disk_trait.specs.Files.{Files}
 use Rattle.flowfile_record.specs.NamedFile.{NamedFile}
 use Rattle.kept_state.specs.declared.limit.Limit.{Limit as TheLimit}
-use Rattle.machine_model.specs.declared.journal.Entry.{Entry}
+use Rattle.machine_model.specs.Acknowledged.{steps}
 use Rattle.machine_model.specs.State.{Machine}
 use Rattle.engine_choice.specs.Choice.{coming_of}
 use Rattle.flow_run.specs.Going.{IsRunningAt}
 use Rattle.flow_run.specs.Run.{HasRun, IsAtLimit}
+use Rattle.flow_run.specs.Turns.{last_worker}
 use Rattle.flow_engine.specs.Engine.{EngineState}
 use Rattle.flow_engine.specs.Errors.{ended_by}
 use Rattle.flow_engine.specs.declared.error.EngineError.{EngineError}
 use Rattle.flow_engine.specs.declared.error.EngineError.TheVariants.{Limit}
 
--- The journal leads to this machine, and the engine knows how many entries it has and which files are to come.
+-- The engine's journal, of steps from the clock's time at the start up to this time, leads from the opened machine to
+-- this one; and the engine knows which files are to come, and which processor got the last session.
 pub record IsRunningTo {D : Type 0} (moment : D → ℕ) (images : D → ℕ → Files → Type 0) (e : EngineState)
-    (opened : Machine) (first now : D) (left : List NamedFile) (standing : List ℕ → Option (List ℕ))
-    (journal : List Entry) (reached : Machine) : Type 0 where
-  pub run : IsRunningAt e.flow moment images e.store.lot opened first now journal reached left standing
-  pub count : length journal ≡ e.entries
+    (opened : Machine) (first : D) (start time : ℕ) (now : D) (left : List NamedFile)
+    (standing : List ℕ → Option (List ℕ)) (reached : Machine) : Type 0 where
+  pub run : IsRunningAt e.flow start time moment images e.store.lot opened first now e.journal reached left standing
   pub coming : coming_of reached.world ≡ e.listing.names
+  pub last : e.last ≡ last_worker None (steps e.journal)
 
--- the same of some journal
+-- it leads to some machine
 pub record IsRunning {D : Type 0} (moment : D → ℕ) (images : D → ℕ → Files → Type 0) (e : EngineState)
-    (opened : Machine) (first now : D) (left : List NamedFile) (standing : List ℕ → Option (List ℕ)) : Type 0 where
-  pub journal : List Entry
+    (opened : Machine) (first : D) (start time : ℕ) (now : D) (left : List NamedFile)
+    (standing : List ℕ → Option (List ℕ)) : Type 0 where
   pub reached : Machine
-  pub to : IsRunningTo moment images e opened first now left standing journal reached
+  pub to : IsRunningTo moment images e opened first start time now left standing reached
 
 -- A limit stopped the run between two steps. The store is yet to be closed.
 pub record IsLimited {D : Type 0} (tells : Bool) (held : D → Files) (moment : D → ℕ) (images : D → ℕ → Files → Type 0)
-    (e : EngineState) (limit : TheLimit) (opened : Machine) (first now : D) (left : List NamedFile)
-    (standing : List ℕ → Option (List ℕ)) : Type 0 where
-  pub journal : List Entry
+    (e : EngineState) (limit : TheLimit) (opened : Machine) (first : D) (start time : ℕ) (now : D)
+    (left : List NamedFile) (standing : List ℕ → Option (List ℕ)) : Type 0 where
   pub reached : Machine
-  pub to : IsRunningTo moment images e opened first now left standing journal reached
-  pub met : IsAtLimit e.flow tells held moment images e.store.lot journal reached limit now
+  pub to : IsRunningTo moment images e opened first start time now left standing reached
+  pub met : IsAtLimit e.flow start time tells held moment images e.store.lot opened e.journal reached limit now
 
--- What an error leaves: behind a limit the store is yet to be closed, and behind any other the run has ended, at
--- whatever time of the clock.
+-- What an error leaves: behind a limit the store is yet to be closed, and behind any other the run has ended, at this
+-- time of the clock or at a later one.
 abbrev pub Stops : {D : Type 0} → EngineError → (tells : Bool) → (D → Files) → (D → ℕ) → (D → ℕ → Files → Type 0)
-    → EngineState → Machine → (first now : D) → List NamedFile → (List ℕ → Option (List ℕ)) → Type 0
-Stops (Limit limit) tells held moment images e opened first now left standing =
-    IsLimited tells held moment images e limit opened first now left standing
-Stops error tells held moment images e opened first now left standing =
-    (time : ℕ) → HasRun e.flow (ended_by error) time tells held moment images e.store.lot opened first now left standing
+    → EngineState → Machine → (first : D) → (start time : ℕ) → (now : D) → List NamedFile
+    → (List ℕ → Option (List ℕ)) → Type 0
+Stops (Limit limit) tells held moment images e opened first start time now left standing =
+    IsLimited tells held moment images e limit opened first start time now left standing
+Stops error tells held moment images e opened first start time now left standing =
+    (later : ℕ) → time ≤ later
+    → HasRun e.flow (ended_by error) start later tells held moment images e.store.lot opened first now left standing
+    e.journal

@@ -1,16 +1,14 @@
 -- Files of a connection expire by a step of the machine, and a new log begins where that is due.
-use Rattle.std.specs.Prelude.{◌≡◌, ℕ, ◌+◌, ◌-◌, ◌^◌, ◌&&◌, nat_lt, nat_le, min, Bool, true, false, List, Some, is_some}
-use Rattle.std.specs.Option.{option_map_or}
+use Rattle.std.specs.Prelude.{◌≡◌, ◌⊎◌, ℕ, ◌+◌, ◌-◌, ◌^◌, min, List, [], ◌∷◌, ◌++◌, Option, Some, None, Result, Ok, Err}
 use Rattle.disk_trait.specs.Files.{Files}
 use Rattle.flowfile_record.specs.declared.change.Settled.{Settled}
 use Rattle.flowfile_record.specs.declared.content.ContentRef.{ContentRef}
 use Rattle.flowfile_record.specs.Stored.{Kept}
 use Rattle.machine_model.specs.declared.flow.Flow.{Flow}
-use Rattle.machine_model.specs.declared.journal.TheConstants.{RECLAIM_ENTRIES}
 use Rattle.machine_model.specs.declared.journal.Step.{Step}
 use Rattle.machine_model.specs.declared.journal.Step.TheVariants.{Expire}
 use Rattle.machine_model.specs.Changing.{state_after}
-use Rattle.machine_model.specs.Due.{due_expiry, is_checkpoint_due}
+use Rattle.machine_model.specs.Due.{due_expiry}
 use Rattle.machine_model.specs.State.{Machine}
 use Rattle.machine_model.specs.Stepping.{step}
 use Rattle.content_repo.specs.Slots.{IsReclaimed}
@@ -21,28 +19,12 @@ use Rattle.engine_queues.specs.Queues.{queue_seen}
 use Rattle.flow_run.specs.Going.{IsBetween, IsStepped}
 use Rattle.flow_run.specs.Run.{IsStateOf}
 use Rattle.flow_engine.specs.Engine.{EngineState}
+use Rattle.flow_engine.specs.declared.error.EngineError.{EngineError}
+use Rattle.flow_engine.specs.declared.error.EngineError.TheVariants.{Disk}
 use Rattle.flow_engine.specs.declared.tending.Tended.{Tended}
 use Rattle.flow_engine.specs.declared.tending.Tended.TheVariants.{Expired, Checkpointed, Reclaimed, Nothing}
 
--- ---- what is due
-
--- a new log is: the log has entries, as many as it takes
-abbrev pub is_log_due : (checkpoint : ℕ) → StoreState → Bool
-is_log_due checkpoint s =
-    nat_lt 0 s.entries && option_map_or (λ number. is_checkpoint_due checkpoint s.entries number) s.log.number false
-
--- which of these comes first
-abbrev pub first_of : (expired log claims : Bool) → Tended
-first_of true log claims = Expired
-first_of false true claims = Checkpointed
-first_of false false true = Reclaimed
-first_of false false false = Nothing
-
--- what is due first at this moment: that files have expired, a new log, or that claims be reclaimed
-abbrev pub due_in : EngineState → (moment : ℕ) → Tended
-due_in e moment =
-    first_of (is_some (due_expiry e.flow (queue_seen e.queues) moment)) (is_log_due e.checkpoint e.store)
-    (nat_le RECLAIM_ENTRIES e.since_reclaim)
+-- ---- counting
 
 -- an entry more, as far as a counter of 64 bits goes
 abbrev pub counted_on : ℕ → ℕ
@@ -63,6 +45,14 @@ MakesExpiry flow k connection numbers moment settled =
     (contents : ContentRef → List ℕ) (before : Machine) → HaveContents contents k → IsStateOf before contents k
     → GoesTo flow before (Expire connection numbers moment)
     (λ after. state_after contents before.state settled ≡ after.state)
+
+-- the journal has one entry more: the expired files of the first connection that has some
+pub record HasExpired (moment : ℕ) (acked : Option ℕ) (old new : EngineState) : Type 0 where
+  pub connection : ℕ
+  pub numbers : List ℕ
+  pub due : due_expiry old.flow (queue_seen old.queues) moment ≡ Some (connection, numbers)
+  pub journal : new.journal
+      ≡ old.journal ++ record { step = Expire connection numbers moment; acked = acked } ∷ []
 
 -- the step was done, ..
 abbrev pub IsDone : {D : Type 0} → Flow → (D → ℕ) → (D → ℕ → Files → Type 0) → (lot : ℕ) → Machine → Step
@@ -88,3 +78,20 @@ IsCheckpointed old new =
 -- each claim without references is empty, and its slot is free
 abbrev pub AreReclaimed : (old new : StoreState) → Type 0
 AreReclaimed old new = (answer : TheCount) × IsReclaimed old.slots new.slots answer
+
+-- ---- what a call has done
+
+-- What a call leaves that tended, at a disk whose moment is then this one: an entry of the files that expired, which may
+-- be in the journal, not acknowledged, where the disk failed; a new log; empty claims; or nothing but that the engine
+-- knows it.
+abbrev pub HasTended : Result Tended EngineError → (moment now : ℕ) → (old new : EngineState) → Type 0
+HasTended (Ok Expired) moment now old new =
+    HasExpired moment (Some now) old new × (new.since_reclaim ≡ counted_on old.since_reclaim)
+HasTended (Ok Checkpointed) moment now old new =
+    (new.journal ≡ old.journal) × IsCheckpointed old.store new.store × (new.since_reclaim ≡ old.since_reclaim)
+HasTended (Ok Reclaimed) moment now old new =
+    (new.journal ≡ old.journal) × AreReclaimed old.store new.store × (new.since_reclaim ≡ 0)
+HasTended (Ok Nothing) moment now old new = new ≡ record old { tended = Some moment }
+HasTended (Err Disk) moment now old new =
+    ((new.journal ≡ old.journal) ⊎ HasExpired moment None old new) × (new.since_reclaim ≡ old.since_reclaim)
+HasTended (Err _) moment now old new = (new.journal ≡ old.journal) × (new.since_reclaim ≡ old.since_reclaim)

@@ -23,7 +23,7 @@ use process_session::SourceList;
 use settlement::Ended;
 use std::alloc::{AllocError, Global};
 use std::mem;
-use store_core::{Store, what_is_kept_is_a_state};
+use store_core::Store;
 use world_io::Name;
 
 /// What a session sends to the outbox.
@@ -62,7 +62,6 @@ pub(crate) fn session_change(
         → IsWorkOn flow.now (kept_by store.now).store job done
         → MakesStep flow.now (kept_by store.now) job changed) }
 {
-    what_is_kept_is_a_state();
     taken_files_are_handed();
     sessions_are_steps();
     worlds_follow_steps();

@@ -1,35 +1,39 @@
 //! A session that was worked on becomes part of the run, if its job still stands.
-ghost use Rattle.std.specs.Prelude.{◌≡◌, ℕ, ◌⊎◌, ◌+◌, ◌<◌, true, false, List, [], ◌∷◌, ◌++◌, Some, Ok, IfOk, OnOk, IsErrOf, IsTrue};
+ghost use Rattle.std.specs.Prelude.{◌≡◌, ◌⊎◌, ◌↔◌, ℕ, ◌-◌, ◌^◌, ◌<◌, ◌≤◌, true, false, None, Ok, IfOk, OnOk, IsErrOf, IsTrue};
+ghost use Rattle.disk_trait.specs.Faults.{CountsFaults};
 ghost use Rattle.disk_trait.specs.Images.{Stays};
 ghost use Rattle.disk_trait.specs.declared.damage.Damage.{Damage as TheDamage};
 ghost use Rattle.content_repo.specs.Claims.{content_in};
+ghost use Rattle.kept_state.specs.Fits.{are_active_in};
 ghost use Rattle.kept_state.specs.declared.limit.Limit.{Limit as TheLimit};
 ghost use Rattle.machine_model.specs.State.{Machine};
-ghost use Rattle.machine_model.specs.declared.journal.Entry.{Entry as TheEntry};
+ghost use Rattle.machine_model.specs.declared.flow.Flow.{Flow as TheFlow};
+ghost use Rattle.store_core.specs.Change.{HasLiveContents, MayChange};
 ghost use Rattle.store_core.specs.Store.{kept_by};
-ghost use Rattle.flow_engine.specs.Commit.{HasEntry, StandsOtherwise, StandsSo};
-ghost use Rattle.flow_engine.specs.Done.{IsDone, IsSame, IsWorkOn, step_done};
-ghost use Rattle.flow_engine.specs.Engine.{AreTakeable, IsOfSameRun, IsReady};
-ghost use Rattle.flow_engine.specs.Errors.{CountsEachFault};
-ghost use Rattle.flow_engine.specs.Job.{IsNextJob};
-ghost use Rattle.flow_engine.specs.Running.{IsRunning, IsRunningTo, Stops};
-ghost use Rattle.flow_engine.specs.Tending.{counted_on};
-ghost use Rattle.flow_run.specs.Work.{IsReadDamaged, IsRefused, WritesLog};
-ghost use Rattle.flow_engine.specs.declared.commit.Committed.TheVariants.{Acked, Changed};
+ghost use Rattle.flow_engine.specs.Commit.{IsEntered, IsInboxBehind, IsInboxLeft, IsJournaled, IsLeftOut, StandsOtherwise, StandsSo};
+ghost use Rattle.flow_engine.specs.Committing.{HasWritten, IsQueued};
+ghost use Rattle.flow_engine.specs.Done.{IsDone, step_done};
+ghost use Rattle.flow_engine.specs.Engine.{AreTakeable, IsOfSameRun};
+ghost use Rattle.flow_engine.specs.Errors.{CountsEachFault, HasCause, IsReadBy, RefusesToCommit};
+ghost use Rattle.flow_engine.specs.Journal.{journaled};
+ghost use Rattle.flow_engine.specs.Ready.{IsReady, IsUsable};
+ghost use Rattle.flow_engine.specs.Running.{IsRunning, Stops};
+ghost use Rattle.flow_run.specs.Work.{IsReadDamaged, WritesLog};
 ghost use Rattle.flow_engine.specs.declared.error.EngineError.{EngineError as TheError};
 
 use crate::EngineError;
-use crate::change::session_change;
-use crate::done::{Done, is_work_on};
+use crate::change::{Changed, session_change};
+use crate::done::{Done, is_work_on, step_done};
 use crate::engine::Engine;
+use crate::journal::note;
 use crate::session::{commit, remove};
 use crate::tied::holds_its_state;
 use disk_trait::Disk;
-use engine_choice::choices_are_sessions;
+use engine_choice::{choices_are_seen, choices_are_sessions};
 use engine_queues::what_is_kept_is_seen;
 use engine_session::taken_files_are_live;
 use flow_run::{faults_end_a_run, run_goes_on};
-use machine_model::Given;
+use machine_model::{Given, Step};
 use std::alloc::{AllocError, Global};
 use world_io::{Inbox, Name, Outbox};
 
@@ -45,7 +49,8 @@ pub enum Committed {
 impl Engine<'_> {
     /// Makes a session part of the run. First its job is read again: where that is no longer what its processor worked
     /// on, nothing is done. Else what it sends is put into the outbox, its change is committed, and then the file that
-    /// it received is removed from the inbox.
+    /// it received is removed from the inbox. Before the put all its memory is taken. It asks for the moment at which its
+    /// processor worked, no earlier than the journal's last.
     pub fn commit<D: Disk, I: Inbox, O: Outbox>(
         &mut self,
         alloc: Global,
@@ -54,42 +59,109 @@ impl Engine<'_> {
         outbox: &mut O,
         done: Done,
     ) -> Result<Committed, EngineError>
-        requires ready { IsReady D.tells D.held D.moment D.images self.old disk.old }
-        requires room { self.old.entries < self.old.most }
+        requires usable { IsUsable D.tells D.held D.moment D.images self.old disk.old }
+        requires most { self.old.most < 2 ^ 64 - 1 }
         requires left { IsTrue I.tells → AreTakeable (I.left inbox.old) self.old.listing.names }
         requires done { IsDone self.old.flow (kept_by self.old.store).store done }
-        // Where it is acknowledged, the journal has one entry more: this session.
-        ensures acked { (entry moment : ℕ) → result ≡ Ok (Acked entry moment) → IsTrue D.tells → IsTrue I.tells
-            → IsTrue O.tells → (opened : Machine) (first : D) (journal : List TheEntry) (reached : Machine)
-            → IsRunningTo D.moment D.images self.old opened first disk.old (I.left inbox.old) (O.standing outbox.old)
-            journal reached
-            → HasEntry (step_done done) moment D.moment D.images self.new opened first disk.new (I.left inbox.new)
-            (O.standing outbox.new) journal }
-        ensures counted { (entry moment : ℕ) → result ≡ Ok (Acked entry moment) → (entry ≡ self.old.entries)
-            × (moment ≡ D.moment disk.new) × (self.new.entries ≡ self.old.entries + 1)
-            × (self.new.since_reclaim ≡ counted_on self.old.since_reclaim) × (self.new.last ≡ Some done.processor) }
+        // Acknowledged, the journal has one entry more: this session. Else it is as it was, but at a failure of the disk
+        // or the inbox.
+        ensures journal { IsJournaled result done (D.moment disk.new) self.old self.new }
+        ensures inbox { IsTrue I.tells
+            → IsInboxBehind result done.given.file (I.left inbox.old) (I.left inbox.new) }
+        // Only what stands is made part of the run.
+        ensures stands { IsLeftOut result self.old self.new
+            ⊎ StandsSo (IsTrue D.tells × IsTrue I.tells × IsTrue O.tells) self.old (content_in (D.held disk.old))
+            (I.left inbox.old) (O.standing outbox.old) done }
         // Where something has changed, another job comes next at the session's moment, and nothing is done.
-        ensures changed { result ≡ Ok Changed
+        ensures changed { result ≡ Ok Committed.Changed
+            → StandsOtherwise (IsTrue D.tells × IsTrue I.tells × IsTrue O.tells) self.old (content_in (D.held disk.old))
+            (I.left inbox.old) (O.standing outbox.old) done
+            × (self.new ≡ self.old) × Stays D.held D.moment D.images disk.old disk.new
+            × (O.standing outbox.new ≡ O.standing outbox.old) }
+        // The run goes on, unless a file that was received couldn't be removed, or it is stopped.
+        ensures goes_on { self.new.failed ≡ false
+            → (IsErrOf result EngineError.Inbox → self.new.journal ≡ self.old.journal)
+            → IsTrue D.tells → IsTrue I.tells → IsTrue O.tells
+            → (opened : Machine) (first : D) (start time : ℕ) → time ≤ done.given.moment
+            → IsRunning D.moment D.images self.old opened first start time disk.old (I.left inbox.old)
+            (O.standing outbox.old)
+            → IsRunning D.moment D.images self.new opened first start done.given.moment disk.new (I.left inbox.new)
+            (O.standing outbox.new) }
+        ensures stopped { (error : TheError) → IsErrOf result error → self.old.failed ≡ false
+            → IsTrue D.tells → IsTrue I.tells → IsTrue O.tells
+            → (opened : Machine) (first : D) (start time : ℕ) → time ≤ done.given.moment
+            → IsRunning D.moment D.images self.old opened first start time disk.old (I.left inbox.old)
+            (O.standing outbox.old)
+            → Stops error D.tells D.held D.moment D.images self.new opened first start done.given.moment disk.new
+            (I.left inbox.new) (O.standing outbox.new) }
+        // On any devices.
+        ensures usable { IsUsable D.tells D.held D.moment D.images self.new disk.new
+            × (IsTrue I.tells → AreTakeable (I.left inbox.new) self.new.listing.names) }
+        ensures same { IsOfSameRun self.old self.new × (self.new.store.log.number ≡ self.old.store.log.number)
+            × WritesLog D.moment D.images self.old.store.log.number disk.old disk.new }
+        ensures refusal { RefusesToCommit result D.tells D.held D.moment D.images D.faults I.faults O.faults
+            self.old self.new disk.old disk.new inbox.old inbox.new outbox.old outbox.new }
+    {
+        if self.has_failed {
+            return Err(EngineError::MustReopen);
+        }
+        let committed = self.commit_job(alloc, disk, inbox, outbox, done);
+        if let Err(EngineError::Disk) = &committed {
+            self.has_failed = true;
+        }
+        committed
+    }
+
+    // Commits the work on a job that stands, by a store that works.
+    fn commit_job<D: Disk, I: Inbox, O: Outbox>(
+        &mut self,
+        alloc: Global,
+        disk: &mut D,
+        inbox: &mut I,
+        outbox: &mut O,
+        done: Done,
+    ) -> Result<Committed, EngineError>
+        requires ready { IsReady D.tells D.held D.moment D.images self.old disk.old }
+        requires works { self.old.failed ≡ false }
+        requires most { self.old.most < 2 ^ 64 - 1 }
+        requires left { IsTrue I.tells → AreTakeable (I.left inbox.old) self.old.listing.names }
+        requires done { IsDone self.old.flow (kept_by self.old.store).store done }
+        ensures journal { IsJournaled result done (D.moment disk.new) self.old self.new }
+        ensures inbox { IsTrue I.tells
+            → IsInboxBehind result done.given.file (I.left inbox.old) (I.left inbox.new) }
+        ensures stands { IsLeftOut result self.old self.new
+            ⊎ StandsSo (IsTrue D.tells × IsTrue I.tells × IsTrue O.tells) self.old (content_in (D.held disk.old))
+            (I.left inbox.old) (O.standing outbox.old) done }
+        ensures changed { result ≡ Ok Committed.Changed
             → StandsOtherwise (IsTrue D.tells × IsTrue I.tells × IsTrue O.tells) self.old (content_in (D.held disk.old))
             (I.left inbox.old) (O.standing outbox.old) done }
-        ensures untouched { result ≡ Ok Changed → (self.new ≡ self.old)
+        ensures untouched { result ≡ Ok Committed.Changed → (self.new ≡ self.old)
             × Stays D.held D.moment D.images disk.old disk.new × (I.left inbox.new ≡ I.left inbox.old)
             × (O.standing outbox.new ≡ O.standing outbox.old) }
-        ensures stopped { (error : TheError) → IsErrOf result error → IsTrue D.tells → IsTrue I.tells → IsTrue O.tells
-            → (opened : Machine) (first : D)
-            → IsRunning D.moment D.images self.old opened first disk.old (I.left inbox.old) (O.standing outbox.old)
-            → Stops error D.tells D.held D.moment D.images self.new opened first disk.new (I.left inbox.new)
+        ensures goes_on { (IsErrOf result EngineError.Disk → ⊥) → self.new.failed ≡ false
+            → (IsErrOf result EngineError.Inbox → self.new.journal ≡ self.old.journal)
+            → IsTrue D.tells → IsTrue I.tells → IsTrue O.tells
+            → (opened : Machine) (first : D) (start time : ℕ) → time ≤ done.given.moment
+            → IsRunning D.moment D.images self.old opened first start time disk.old (I.left inbox.old)
+            (O.standing outbox.old)
+            → IsRunning D.moment D.images self.new opened first start done.given.moment disk.new (I.left inbox.new)
             (O.standing outbox.new) }
-        // On any devices.
-        ensures ready { OnOk result (IsReady D.tells D.held D.moment D.images self.new disk.new) }
-        ensures left { OnOk result (IsTrue I.tells → AreTakeable (I.left inbox.new) self.new.listing.names) }
+        ensures stopped { (error : TheError) → IsErrOf result error → IsTrue D.tells → IsTrue I.tells → IsTrue O.tells
+            → (opened : Machine) (first : D) (start time : ℕ) → time ≤ done.given.moment
+            → IsRunning D.moment D.images self.old opened first start time disk.old (I.left inbox.old)
+            (O.standing outbox.old)
+            → Stops error D.tells D.held D.moment D.images self.new opened first start done.given.moment disk.new
+            (I.left inbox.new) (O.standing outbox.new) }
+        ensures ready { (IsErrOf result EngineError.Disk → ⊥)
+            → IsReady D.tells D.held D.moment D.images self.new disk.new }
+        ensures left { IsTrue I.tells → AreTakeable (I.left inbox.new) self.new.listing.names }
+        ensures works { IsErrOf result EngineError.MustReopen → ⊥ }
+        ensures failed { self.new.failed ≡ true → IsErrOf result EngineError.Outbox }
         ensures same { IsOfSameRun self.old self.new }
         ensures log { self.new.store.log.number ≡ self.old.store.log.number }
         ensures alone { WritesLog D.moment D.images self.old.store.log.number disk.old disk.new }
-        ensures refused { (limit : TheLimit) → IsErrOf result (EngineError.Limit limit)
-            → IsRefused self.old.flow D.tells D.held D.moment D.images limit self.new.store disk.new }
-        ensures damaged { (damage : TheDamage) → IsErrOf result (EngineError.Damaged damage)
-            → IsReadDamaged self.old.flow D.tells D.held D.moment D.images self.old.store.lot disk.new }
+        ensures why { HasCause result self.old.flow D.tells D.held D.moment D.images self.old.store.lot self.old.most
+            self.new.store disk.new }
         ensures cause { CountsEachFault result (D.faults disk.old) (D.faults disk.new)
             (I.faults inbox.old) (I.faults inbox.new) (O.faults outbox.old) (O.faults outbox.new) }
     {
@@ -98,7 +170,7 @@ impl Engine<'_> {
         if !self.stands(alloc, disk, inbox, outbox, &done)? {
             return Ok(Committed::Changed);
         }
-        let entry = self.entries;
+        let entry = self.entries();
         let moment = self.enter(alloc, disk, inbox, outbox, done)?;
         Ok(Committed::Acked { entry, moment })
     }
@@ -113,6 +185,7 @@ impl Engine<'_> {
         done: &Done,
     ) -> Result<bool, EngineError>
         requires ready { IsReady D.tells D.held D.moment D.images self.old disk.old }
+        requires most { self.old.most < 2 ^ 64 - 1 }
         requires left { IsTrue I.tells → AreTakeable (I.left inbox.old) self.old.listing.names }
         requires done { IsDone self.old.flow (kept_by self.old.store).store done.now }
         ensures so { result ≡ Ok true
@@ -121,23 +194,23 @@ impl Engine<'_> {
         ensures otherwise { result ≡ Ok false
             → StandsOtherwise (IsTrue D.tells × IsTrue I.tells × IsTrue O.tells) self.old (content_in (D.held disk.old))
             (I.left inbox.old) (O.standing outbox.old) done.now }
-        ensures unchanged { OnOk result (self.new ≡ self.old) }
-        ensures same { IsOfSameRun self.old self.new }
-        ensures log { self.new.store.log.number ≡ self.old.store.log.number }
+        ensures store { IsReadBy result self.old.store self.new.store }
+        ensures rest { self.new ≡ record self.old { store = self.new.store } }
         ensures stays { Stays D.held D.moment D.images disk.old disk.new }
         ensures left { I.left inbox.new ≡ I.left inbox.old }
         ensures standing { O.standing outbox.new ≡ O.standing outbox.old }
         ensures unlimited { (limit : TheLimit) → IsErrOf result (EngineError.Limit limit) → ⊥ }
+        ensures works { IsErrOf result EngineError.MustReopen → ⊥ }
         ensures damaged { (damage : TheDamage) → IsErrOf result (EngineError.Damaged damage)
             → IsReadDamaged self.old.flow D.tells D.held D.moment D.images self.old.store.lot disk.new }
         ensures cause { CountsEachFault result (D.faults disk.old) (D.faults disk.new)
             (I.faults inbox.old) (I.faults inbox.new) (O.faults outbox.old) (O.faults outbox.new) }
     {
         let moment = done.given.moment;
-        let Some(choice) = self.next_choice(alloc, moment)? else {
+        let Some(choice) = self.next_session(alloc, moment)? else {
             return Ok(false);
         };
-        let job = self.read(alloc, disk, inbox, outbox, moment, choice)?;
+        let job = self.read_job(alloc, disk, inbox, outbox, moment, choice)?;
         Ok(is_work_on(done, &job))
     }
 
@@ -151,58 +224,108 @@ impl Engine<'_> {
         done: Done,
     ) -> Result<u64, EngineError>
         requires ready { IsReady D.tells D.held D.moment D.images self.old disk.old }
-        requires room { self.old.entries < self.old.most }
+        requires works { self.old.failed ≡ false }
+        requires most { self.old.most < 2 ^ 64 - 1 }
         requires left { IsTrue I.tells → AreTakeable (I.left inbox.old) self.old.listing.names }
         requires stands { StandsSo (IsTrue D.tells × IsTrue I.tells × IsTrue O.tells) self.old
             (content_in (D.held disk.old)) (I.left inbox.old) (O.standing outbox.old) done }
-        ensures entered { IfOk result (λ moment. IsTrue D.tells → IsTrue I.tells → IsTrue O.tells
-            → (opened : Machine) (first : D) (journal : List TheEntry) (reached : Machine)
-            → IsRunningTo D.moment D.images self.old opened first disk.old (I.left inbox.old) (O.standing outbox.old)
-            journal reached
-            → HasEntry (step_done done) moment D.moment D.images self.new opened first disk.new (I.left inbox.new)
-            (O.standing outbox.new) journal) }
-        ensures moment { IfOk result (λ moment. moment ≡ D.moment disk.new) }
-        ensures stopped { (error : TheError) → IsErrOf result error → IsTrue D.tells → IsTrue I.tells → IsTrue O.tells
-            → (opened : Machine) (first : D)
-            → IsRunning D.moment D.images self.old opened first disk.old (I.left inbox.old) (O.standing outbox.old)
-            → Stops error D.tells D.held D.moment D.images self.new opened first disk.new (I.left inbox.new)
+        ensures journal { IsEntered result done (D.moment disk.new) self.old self.new }
+        ensures inbox { IsTrue I.tells → IsInboxLeft result done.given.file (I.left inbox.old) (I.left inbox.new) }
+        ensures goes_on { (IsErrOf result EngineError.Disk → ⊥) → self.new.failed ≡ false
+            → (IsErrOf result EngineError.Inbox → ⊥) → IsTrue D.tells → IsTrue I.tells → IsTrue O.tells
+            → (opened : Machine) (first : D) (start time : ℕ) → time ≤ done.given.moment
+            → IsRunning D.moment D.images self.old opened first start time disk.old (I.left inbox.old)
+            (O.standing outbox.old)
+            → IsRunning D.moment D.images self.new opened first start done.given.moment disk.new (I.left inbox.new)
             (O.standing outbox.new) }
-        ensures ready { OnOk result (IsReady D.tells D.held D.moment D.images self.new disk.new) }
-        ensures left { OnOk result (IsTrue I.tells → AreTakeable (I.left inbox.new) self.new.listing.names) }
-        ensures counted { OnOk result ((self.new.entries ≡ self.old.entries + 1)
-            × (self.new.since_reclaim ≡ counted_on self.old.since_reclaim) × (self.new.last ≡ Some done.processor)) }
+        ensures stopped { (error : TheError) → IsErrOf result error → IsTrue D.tells → IsTrue I.tells → IsTrue O.tells
+            → (opened : Machine) (first : D) (start time : ℕ) → time ≤ done.given.moment
+            → IsRunning D.moment D.images self.old opened first start time disk.old (I.left inbox.old)
+            (O.standing outbox.old)
+            → Stops error D.tells D.held D.moment D.images self.new opened first start done.given.moment disk.new
+            (I.left inbox.new) (O.standing outbox.new) }
+        ensures ready { (IsErrOf result EngineError.Disk → ⊥)
+            → IsReady D.tells D.held D.moment D.images self.new disk.new }
+        ensures left { IsTrue I.tells → AreTakeable (I.left inbox.new) self.new.listing.names }
+        ensures works { IsErrOf result EngineError.MustReopen → ⊥ }
+        ensures failed { (self.new.failed ≡ true) ↔ IsErrOf result EngineError.Outbox }
         ensures same { IsOfSameRun self.old self.new }
         ensures log { self.new.store.log.number ≡ self.old.store.log.number }
         ensures alone { WritesLog D.moment D.images self.old.store.log.number disk.old disk.new }
-        ensures refused { (limit : TheLimit) → IsErrOf result (EngineError.Limit limit)
-            → IsRefused self.old.flow D.tells D.held D.moment D.images limit self.new.store disk.new }
+        ensures why { HasCause result self.old.flow D.tells D.held D.moment D.images self.old.store.lot self.old.most
+            self.new.store disk.new }
         ensures undamaged { (damage : TheDamage) → IsErrOf result (EngineError.Damaged damage) → ⊥ }
         ensures cause { CountsEachFault result (D.faults disk.old) (D.faults disk.new)
             (I.faults inbox.old) (I.faults inbox.new) (O.faults outbox.old) (O.faults outbox.new) }
     {
         holds_its_state(&self.store, disk);
         choices_are_sessions();
+        choices_are_seen();
         taken_files_are_live();
         what_is_kept_is_seen();
         run_goes_on::<D>();
         faults_end_a_run::<D>();
         let processor = done.processor;
         let received = received(&done.given)?;
+        let step = step_done(alloc, &done)?;
         let changed = session_change(alloc, self.flow, &self.store, done)?;
+        if self.entries() >= self.most {
+            return Err(EngineError::Limit(self.journal_limit()));
+        }
+        let moment = self.write(disk, outbox, changed, step)?;
+        self.last = Some(processor);
+        self.since_reclaim = self.since_reclaim.saturating_add(1);
+        remove(&mut self.listing, inbox, processor, &received)?;
+        Ok(moment)
+    }
+
+    // Puts what a session sends, commits its change, and notes the step. It answers the moment of the acknowledgement.
+    // From a put that failed on the store must be opened anew.
+    fn write<D: Disk, O: Outbox>(
+        &mut self,
+        disk: &mut D,
+        outbox: &mut O,
+        changed: Changed,
+        step: Step,
+    ) -> Result<u64, EngineError>
+        requires work { (flow : TheFlow)
+            × IsQueued flow D.tells D.held D.moment D.images self.old.store self.old.queues disk.old }
+        requires may { MayChange (kept_by self.old.store) changed.settled }
+        requires live { HasLiveContents self.old.store changed.settled }
+        requires gone { are_active_in (kept_by self.old.store).files changed.connection changed.settled.gone ≡ true }
+        ensures written { HasWritten result D.tells D.held D.moment D.images O.tells self.old.store self.new.store
+            self.old.queues self.new.queues changed (O.standing outbox.old) (O.standing outbox.new) disk.old disk.new }
+        ensures journal { self.new.journal ≡ journaled result step self.old.journal }
+        ensures rest { self.new ≡ record self.old {
+          store = self.new.store;
+          queues = self.new.queues;
+          journal = self.new.journal;
+          failed = self.new.failed;
+          tended = self.new.tended;
+        } }
+        ensures failed { (self.new.failed ≡ true) ↔ ((self.old.failed ≡ true) ⊎ IsErrOf result EngineError.Outbox) }
+        ensures tended { (self.new.tended ≡ None) ⊎ (IsErrOf result EngineError.Memory × (self.new ≡ self.old)) }
+        ensures alone { WritesLog D.moment D.images self.old.store.log.number disk.old disk.new }
+        ensures disk_cause { CountsFaults (D.faults disk.old) (D.faults disk.new) (IsErrOf result EngineError.Disk) }
+        ensures outbox_cause { CountsFaults (O.faults outbox.old) (O.faults outbox.new)
+            (IsErrOf result EngineError.Outbox) }
+    {
+        self.journal.reserve(1)?;
+        self.tended = None;
         let connection = changed.connection;
-        let moment = commit(
+        let written = commit(
             &mut self.store,
             &mut self.queues,
             disk,
             outbox,
             connection,
             changed,
-        )?;
-        self.last = Some(processor);
-        self.entries = one_more(self.entries, self.most);
-        self.since_reclaim = self.since_reclaim.saturating_add(1);
-        remove(&mut self.listing, inbox, processor, &received)?;
-        Ok(moment)
+        );
+        note(&mut self.journal, step, &written);
+        if let Err(EngineError::Outbox) = &written {
+            self.has_failed = true;
+        }
+        written
     }
 }
 
@@ -214,13 +337,4 @@ fn received(given: &Given) -> Result<Option<Name>, AllocError>
         Some(name) => Ok(Some(name.clone()?)),
         None => Ok(None),
     }
-}
-
-// One more entry than there are, which are fewer than there may be.
-fn one_more(entries: u64, most: u64) -> u64
-    requires { entries < most }
-    ensures { result ≡ entries + 1 }
-{
-    let _ = most;
-    entries + 1
 }

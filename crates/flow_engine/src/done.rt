@@ -1,12 +1,11 @@
 //! The work of a session, and whether it is the work on a job.
 ghost use Rattle.std.specs.Prelude.{◌≡◌, ◌↔◌, map, IfOk, IsTrue};
-ghost use Rattle.processor_api.specs.Acts.{KeepsGiven};
-ghost use Rattle.flow_engine.specs.Done.{IsGivenAs, IsReceivedAs, IsSame, IsWorkOn, MayWorkOn};
+ghost use Rattle.flow_engine.specs.Done.{IsGivenAs, IsReceivedAs, IsSame, IsWorkOn, MayWorkOn, step_done};
 
 use crate::job::Job;
 use engine_session::{ReadList, taken_from};
 use flowfile_record::{Body, Bytes, FileList, FlowFile, Numbers, Outcome};
-use machine_model::{Flow, Given};
+use machine_model::{Flow, Given, Step};
 use process_session::{Source, SourceList};
 use std::alloc::{AllocError, Global};
 
@@ -45,6 +44,28 @@ pub fn work(alloc: Global, flow: &Flow, store: u64, job: Job) -> Result<Done, Al
         given,
         outcome,
         sources,
+    })
+}
+
+/// The step of the machine that it is.
+pub fn step_done(alloc: Global, done: &Done) -> Result<Step, AllocError>
+    ensures { IfOk result (λ one. one ≡ step_done done.now) }
+{
+    let file = match &done.given.file {
+        Some(name) => Some(name.clone()?),
+        None => None,
+    };
+    Ok(Step::Session {
+        processor: done.processor,
+        numbers: Numbers::from_slice(alloc, done.numbers.as_slice())?,
+        moment: done.given.moment,
+        given: Given {
+            moment: done.given.moment,
+            index: done.given.index,
+            there: done.given.there,
+            file,
+            bytes: None,
+        },
     })
 }
 

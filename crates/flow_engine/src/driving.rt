@@ -1,19 +1,17 @@
 //! An engine goes on until nothing is left to do.
-ghost use Rattle.std.specs.Prelude.{◌≡◌, ◌⊎◌, ℕ, ◌-◌, ◌^◌, ◌<◌, List, Option, Some, IfOk, OnOk, IsErrOf, IsTrue};
-ghost use Rattle.disk_trait.specs.declared.damage.Damage.{Damage as TheDamage};
+ghost use Rattle.std.specs.Prelude.{◌≡◌, ◌⊎◌, ℕ, ◌-◌, ◌^◌, ◌<◌, ◌≤◌, true, false, Option, Some, IfOk, OnOk, IsErrOf, IsTrue};
 ghost use Rattle.kept_state.specs.declared.limit.Limit.{Limit as TheLimit};
 ghost use Rattle.machine_model.specs.State.{Machine};
 ghost use Rattle.engine_choice.specs.declared.choice.Ending.{Ending as TheEnding};
-ghost use Rattle.flow_engine.specs.Checkout.{choice_in};
+ghost use Rattle.flow_engine.specs.Checkout.{session_in};
 ghost use Rattle.flow_engine.specs.Driving.{IsEnded, IsTurned, ShowsState};
 ghost use Rattle.flow_run.specs.Run.{StandsFor};
 ghost use Rattle.flowfile_wal.specs.Calls.{InEach};
-ghost use Rattle.flow_run.specs.Ending.{journal_full};
-ghost use Rattle.flow_engine.specs.Engine.{AreTakeable, IsOfSameRun, IsReady};
-ghost use Rattle.flow_engine.specs.Errors.{CountsEachFault};
+ghost use Rattle.flow_engine.specs.Engine.{AreTakeable, IsOfSameRun};
+ghost use Rattle.flow_engine.specs.Errors.{CountsEachFault, HasCause};
+ghost use Rattle.flow_engine.specs.Ready.{IsReady, due_in};
 ghost use Rattle.flow_engine.specs.Running.{IsRunning, Stops};
-ghost use Rattle.flow_engine.specs.Tending.{due_in};
-ghost use Rattle.flow_run.specs.Work.{IsAtWork, IsNoEarlier, IsReadDamaged, IsRefused, IsShortOn, WritesLog};
+ghost use Rattle.flow_run.specs.Work.{IsAtWork, IsNoEarlier, IsShortOn, WritesLog};
 ghost use Rattle.flow_engine.specs.declared.error.EngineError.{EngineError as TheError};
 ghost use Rattle.flow_engine.specs.declared.tending.Tended.TheVariants.{Nothing};
 
@@ -24,7 +22,9 @@ use crate::engine::Engine;
 use crate::tending::Tended;
 use crate::tied::holds_its_state;
 use disk_trait::Disk;
-use engine_choice::{Choice, Ending, choices_are_sessions, ends_are_machine_ends};
+use engine_choice::{
+    Choice, Ending, choices_are_seen, choices_are_sessions, ends_are_machine_ends,
+};
 use engine_queues::what_is_kept_is_seen;
 use engine_session::sessions_are_steps;
 use flow_run::{faults_end_a_run, run_goes_on};
@@ -43,31 +43,33 @@ impl Engine<'_> {
         clock: &mut C,
     ) -> Result<Ending, EngineError>
         requires ready { IsReady D.tells D.held D.moment D.images self.old disk.old }
+        requires works { self.old.failed ≡ false }
         requires left { IsTrue I.tells → AreTakeable (I.left inbox.old) self.old.listing.names }
         requires most { self.old.most < 2 ^ 64 - 1 }
         // The run went on until nothing was left to do, or it was stopped.
         ensures ended { IfOk result (λ ending. IsTrue D.tells → IsTrue I.tells → IsTrue O.tells
-            → (opened : Machine) (first : D)
-            → IsRunning D.moment D.images self.old opened first disk.old (I.left inbox.old) (O.standing outbox.old)
-            → IsEnded D.moment D.images self.new opened first disk.new (I.left inbox.new) (O.standing outbox.new)
-            (C.time clock.new) ending) }
+            → (opened : Machine) (first : D) (start time : ℕ) → time ≤ C.time clock.old
+            → IsRunning D.moment D.images self.old opened first start time disk.old (I.left inbox.old)
+            (O.standing outbox.old)
+            → IsEnded D.moment D.images self.new opened first start (C.time clock.new) disk.new (I.left inbox.new)
+            (O.standing outbox.new) ending) }
         ensures stopped { (error : TheError) → IsErrOf result error → IsTrue D.tells → IsTrue I.tells → IsTrue O.tells
-            → (opened : Machine) (first : D)
-            → IsRunning D.moment D.images self.old opened first disk.old (I.left inbox.old) (O.standing outbox.old)
-            → Stops error D.tells D.held D.moment D.images self.new opened first disk.new (I.left inbox.new)
-            (O.standing outbox.new) }
+            → (opened : Machine) (first : D) (start time : ℕ) → time ≤ C.time clock.old
+            → IsRunning D.moment D.images self.old opened first start time disk.old (I.left inbox.old)
+            (O.standing outbox.old)
+            → Stops error D.tells D.held D.moment D.images self.new opened first start (C.time clock.new) disk.new
+            (I.left inbox.new) (O.standing outbox.new) }
         ensures no_rest { IfOk result (λ ending. (until : ℕ) → ending ≡ Ending.Rest until → ⊥) }
         ensures short { OnOk result (IsShortOn D.moment D.images self.new.checkpoint disk.new) }
         // On any devices.
         ensures work { OnOk result (IsAtWork self.old.flow D.tells D.held D.moment D.images self.new.store disk.new) }
+        ensures later { C.time clock.old ≤ C.time clock.new }
+        ensures failed { self.new.failed ≡ true → IsErrOf result EngineError.Disk ⊎ IsErrOf result EngineError.Outbox }
+        ensures works { IsErrOf result EngineError.MustReopen → ⊥ }
         ensures same { IsOfSameRun self.old self.new }
         ensures alone { WritesLog D.moment D.images self.old.store.log.number disk.old disk.new }
-        ensures refused { (limit : TheLimit) → IsErrOf result (EngineError.Limit limit)
-            → IsRefused self.old.flow D.tells D.held D.moment D.images limit self.new.store disk.new
-            ⊎ ((limit ≡ journal_full self.old.most)
-            × IsAtWork self.old.flow D.tells D.held D.moment D.images self.new.store disk.new) }
-        ensures damaged { (damage : TheDamage) → IsErrOf result (EngineError.Damaged damage)
-            → IsReadDamaged self.old.flow D.tells D.held D.moment D.images self.old.store.lot disk.new }
+        ensures why { HasCause result self.old.flow D.tells D.held D.moment D.images self.old.store.lot self.old.most
+            self.new.store disk.new }
         ensures cause { CountsEachFault result (D.faults disk.old) (D.faults disk.new)
             (I.faults inbox.old) (I.faults inbox.new) (O.faults outbox.old) (O.faults outbox.new) }
     {
@@ -95,31 +97,32 @@ impl Engine<'_> {
         moment: u64,
     ) -> Result<Option<Ending>, EngineError>
         requires ready { IsReady D.tells D.held D.moment D.images self.old disk.old }
+        requires works { self.old.failed ≡ false }
         requires left { IsTrue I.tells → AreTakeable (I.left inbox.old) self.old.listing.names }
         requires most { self.old.most < 2 ^ 64 - 1 }
         ensures turned { IfOk result (λ ending. IsTrue D.tells → IsTrue I.tells → IsTrue O.tells
-            → (opened : Machine) (first : D)
-            → IsRunning D.moment D.images self.old opened first disk.old (I.left inbox.old) (O.standing outbox.old)
-            → IsTurned D.moment D.images self.new opened first disk.new (I.left inbox.new) (O.standing outbox.new)
-            moment ending) }
+            → (opened : Machine) (first : D) (start time : ℕ) → time ≤ moment
+            → IsRunning D.moment D.images self.old opened first start time disk.old (I.left inbox.old)
+            (O.standing outbox.old)
+            → IsTurned D.moment D.images self.new opened first start moment disk.new (I.left inbox.new)
+            (O.standing outbox.new) ending) }
         ensures short { IfOk result (λ ending. (end : TheEnding) → ending ≡ Some end
             → IsShortOn D.moment D.images self.new.checkpoint disk.new) }
         ensures stopped { (error : TheError) → IsErrOf result error → IsTrue D.tells → IsTrue I.tells → IsTrue O.tells
-            → (opened : Machine) (first : D)
-            → IsRunning D.moment D.images self.old opened first disk.old (I.left inbox.old) (O.standing outbox.old)
-            → Stops error D.tells D.held D.moment D.images self.new opened first disk.new (I.left inbox.new)
-            (O.standing outbox.new) }
+            → (opened : Machine) (first : D) (start time : ℕ) → time ≤ moment
+            → IsRunning D.moment D.images self.old opened first start time disk.old (I.left inbox.old)
+            (O.standing outbox.old)
+            → Stops error D.tells D.held D.moment D.images self.new opened first start moment disk.new
+            (I.left inbox.new) (O.standing outbox.new) }
         ensures ready { OnOk result (IsReady D.tells D.held D.moment D.images self.new disk.new) }
+        ensures failed { self.new.failed ≡ true → IsErrOf result EngineError.Disk ⊎ IsErrOf result EngineError.Outbox }
+        ensures works { IsErrOf result EngineError.MustReopen → ⊥ }
         ensures left { OnOk result (IsTrue I.tells → AreTakeable (I.left inbox.new) self.new.listing.names) }
         ensures same { IsOfSameRun self.old self.new }
         ensures log { OnOk result (IsNoEarlier self.old.store.log.number self.new.store.log.number) }
         ensures alone { WritesLog D.moment D.images self.old.store.log.number disk.old disk.new }
-        ensures refused { (limit : TheLimit) → IsErrOf result (EngineError.Limit limit)
-            → IsRefused self.old.flow D.tells D.held D.moment D.images limit self.new.store disk.new
-            ⊎ ((limit ≡ journal_full self.old.most)
-            × IsAtWork self.old.flow D.tells D.held D.moment D.images self.new.store disk.new) }
-        ensures damaged { (damage : TheDamage) → IsErrOf result (EngineError.Damaged damage)
-            → IsReadDamaged self.old.flow D.tells D.held D.moment D.images self.old.store.lot disk.new }
+        ensures why { HasCause result self.old.flow D.tells D.held D.moment D.images self.old.store.lot self.old.most
+            self.new.store disk.new }
         ensures cause { CountsEachFault result (D.faults disk.old) (D.faults disk.new)
             (I.faults inbox.old) (I.faults inbox.new) (O.faults outbox.old) (O.faults outbox.new) }
     {
@@ -139,42 +142,47 @@ impl Engine<'_> {
         moment: u64,
     ) -> Result<Option<Ending>, EngineError>
         requires ready { IsReady D.tells D.held D.moment D.images self.old disk.old }
+        requires works { self.old.failed ≡ false }
         requires left { IsTrue I.tells → AreTakeable (I.left inbox.old) self.old.listing.names }
         requires tended { due_in self.old moment ≡ Nothing }
         requires short { IsShortOn D.moment D.images self.old.checkpoint disk.old }
         requires most { self.old.most < 2 ^ 64 - 1 }
         ensures turned { IfOk result (λ ending. IsTrue D.tells → IsTrue I.tells → IsTrue O.tells
-            → (opened : Machine) (first : D)
-            → IsRunning D.moment D.images self.old opened first disk.old (I.left inbox.old) (O.standing outbox.old)
-            → IsTurned D.moment D.images self.new opened first disk.new (I.left inbox.new) (O.standing outbox.new)
-            moment ending) }
+            → (opened : Machine) (first : D) (start time : ℕ) → time ≤ moment
+            → IsRunning D.moment D.images self.old opened first start time disk.old (I.left inbox.old)
+            (O.standing outbox.old)
+            → IsTurned D.moment D.images self.new opened first start moment disk.new (I.left inbox.new)
+            (O.standing outbox.new) ending) }
         ensures short { IfOk result (λ ending. (end : TheEnding) → ending ≡ Some end
             → IsShortOn D.moment D.images self.new.checkpoint disk.new) }
         ensures stopped { (error : TheError) → IsErrOf result error → IsTrue D.tells → IsTrue I.tells → IsTrue O.tells
-            → (opened : Machine) (first : D)
-            → IsRunning D.moment D.images self.old opened first disk.old (I.left inbox.old) (O.standing outbox.old)
-            → Stops error D.tells D.held D.moment D.images self.new opened first disk.new (I.left inbox.new)
-            (O.standing outbox.new) }
+            → (opened : Machine) (first : D) (start time : ℕ) → time ≤ moment
+            → IsRunning D.moment D.images self.old opened first start time disk.old (I.left inbox.old)
+            (O.standing outbox.old)
+            → Stops error D.tells D.held D.moment D.images self.new opened first start moment disk.new
+            (I.left inbox.new) (O.standing outbox.new) }
         ensures ready { OnOk result (IsReady D.tells D.held D.moment D.images self.new disk.new) }
+        ensures failed { self.new.failed ≡ true → IsErrOf result EngineError.Disk ⊎ IsErrOf result EngineError.Outbox }
+        ensures works { IsErrOf result EngineError.MustReopen → ⊥ }
         ensures left { OnOk result (IsTrue I.tells → AreTakeable (I.left inbox.new) self.new.listing.names) }
         ensures same { IsOfSameRun self.old self.new }
         ensures log { self.new.store.log.number ≡ self.old.store.log.number }
         ensures alone { WritesLog D.moment D.images self.old.store.log.number disk.old disk.new }
-        ensures refused { (limit : TheLimit) → IsErrOf result (EngineError.Limit limit)
-            → IsRefused self.old.flow D.tells D.held D.moment D.images limit self.new.store disk.new
-            ⊎ ((limit ≡ journal_full self.old.most)
-            × IsAtWork self.old.flow D.tells D.held D.moment D.images self.new.store disk.new) }
-        ensures damaged { (damage : TheDamage) → IsErrOf result (EngineError.Damaged damage)
-            → IsReadDamaged self.old.flow D.tells D.held D.moment D.images self.old.store.lot disk.new }
+        ensures why { HasCause result self.old.flow D.tells D.held D.moment D.images self.old.store.lot self.old.most
+            self.new.store disk.new }
         ensures cause { CountsEachFault result (D.faults disk.old) (D.faults disk.new)
             (I.faults inbox.old) (I.faults inbox.new) (O.faults outbox.old) (O.faults outbox.new) }
     {
         self.shows_its_state(disk);
         choices_are_sessions();
+        choices_are_seen();
         sessions_are_steps();
         ends_are_machine_ends();
+        run_goes_on::<D>();
         faults_end_a_run::<D>();
         match self.checkout(alloc, moment)? {
+            // All that is due was tended before.
+            Checkout::Due => unreachable!(),
             Checkout::Session(choice) => {
                 self.run_session(alloc, disk, inbox, outbox, moment, choice)?;
                 Ok(None)
@@ -198,27 +206,31 @@ impl Engine<'_> {
         choice: Choice,
     ) -> Result<(), EngineError>
         requires ready { IsReady D.tells D.held D.moment D.images self.old disk.old }
-        requires room { self.old.entries < self.old.most }
-        requires chosen { choice_in self.old moment ≡ Some choice }
+        requires works { self.old.failed ≡ false }
+        requires most { self.old.most < 2 ^ 64 - 1 }
+        requires chosen { session_in self.old moment ≡ Some choice }
         requires left { IsTrue I.tells → AreTakeable (I.left inbox.old) self.old.listing.names }
         ensures goes_on { OnOk result (IsTrue D.tells → IsTrue I.tells → IsTrue O.tells
-            → (opened : Machine) (first : D)
-            → IsRunning D.moment D.images self.old opened first disk.old (I.left inbox.old) (O.standing outbox.old)
-            → IsRunning D.moment D.images self.new opened first disk.new (I.left inbox.new) (O.standing outbox.new)) }
+            → (opened : Machine) (first : D) (start time : ℕ) → time ≤ moment
+            → IsRunning D.moment D.images self.old opened first start time disk.old (I.left inbox.old)
+            (O.standing outbox.old)
+            → IsRunning D.moment D.images self.new opened first start moment disk.new (I.left inbox.new)
+            (O.standing outbox.new)) }
         ensures stopped { (error : TheError) → IsErrOf result error → IsTrue D.tells → IsTrue I.tells → IsTrue O.tells
-            → (opened : Machine) (first : D)
-            → IsRunning D.moment D.images self.old opened first disk.old (I.left inbox.old) (O.standing outbox.old)
-            → Stops error D.tells D.held D.moment D.images self.new opened first disk.new (I.left inbox.new)
-            (O.standing outbox.new) }
+            → (opened : Machine) (first : D) (start time : ℕ) → time ≤ moment
+            → IsRunning D.moment D.images self.old opened first start time disk.old (I.left inbox.old)
+            (O.standing outbox.old)
+            → Stops error D.tells D.held D.moment D.images self.new opened first start moment disk.new
+            (I.left inbox.new) (O.standing outbox.new) }
         ensures ready { OnOk result (IsReady D.tells D.held D.moment D.images self.new disk.new) }
+        ensures failed { self.new.failed ≡ true → IsErrOf result EngineError.Disk ⊎ IsErrOf result EngineError.Outbox }
+        ensures works { IsErrOf result EngineError.MustReopen → ⊥ }
         ensures left { OnOk result (IsTrue I.tells → AreTakeable (I.left inbox.new) self.new.listing.names) }
         ensures same { IsOfSameRun self.old self.new }
         ensures log { self.new.store.log.number ≡ self.old.store.log.number }
         ensures alone { WritesLog D.moment D.images self.old.store.log.number disk.old disk.new }
-        ensures refused { (limit : TheLimit) → IsErrOf result (EngineError.Limit limit)
-            → IsRefused self.old.flow D.tells D.held D.moment D.images limit self.new.store disk.new }
-        ensures damaged { (damage : TheDamage) → IsErrOf result (EngineError.Damaged damage)
-            → IsReadDamaged self.old.flow D.tells D.held D.moment D.images self.old.store.lot disk.new }
+        ensures why { HasCause result self.old.flow D.tells D.held D.moment D.images self.old.store.lot self.old.most
+            self.new.store disk.new }
         ensures cause { CountsEachFault result (D.faults disk.old) (D.faults disk.new)
             (I.faults inbox.old) (I.faults inbox.new) (O.faults outbox.old) (O.faults outbox.new) }
     {

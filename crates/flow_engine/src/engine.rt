@@ -16,16 +16,17 @@ ghost use Rattle.flow_engine.specs.Opening.{IsOpened, fits_in};
 use crate::EngineError;
 use engine_choice::Listing;
 use engine_queues::Queues;
-use machine_model::Flow;
+use machine_model::{Entry, Flow};
 use std::alloc::Global;
 use std::marker::Model;
 use store_core::Store;
 use world_io::{CONTENT_MAX, Inbox, Name};
 
 /// What runs a flow: the store and the queues of what it keeps, the names of the inbox that are to come, the processor
-/// that got the last session, how many entries the journal has, how many it may have, with how many entries in its log
-/// the store makes a checkpoint, and how many entries came since the claims were last reclaimed. It holds no device:
-/// each call takes those that it needs.
+/// that got the last session, the journal, how many entries it may have, with how many entries in its log the store makes
+/// a checkpoint, how many entries came since the claims were last reclaimed, whether the disk or a put has failed, so that
+/// the store must be opened anew, and the moment at which nothing was due, where nothing was done since. It holds no
+/// device: each call takes those that it needs.
 #[derive(Drop)]
 pub struct Engine<'f> {
     pub(crate) flow: &'f Flow,
@@ -33,10 +34,12 @@ pub struct Engine<'f> {
     pub(crate) queues: Queues,
     pub(crate) listing: Listing<'f>,
     pub(crate) last: Option<u16>,
-    pub(crate) entries: u64,
+    pub(crate) journal: Vec<Entry>,
     pub(crate) most: u64,
     pub(crate) checkpoint: u64,
     pub(crate) since_reclaim: u64,
+    pub(crate) has_failed: bool,
+    pub(crate) tended: Option<u64>,
 }
 
 impl<'f> Model for Engine<'f> {
@@ -55,10 +58,12 @@ impl<'f> Model for Engine<'f> {
       queues = engine.queues;
       listing = engine.listing;
       last = engine.last;
-      entries = engine.entries;
+      journal = engine.journal.items;
       most = engine.most;
       checkpoint = engine.checkpoint;
       since_reclaim = engine.since_reclaim;
+      failed = engine.has_failed;
+      tended = engine.tended;
     } };
 }
 
@@ -99,11 +104,27 @@ impl<'f> Engine<'f> {
             queues,
             listing,
             last: None,
-            entries: 0,
+            journal: Vec::new(alloc),
             most,
             checkpoint,
             since_reclaim: 0,
+            has_failed: false,
+            tended: None,
         })
+    }
+
+    /// The steps of the run, in their order. One that the disk's failure cut off stands last, and isn't acknowledged.
+    pub fn journal(&self) -> &[Entry]
+        ensures { result.now ≡ self.now.journal }
+    {
+        self.journal.as_slice()
+    }
+
+    // How many entries the journal has.
+    pub(crate) fn entries(&self) -> u64
+        ensures { result ≡ length self.now.journal }
+    {
+        self.journal.len() as u64
     }
 }
 

@@ -10,7 +10,7 @@ use store_core::{Limit, StoreError};
 use thiserror::Error;
 use world_io::WorldError;
 
-/// Why an engine stopped before nothing was left to do.
+/// Why a call of an engine refuses.
 #[derive(Clone, Copy, Debug, PartialEq, Eq, Error)]
 pub enum EngineError {
     #[error("{0}")]
@@ -21,8 +21,13 @@ pub enum EngineError {
     Inbox,
     #[error("the outbox failed")]
     Outbox,
+    /// A change would pass a limit, or one entry more that of the journal.
     #[error("{} are wanted, and the limit is {}", .0.wanted, .0.number)]
     Limit(Limit),
+    /// The disk failed in an earlier call, or a put into the outbox did: whatever a stop leaves stands for the state, but
+    /// the one in memory may be another.
+    #[error("the store must be opened anew")]
+    MustReopen,
     #[error("out of memory")]
     Memory,
 }
@@ -38,6 +43,8 @@ impl EngineError {
             EngineError::Inbox => Ended::Fault(Fault::Inbox),
             EngineError::Outbox => Ended::Fault(Fault::Outbox),
             EngineError::Limit(limit) => Ended::Limit(*limit),
+            // Its first cause was told before, and ended the run then.
+            EngineError::MustReopen => Ended::Fault(Fault::Disk),
             EngineError::Memory => Ended::Fault(Fault::Memory),
         }
     }

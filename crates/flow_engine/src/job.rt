@@ -12,12 +12,13 @@ ghost use Rattle.kept_state.specs.declared.limit.Limit.{Limit as TheLimit};
 ghost use Rattle.machine_model.specs.Acting.{name_in};
 ghost use Rattle.machine_model.specs.declared.flow.Flow.{Flow as TheFlow};
 ghost use Rattle.store_core.specs.Store.{kept_by};
-ghost use Rattle.flow_engine.specs.Checkout.{choice_in};
+ghost use Rattle.flow_engine.specs.Checkout.{session_in};
 ghost use Rattle.flow_engine.specs.Done.{MayWorkOn};
-ghost use Rattle.flow_engine.specs.Engine.{AreTakeable, IsOfSameRun, IsReady};
-ghost use Rattle.flow_engine.specs.Errors.{CountsEachFault};
+ghost use Rattle.flow_engine.specs.Engine.{AreTakeable};
+ghost use Rattle.flow_engine.specs.Errors.{CountsEachFault, IsReadBy, OnlyReads, RefusesToRead};
 ghost use Rattle.flow_engine.specs.Handing.{IsHanded, IsHandedAs, MayBeReceived, MayBeTaken};
 ghost use Rattle.flow_engine.specs.Job.{IsNextJob};
+ghost use Rattle.flow_engine.specs.Ready.{IsReady, IsUsable};
 ghost use Rattle.flow_run.specs.Work.{IsAtWork, IsReadDamaged};
 
 use crate::EngineError;
@@ -49,7 +50,7 @@ pub struct Job {
 
 impl Engine<'_> {
     /// Reads the job of a session that comes next: the contents of the files that it takes, or the file of the inbox,
-    /// and whether the outbox has the file's name.
+    /// and whether the outbox has the file's name. Nothing is written.
     pub fn read<D: Disk, I: Inbox, O: Outbox>(
         &mut self,
         alloc: Global,
@@ -59,20 +60,52 @@ impl Engine<'_> {
         moment: u64,
         choice: Choice,
     ) -> Result<Job, EngineError>
+        requires usable { IsUsable D.tells D.held D.moment D.images self.old disk.old }
+        requires chosen { session_in self.old moment ≡ Some choice }
+        requires left { IsTrue I.tells → AreTakeable (I.left inbox.old) self.old.listing.names }
+        ensures job { IfOk result (λ job. IsNextJob (IsTrue D.tells × IsTrue I.tells × IsTrue O.tells) self.old
+            (content_in (D.held disk.old)) (I.left inbox.old) (O.standing outbox.old) moment job
+            × MayWorkOn self.old.flow (kept_by self.old.store).store job) }
+        ensures engine { OnlyReads result self.old self.new }
+        ensures world { Stays D.held D.moment D.images disk.old disk.new × (I.left inbox.new ≡ I.left inbox.old)
+            × (O.standing outbox.new ≡ O.standing outbox.old) }
+        ensures usable { IsUsable D.tells D.held D.moment D.images self.new disk.new }
+        ensures refusal { RefusesToRead result D.tells D.held D.moment D.images D.faults I.faults O.faults
+            self.old self.new disk.old disk.new inbox.old inbox.new outbox.old outbox.new }
+    {
+        if self.has_failed {
+            return Err(EngineError::MustReopen);
+        }
+        let job = self.read_job(alloc, disk, inbox, outbox, moment, choice);
+        if let Err(EngineError::Disk) = &job {
+            self.has_failed = true;
+        }
+        job
+    }
+
+    // Reads the job, by a store that works.
+    pub(crate) fn read_job<D: Disk, I: Inbox, O: Outbox>(
+        &mut self,
+        alloc: Global,
+        disk: &mut D,
+        inbox: &mut I,
+        outbox: &mut O,
+        moment: u64,
+        choice: Choice,
+    ) -> Result<Job, EngineError>
         requires ready { IsReady D.tells D.held D.moment D.images self.old disk.old }
-        requires chosen { choice_in self.old moment ≡ Some choice }
+        requires chosen { session_in self.old moment ≡ Some choice }
         requires left { IsTrue I.tells → AreTakeable (I.left inbox.old) self.old.listing.names }
         ensures job { IfOk result (IsNextJob (IsTrue D.tells × IsTrue I.tells × IsTrue O.tells) self.old
             (content_in (D.held disk.old)) (I.left inbox.old) (O.standing outbox.old) moment) }
         ensures may { IfOk result (MayWorkOn self.old.flow (kept_by self.old.store).store) }
-        ensures unchanged { OnOk result (self.new ≡ self.old) }
-        ensures same { IsOfSameRun self.old self.new }
-        ensures log { self.new.store.log.number ≡ self.old.store.log.number }
-        // Nothing is written.
+        ensures store { IsReadBy result self.old.store self.new.store }
+        ensures rest { self.new ≡ record self.old { store = self.new.store } }
         ensures stays { Stays D.held D.moment D.images disk.old disk.new }
         ensures left { I.left inbox.new ≡ I.left inbox.old }
         ensures standing { O.standing outbox.new ≡ O.standing outbox.old }
         ensures unlimited { (limit : TheLimit) → IsErrOf result (EngineError.Limit limit) → ⊥ }
+        ensures works { IsErrOf result EngineError.MustReopen → ⊥ }
         ensures damaged { (damage : TheDamage) → IsErrOf result (EngineError.Damaged damage)
             → IsReadDamaged self.old.flow D.tells D.held D.moment D.images self.old.store.lot disk.new }
         ensures cause { CountsEachFault result (D.faults disk.old) (D.faults disk.new)
@@ -102,12 +135,12 @@ fn hand<D: Disk, I: Inbox, O: Outbox>(
     ensures told { IfOk result (λ job. IsTrue D.tells → IsTrue I.tells → IsTrue O.tells
         → IsHandedAs (kept_by store.old) (content_in (D.held disk.old)) (I.left inbox.old) (O.standing outbox.old)
         choice job) }
-    ensures same { OnOk result (store.new ≡ store.old) }
-    ensures lot { (store.new.lot ≡ store.old.lot) × (store.new.log.number ≡ store.old.log.number) }
+    ensures store { IsReadBy result store.old store.new }
     ensures stays { Stays D.held D.moment D.images disk.old disk.new }
     ensures left { I.left inbox.new ≡ I.left inbox.old }
     ensures standing { O.standing outbox.new ≡ O.standing outbox.old }
     ensures unlimited { (limit : TheLimit) → IsErrOf result (EngineError.Limit limit) → ⊥ }
+    ensures works { IsErrOf result EngineError.MustReopen → ⊥ }
     ensures damaged { (damage : TheDamage) → IsErrOf result (EngineError.Damaged damage) → (flow : TheFlow)
         → IsAtWork flow D.tells D.held D.moment D.images store.old disk.old
         → IsReadDamaged flow D.tells D.held D.moment D.images store.old.lot disk.new }
@@ -203,8 +236,7 @@ fn hand_files<D: Disk, O: Outbox>(
     ensures told { IfOk result (λ job. IsTrue D.tells → IsTrue O.tells → (left : List NamedFile)
         → IsHandedAs (kept_by store.old) (content_in (D.held disk.old)) left (O.standing outbox.old)
         (record { processor = processor; taking = Files connection numbers }) job) }
-    ensures same { OnOk result (store.new ≡ store.old) }
-    ensures lot { (store.new.lot ≡ store.old.lot) × (store.new.log.number ≡ store.old.log.number) }
+    ensures store { IsReadBy result store.old store.new }
     ensures stays { Stays D.held D.moment D.images disk.old disk.new }
     ensures standing { O.standing outbox.new ≡ O.standing outbox.old }
     ensures kinds { IfErr result (λ error. (error ≡ EngineError.Disk) ⊎ (error ≡ EngineError.Memory)

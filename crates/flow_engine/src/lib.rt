@@ -3,12 +3,14 @@
 
 mod change;
 mod checkout;
+mod close;
 mod commit;
 mod done;
 mod driving;
 mod engine;
 mod error;
 mod job;
+mod journal;
 mod reading;
 mod run;
 mod session;
@@ -16,6 +18,7 @@ mod tending;
 mod tied;
 
 pub use checkout::Checkout;
+pub use close::Closed;
 pub use commit::Committed;
 pub use done::{Done, work};
 pub use engine::Engine;

@@ -8,6 +8,7 @@ ghost use Rattle.content_repo.specs.Claims.{IsRead, content_in};
 ghost use Rattle.engine_session.specs.Handing.{AreReadOf, fit_a_content};
 ghost use Rattle.machine_model.specs.declared.flow.Flow.{Flow as TheFlow};
 ghost use Rattle.store_core.specs.Store.{live_in};
+ghost use Rattle.flow_engine.specs.Errors.{IsReadBy};
 ghost use Rattle.flow_engine.specs.Handing.{HaveRead};
 ghost use Rattle.flow_run.specs.Work.{IsAtWork, IsReadDamaged};
 
@@ -31,8 +32,7 @@ pub(crate) fn read_contents<D: Disk>(
     ensures read { IfOk result (HaveRead (fit_a_content files.now) files.now) }
     ensures told { IfOk result (λ contents. IsTrue D.tells
         → AreReadOf (content_in (D.held disk.old)) (fit_a_content files.now) files.now contents) }
-    ensures same { OnOk result (store.new ≡ store.old) }
-    ensures lot { (store.new.lot ≡ store.old.lot) × (store.new.log.number ≡ store.old.log.number) }
+    ensures store { IsReadBy result store.old store.new }
     ensures stays { Stays D.held D.moment D.images disk.old disk.new }
     ensures kinds { IfErr result (λ error. (error ≡ EngineError.Disk) ⊎ (error ≡ EngineError.Memory)
         ⊎ ((damage : TheDamage) × (error ≡ EngineError.Damaged damage))) }
@@ -76,8 +76,7 @@ fn read_next<D: Disk>(
     ensures told { IfOk result (λ read. IsTrue D.tells
         → AreReadOf (content_in (D.held disk.old)) fits files.now contents.now
         → AreReadOf (content_in (D.held disk.old)) fits (files.now ++ file.now ∷ []) (contents.now ++ read ∷ [])) }
-    ensures same { OnOk result (store.new ≡ store.old) }
-    ensures lot { (store.new.lot ≡ store.old.lot) × (store.new.log.number ≡ store.old.log.number) }
+    ensures store { IsReadBy result store.old store.new }
     ensures stays { Stays D.held D.moment D.images disk.old disk.new }
     ensures kinds { IfErr result (λ error. (error ≡ EngineError.Disk) ⊎ (error ≡ EngineError.Memory)
         ⊎ ((damage : TheDamage) × (error ≡ EngineError.Damaged damage))) }
@@ -135,8 +134,7 @@ fn read_content<D: Disk>(
     requires live { Contains (live_in store.old) at.now }
     ensures read { IfOk result (λ bytes. IsRead D.tells (D.held disk.old) at.now bytes.items) }
     ensures undamaged { (damage : TheDamage) → IsErrOf result (EngineError.Damaged damage) → IsTrue D.tells → ⊥ }
-    ensures same { OnOk result (store.new ≡ store.old) }
-    ensures lot { (store.new.lot ≡ store.old.lot) × (store.new.log.number ≡ store.old.log.number) }
+    ensures store { IsReadBy result store.old store.new }
     ensures stays { Stays D.held D.moment D.images disk.old disk.new }
     ensures kinds { IfErr result (λ error. (error ≡ EngineError.Disk) ⊎ (error ≡ EngineError.Memory)
         ⊎ ((damage : TheDamage) × (error ≡ EngineError.Damaged damage))) }

@@ -1,29 +1,24 @@
 //! A flow runs over an opened store until nothing is left to do, and the store is closed.
-ghost use Rattle.std.specs.Prelude.{◌≡◌, ◌⊎◌, ℕ, ◌-◌, ◌^◌, ◌<◌, false, [], Ok, IsTrue};
-ghost use Rattle.disk_trait.specs.Faults.{CountsFaults};
-ghost use Rattle.disk_trait.specs.Images.{After, Since};
+ghost use Rattle.std.specs.Prelude.{◌≡◌, ℕ, ◌-◌, ◌^◌, ◌<◌, List, [], OnOk, IfErr, IsTrue};
 ghost use Rattle.disk_trait.specs.declared.damage.Damage.{Damage as TheDamage};
 ghost use Rattle.kept_state.specs.declared.limit.Limit.{Limit as TheLimit};
 ghost use Rattle.machine_model.specs.Sound.{IsSound};
 ghost use Rattle.machine_model.specs.State.{State};
-ghost use Rattle.machine_model.specs.declared.flow.Flow.{Flow as TheFlow};
-ghost use Rattle.store_core.specs.Flow.{flow_in};
-ghost use Rattle.store_core.specs.State.{stands_for};
-ghost use Rattle.store_core.specs.Store.{kept_by, live_in, EachStandsFor, IsKeptOn};
-ghost use Rattle.store_core.specs.Touched.{Frees};
-ghost use Rattle.engine_core.specs.Committing.{identity_of};
+ghost use Rattle.machine_model.specs.declared.journal.Entry.{Entry as TheEntry};
 ghost use Rattle.flow_run.specs.Going.{IsRunningAt};
-ghost use Rattle.flow_run.specs.Run.{HasRun, IsTidied, machine_at};
-ghost use Rattle.flow_run.specs.declared.ended.Fault.TheVariants.{Damaged, Disk};
+ghost use Rattle.flow_run.specs.Run.{HasRun, machine_at};
+ghost use Rattle.flow_run.specs.declared.ended.Fault.TheVariants.{Damaged};
 ghost use Rattle.flow_run.specs.Ending.{EndsOnFaults, EndsShort, IsLimitMet};
 ghost use Rattle.flow_engine.specs.Engine.{AreBuilt};
-ghost use Rattle.flow_run.specs.Work.{IsAtWork, IsReadDamaged, IsShortOn, WritesLog};
+ghost use Rattle.flow_engine.specs.Errors.{ended_by};
+ghost use Rattle.flow_run.specs.Work.{IsAtWork, IsReadDamaged, WritesLog};
 
 use crate::EngineError;
+use crate::close::Closed;
 use crate::engine::Engine;
 use disk_trait::Disk;
 use engine_choice::Ending;
-use flow_run::{Ended, Fault, faults_end_a_run, run_ends};
+use flow_run::{Ended, faults_end_a_run, run_ends};
 use machine_model::Flow;
 use std::alloc::Global;
 use store_core::Store;
@@ -49,13 +44,13 @@ pub fn run_flow<D: Disk, I: Inbox, O: Outbox, C: Clock>(
     requires most { most < 2 ^ 64 - 1 }
     requires work { IsAtWork flow.now D.tells D.held D.moment D.images store disk.old }
     // Where the devices tell, a journal of the machine's steps tells what the run did.
-    ensures headline { IsTrue D.tells → IsTrue I.tells → IsTrue O.tells → (state : State) (first : D)
-        → IsRunningAt flow.now D.moment D.images store.lot
+    ensures headline { IsTrue D.tells → IsTrue I.tells → IsTrue O.tells → (state : State) (first : D) (start : ℕ)
+        → IsRunningAt flow.now start (C.time clock.old) D.moment D.images store.lot
         (machine_at state (I.left inbox.old) (O.standing outbox.old)) first disk.old []
         (machine_at state (I.left inbox.old) (O.standing outbox.old)) (I.left inbox.old) (O.standing outbox.old)
-        → HasRun flow.now result (C.time clock.new) D.tells D.held D.moment D.images store.lot
-        (machine_at state (I.left inbox.old) (O.standing outbox.old)) first disk.new (I.left inbox.new)
-        (O.standing outbox.new) }
+        → (journal : List TheEntry) × HasRun flow.now result start (C.time clock.new) D.tells D.held D.moment D.images
+        store.lot (machine_at state (I.left inbox.old) (O.standing outbox.old)) first disk.new (I.left inbox.new)
+        (O.standing outbox.new) journal }
     // On any devices.
     ensures checkpointed { EndsShort D.moment D.images checkpoint result disk.new }
     ensures alone { WritesLog D.moment D.images store.log.number disk.old disk.new }
@@ -73,43 +68,25 @@ pub fn run_flow<D: Disk, I: Inbox, O: Outbox, C: Clock>(
         Err(error) => return error.ended(),
     };
     match engine.drive(alloc, disk, inbox, outbox, clock) {
-        Ok(Ending::Blocked(connection)) => { engine.close(disk, Ended::Blocked(connection)) }
-        Ok(Ending::Quiet) => engine.close(disk, Ended::Quiet),
+        Ok(Ending::Blocked(connection)) => ended_by(engine.close(disk), Ended::Blocked(connection)),
+        Ok(Ending::Quiet) => ended_by(engine.close(disk), Ended::Quiet),
         Ok(Ending::Rest { .. }) => unreachable!(),
         Err(error) => {
             let EngineError::Limit(limit) = error else {
                 return error.ended();
             };
-            engine.close(disk, Ended::Limit(limit))
+            ended_by(engine.close(disk), Ended::Limit(limit))
         }
     }
 }
 
-impl Engine<'_> {
-    /// Closes the store of a run that is to end so: claims without references are emptied, and the disk is synced. Whatever
-    /// a stop leaves stands for the same state. It answers how the run ended: so, or by a fault of the disk.
-    pub fn close<D: Disk>(&mut self, disk: &mut D, ended: Ended) -> Ended
-        requires kept { IsKeptOn D.tells D.held D.moment D.images self.old.store disk.old }
-        requires works { self.old.store.failed ≡ false }
-        requires ended { ended ≡ Ended.Fault Disk → ⊥ }
-        ensures told { (result ≡ ended) ⊎ (result ≡ Ended.Fault Disk) }
-        ensures states { (state : State)
-            → EachStandsFor (flow_in (kept_by self.old.store)) self.old.store.lot state
-            (D.images disk.old (D.moment disk.old))
-            → Since D.moment D.images disk.old disk.new
-            (λ c. stands_for (flow_in (kept_by self.old.store)) self.old.store.lot c ≡ Ok state) }
-        ensures tidied { result ≡ ended → (flow : TheFlow)
-            → flow_in (kept_by self.old.store) ≡ identity_of flow
-            → IsTrue D.tells → IsTidied flow self.old.store.lot (D.held disk.new) }
-        ensures short { (checkpoint : ℕ) → IsShortOn D.moment D.images checkpoint disk.old
-            → IsShortOn D.moment D.images checkpoint disk.new }
-        ensures alone { Since D.moment D.images disk.old disk.new
-            (After (Frees (live_in self.old.store)) (D.images disk.old (D.moment disk.old))) }
-        ensures cause { CountsFaults (D.faults disk.old) (D.faults disk.new) (result ≡ Ended.Fault Disk) }
-    {
-        match self.store.close(disk) {
-            Ok(()) => ended,
-            Err(_) => Ended::Fault(Fault::Disk),
-        }
+// How a run ends whose store was to be closed at this end.
+fn ended_by(closed: Result<Closed, EngineError>, ended: Ended) -> Ended
+    ensures ok { OnOk closed (result ≡ ended) }
+    ensures err { IfErr closed (λ error. result ≡ ended_by error) }
+{
+    match closed {
+        Ok(_) => ended,
+        Err(error) => error.ended(),
     }
 }

@@ -1,24 +1,16 @@
 //! How the change of a session becomes part of the outbox, the store and the inbox.
-ghost use Rattle.std.specs.Prelude.{◌≡◌, ◌⊎◌, ◌<◌, true, Some, IfOk, OnOk, IfErr, IsErrOf, IsTrue, IsSome, IfSome, length, slice_get};
+ghost use Rattle.std.specs.Prelude.{◌≡◌, ◌⊎◌, ◌<◌, true, Some, OnOk, IfErr, IsErrOf, IsTrue, IsSome, IfSome, length, slice_get};
 ghost use Rattle.disk_trait.specs.Faults.{CountsFaults};
-ghost use Rattle.content_repo.specs.Claims.{content_in};
 ghost use Rattle.engine_choice.specs.Listing.{first_passed};
 ghost use Rattle.flowfile_record.specs.NamedFile.{bytes_of};
-ghost use Rattle.flowfile_wal.specs.Calls.{InEach};
 ghost use Rattle.kept_state.specs.Fits.{are_active_in};
-ghost use Rattle.kept_state.specs.declared.limit.Limit.{Limit as TheLimit};
-ghost use Rattle.machine_model.specs.Changing.{state_after};
-ghost use Rattle.machine_model.specs.State.{Machine};
 ghost use Rattle.machine_model.specs.declared.flow.Flow.{Flow as TheFlow};
 ghost use Rattle.machine_model.specs.declared.flow.Processor.{Processor as TheProcessor};
-ghost use Rattle.store_core.specs.Change.{HasLiveContents, IsLimitOf, MayChange};
+ghost use Rattle.store_core.specs.Change.{HasLiveContents, MayChange};
 ghost use Rattle.store_core.specs.Store.{kept_by};
 ghost use Rattle.flow_engine.specs.Change.{names_without, with_sending, without_received};
-ghost use Rattle.flow_engine.specs.Committing.{IsLeftBySend, IsQueued, with_room};
-ghost use Rattle.flow_run.specs.Going.{IsBetween, IsStepped};
-ghost use Rattle.flow_run.specs.Run.{StandsFor};
-ghost use Rattle.flow_run.specs.Work.{IsAtWork, WritesLog};
-ghost use Rattle.flow_engine.specs.declared.error.EngineError.{EngineError as TheError};
+ghost use Rattle.flow_engine.specs.Committing.{HasWritten, IsLeftBySend, IsQueued};
+ghost use Rattle.flow_run.specs.Work.{WritesLog};
 
 use crate::EngineError;
 use crate::change::{Changed, Sending};
@@ -43,36 +35,8 @@ pub(crate) fn commit<D: Disk, O: Outbox>(
     requires may { MayChange (kept_by store.old) changed.settled }
     requires live { HasLiveContents store.old changed.settled }
     requires gone { are_active_in (kept_by store.old).files connection changed.settled.gone ≡ true }
-    ensures stepped { OnOk result ((flow : TheFlow) (before after : Machine)
-        → IsAtWork flow D.tells D.held D.moment D.images store.old disk.old
-        → InEach (D.images disk.old (D.moment disk.old)) (StandsFor flow store.old.lot before)
-        → state_after (content_in (D.held disk.old)) before.state changed.settled ≡ after.state
-        → IsStepped flow D.moment D.images store.old.lot before after disk.old disk.new) }
-    ensures cut_off { IsErrOf result EngineError.Disk → (flow : TheFlow) (before after : Machine)
-        → IsAtWork flow D.tells D.held D.moment D.images store.old disk.old
-        → InEach (D.images disk.old (D.moment disk.old)) (StandsFor flow store.old.lot before)
-        → state_after (content_in (D.held disk.old)) before.state changed.settled ≡ after.state
-        → IsBetween flow D.moment D.images store.old.lot before after disk.old disk.new }
-    ensures moment { IfOk result (λ moment. moment ≡ D.moment disk.new) }
-    ensures sent { OnOk result (IsTrue O.tells
-        → O.standing outbox.new ≡ with_sending changed.sending (O.standing outbox.old)) }
-    ensures sent_before { IsErrOf result EngineError.Disk → IsTrue O.tells
-        → O.standing outbox.new ≡ with_sending changed.sending (O.standing outbox.old) }
-    // Any error but the disk's comes before the commit, and any but these two devices' before the put.
-    ensures unwritten { (error : TheError) → IsErrOf result error → (error ≡ EngineError.Disk → ⊥)
-        → (disk.new ≡ disk.old) × (store.new ≡ with_room store.new.memory.room store.old) }
-    ensures unsent { (error : TheError) → IsErrOf result error → (error ≡ EngineError.Disk → ⊥)
-        → (error ≡ EngineError.Outbox → ⊥) → O.standing outbox.new ≡ O.standing outbox.old }
-    ensures put { IsErrOf result EngineError.Outbox → IsTrue O.tells
-        → IsLeftBySend changed.sending (O.standing outbox.old) (O.standing outbox.new) }
-    ensures passes { (limit : TheLimit) → IsErrOf result (EngineError.Limit limit)
-        → IsLimitOf store.old changed.settled limit }
-    ensures kinds { IfErr result (λ error. (error ≡ EngineError.Disk) ⊎ (error ≡ EngineError.Memory)
-        ⊎ (error ≡ EngineError.Outbox) ⊎ ((limit : TheLimit) × (error ≡ EngineError.Limit limit))) }
-    ensures work { OnOk result ((flow : TheFlow)
-        → IsQueued flow D.tells D.held D.moment D.images store.old queues.old disk.old
-        → IsQueued flow D.tells D.held D.moment D.images store.new queues.new disk.new) }
-    ensures lot { (store.new.lot ≡ store.old.lot) × (store.new.log.number ≡ store.old.log.number) }
+    ensures written { HasWritten result D.tells D.held D.moment D.images O.tells store.old store.new queues.old
+        queues.new changed (O.standing outbox.old) (O.standing outbox.new) disk.old disk.new }
     ensures alone { WritesLog D.moment D.images store.old.log.number disk.old disk.new }
     ensures disk_cause { CountsFaults (D.faults disk.old) (D.faults disk.new) (IsErrOf result EngineError.Disk) }
     ensures outbox_cause { CountsFaults (O.faults outbox.old) (O.faults outbox.new)

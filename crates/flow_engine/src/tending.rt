@@ -1,12 +1,11 @@
 //! What an engine does between two sessions: files expire, a new log begins, and claims are reclaimed.
-ghost use Rattle.std.specs.Prelude.{◌≡◌, ◌⊎◌, ℕ, ◌+◌, ◌-◌, ◌^◌, ◌<◌, nat_le, true, false, List, Option, Some, Ok, is_some, IfOk, OnOk, IfErr, IsErrOf, IsTrue};
+ghost use Rattle.std.specs.Prelude.{◌≡◌, ◌⊎◌, ℕ, ◌+◌, ◌-◌, ◌^◌, ◌<◌, ◌≤◌, nat_le, true, false, List, Option, Some, None, Ok, is_some, IfOk, OnOk, IfErr, IsErrOf, IsTrue};
 ghost use Rattle.disk_trait.specs.Faults.{CountsFaults};
 ghost use Rattle.flowfile_record.specs.Encoding.{IsNumber};
 ghost use Rattle.flowfile_record.specs.NamedFile.{NamedFile};
 ghost use Rattle.flowfile_wal.specs.Calls.{InEach};
 ghost use Rattle.kept_state.specs.declared.limit.Limit.{Limit as TheLimit};
 ghost use Rattle.machine_model.specs.declared.flow.Flow.{Flow as TheFlow};
-ghost use Rattle.machine_model.specs.declared.journal.Entry.{Entry as TheEntry};
 ghost use Rattle.machine_model.specs.declared.journal.Step.TheVariants.{Expire};
 ghost use Rattle.machine_model.specs.declared.journal.TheConstants.{RECLAIM_ENTRIES};
 ghost use Rattle.machine_model.specs.Due.{due_expiry};
@@ -21,23 +20,26 @@ ghost use Rattle.engine_queues.specs.Queues.{AreQueuesOf, queue_seen};
 ghost use Rattle.engine_queues.specs.Views.{kept_queues};
 ghost use Rattle.flow_run.specs.Ending.{journal_full};
 ghost use Rattle.flow_run.specs.Going.{IsSpared};
-ghost use Rattle.flow_run.specs.Run.{IsAtLimit, StandsFor};
-ghost use Rattle.flow_engine.specs.Engine.{IsOfSameRun, IsReady};
+ghost use Rattle.flow_run.specs.Run.{IsAtStoreLimit, StandsFor};
+ghost use Rattle.flow_engine.specs.Engine.{IsOfSameRun};
+ghost use Rattle.flow_engine.specs.Errors.{RefusesToTend};
+ghost use Rattle.flow_engine.specs.Ready.{IsReady, IsUsable, due_in, is_log_due};
 ghost use Rattle.flow_engine.specs.Running.{IsRunning, Stops};
-ghost use Rattle.flow_engine.specs.Tending.{AreReclaimed, IsCheckpointed, IsCutOff, IsDone, MakesExpiry, due_in, is_log_due, counted_on};
+ghost use Rattle.flow_engine.specs.Tending.{AreReclaimed, GoesTo, HasExpired, HasTended, IsCheckpointed, IsCutOff, IsDone, MakesExpiry, counted_on};
 ghost use Rattle.flow_run.specs.Work.{IsAtWork, IsNoEarlier, IsRefused, IsShortOn, WritesLog};
 ghost use Rattle.flow_engine.specs.declared.error.EngineError.{EngineError as TheError};
-ghost use Rattle.flow_engine.specs.declared.tending.Tended.TheVariants.{Checkpointed, Expired, Nothing, Reclaimed};
+ghost use Rattle.flow_engine.specs.declared.tending.Tended.TheVariants.{Expired, Nothing};
 
 use crate::EngineError;
 use crate::engine::Engine;
+use crate::journal::note;
 use crate::tied::holds_its_state;
 use disk_trait::Disk;
 use engine_core::{due_expiries_may_expire, expire_files, held_contents_are_read};
 use engine_queues::{Expiry, Queues, what_is_kept_is_seen};
 use flow_run::{faults_end_a_run, run_goes_on, worlds_follow_steps};
-use flowfile_record::NUMBER_LIMIT;
-use machine_model::{Flow, RECLAIM_ENTRIES};
+use flowfile_record::{NUMBER_LIMIT, Numbers};
+use machine_model::{Flow, RECLAIM_ENTRIES, Step};
 use std::alloc::{AllocError, Global};
 use store_core::{SettledExpiry, Store};
 
@@ -55,8 +57,54 @@ pub enum Tended {
 
 impl Engine<'_> {
     /// Does the first thing that is due at a moment: it lets the expired files of the first connection that has some go,
-    /// or begins a new log behind a snapshot, or reclaims the claims.
+    /// or begins a new log behind a snapshot, or reclaims the claims. Inbox and outbox aren't called.
     pub fn tend<D: Disk>(
+        &mut self,
+        alloc: Global,
+        disk: &mut D,
+        moment: u64,
+    ) -> Result<Tended, EngineError>
+        requires usable { IsUsable D.tells D.held D.moment D.images self.old disk.old }
+        requires most { self.old.most < 2 ^ 64 - 1 }
+        ensures due { IfOk result (λ tended. tended ≡ due_in self.old moment) }
+        ensures done { HasTended result moment (D.moment disk.new) self.old self.new }
+        ensures nothing { result ≡ Ok Nothing
+            → (disk.new ≡ disk.old) × IsShortOn D.moment D.images self.old.checkpoint disk.old }
+        // The run goes on, at the time that it had where nothing expired, or it is stopped.
+        ensures goes_on { self.new.failed ≡ false → IsTrue D.tells → (opened : Machine) (first : D) (start time : ℕ)
+            (left : List NamedFile) (standing : List ℕ → Option (List ℕ)) → time ≤ moment
+            → IsRunning D.moment D.images self.old opened first start time disk.old left standing
+            → IsRunning D.moment D.images self.new opened first start moment disk.new left standing }
+        ensures idle { self.new.failed ≡ false → (result ≡ Ok Expired → ⊥) → IsTrue D.tells → (opened : Machine) (first : D)
+            (start time : ℕ) (left : List NamedFile) (standing : List ℕ → Option (List ℕ))
+            → IsRunning D.moment D.images self.old opened first start time disk.old left standing
+            → IsRunning D.moment D.images self.new opened first start time disk.new left standing }
+        ensures stopped { (error : TheError) → IsErrOf result error → self.old.failed ≡ false → IsTrue D.tells
+            → (opened : Machine) (first : D) (start time : ℕ) (left : List NamedFile)
+            (standing : List ℕ → Option (List ℕ)) → time ≤ moment
+            → IsRunning D.moment D.images self.old opened first start time disk.old left standing
+            → Stops error D.tells D.held D.moment D.images self.new opened first start moment disk.new left standing }
+        // On any devices.
+        ensures usable { IsUsable D.tells D.held D.moment D.images self.new disk.new }
+        ensures same { IsOfSameRun self.old self.new × (self.new.listing ≡ self.old.listing)
+            × (self.new.last ≡ self.old.last) }
+        ensures log { OnOk result (IsNoEarlier self.old.store.log.number self.new.store.log.number) }
+        ensures alone { WritesLog D.moment D.images self.old.store.log.number disk.old disk.new }
+        ensures refusal { RefusesToTend result D.tells D.held D.moment D.images D.faults self.old self.new
+            disk.old disk.new }
+    {
+        if self.has_failed {
+            return Err(EngineError::MustReopen);
+        }
+        let tended = self.tend_first(alloc, disk, moment);
+        if let Err(EngineError::Disk) = &tended {
+            self.has_failed = true;
+        }
+        tended
+    }
+
+    // Does the first thing that is due, by a store that works.
+    fn tend_first<D: Disk>(
         &mut self,
         alloc: Global,
         disk: &mut D,
@@ -65,26 +113,25 @@ impl Engine<'_> {
         requires ready { IsReady D.tells D.held D.moment D.images self.old disk.old }
         requires most { self.old.most < 2 ^ 64 - 1 }
         ensures due { IfOk result (λ tended. tended ≡ due_in self.old moment) }
-        // The run goes on, or it is stopped. Inbox and outbox aren't called.
-        ensures goes_on { OnOk result (IsTrue D.tells → (opened : Machine) (first : D) (left : List NamedFile)
-            (standing : List ℕ → Option (List ℕ))
-            → IsRunning D.moment D.images self.old opened first disk.old left standing
-            → IsRunning D.moment D.images self.new opened first disk.new left standing) }
+        ensures done { HasTended result moment (D.moment disk.new) self.old self.new }
+        ensures nothing { result ≡ Ok Nothing
+            → (disk.new ≡ disk.old) × IsShortOn D.moment D.images self.old.checkpoint disk.old }
+        ensures goes_on { (IsErrOf result EngineError.Disk → ⊥) → IsTrue D.tells → (opened : Machine) (first : D)
+            (start time : ℕ) (left : List NamedFile) (standing : List ℕ → Option (List ℕ)) → time ≤ moment
+            → IsRunning D.moment D.images self.old opened first start time disk.old left standing
+            → IsRunning D.moment D.images self.new opened first start moment disk.new left standing }
+        ensures idle { (IsErrOf result EngineError.Disk → ⊥) → (result ≡ Ok Expired → ⊥) → IsTrue D.tells → (opened : Machine) (first : D)
+            (start time : ℕ) (left : List NamedFile) (standing : List ℕ → Option (List ℕ))
+            → IsRunning D.moment D.images self.old opened first start time disk.old left standing
+            → IsRunning D.moment D.images self.new opened first start time disk.new left standing }
         ensures stopped { (error : TheError) → IsErrOf result error → IsTrue D.tells → (opened : Machine) (first : D)
-            (left : List NamedFile) (standing : List ℕ → Option (List ℕ))
-            → IsRunning D.moment D.images self.old opened first disk.old left standing
-            → Stops error D.tells D.held D.moment D.images self.new opened first disk.new left standing }
-        // What is done of it.
-        ensures expired { result ≡ Ok Expired → (self.new.entries ≡ self.old.entries + 1)
-            × (self.new.since_reclaim ≡ counted_on self.old.since_reclaim) }
-        ensures checkpointed { result ≡ Ok Checkpointed → IsCheckpointed self.old.store self.new.store }
-        ensures reclaimed { result ≡ Ok Reclaimed → AreReclaimed self.old.store self.new.store
-            × (self.new.since_reclaim ≡ 0) }
-        ensures nothing { result ≡ Ok Nothing → (self.new ≡ self.old) × (disk.new ≡ disk.old) }
-        ensures short { result ≡ Ok Nothing → IsShortOn D.moment D.images self.old.checkpoint disk.old }
-        // On any devices.
-        ensures ready { OnOk result (IsReady D.tells D.held D.moment D.images self.new disk.new) }
-        ensures names { (self.new.listing ≡ self.old.listing) × (self.new.last ≡ self.old.last) }
+            (start time : ℕ) (left : List NamedFile) (standing : List ℕ → Option (List ℕ)) → time ≤ moment
+            → IsRunning D.moment D.images self.old opened first start time disk.old left standing
+            → Stops error D.tells D.held D.moment D.images self.new opened first start moment disk.new left standing }
+        ensures ready { (IsErrOf result EngineError.Disk → ⊥)
+            → IsReady D.tells D.held D.moment D.images self.new disk.new }
+        ensures names { (self.new.listing ≡ self.old.listing) × (self.new.last ≡ self.old.last)
+            × (self.new.failed ≡ self.old.failed) }
         ensures same { IsOfSameRun self.old self.new }
         ensures log { OnOk result (IsNoEarlier self.old.store.log.number self.new.store.log.number) }
         ensures alone { WritesLog D.moment D.images self.old.store.log.number disk.old disk.new }
@@ -105,6 +152,7 @@ impl Engine<'_> {
         if self.reclaim_due(disk)? {
             return Ok(Tended::Reclaimed);
         }
+        self.tended = Some(moment);
         Ok(Tended::Nothing)
     }
 
@@ -113,19 +161,20 @@ impl Engine<'_> {
     fn checkpoint_due<D: Disk>(&mut self, disk: &mut D) -> Result<bool, EngineError>
         requires { IsReady D.tells D.held D.moment D.images self.old disk.old }
         ensures due { IfOk result (λ made. made ≡ is_log_due self.old.checkpoint self.old.store) }
-        ensures goes_on { OnOk result ((opened : Machine) (first : D) (left : List NamedFile)
-            (standing : List ℕ → Option (List ℕ))
-            → IsRunning D.moment D.images self.old opened first disk.old left standing
-            → IsRunning D.moment D.images self.new opened first disk.new left standing) }
-        ensures stopped { (error : TheError) → IsErrOf result error → (opened : Machine) (first : D)
+        ensures goes_on { (IsErrOf result EngineError.Disk → ⊥) → (opened : Machine) (first : D) (start time : ℕ)
             (left : List NamedFile) (standing : List ℕ → Option (List ℕ))
-            → IsRunning D.moment D.images self.old opened first disk.old left standing
-            → Stops error D.tells D.held D.moment D.images self.new opened first disk.new left standing }
+            → IsRunning D.moment D.images self.old opened first start time disk.old left standing
+            → IsRunning D.moment D.images self.new opened first start time disk.new left standing }
+        ensures stopped { (error : TheError) → IsErrOf result error → (opened : Machine) (first : D) (start time : ℕ)
+            (left : List NamedFile) (standing : List ℕ → Option (List ℕ))
+            → IsRunning D.moment D.images self.old opened first start time disk.old left standing
+            → Stops error D.tells D.held D.moment D.images self.new opened first start time disk.new left standing }
         ensures made { result ≡ Ok true → IsCheckpointed self.old.store self.new.store }
         ensures none { result ≡ Ok false → (self.new ≡ self.old) × (disk.new ≡ disk.old) }
         ensures short { result ≡ Ok false → IsShortOn D.moment D.images self.old.checkpoint disk.old }
-        ensures ready { OnOk result (IsReady D.tells D.held D.moment D.images self.new disk.new) }
-        ensures rest { self.new ≡ record self.old { store = self.new.store } }
+        ensures ready { (IsErrOf result EngineError.Disk → ⊥)
+            → IsReady D.tells D.held D.moment D.images self.new disk.new }
+        ensures rest { self.new ≡ record self.old { store = self.new.store; tended = self.new.tended } }
         ensures same { IsOfSameRun self.old self.new }
         ensures log { OnOk result (IsNoEarlier self.old.store.log.number self.new.store.log.number) }
         ensures unwritten { IsErrOf result EngineError.Memory → disk.new ≡ disk.old }
@@ -138,6 +187,7 @@ impl Engine<'_> {
         }
         run_goes_on::<D>();
         faults_end_a_run::<D>();
+        self.tended = None;
         checkpoint(&mut self.store, disk)?;
         Ok(true)
     }
@@ -146,19 +196,23 @@ impl Engine<'_> {
     fn reclaim_due<D: Disk>(&mut self, disk: &mut D) -> Result<bool, EngineError>
         requires { IsReady D.tells D.held D.moment D.images self.old disk.old }
         ensures due { IfOk result (λ done. done ≡ nat_le RECLAIM_ENTRIES self.old.since_reclaim) }
-        ensures goes_on { OnOk result ((opened : Machine) (first : D) (left : List NamedFile)
-            (standing : List ℕ → Option (List ℕ))
-            → IsRunning D.moment D.images self.old opened first disk.old left standing
-            → IsRunning D.moment D.images self.new opened first disk.new left standing) }
-        ensures stopped { IsErrOf result EngineError.Disk → (opened : Machine) (first : D) (left : List NamedFile)
-            (standing : List ℕ → Option (List ℕ))
-            → IsRunning D.moment D.images self.old opened first disk.old left standing
-            → Stops EngineError.Disk D.tells D.held D.moment D.images self.new opened first disk.new left standing }
+        ensures goes_on { (IsErrOf result EngineError.Disk → ⊥) → (opened : Machine) (first : D) (start time : ℕ)
+            (left : List NamedFile) (standing : List ℕ → Option (List ℕ))
+            → IsRunning D.moment D.images self.old opened first start time disk.old left standing
+            → IsRunning D.moment D.images self.new opened first start time disk.new left standing }
+        ensures stopped { IsErrOf result EngineError.Disk → (opened : Machine) (first : D) (start time : ℕ)
+            (left : List NamedFile) (standing : List ℕ → Option (List ℕ))
+            → IsRunning D.moment D.images self.old opened first start time disk.old left standing
+            → Stops EngineError.Disk D.tells D.held D.moment D.images self.new opened first start time disk.new left
+            standing }
         ensures done { result ≡ Ok true → AreReclaimed self.old.store self.new.store
             × (self.new.since_reclaim ≡ 0) }
         ensures none { result ≡ Ok false → (self.new ≡ self.old) × (disk.new ≡ disk.old) }
-        ensures ready { OnOk result (IsReady D.tells D.held D.moment D.images self.new disk.new) }
-        ensures names { (self.new.listing ≡ self.old.listing) × (self.new.last ≡ self.old.last) }
+        ensures since { IsErrOf result EngineError.Disk → self.new.since_reclaim ≡ self.old.since_reclaim }
+        ensures ready { (IsErrOf result EngineError.Disk → ⊥)
+            → IsReady D.tells D.held D.moment D.images self.new disk.new }
+        ensures rest { self.new ≡ record self.old
+            { store = self.new.store; since_reclaim = self.new.since_reclaim; tended = self.new.tended } }
         ensures same { IsOfSameRun self.old self.new }
         ensures log { self.new.store.log.number ≡ self.old.store.log.number }
         ensures alone { WritesLog D.moment D.images self.old.store.log.number disk.old disk.new }
@@ -170,6 +224,7 @@ impl Engine<'_> {
         }
         run_goes_on::<D>();
         faults_end_a_run::<D>();
+        self.tended = None;
         reclaim(&mut self.store, disk)?;
         self.since_reclaim = 0;
         Ok(true)
@@ -186,19 +241,29 @@ impl Engine<'_> {
         requires most { self.old.most < 2 ^ 64 - 1 }
         ensures due { IfOk result (λ done.
             done ≡ is_some (due_expiry self.old.flow (queue_seen self.old.queues) moment)) }
-        ensures goes_on { OnOk result (IsTrue D.tells → (opened : Machine) (first : D) (left : List NamedFile)
-            (standing : List ℕ → Option (List ℕ))
-            → IsRunning D.moment D.images self.old opened first disk.old left standing
-            → IsRunning D.moment D.images self.new opened first disk.new left standing) }
+        ensures goes_on { (IsErrOf result EngineError.Disk → ⊥) → IsTrue D.tells → (opened : Machine) (first : D)
+            (start time : ℕ) (left : List NamedFile) (standing : List ℕ → Option (List ℕ)) → time ≤ moment
+            → IsRunning D.moment D.images self.old opened first start time disk.old left standing
+            → IsRunning D.moment D.images self.new opened first start moment disk.new left standing }
+        ensures idle { (IsErrOf result EngineError.Disk → ⊥) → (result ≡ Ok true → ⊥) → IsTrue D.tells → (opened : Machine) (first : D)
+            (start time : ℕ) (left : List NamedFile) (standing : List ℕ → Option (List ℕ))
+            → IsRunning D.moment D.images self.old opened first start time disk.old left standing
+            → IsRunning D.moment D.images self.new opened first start time disk.new left standing }
         ensures stopped { (error : TheError) → IsErrOf result error → IsTrue D.tells → (opened : Machine) (first : D)
-            (left : List NamedFile) (standing : List ℕ → Option (List ℕ))
-            → IsRunning D.moment D.images self.old opened first disk.old left standing
-            → Stops error D.tells D.held D.moment D.images self.new opened first disk.new left standing }
-        ensures expired { result ≡ Ok true → (self.new.entries ≡ self.old.entries + 1)
+            (start time : ℕ) (left : List NamedFile) (standing : List ℕ → Option (List ℕ)) → time ≤ moment
+            → IsRunning D.moment D.images self.old opened first start time disk.old left standing
+            → Stops error D.tells D.held D.moment D.images self.new opened first start moment disk.new left standing }
+        ensures expired { result ≡ Ok true → HasExpired moment (Some (D.moment disk.new)) self.old self.new
             × (self.new.since_reclaim ≡ counted_on self.old.since_reclaim) }
+        ensures cut_off { IsErrOf result EngineError.Disk → HasExpired moment None self.old self.new }
+        ensures kept { (error : TheError) → IsErrOf result error → (error ≡ EngineError.Disk → ⊥)
+            → self.new.journal ≡ self.old.journal }
+        ensures since { (error : TheError) → IsErrOf result error → self.new.since_reclaim ≡ self.old.since_reclaim }
         ensures none { result ≡ Ok false → (self.new ≡ self.old) × (disk.new ≡ disk.old) }
-        ensures ready { OnOk result (IsReady D.tells D.held D.moment D.images self.new disk.new) }
-        ensures names { (self.new.listing ≡ self.old.listing) × (self.new.last ≡ self.old.last) }
+        ensures ready { (IsErrOf result EngineError.Disk → ⊥)
+            → IsReady D.tells D.held D.moment D.images self.new disk.new }
+        ensures names { (self.new.listing ≡ self.old.listing) × (self.new.last ≡ self.old.last)
+            × (self.new.failed ≡ self.old.failed) }
         ensures same { IsOfSameRun self.old self.new }
         ensures log { self.new.store.log.number ≡ self.old.store.log.number }
         ensures alone { WritesLog D.moment D.images self.old.store.log.number disk.old disk.new }
@@ -219,10 +284,13 @@ impl Engine<'_> {
         let Some(expiry) = self.queues.due_expiry(alloc, moment)? else {
             return Ok(false);
         };
-        if self.entries >= self.most {
+        if self.entries() >= self.most {
             return Err(EngineError::Limit(self.journal_limit()));
         }
-        expire(
+        let step = expiry_step(alloc, moment, &expiry)?;
+        self.journal.reserve(1)?;
+        self.tended = None;
+        let expired = expire(
             alloc,
             self.flow,
             &mut self.store,
@@ -230,15 +298,27 @@ impl Engine<'_> {
             disk,
             moment,
             expiry,
-        )?;
-        self.entries += 1;
+        );
+        note(&mut self.journal, step, &expired);
+        expired?;
         self.since_reclaim = self.since_reclaim.saturating_add(1);
         Ok(true)
     }
 }
 
-// Whether the log has entries, as many as it takes, and another one can follow it.
-fn wants_checkpoint(store: &Store, checkpoint: u64) -> bool
+// The step by which files expire.
+fn expiry_step(alloc: Global, moment: u64, expiry: &Expiry) -> Result<Step, AllocError>
+    ensures { IfOk result (λ one. one ≡ Expire expiry.now.connection expiry.now.numbers moment) }
+{
+    Ok(Step::Expire {
+        connection: expiry.connection,
+        numbers: Numbers::from_slice(alloc, expiry.numbers.as_slice())?,
+        moment,
+    })
+}
+
+/// Whether the log has entries, as many as it takes, and another one can follow it.
+pub(crate) fn wants_checkpoint(store: &Store, checkpoint: u64) -> bool
     ensures due { result ≡ is_log_due checkpoint store.now }
     ensures next { result ≡ true → (number : ℕ) → store.now.log.number ≡ Some number → IsNumber (number + 1) }
     ensures counted { checkpoint < 2 ^ 64 }
@@ -262,7 +342,7 @@ fn checkpoint<D: Disk>(store: &mut Store, disk: &mut D) -> Result<(), EngineErro
     ensures next { OnOk result (IsCheckpointed store.old store.new) }
     ensures short { OnOk result ((checkpoint : ℕ) → IsShortOn D.moment D.images checkpoint disk.new) }
     ensures log { OnOk result (IsNoEarlier store.old.log.number store.new.log.number) }
-    ensures unwritten { IsErrOf result EngineError.Memory → disk.new ≡ disk.old }
+    ensures unwritten { IsErrOf result EngineError.Memory → (disk.new ≡ disk.old) × (store.new ≡ store.old) }
     ensures alone { WritesLog D.moment D.images store.old.log.number disk.old disk.new }
     ensures kinds { IfErr result (λ error. (error ≡ EngineError.Disk) ⊎ (error ≡ EngineError.Memory)) }
     ensures cause { CountsFaults (D.faults disk.old) (D.faults disk.new) (IsErrOf result EngineError.Disk) }
@@ -293,7 +373,8 @@ fn reclaim<D: Disk>(store: &mut Store, disk: &mut D) -> Result<(), EngineError>
     Ok(())
 }
 
-// Lets expired files go, which are due. All memory is taken before the commit.
+// Lets expired files go, which are due, and answers the moment of the acknowledgement. All memory is taken before the
+// commit.
 fn expire<D: Disk>(
     alloc: Global,
     flow: &Flow,
@@ -302,7 +383,7 @@ fn expire<D: Disk>(
     disk: &mut D,
     moment: u64,
     expiry: Expiry,
-) -> Result<(), EngineError>
+) -> Result<u64, EngineError>
     requires sound { IsSound flow.now }
     requires work { IsAtWork flow.now D.tells D.held D.moment D.images store.old disk.old }
     requires queues { AreQueuesOf flow.now (kept_by store.old) queues.old }
@@ -318,11 +399,13 @@ fn expire<D: Disk>(
     ensures limited { (limit : TheLimit) → IsErrOf result (EngineError.Limit limit) → IsTrue D.tells
         → (before : Machine)
         → InEach (D.images disk.old (D.moment disk.old)) (StandsFor flow.now store.old.lot before)
-        → (journal : List TheEntry)
-        → IsAtLimit flow.now D.tells D.held D.moment D.images store.old.lot journal before limit disk.old }
+        → GoesTo flow.now before (Expire expiry.connection expiry.numbers moment) (λ after.
+        StandsFor flow.now store.old.lot before (D.held disk.old)
+        × IsAtStoreLimit D.tells D.held D.moment D.images limit before after disk.old) }
     // Any error but the disk's comes before the commit.
     ensures unwritten { (error : TheError) → IsErrOf result error → (error ≡ EngineError.Disk → ⊥)
         → (disk.new ≡ disk.old) × (store.new ≡ store.old) × (queues.new ≡ queues.old) }
+    ensures moment { IfOk result (λ moment. moment ≡ D.moment disk.new) }
     ensures work { OnOk result (IsAtWork flow.now D.tells D.held D.moment D.images store.new disk.new) }
     ensures queues { OnOk result (AreQueuesOf flow.now (kept_by store.new) queues.new) }
     ensures same { (store.new.lot ≡ store.old.lot) × (store.new.log.number ≡ store.old.log.number) }
@@ -338,9 +421,9 @@ fn expire<D: Disk>(
     what_is_kept_is_seen();
     let expiry = settle_expiry(alloc, flow, store, moment, expiry)?;
     let prepared = store.prepare_expiry(&expiry)?;
-    store.commit(disk, prepared)?;
+    let moment = store.commit(disk, prepared)?;
     queues.expire(expiry.connection, expiry.settled.gone.as_slice());
-    Ok(())
+    Ok(moment)
 }
 
 // What expired files change that are due: the machine has a step for it.

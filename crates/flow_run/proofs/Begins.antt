@@ -26,10 +26,10 @@ module _ {D : Type 0} (moment : D → ℕ) (images : D → ℕ → Files → Typ
     }
 
   pub begins : RunsBegin moment images
-  begins flow lot old now state left standing valid since = record {
+  begins flow start time lot old now state left standing valid le since = record {
     ran = begun flow lot old now (machine_at state left standing) since;
     all = tt;
-    first = tt;
+    turns = le;
     gone = none_gone flow left;
     valid = valid;
     holds = λ c there. since.each (moment now) c since.begun (omega arith) there;
@@ -45,16 +45,15 @@ module _ {D : Type 0} (moment : D → ℕ) (images : D → ℕ → Files → Typ
       (λ k c from up there same. same.state ∙ stands)
 
   pub opened_begins : OpenedRunsBegin moment images
-  opened_begins flow lot files old now state left standing valid stands since =
-      begins flow lot old now state left standing valid (stands_same flow lot files old now state left standing stands since)
+  opened_begins flow start time lot files old now state left standing valid le stands since =
+      begins flow start time lot old now state left standing valid le (stands_same flow lot files old now state left standing stands since)
 
   pub failed_opening : (tells : Bool) (held : D → Files) → FailedOpeningsEnd tells held moment images
-  failed_opening tells held flow lot time files old now state left standing cause stands since = record {
-    journal = [];
+  failed_opening tells held flow start time lot files old now state left standing cause le stands since = record {
     reached = machine_at state left standing;
     ran = begun flow lot old now (machine_at state left standing) (stands_same flow lot files old now state left standing stands since);
     acked = inl refl;
-    first = tt;
+    turns = le;
     gone = none_gone flow left;
     inbox = inl (sym (all_left left));
     outbox = inl refl;

@@ -8,14 +8,13 @@ use Rattle.flow_run.proofs.Steps.{spared}
 
 module _ (law : ReplayOfOneMore) (stays : StepsStayValid) (loses : StepsLoseNames) (tells : Bool) {D : Type 0} (held : D → Files) (moment : D → ℕ) (images : D → ℕ → Files → Type 0) where
   pub quiet_ends : QuietRunsEnd tells held moment images
-  quiet_ends flow lot time opened reached first old new journal left standing run since image tidied is =
-      let on = spared law stays loses moment images flow lot opened reached first old new journal left standing run since in
+  quiet_ends flow start time later lot opened reached first old new journal left standing run le since image tidied is =
+      let on = spared law stays loses moment images flow start time later lot opened reached first old new journal left standing run le since in
       record {
-        journal = journal;
         reached = reached;
         ran = on.ran;
         acked = inl (acknowledged-all journal (moment first + 1) (moment new) (moment new) on.all on.ran.in_order (omega arith));
-        first = on.first;
+        turns = on.turns;
         gone = on.gone;
         inbox = inl on.lies;
         outbox = inl on.stands;
@@ -23,14 +22,13 @@ module _ (law : ReplayOfOneMore) (stays : StepsStayValid) (loses : StepsLoseName
       }
 
   pub blocked_ends : BlockedRunsEnd tells held moment images
-  blocked_ends flow lot time place opened reached first old new journal left standing run since image tidied is =
-      let on = spared law stays loses moment images flow lot opened reached first old new journal left standing run since in
+  blocked_ends flow start time later lot place opened reached first old new journal left standing run le since image tidied is =
+      let on = spared law stays loses moment images flow start time later lot opened reached first old new journal left standing run le since in
       record {
-        journal = journal;
         reached = reached;
         ran = on.ran;
         acked = inl (acknowledged-all journal (moment first + 1) (moment new) (moment new) on.all on.ran.in_order (omega arith));
-        first = on.first;
+        turns = on.turns;
         gone = on.gone;
         inbox = inl on.lies;
         outbox = inl on.stands;
@@ -38,14 +36,13 @@ module _ (law : ReplayOfOneMore) (stays : StepsStayValid) (loses : StepsLoseName
       }
 
   pub limited_ends : LimitedRunsEnd tells held moment images
-  limited_ends flow lot time opened reached first old new journal left standing limit run met since image tidied =
-      let on = spared law stays loses moment images flow lot opened reached first old new journal left standing run since in
+  limited_ends flow start time later lot opened reached first old new journal left standing limit run le met since image tidied =
+      let on = spared law stays loses moment images flow start time later lot opened reached first old new journal left standing run le since in
       record {
-        journal = journal;
         reached = reached;
         ran = on.ran;
         acked = inl (acknowledged-all journal (moment first + 1) (moment new) (moment new) on.all on.ran.in_order (omega arith));
-        first = on.first;
+        turns = on.turns;
         gone = on.gone;
         inbox = inl on.lies;
         outbox = inl on.stands;

@@ -18,7 +18,7 @@ use Rattle.machine_model.specs.State.{Machine}
 use Rattle.machine_model.specs.Stepping.{step, replay}
 use Rattle.flowfile_wal.specs.Calls.{InEach}
 use Rattle.flow_run.specs.Going.{IsBetween}
-use Rattle.flow_run.specs.Journal.{EachTakesFirst, IsAcknowledged, Takes, TakesFirst, WasGot}
+use Rattle.flow_run.specs.Journal.{IsAcknowledged, Takes, WasGot}
 use Rattle.flow_run.specs.Run.{IsPrefix, Replays, StandsFor}
 
 -- a journal and one entry more
@@ -28,16 +28,6 @@ replay_one_more law flow opened reached journal entry is =
     ap (replay flow opened) (map-append (λ (e : Entry). e.step) journal (entry ∷ []))
     ∙ law flow opened (steps journal) entry.step
     ∙ ap (option_and_then (λ (after : Machine). step flow after entry.step)) is
-
-pub one_more_first : (flow : Flow) (opened reached : Machine) (journal : List Entry) (entry : Entry) → EachTakesFirst flow opened (steps journal) → replay flow opened (steps journal) ≡ Some reached
-    → TakesFirst flow reached entry.step → EachTakesFirst flow opened (steps (journal ++ entry ∷ []))
-one_more_first flow opened reached [] entry each is first =
-    let same : opened ≡ reached = cc in
-    (subst (λ (m : Machine). TakesFirst flow m entry.step) (sym same) first, λ after goes. tt)
-one_more_first flow opened reached (e ∷ journal) entry each is first = (
-  each.0,
-  λ after goes. one_more_first flow after reached journal entry (each.1 after goes) (ap (option_and_then (λ (m : Machine). replay flow m (steps journal))) (sym goes) ∙ is) first,
-)
 
 abbrev count_of : Bool → ℕ
 count_of b = cond b 1 0

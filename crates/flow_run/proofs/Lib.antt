@@ -6,4 +6,5 @@ pub mod Left
 pub mod Memory
 pub mod Outgoing
 pub mod Steps
+pub mod Turns
 pub mod Writing

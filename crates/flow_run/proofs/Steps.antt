@@ -1,5 +1,5 @@
 -- What one step of a run keeps, and what a run that fails within it leaves.
-use Rattle.std.proofs.Common.{◌≡◌, ◌⊎◌, inl, inr, ⊎_elim, ℕ, ◌+◌, Bool, List, [], ◌∷◌, ◌++◌, refl, sym, ◌∙◌, ap, subst, arith}
+use Rattle.std.proofs.Common.{◌≡◌, ◌⊎◌, inl, inr, ⊎_elim, ℕ, ◌+◌, ◌≤◌, Bool, List, [], ◌∷◌, ◌++◌, refl, sym, ◌∙◌, ap, subst, arith}
 use Rattle.std.specs.Prelude.{Option, None, Some, IfSome}
 use Rattle.disk_trait.specs.Files.{Files}
 use Rattle.flowfile_record.specs.NamedFile.{NamedFile, without}
@@ -12,14 +12,16 @@ use Rattle.machine_model.specs.Stepping.{step}
 use Rattle.machine_model.specs.Valid.{IsValid}
 use Rattle.flow_run.specs.Going.{IsBetween, IsRunningAt, IsStepped}
 use Rattle.machine_model.specs.Acknowledged.{steps}
-use Rattle.flow_run.specs.Journal.{EachTakesFirst, files_left, TakesFirst}
-use Rattle.flow_run.specs.Laws.{DiskFaultsEnd, FaultsEnd, InboxFaultsEnd, OutboxFaultsEnd, SparedRunsGoOn, SteppedRunsGoOn}
+use Rattle.flow_run.specs.Journal.{files_left}
+use Rattle.flow_run.specs.Laws.{DiskFaultsEnd, FaultsEnd, InboxFaultsEnd, NextStepsAreInTurn, OutboxFaultsEnd, SparedRunsGoOn, SteppedRunsGoOn}
 use Rattle.flow_run.specs.Run.{HasRun, IsGoneByEntry, IsLeftOver, Replays}
+use Rattle.flow_run.specs.Turns.{ComeInTurn, ComesNext, last_worker, moment_of}
 use Rattle.flow_run.specs.declared.ended.Ended.TheVariants as ending
 use Rattle.flow_run.specs.declared.ended.Fault.TheVariants as fault
 use Rattle.flow_run.proofs.Gone.{gone_without, still_gone}
-use Rattle.flow_run.proofs.Journals.{acknowledged-all, acknowledged-open, all-append, step_acked, one_more_first, step_none, step_open}
+use Rattle.flow_run.proofs.Journals.{acknowledged-all, acknowledged-open, all-append, step_acked, step_none, step_open}
 use Rattle.flow_run.proofs.Left.{one_taken, other_steps, step_takes, takes_cases, takes_one}
+use Rattle.flow_run.proofs.Turns.{next_turn, one_more_turn, turns_later}
 
 next_valid : StepsStayValid → (flow : Flow) (m after : Machine) (one : Step) → IsValid flow m.state → step flow m one ≡ Some after → IsValid flow after.state
 next_valid stays flow m after one valid goes = subst (λ (o : Option Machine). IfSome o (λ n. IsValid flow n.state)) goes (stays flow m one valid)
@@ -28,10 +30,10 @@ module _ (law : ReplayOfOneMore) (stays : StepsStayValid) (loses : StepsLoseName
   -- ---- a run goes on
 
   pub spared : SparedRunsGoOn moment images
-  spared flow lot opened reached first old new journal left standing run since = record {
+  spared flow start time later lot opened reached first old new journal left standing run le since = record {
     ran = step_none law flow moment images lot first old new opened reached reached journal run.ran run.all since;
     all = run.all;
-    first = run.first;
+    turns = turns_later flow None start time later opened (steps journal) le run.turns;
     gone = run.gone;
     valid = run.valid;
     holds = λ c there. since.each (moment new) c since.later (omega arith) there;
@@ -39,10 +41,14 @@ module _ (law : ReplayOfOneMore) (stays : StepsStayValid) (loses : StepsLoseName
     stands = run.stands;
   }
 
-  module _ (flow : Flow) (lot : ℕ) (opened reached after : Machine) (first old new : D) (journal : List Entry) (one : Step) (left : List NamedFile) (standing : List ℕ → Option (List ℕ))
-      (run : IsRunningAt flow moment images lot opened first old journal reached left standing) (goes : step flow reached one ≡ Some after) (takes_first : TakesFirst flow reached one) where
-    all_first : (entry : Entry) → entry.step ≡ one → EachTakesFirst flow opened (steps (journal ++ entry ∷ []))
-    all_first entry is = one_more_first flow opened reached journal entry run.first run.ran.replays (subst (λ (s : Step). TakesFirst flow reached s) (sym is) takes_first)
+  module _ (flow : Flow) (start time lot : ℕ) (opened reached after : Machine) (first old new : D) (journal : List Entry) (one : Step) (left : List NamedFile) (standing : List ℕ → Option (List ℕ))
+      (run : IsRunningAt flow start time moment images lot opened first old journal reached left standing) (le : time ≤ moment_of one) (comes : ComesNext flow (last_worker None (steps journal)) reached one)
+      (goes : step flow reached one ≡ Some after) where
+    turns_now : (acked : Option ℕ) → ComeInTurn flow None start (moment_of one) opened (steps (journal ++ record { step = one; acked = acked } ∷ []))
+    turns_now acked = one_more_turn flow None start time opened reached journal (record { step = one; acked = acked }) run.turns run.ran.replays le comes
+
+    turns_by : (acked : Option ℕ) (later : ℕ) → moment_of one ≤ later → ComeInTurn flow None start later opened (steps (journal ++ record { step = one; acked = acked } ∷ []))
+    turns_by acked later by = turns_later flow None start (moment_of one) later opened (steps (journal ++ record { step = one; acked = acked } ∷ [])) by (turns_now acked)
 
     -- ---- a step that is acknowledged
 
@@ -66,11 +72,11 @@ module _ (law : ReplayOfOneMore) (stays : StepsStayValid) (loses : StepsLoseName
           (takes_cases flow one)
 
       stepped_on : (now_left : List NamedFile) (now_standing : List ℕ → Option (List ℕ)) → now_left ≡ files_left after.world → now_standing ≡ after.world.outbox
-          → IsRunningAt flow moment images lot opened first new (journal ++ entry_acked ∷ []) after now_left now_standing
+          → IsRunningAt flow start (moment_of one) moment images lot opened first new (journal ++ entry_acked ∷ []) after now_left now_standing
       stepped_on now_left now_standing lies stands = record {
         ran = acked_ran;
         all = all-append journal entry_acked run.all refl;
-        first = all_first entry_acked refl;
+        turns = turns_now (Some (moment new));
         gone = acked_gone now_left lies;
         valid = next_valid stays flow reached after one run.valid goes;
         holds = stepped.done;
@@ -80,7 +86,7 @@ module _ (law : ReplayOfOneMore) (stays : StepsStayValid) (loses : StepsLoseName
 
       -- ---- the file's removal failed: it may be there
 
-      module _ (tells : Bool) (held : D → Files) (time : ℕ) (name : List ℕ) (takes : names_of_step flow one ≡ name ∷ []) where
+      module _ (tells : Bool) (held : D → Files) (later : ℕ) (by : moment_of one ≤ later) (name : List ℕ) (takes : names_of_step flow one ≡ name ∷ []) where
         removed_is : (now_left : List NamedFile) → now_left ≡ without name left → now_left ≡ files_left after.world
         removed_is now_left removed = removed ∙ ap (without name) run.lies ∙ sym (step_takes loses flow reached after one name goes takes)
 
@@ -98,13 +104,12 @@ module _ (law : ReplayOfOneMore) (stays : StepsStayValid) (loses : StepsLoseName
         }
 
         unremoved : (now_left : List NamedFile) (now_standing : List ℕ → Option (List ℕ)) → (now_left ≡ left) ⊎ (now_left ≡ without name left) → now_standing ≡ after.world.outbox
-            → HasRun flow (ending.Fault fault.Inbox) time tells held moment images lot opened first new now_left now_standing
+            → HasRun flow (ending.Fault fault.Inbox) start later tells held moment images lot opened first new now_left now_standing (journal ++ entry_acked ∷ [])
         unremoved now_left now_standing either stands = record {
-          journal = journal ++ entry_acked ∷ [];
           reached = after;
           ran = acked_ran;
           acked = inl (acknowledged-all (journal ++ entry_acked ∷ []) (moment first + 1) (moment new) (moment new) (all-append journal entry_acked run.all refl) acked_ran.in_order (omega arith));
-          first = all_first entry_acked refl;
+          turns = turns_by (Some (moment new)) later by;
           gone = ⊎_elim
               (λ (same : now_left ≡ left). subst (λ (l : List NamedFile). IsGoneByEntry flow opened.world.inbox l (journal ++ entry_acked ∷ [])) (sym same) (still_gone flow opened.world.inbox left journal entry_acked run.gone))
               (λ (removed : now_left ≡ without name left). acked_gone now_left (removed_is now_left removed))
@@ -143,42 +148,44 @@ module _ (law : ReplayOfOneMore) (stays : StepsStayValid) (loses : StepsLoseName
           }))
           (takes_cases flow one)
 
-      stopped_within : (tells : Bool) (held : D → Files) (time : ℕ) (now_standing : List ℕ → Option (List ℕ)) → now_standing ≡ after.world.outbox
-          → HasRun flow (ending.Fault fault.Disk) time tells held moment images lot opened first new left now_standing
-      stopped_within tells held time now_standing stands = record {
-        journal = journal ++ entry_open ∷ [];
+      stopped_within : (tells : Bool) (held : D → Files) (later : ℕ) → moment_of one ≤ later → (now_standing : List ℕ → Option (List ℕ)) → now_standing ≡ after.world.outbox
+          → HasRun flow (ending.Fault fault.Disk) start later tells held moment images lot opened first new left now_standing (journal ++ entry_open ∷ [])
+      stopped_within tells held later by now_standing stands = record {
         reached = after;
         ran = open_ran;
         acked = inr (refl, acknowledged-open journal one (moment first + 1) (moment old) (moment new) run.all run.ran.in_order since.later);
-        first = all_first entry_open refl;
+        turns = turns_by None later by;
         gone = still_gone flow opened.world.inbox left journal entry_open run.gone;
         inbox = open_inbox;
         outbox = inl stands;
         ends = tt;
       }
 
+  pub next_in_turn : NextStepsAreInTurn moment images
+  next_in_turn flow start time later lot opened reached first now journal one left standing run le by comes =
+      next_turn flow None start time later opened reached (steps journal) one run.turns run.ran.replays le by comes
+
   pub steps_go_on : SteppedRunsGoOn moment images
-  steps_go_on flow lot opened reached after first old new journal one left now_left standing now_standing run goes is_first stepped lies stands =
-      stepped_on flow lot opened reached after first old new journal one left standing run goes is_first stepped now_left now_standing lies stands
+  steps_go_on flow start time lot opened reached after first old new journal one left now_left standing now_standing run le comes goes stepped lies stands =
+      stepped_on flow start time lot opened reached after first old new journal one left standing run le comes goes stepped now_left now_standing lies stands
 
   module _ (tells : Bool) (held : D → Files) where
     pub disk_faults : DiskFaultsEnd tells held moment images
-    disk_faults flow lot time opened reached after first old new journal one left standing now_standing run goes is_first since stands =
-        stopped_within flow lot opened reached after first old new journal one left standing run goes is_first since tells held time now_standing stands
+    disk_faults flow start time later lot opened reached after first old new journal one left standing now_standing run le by comes goes since stands =
+        stopped_within flow start time lot opened reached after first old new journal one left standing run le comes goes since tells held later by now_standing stands
 
     pub inbox_faults : InboxFaultsEnd tells held moment images
-    inbox_faults flow lot time opened reached after first old new journal one name left now_left standing now_standing run goes is_first stepped takes either stands =
-        unremoved flow lot opened reached after first old new journal one left standing run goes is_first stepped tells held time name (one_taken flow one name takes) now_left now_standing either stands
+    inbox_faults flow start time later lot opened reached after first old new journal one name left now_left standing now_standing run le by comes goes stepped takes either stands =
+        unremoved flow start time lot opened reached after first old new journal one left standing run le comes goes stepped tells held later by name (one_taken flow one name takes) now_left now_standing either stands
 
     pub faults : FaultsEnd tells held moment images
-    faults flow lot time opened reached first old new journal left standing cause run since =
-        let on = spared flow lot opened reached first old new journal left standing run since in
+    faults flow start time later lot opened reached first old new journal left standing cause run le since =
+        let on = spared flow start time later lot opened reached first old new journal left standing run le since in
         record {
-          journal = journal;
           reached = reached;
           ran = on.ran;
           acked = inl (acknowledged-all journal (moment first + 1) (moment new) (moment new) on.all on.ran.in_order (omega arith));
-          first = on.first;
+          turns = on.turns;
           gone = on.gone;
           inbox = inl on.lies;
           outbox = inl on.stands;
@@ -186,23 +193,25 @@ module _ (law : ReplayOfOneMore) (stays : StepsStayValid) (loses : StepsLoseName
         }
 
     pub outbox_faults : OutboxFaultsEnd tells held moment images
-    outbox_faults flow lot time opened reached first old new journal left standing now_standing place file name run since waits named others =
-        let on = spared flow lot opened reached first old new journal left standing run since in
+    outbox_faults flow start time later lot opened reached after first old new journal one left standing now_standing name bytes run since le by comes goes put puts others =
+        let on = spared flow start time later lot opened reached first old new journal left standing run (omega (arith, le, by)) since in
         record {
-          journal = journal;
           reached = reached;
           ran = on.ran;
           acked = inl (acknowledged-all journal (moment first + 1) (moment new) (moment new) on.all on.ran.in_order (omega arith));
-          first = on.first;
+          turns = on.turns;
           gone = on.gone;
           inbox = inl on.lies;
           outbox = inr (record {
             failed = refl;
-            place = place;
-            file = file;
-            waits = waits;
+            next = one;
+            turn = next_turn flow None start time later opened reached (steps journal) one run.turns run.ran.replays le by comes;
+            after = after;
+            goes = goes;
             name = name;
-            named = named;
+            put = put;
+            bytes = bytes;
+            puts = puts;
             others = λ other isnt. others other isnt ∙ ap (λ (o : List ℕ → Option (List ℕ)). o other) on.stands;
           });
           ends = tt;

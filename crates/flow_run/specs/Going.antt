@@ -1,5 +1,5 @@
 -- What holds between two steps of a run, and what a step leaves.
-use Rattle.std.specs.Prelude.{◌≡◌, ◌⊎◌, ℕ, List, Option}
+use Rattle.std.specs.Prelude.{◌≡◌, ◌⊎◌, ℕ, List, Option, None}
 use Rattle.disk_trait.specs.Files.{Files}
 use Rattle.disk_trait.specs.Images.{Since}
 use Rattle.flowfile_record.specs.NamedFile.{NamedFile}
@@ -9,17 +9,18 @@ use Rattle.machine_model.specs.declared.journal.Entry.{Entry}
 use Rattle.machine_model.specs.State.{Machine}
 use Rattle.machine_model.specs.Valid.{IsValid}
 use Rattle.machine_model.specs.Acknowledged.{steps}
-use Rattle.flow_run.specs.Journal.{files_left, EachTakesFirst, IsAcknowledged}
+use Rattle.flow_run.specs.Journal.{files_left, IsAcknowledged}
 use Rattle.flow_run.specs.Run.{IsGoneByEntry, Replays, StandsFor}
+use Rattle.flow_run.specs.Turns.{ComeInTurn}
 
--- Each entry of the journal is acknowledged, each GetFile took the first file that it might, and store, inbox and
--- outbox are those of the whole journal, which leads to this machine.
-pub record IsRunningAt {D : Type 0} (flow : Flow) (moment : D → ℕ) (images : D → ℕ → Files → Type 0) (lot : ℕ)
-    (opened : Machine) (old now : D) (journal : List Entry) (reached : Machine) (left : List NamedFile)
-    (standing : List ℕ → Option (List ℕ)) : Type 0 where
+-- Each entry of the journal is acknowledged, each was made in its turn, from the start's time up to now, and store, inbox
+-- and outbox are those of the whole journal, which leads to this machine.
+pub record IsRunningAt {D : Type 0} (flow : Flow) (start time : ℕ) (moment : D → ℕ)
+    (images : D → ℕ → Files → Type 0) (lot : ℕ) (opened : Machine) (old now : D) (journal : List Entry)
+    (reached : Machine) (left : List NamedFile) (standing : List ℕ → Option (List ℕ)) : Type 0 where
   pub ran : Replays flow moment images lot opened journal reached old now
   pub all : IsAcknowledged journal
-  pub first : EachTakesFirst flow opened (steps journal)
+  pub turns : ComeInTurn flow None start time opened (steps journal)
   pub gone : IsGoneByEntry flow opened.world.inbox left journal
   pub valid : IsValid flow reached.state
   pub holds : InEach (images now (moment now)) (StandsFor flow lot reached)

@@ -1,18 +1,13 @@
 -- What a journal of a flow says of the inbox.
-use Rattle.std.specs.Prelude.{◌≡◌, ◌⊎◌, ⊤, ℕ, List, [], ◌∷◌, filter, find, Option, Some, IsSome, Contains, slice_get}
+use Rattle.std.specs.Prelude.{◌⊎◌, ℕ, List, [], ◌∷◌, filter, IsSome, Contains}
 use Rattle.std.specs.List.{AllByRecursion}
 use Rattle.flowfile_record.specs.NamedFile.{NamedFile}
 use Rattle.machine_model.specs.declared.flow.Flow.{Flow}
 use Rattle.machine_model.specs.declared.journal.Entry.{Entry}
 use Rattle.machine_model.specs.declared.journal.Step.{Step}
-use Rattle.machine_model.specs.declared.journal.Step.TheVariants.{Session}
-use Rattle.machine_model.specs.declared.kind.Kind.TheVariants.{GetFile}
-use Rattle.machine_model.specs.declared.pattern.Pattern.{Pattern}
-use Rattle.machine_model.specs.declared.flow.Processor.{Processor}
 use Rattle.machine_model.specs.Kinds.{is_among}
 use Rattle.machine_model.specs.Laws.{names_of_step}
-use Rattle.machine_model.specs.State.{Machine, World}
-use Rattle.machine_model.specs.Stepping.{may_get, step}
+use Rattle.machine_model.specs.State.{World}
 
 -- a step takes the file of this name from the inbox
 abbrev pub Takes : Flow → Step → List ℕ → Type 0
@@ -30,19 +25,3 @@ WasGot flow name (entry ∷ journal) = (Takes flow entry.step name × IsSome ent
 -- the files of the inbox whose names are left
 abbrev pub files_left : World → List NamedFile
 files_left world = filter (λ file. is_among file.name world.left) world.inbox
-
--- ---- the order of names
-
--- A GetFile takes the first file that it may get, in the order in which the inbox listed its names.
-abbrev pub TakesFirst : Flow → Machine → Step → Type 0
-TakesFirst flow before (Session place numbers moment given) =
-    (processor : Processor) (filter : Option Pattern) → slice_get flow.processors place ≡ Some processor
-    → processor.kind ≡ GetFile filter → given.file ≡ find (may_get filter before.world) before.world.left
-TakesFirst flow before _ = ⊤
-
--- each of these steps does so, one after the other
-abbrev pub EachTakesFirst : Flow → Machine → List Step → Type 0
-EachTakesFirst flow before [] = ⊤
-EachTakesFirst flow before (one ∷ later) =
-    TakesFirst flow before one
-    × ((after : Machine) → step flow before one ≡ Some after → EachTakesFirst flow after later)

@@ -1,5 +1,5 @@
 -- How a run of any flow begins, goes on and ends, and what steps do to the world.
-use Rattle.std.specs.Prelude.{◌≡◌, ◌≢◌, ◌⊎◌, ⊤, ℕ, Bool, true, List, [], ◌∷◌, ◌++◌, Option, Some, None, Ok, MatchOption, Contains, slice_get}
+use Rattle.std.specs.Prelude.{◌≡◌, ◌≢◌, ◌⊎◌, ◌≤◌, ⊤, ℕ, Bool, true, List, [], ◌∷◌, ◌++◌, Option, Some, None, Ok, MatchOption, slice_get}
 use Rattle.disk_trait.specs.Files.{Files}
 use Rattle.flowfile_record.specs.NamedFile.{NamedFile, with_file, without}
 use Rattle.flowfile_record.specs.declared.worked.Outcome.{Outcome}
@@ -12,8 +12,8 @@ use Rattle.machine_model.specs.declared.journal.Step.{Step}
 use Rattle.machine_model.specs.declared.journal.Step.TheVariants.{Session}
 use Rattle.machine_model.specs.declared.kind.Conflict.{Conflict}
 use Rattle.machine_model.specs.declared.kind.Kind.TheVariants.{PutFile}
+use Rattle.machine_model.specs.Acknowledged.{steps}
 use Rattle.machine_model.specs.Acting.{act, name_in}
-use Rattle.machine_model.specs.Files.{queue_at}
 use Rattle.machine_model.specs.Laws.{names_of_step, received_name}
 use Rattle.machine_model.specs.Placing.{EndedSession, SettledFile, settled_files}
 use Rattle.machine_model.specs.Quiet.{quiet, blocked}
@@ -27,8 +27,9 @@ use Rattle.store_core.specs.State.{stands_for}
 use Rattle.store_core.specs.Store.{Holds, StoreState, kept_by}
 use Rattle.engine_core.specs.Committing.{identity_of}
 use Rattle.flow_run.specs.Going.{IsBetween, IsRunningAt, IsSpared, IsStepped}
-use Rattle.flow_run.specs.Journal.{files_left, Takes, TakesFirst}
-use Rattle.flow_run.specs.Run.{HasRun, IsAtLimit, IsStateOf, IsTidied, StandsFor, machine_at}
+use Rattle.flow_run.specs.Journal.{files_left, Takes}
+use Rattle.flow_run.specs.Run.{HasRun, IsAtLimit, IsPut, IsStateOf, IsTidied, StandsFor, machine_at}
+use Rattle.flow_run.specs.Turns.{ComeInTurn, ComesNext, last_worker, moment_of}
 use Rattle.flow_run.specs.declared.ended.Ended.TheVariants as ending
 use Rattle.flow_run.specs.declared.ended.Fault.{Fault}
 use Rattle.flow_run.specs.declared.ended.Fault.TheVariants as fault
@@ -38,134 +39,156 @@ use Rattle.flow_run.specs.declared.ended.Fault.TheVariants as fault
 -- where from behind the opening's first sync on whatever a stop may leave stands for a valid state, a run is at that
 -- state, with no entry, and all that the inbox has is left
 abbrev pub RunsBegin : {D : Type 0} → (D → ℕ) → (D → ℕ → Files → Type 0) → Type 0
-RunsBegin {D} moment images = (flow : Flow) (lot : ℕ) (old now : D) (state : State) (left : List NamedFile)
-    (standing : List ℕ → Option (List ℕ)) → IsValid flow state
+RunsBegin {D} moment images = (flow : Flow) (start time lot : ℕ) (old now : D) (state : State)
+    (left : List NamedFile) (standing : List ℕ → Option (List ℕ)) → IsValid flow state → start ≤ time
     → SinceSync moment images old now (StandsFor flow lot (machine_at state left standing))
-    → IsRunningAt flow moment images lot (machine_at state left standing) old now [] (machine_at state left standing)
-    left standing
+    → IsRunningAt flow start time moment images lot (machine_at state left standing) old now []
+    (machine_at state left standing) left standing
 
 -- the same where files stood for the state, and whatever a stop may leave means the same
 abbrev pub OpenedRunsBegin : {D : Type 0} → (D → ℕ) → (D → ℕ → Files → Type 0) → Type 0
-OpenedRunsBegin {D} moment images = (flow : Flow) (lot : ℕ) (files : Files) (old now : D) (state : State)
-    (left : List NamedFile) (standing : List ℕ → Option (List ℕ)) → IsValid flow state
+OpenedRunsBegin {D} moment images = (flow : Flow) (start time lot : ℕ) (files : Files) (old now : D) (state : State)
+    (left : List NamedFile) (standing : List ℕ → Option (List ℕ)) → IsValid flow state → start ≤ time
     → stands_for (identity_of flow) lot files ≡ Ok state
     → SinceSync moment images old now (SameMeaning (identity_of flow) lot files)
-    → IsRunningAt flow moment images lot (machine_at state left standing) old now [] (machine_at state left standing)
-    left standing
+    → IsRunningAt flow start time moment images lot (machine_at state left standing) old now []
+    (machine_at state left standing) left standing
 
 -- a run whose opening failed behind its first sync has done nothing
 abbrev pub FailedOpeningsEnd : {D : Type 0} → (tells : Bool) → (D → Files) → (D → ℕ) → (D → ℕ → Files → Type 0)
     → Type 0
-FailedOpeningsEnd {D} tells held moment images = (flow : Flow) (lot time : ℕ) (files : Files) (old now : D)
-    (state : State) (left : List NamedFile) (standing : List ℕ → Option (List ℕ)) (cause : Fault)
+FailedOpeningsEnd {D} tells held moment images = (flow : Flow) (start time lot : ℕ) (files : Files) (old now : D)
+    (state : State) (left : List NamedFile) (standing : List ℕ → Option (List ℕ)) (cause : Fault) → start ≤ time
     → stands_for (identity_of flow) lot files ≡ Ok state
     → SinceSync moment images old now (SameMeaning (identity_of flow) lot files)
-    → HasRun flow (ending.Fault cause) time tells held moment images lot (machine_at state left standing) old now left
-    standing
+    → HasRun flow (ending.Fault cause) start time tells held moment images lot (machine_at state left standing) old now
+    left standing []
 
 -- ---- a run goes on
 
--- by a step that is acknowledged now, with inbox and outbox as the step leaves them
+-- by the step that comes next, which is acknowledged now, with inbox and outbox as the step leaves them
 abbrev pub SteppedRunsGoOn : {D : Type 0} → (D → ℕ) → (D → ℕ → Files → Type 0) → Type 0
-SteppedRunsGoOn {D} moment images = (flow : Flow) (lot : ℕ) (opened reached after : Machine) (first old new : D)
-    (journal : List Entry) (one : Step) (left now_left : List NamedFile)
+SteppedRunsGoOn {D} moment images = (flow : Flow) (start time lot : ℕ) (opened reached after : Machine)
+    (first old new : D) (journal : List Entry) (one : Step) (left now_left : List NamedFile)
     (standing now_standing : List ℕ → Option (List ℕ))
-    → IsRunningAt flow moment images lot opened first old journal reached left standing
-    → step flow reached one ≡ Some after → TakesFirst flow reached one
+    → IsRunningAt flow start time moment images lot opened first old journal reached left standing
+    → time ≤ moment_of one → ComesNext flow (last_worker None (steps journal)) reached one
+    → step flow reached one ≡ Some after
     → IsStepped flow moment images lot reached after old new
     → now_left ≡ files_left after.world → now_standing ≡ after.world.outbox
-    → IsRunningAt flow moment images lot opened first new
+    → IsRunningAt flow start (moment_of one) moment images lot opened first new
     (journal ++ record { step = one; acked = Some (moment new) } ∷ [])
     after now_left now_standing
 
--- by calls that leave what the disk stands for, and inbox and outbox
+-- by calls that leave what the disk stands for, and inbox and outbox, and as time goes by
 abbrev pub SparedRunsGoOn : {D : Type 0} → (D → ℕ) → (D → ℕ → Files → Type 0) → Type 0
-SparedRunsGoOn {D} moment images = (flow : Flow) (lot : ℕ) (opened reached : Machine) (first old new : D)
-    (journal : List Entry) (left : List NamedFile) (standing : List ℕ → Option (List ℕ))
-    → IsRunningAt flow moment images lot opened first old journal reached left standing
-    → IsSpared flow moment images lot reached old new
-    → IsRunningAt flow moment images lot opened first new journal reached left standing
+SparedRunsGoOn {D} moment images = (flow : Flow) (start time later lot : ℕ) (opened reached : Machine)
+    (first old new : D) (journal : List Entry) (left : List NamedFile) (standing : List ℕ → Option (List ℕ))
+    → IsRunningAt flow start time moment images lot opened first old journal reached left standing
+    → time ≤ later → IsSpared flow moment images lot reached old new
+    → IsRunningAt flow start later moment images lot opened first new journal reached left standing
 
 -- ---- a fault ends a run
 
 -- between two steps, whichever it is
 abbrev pub FaultsEnd : {D : Type 0} → (tells : Bool) → (D → Files) → (D → ℕ) → (D → ℕ → Files → Type 0) → Type 0
-FaultsEnd {D} tells held moment images = (flow : Flow) (lot time : ℕ) (opened reached : Machine) (first old new : D)
-    (journal : List Entry) (left : List NamedFile) (standing : List ℕ → Option (List ℕ)) (cause : Fault)
-    → IsRunningAt flow moment images lot opened first old journal reached left standing
-    → IsSpared flow moment images lot reached old new
-    → HasRun flow (ending.Fault cause) time tells held moment images lot opened first new left standing
+FaultsEnd {D} tells held moment images = (flow : Flow) (start time later lot : ℕ) (opened reached : Machine)
+    (first old new : D) (journal : List Entry) (left : List NamedFile) (standing : List ℕ → Option (List ℕ))
+    (cause : Fault)
+    → IsRunningAt flow start time moment images lot opened first old journal reached left standing
+    → time ≤ later → IsSpared flow moment images lot reached old new
+    → HasRun flow (ending.Fault cause) start later tells held moment images lot opened first new left standing journal
 
--- of the disk within a step: its outbox may be done, and what it takes from the inbox is still there
+-- of the disk within the step that comes next: its outbox may be done, and what it takes from the inbox is still there
 abbrev pub DiskFaultsEnd : {D : Type 0} → (tells : Bool) → (D → Files) → (D → ℕ) → (D → ℕ → Files → Type 0) → Type 0
-DiskFaultsEnd {D} tells held moment images = (flow : Flow) (lot time : ℕ) (opened reached after : Machine)
-    (first old new : D) (journal : List Entry) (one : Step) (left : List NamedFile)
+DiskFaultsEnd {D} tells held moment images = (flow : Flow) (start time later lot : ℕ)
+    (opened reached after : Machine) (first old new : D) (journal : List Entry) (one : Step) (left : List NamedFile)
     (standing now_standing : List ℕ → Option (List ℕ))
-    → IsRunningAt flow moment images lot opened first old journal reached left standing
-    → step flow reached one ≡ Some after → TakesFirst flow reached one
+    → IsRunningAt flow start time moment images lot opened first old journal reached left standing
+    → time ≤ moment_of one → moment_of one ≤ later
+    → ComesNext flow (last_worker None (steps journal)) reached one → step flow reached one ≡ Some after
     → IsBetween flow moment images lot reached after old new
     → now_standing ≡ after.world.outbox
-    → HasRun flow (ending.Fault fault.Disk) time tells held moment images lot opened first new left now_standing
+    → HasRun flow (ending.Fault fault.Disk) start later tells held moment images lot opened first new left now_standing
+    (journal ++ record { step = one; acked = None } ∷ [])
 
--- of the outbox at a queued file: what stands under its name may be anything
+-- of the outbox at the put of the step that comes next: what stands under that name may be anything
 abbrev pub OutboxFaultsEnd : {D : Type 0} → (tells : Bool) → (D → Files) → (D → ℕ) → (D → ℕ → Files → Type 0)
     → Type 0
-OutboxFaultsEnd {D} tells held moment images = (flow : Flow) (lot time : ℕ) (opened reached : Machine)
-    (first old new : D) (journal : List Entry) (left : List NamedFile)
-    (standing now_standing : List ℕ → Option (List ℕ)) (place : ℕ) (file : QueuedFile) (name : List ℕ)
-    → IsRunningAt flow moment images lot opened first old journal reached left standing
+OutboxFaultsEnd {D} tells held moment images = (flow : Flow) (start time later lot : ℕ)
+    (opened reached after : Machine) (first old new : D) (journal : List Entry) (one : Step) (left : List NamedFile)
+    (standing now_standing : List ℕ → Option (List ℕ)) (name bytes : List ℕ)
+    → IsRunningAt flow start time moment images lot opened first old journal reached left standing
     → IsSpared flow moment images lot reached old new
-    → Contains (queue_at reached.state place) file → name_in file.attributes ≡ Some name
+    → time ≤ moment_of one → moment_of one ≤ later
+    → ComesNext flow (last_worker None (steps journal)) reached one → step flow reached one ≡ Some after
+    → IsPut flow reached one name → after.world.outbox ≡ with_file reached.world.outbox name bytes
     → ((other : List ℕ) → other ≢ name → now_standing other ≡ standing other)
-    → HasRun flow (ending.Fault fault.Outbox) time tells held moment images lot opened first new left now_standing
+    → HasRun flow (ending.Fault fault.Outbox) start later tells held moment images lot opened first new left
+    now_standing journal
 
 -- of the inbox behind a step that took a file: it may be gone or not
 abbrev pub InboxFaultsEnd : {D : Type 0} → (tells : Bool) → (D → Files) → (D → ℕ) → (D → ℕ → Files → Type 0)
     → Type 0
-InboxFaultsEnd {D} tells held moment images = (flow : Flow) (lot time : ℕ) (opened reached after : Machine)
-    (first old new : D) (journal : List Entry) (one : Step) (name : List ℕ) (left now_left : List NamedFile)
-    (standing now_standing : List ℕ → Option (List ℕ))
-    → IsRunningAt flow moment images lot opened first old journal reached left standing
-    → step flow reached one ≡ Some after → TakesFirst flow reached one
+InboxFaultsEnd {D} tells held moment images = (flow : Flow) (start time later lot : ℕ)
+    (opened reached after : Machine) (first old new : D) (journal : List Entry) (one : Step) (name : List ℕ)
+    (left now_left : List NamedFile) (standing now_standing : List ℕ → Option (List ℕ))
+    → IsRunningAt flow start time moment images lot opened first old journal reached left standing
+    → time ≤ moment_of one → moment_of one ≤ later
+    → ComesNext flow (last_worker None (steps journal)) reached one → step flow reached one ≡ Some after
     → IsStepped flow moment images lot reached after old new → Takes flow one name
     → (now_left ≡ left) ⊎ (now_left ≡ without name left)
     → now_standing ≡ after.world.outbox
-    → HasRun flow (ending.Fault fault.Inbox) time tells held moment images lot opened first new now_left now_standing
+    → HasRun flow (ending.Fault fault.Inbox) start later tells held moment images lot opened first new now_left
+    now_standing (journal ++ record { step = one; acked = Some (moment new) } ∷ [])
 
 -- ---- a run ends: its store was closed
 
 -- nothing was left to do
 abbrev pub QuietRunsEnd : {D : Type 0} → (tells : Bool) → (D → Files) → (D → ℕ) → (D → ℕ → Files → Type 0) → Type 0
-QuietRunsEnd {D} tells held moment images = (flow : Flow) (lot time : ℕ) (opened reached : Machine)
+QuietRunsEnd {D} tells held moment images = (flow : Flow) (start time later lot : ℕ) (opened reached : Machine)
     (first old new : D) (journal : List Entry) (left : List NamedFile) (standing : List ℕ → Option (List ℕ))
-    → IsRunningAt flow moment images lot opened first old journal reached left standing
-    → IsSpared flow moment images lot reached old new
+    → IsRunningAt flow start time moment images lot opened first old journal reached left standing
+    → time ≤ later → IsSpared flow moment images lot reached old new
     → images new (moment new) (held new) → IsTidied flow lot (held new)
-    → quiet flow reached.state reached.world time ≡ true
-    → HasRun flow ending.Quiet time tells held moment images lot opened first new left standing
+    → quiet flow reached.state reached.world later ≡ true
+    → HasRun flow ending.Quiet start later tells held moment images lot opened first new left standing journal
 
 -- all that there was to do was held back
 abbrev pub BlockedRunsEnd : {D : Type 0} → (tells : Bool) → (D → Files) → (D → ℕ) → (D → ℕ → Files → Type 0)
     → Type 0
-BlockedRunsEnd {D} tells held moment images = (flow : Flow) (lot time place : ℕ) (opened reached : Machine)
-    (first old new : D) (journal : List Entry) (left : List NamedFile) (standing : List ℕ → Option (List ℕ))
-    → IsRunningAt flow moment images lot opened first old journal reached left standing
-    → IsSpared flow moment images lot reached old new
+BlockedRunsEnd {D} tells held moment images = (flow : Flow) (start time later lot place : ℕ)
+    (opened reached : Machine) (first old new : D) (journal : List Entry) (left : List NamedFile)
+    (standing : List ℕ → Option (List ℕ))
+    → IsRunningAt flow start time moment images lot opened first old journal reached left standing
+    → time ≤ later → IsSpared flow moment images lot reached old new
     → images new (moment new) (held new) → IsTidied flow lot (held new)
-    → blocked flow reached.state reached.world time ≡ Some place
-    → HasRun flow (ending.Blocked place) time tells held moment images lot opened first new left standing
+    → blocked flow reached.state reached.world later ≡ Some place
+    → HasRun flow (ending.Blocked place) start later tells held moment images lot opened first new left standing journal
 
 -- a limit was met
 abbrev pub LimitedRunsEnd : {D : Type 0} → (tells : Bool) → (D → Files) → (D → ℕ) → (D → ℕ → Files → Type 0)
     → Type 0
-LimitedRunsEnd {D} tells held moment images = (flow : Flow) (lot time : ℕ) (opened reached : Machine)
+LimitedRunsEnd {D} tells held moment images = (flow : Flow) (start time later lot : ℕ) (opened reached : Machine)
     (first old new : D) (journal : List Entry) (left : List NamedFile) (standing : List ℕ → Option (List ℕ))
     (limit : Limit)
-    → IsRunningAt flow moment images lot opened first old journal reached left standing
-    → IsAtLimit flow tells held moment images lot journal reached limit old
+    → IsRunningAt flow start time moment images lot opened first old journal reached left standing
+    → time ≤ later → IsAtLimit flow start later tells held moment images lot opened journal reached limit old
     → IsSpared flow moment images lot reached old new
     → images new (moment new) (held new) → IsTidied flow lot (held new)
-    → HasRun flow (ending.Limit limit) time tells held moment images lot opened first new left standing
+    → HasRun flow (ending.Limit limit) start later tells held moment images lot opened first new left standing journal
+
+-- ---- the journal with one step more
+
+-- with the step that comes next it is in turn, up to any time behind that
+abbrev pub NextStepsAreInTurn : {D : Type 0} → (D → ℕ) → (D → ℕ → Files → Type 0) → Type 0
+NextStepsAreInTurn {D} moment images = (flow : Flow) (start time later lot : ℕ) (opened reached : Machine)
+    (first now : D) (journal : List Entry) (one : Step) (left : List NamedFile)
+    (standing : List ℕ → Option (List ℕ))
+    → IsRunningAt flow start time moment images lot opened first now journal reached left standing
+    → time ≤ moment_of one → moment_of one ≤ later
+    → ComesNext flow (last_worker None (steps journal)) reached one
+    → ComeInTurn flow None start later opened (steps journal ++ one ∷ [])
 
 -- ---- what a store has in memory
 

@@ -1,9 +1,9 @@
 -- What a run of a flow promises.
-use Rattle.std.specs.Prelude.{◌≡◌, ◌≢◌, ◌⊎◌, ⊤, ℕ, ◌+◌, ◌≤◌, Bool, true, false, List, [], ◌∷◌, ◌++◌, length, map, Contains}
-use Rattle.std.specs.Prelude.{Option, Some, Ok, IsSome, IsNone}
+use Rattle.std.specs.Prelude.{◌≡◌, ◌≢◌, ◌⊎◌, ⊤, ℕ, ◌+◌, ◌≤◌, Bool, true, false, List, [], ◌∷◌, ◌++◌, length, map, slice_get}
+use Rattle.std.specs.Prelude.{Option, Some, None, Ok, IsSome, IsNone}
 use Rattle.disk_trait.specs.Files.{Files}
 use Rattle.disk_trait.specs.Images.{SinceMoment, Since}
-use Rattle.flowfile_record.specs.NamedFile.{NamedFile, bytes_of}
+use Rattle.flowfile_record.specs.NamedFile.{NamedFile, bytes_of, with_file}
 use Rattle.flowfile_record.specs.Stored.{Kept}
 use Rattle.flowfile_record.specs.declared.change.Settled.{Settled}
 use Rattle.flowfile_record.specs.declared.content.ContentRef.{ContentRef}
@@ -11,21 +11,27 @@ use Rattle.content_repo.specs.Claims.{content_in}
 use Rattle.kept_state.specs.declared.limit.Limit.{Limit}
 use Rattle.kept_state.specs.declared.limit.Which.TheVariants.{Journal}
 use Rattle.machine_model.specs.declared.flow.Flow.{Flow}
+use Rattle.machine_model.specs.declared.flow.Processor.{Processor}
+use Rattle.machine_model.specs.declared.given.Given.{Given}
 use Rattle.machine_model.specs.declared.journal.Entry.{Entry}
 use Rattle.machine_model.specs.declared.journal.Step.{Step}
+use Rattle.machine_model.specs.declared.journal.Step.TheVariants.{Session}
+use Rattle.machine_model.specs.declared.kind.Conflict.{Conflict}
+use Rattle.machine_model.specs.declared.kind.Kind.TheVariants.{PutFile}
 use Rattle.machine_model.specs.Acknowledged.{steps, acknowledged, IsInOrder}
 use Rattle.machine_model.specs.Acting.{name_in}
 use Rattle.machine_model.specs.Changing.{state_after}
-use Rattle.machine_model.specs.Files.{queue_at}
+use Rattle.machine_model.specs.Kinds.{take_rule_of}
 use Rattle.machine_model.specs.Quiet.{quiet, blocked}
 use Rattle.machine_model.specs.State.{Machine, QueuedFile, State}
-use Rattle.machine_model.specs.Stepping.{step, replay}
+use Rattle.machine_model.specs.Stepping.{step, replay, taken_files}
 use Rattle.store_core.specs.Change.{IsLimitOf}
 use Rattle.store_core.specs.Kept.{kept_in}
 use Rattle.store_core.specs.State.{stands_for, state_with}
 use Rattle.store_core.specs.Store.{StoreState, kept_by, IsKeptOn, IsTidy}
 use Rattle.engine_core.specs.Committing.{AreEventsUpTo, identity_of}
-use Rattle.flow_run.specs.Journal.{EachTakesFirst, files_left, Takes, WasGot}
+use Rattle.flow_run.specs.Journal.{files_left, Takes, WasGot}
+use Rattle.flow_run.specs.Turns.{ComeInTurn}
 use Rattle.flow_run.specs.declared.ended.Ended.{Ended}
 use Rattle.flow_run.specs.declared.ended.Ended.TheVariants as ending
 use Rattle.flow_run.specs.declared.ended.Fault.TheVariants as fault
@@ -90,14 +96,34 @@ pub record IsLeftOver (flow : Flow) (ended : Ended) (opened : Machine) (journal 
   pub replays : replay flow opened (steps before) ≡ Some reached
   pub still : left ≡ files_left reached.world
 
--- The outbox failed at a file that is queued. What stands under its name may be anything, and the file still waits.
-pub record IsStoppedAtPut (ended : Ended) (reached : Machine) (standing : List ℕ → Option (List ℕ)) : Type 0 where
-  pub failed : ended ≡ ending.Fault fault.Outbox
+-- The step is the session of a PutFile that takes one file, of this name.
+pub record IsPut (flow : Flow) (before : Machine) (one : Step) (name : List ℕ) : Type 0 where
   pub place : ℕ
+  pub numbers : List ℕ
+  pub moment : ℕ
+  pub given : Given
+  pub is : one ≡ Session place numbers moment given
+  pub processor : Processor
+  pub conflict : Conflict
+  pub found : slice_get flow.processors place ≡ Some processor
+  pub kind : processor.kind ≡ PutFile conflict
   pub file : QueuedFile
-  pub waits : Contains (queue_at reached.state place) file
-  pub name : List ℕ
+  pub takes : taken_files flow before.state place (take_rule_of processor.kind) numbers moment ≡ Some (file ∷ [])
   pub named : name_in file.attributes ≡ Some name
+
+-- The outbox failed at the put of the session that comes next, which isn't done: what it takes still waits. What stands
+-- under the name of that may be anything.
+pub record IsStoppedAtPut (flow : Flow) (ended : Ended) (start time : ℕ) (opened : Machine) (journal : List Entry)
+    (reached : Machine) (standing : List ℕ → Option (List ℕ)) : Type 0 where
+  pub failed : ended ≡ ending.Fault fault.Outbox
+  pub next : Step
+  pub turn : ComeInTurn flow None start time opened (steps journal ++ next ∷ [])
+  pub after : Machine
+  pub goes : step flow reached next ≡ Some after
+  pub name : List ℕ
+  pub put : IsPut flow reached next name
+  pub bytes : List ℕ
+  pub puts : after.world.outbox ≡ with_file reached.world.outbox name bytes
   pub others : (other : List ℕ) → other ≢ name → standing other ≡ reached.world.outbox other
 
 -- ---- limits
@@ -124,12 +150,13 @@ abbrev pub IsAtJournalLimit : Limit → List Entry → Type 0
 IsAtJournalLimit limit journal =
     limit ≡ record { which = Journal; number = length journal; wanted = length journal + 1 }
 
--- A limit was met on a disk as it was then, whose files stand for the state after the whole journal: one step more,
--- which the flow has, would have passed it.
-pub record IsAtLimit {D : Type 0} (flow : Flow) (tells : Bool) (held : D → Files) (moment : D → ℕ)
-    (images : D → ℕ → Files → Type 0) (lot : ℕ) (journal : List Entry) (reached : Machine) (limit : Limit) (at : D)
-    : Type 0 where
+-- A limit was met on a disk as it was then, whose files stand for the state after the whole journal: the step that came
+-- next would have passed it.
+pub record IsAtLimit {D : Type 0} (flow : Flow) (start time : ℕ) (tells : Bool) (held : D → Files) (moment : D → ℕ)
+    (images : D → ℕ → Files → Type 0) (lot : ℕ) (opened : Machine) (journal : List Entry) (reached : Machine)
+    (limit : Limit) (at : D) : Type 0 where
   pub next : Step
+  pub turn : ComeInTurn flow None start time opened (steps journal ++ next ∷ [])
   pub after : Machine
   pub goes : step flow reached next ≡ Some after
   pub stands : StandsFor flow lot reached (held at)
@@ -160,37 +187,36 @@ pub record IsHeldBack (flow : Flow) (time place lot : ℕ) (reached : Machine) (
   pub is_blocked : blocked flow reached.state reached.world time ≡ Some place
 
 -- A limit was met, and from then on whatever a stop may leave stands for the state after the whole journal.
-pub record IsStoppedByLimit {D : Type 0} (flow : Flow) (tells : Bool) (held : D → Files) (moment : D → ℕ)
-    (images : D → ℕ → Files → Type 0) (lot : ℕ) (journal : List Entry) (reached : Machine) (limit : Limit) (new : D)
-    : Type 0 where
+pub record IsStoppedByLimit {D : Type 0} (flow : Flow) (start time : ℕ) (tells : Bool) (held : D → Files)
+    (moment : D → ℕ) (images : D → ℕ → Files → Type 0) (lot : ℕ) (opened : Machine) (journal : List Entry)
+    (reached : Machine) (limit : Limit) (new : D) : Type 0 where
   pub closed : IsClosed flow lot reached (held new)
   pub at : D
-  pub met : IsAtLimit flow tells held moment images lot journal reached limit at
+  pub met : IsAtLimit flow start time tells held moment images lot opened journal reached limit at
   pub since : Since moment images at new (StandsFor flow lot reached)
 
 -- What an end tells. A fault tells nothing more than that it came.
-abbrev pub EndsSo : {D : Type 0} → Flow → Ended → (time : ℕ) → (tells : Bool) → (D → Files) → (D → ℕ)
-    → (D → ℕ → Files → Type 0) → (lot : ℕ) → List Entry → Machine → (new : D) → Type 0
-EndsSo flow ending.Quiet time tells held moment images lot journal reached new =
+abbrev pub EndsSo : {D : Type 0} → Flow → Ended → (start time : ℕ) → (tells : Bool) → (D → Files) → (D → ℕ)
+    → (D → ℕ → Files → Type 0) → (lot : ℕ) → Machine → List Entry → Machine → (new : D) → Type 0
+EndsSo flow ending.Quiet start time tells held moment images lot opened journal reached new =
     IsDone flow time lot reached (held new)
-EndsSo flow (ending.Blocked place) time tells held moment images lot journal reached new =
+EndsSo flow (ending.Blocked place) start time tells held moment images lot opened journal reached new =
     IsHeldBack flow time place lot reached (held new)
-EndsSo flow (ending.Limit limit) time tells held moment images lot journal reached new =
-    IsStoppedByLimit flow tells held moment images lot journal reached limit new
-EndsSo flow (ending.Fault cause) time tells held moment images lot journal reached new = ⊤
+EndsSo flow (ending.Limit limit) start time tells held moment images lot opened journal reached new =
+    IsStoppedByLimit flow start time tells held moment images lot opened journal reached limit new
+EndsSo flow (ending.Fault cause) start time tells held moment images lot opened journal reached new = ⊤
 
--- However it ended, and at whatever time of the clock: a journal tells what the run did to disk, inbox and outbox.
--- Each GetFile took the first file that it might. Inbox and outbox are those of the whole journal, but for the one file
--- at which a device failed.
-pub record HasRun {D : Type 0} (flow : Flow) (ended : Ended) (time : ℕ) (tells : Bool) (held : D → Files)
+-- However it ended: the journal tells what the run did to disk, inbox and outbox. Each step was made in its turn, from
+-- the clock's time at the start up to its time at the end. Inbox and outbox are those of the whole journal, but for the
+-- one file at which a device failed.
+pub record HasRun {D : Type 0} (flow : Flow) (ended : Ended) (start time : ℕ) (tells : Bool) (held : D → Files)
     (moment : D → ℕ) (images : D → ℕ → Files → Type 0) (lot : ℕ) (opened : Machine) (old new : D)
-    (left : List NamedFile) (standing : List ℕ → Option (List ℕ)) : Type 0 where
-  pub journal : List Entry
+    (left : List NamedFile) (standing : List ℕ → Option (List ℕ)) (journal : List Entry) : Type 0 where
   pub reached : Machine
   pub ran : Replays flow moment images lot opened journal reached old new
   pub acked : IsAckedBy (moment new) ended journal
-  pub first : EachTakesFirst flow opened (steps journal)
+  pub turns : ComeInTurn flow None start time opened (steps journal)
   pub gone : IsGoneByEntry flow opened.world.inbox left journal
   pub inbox : (left ≡ files_left reached.world) ⊎ IsLeftOver flow ended opened journal left
-  pub outbox : (standing ≡ reached.world.outbox) ⊎ IsStoppedAtPut ended reached standing
-  pub ends : EndsSo flow ended time tells held moment images lot journal reached new
+  pub outbox : (standing ≡ reached.world.outbox) ⊎ IsStoppedAtPut flow ended start time opened journal reached standing
+  pub ends : EndsSo flow ended start time tells held moment images lot opened journal reached new

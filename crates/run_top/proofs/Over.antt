@@ -1,5 +1,5 @@
 -- A run over a store that was opened, or wasn't.
-use Rattle.std.proofs.Common.{◌≡◌, ◌⊎◌, inl, inr, ⊎_elim, ℕ, ◌+◌, ◌≤◌, Bool, List, refl, sym, ◌∙◌, ap, subst, arith}
+use Rattle.std.proofs.Common.{◌≡◌, ◌⊎◌, inl, inr, ⊎_elim, ℕ, ◌+◌, ◌≤◌, Bool, List, refl, sym, ◌∙◌, ap, subst, arith, []}
 use Rattle.std.specs.Prelude.{Option, Err, Result, IsErrOf}
 use Rattle.disk_trait.specs.Faults.{CountsFaults}
 use Rattle.disk_trait.specs.Files.{Files}
@@ -7,6 +7,7 @@ use Rattle.disk_trait.specs.declared.damage.Damage.{Damage}
 use Rattle.flowfile_record.specs.NamedFile.{NamedFile}
 use Rattle.kept_state.specs.declared.limit.Limit.{Limit}
 use Rattle.machine_model.specs.declared.flow.Flow.{Flow}
+use Rattle.machine_model.specs.declared.journal.Entry.{Entry}
 use Rattle.machine_model.specs.State.{Machine, State}
 use Rattle.store_core.specs.Calls.{IsUnwritten, SinceSync}
 use Rattle.store_core.specs.Flow as store
@@ -46,17 +47,18 @@ told_shut flow lot files RunError.Memory store damaged other = inr (inr refl)
 
 module _ {A D I O : Type 0} (tells : Bool) (held : D → Files) (moment : D → ℕ) (images : D → ℕ → Files → Type 0) (flow : Flow) (lot : ℕ) (old new : D) (inbox : I) (outbox : O)
     (opened : Result A RunError) (error : RunError) (was : opened ≡ Err error) (store : IsOfStore error) (opens : Opens (identity_of flow) moment images lot (held old) old new opened) where
-  pub refused_ends : FailedOpeningsEnd tells held moment images → (time most : ℕ) (state : State) (left : List NamedFile) (standing : List ℕ → Option (List ℕ))
+  pub refused_ends : FailedOpeningsEnd tells held moment images → (start time most : ℕ) → start ≤ time → (state : State) (left : List NamedFile) (standing : List ℕ → Option (List ℕ))
       → (error ≡ RunError.OtherFlow → IsShutStatus (identity_of flow) lot (held old) FLOW_REFUSED) → IsOfFlow flow lot (held old) state
-      → EndsWith flow (status_of error) time tells held moment images lot most (machine_at state left standing) old new left standing
+      → EndsWith flow (status_of error) start time tells held moment images lot most (machine_at state left standing) old new left standing
       ⊎ IsNotOpened (status_of error) moment images old new inbox inbox outbox outbox
-  refused_ends law time most state left standing other of = ⊎_elim
+  refused_ends law start time most le state left standing other of = ⊎_elim
       (λ (since : SinceSync moment images old new (SameMeaning (identity_of flow) lot (held old))).
       let cause = fault_of error store (λ is. not_other flow lot (held old) state of (other is)) in
       inl (record {
         ended = ending.Fault cause.0;
         told = cause.1;
-        ran = law flow lot time (held old) old new state left standing cause.0 of.stands since;
+        journal = [];
+        ran = law flow start time lot (held old) old new state left standing cause.0 le of.stands since;
         limited = λ limit is. absurd (cc);
       }))
       (λ (un : IsUnopened moment images old new opened). inr (not_opened moment images old new inbox outbox opened error was un))
@@ -110,13 +112,14 @@ module _ {D : Type 0} (tells : Bool) (held : D → Files) (moment : D → ℕ) (
       (λ full. inr full)
       met
 
-  pub ran_ends : (ended : Ended) (time most : ℕ) (opened : Machine) (old mid new : D) (left : List NamedFile) (standing : List ℕ → Option (List ℕ)) → moment old + 1 ≤ moment mid
+  pub ran_ends : (ended : Ended) (start time most : ℕ) (opened : Machine) (old mid new : D) (left : List NamedFile) (standing : List ℕ → Option (List ℕ)) → moment old + 1 ≤ moment mid
       → ((limit : Limit) → ended ≡ ending.Limit limit → IsLimitMet flow tells held moment images other (moment mid) most limit new)
-      → HasRun flow ended time tells held moment images other opened old new left standing → EndsWith flow (status_of_end ended) time tells held moment images lot most opened old new left standing
-  ran_ends ended time most opened old mid new left standing begun met ran = record {
+      → (journal : List Entry) × HasRun flow ended start time tells held moment images other opened old new left standing journal → EndsWith flow (status_of_end ended) start time tells held moment images lot most opened old new left standing
+  ran_ends ended start time most opened old mid new left standing begun met ran = record {
     ended = ended;
     told = refl;
-    ran = subst (λ (l : ℕ). HasRun flow ended time tells held moment images l opened old new left standing) same ran;
+    journal = ran.0;
+    ran = subst (λ (l : ℕ). HasRun flow ended start time tells held moment images l opened old new left standing ran.0) same ran.1;
     limited = λ limit is. met_since most old mid new begun limit (met limit is);
   }
 

@@ -1,5 +1,5 @@
 -- A store that was opened, as the beginning of a run.
-use Rattle.std.proofs.Common.{◌≡◌, ℕ, Bool, List, [], length, sym, ◌∙◌, ap, subst, arith}
+use Rattle.std.proofs.Common.{◌≡◌, ℕ, ◌≤◌, Bool, List, [], length, sym, ◌∙◌, ap, subst, arith}
 use Rattle.std.proofs.lemmas.List.{length-map}
 use Rattle.std.specs.Prelude.{Option, Ok, Result}
 use Rattle.disk_trait.specs.Files.{Files}
@@ -43,11 +43,11 @@ module _ (law : HeldFilesStandForKept) (flow : Flow) (s : StoreState) (lot : ℕ
 module _ {D : Type 0} (moment : D → ℕ) (images : D → ℕ → Files → Type 0) (begins : OpenedRunsBegin moment images) (law : HeldFilesStandForKept) (valid : KeptIsValid) (rows : Rows)
     (flow : Flow) (tells : Bool) (held : D → Files) (s : StoreState) (lot : ℕ) (old new : D) (state : State) where
   -- a store that works, behind its opening
-  pub starts : (left : List NamedFile) (standing : List ℕ → Option (List ℕ)) → IsAtWork flow tells held moment images s new → s.lot ≡ lot
+  pub starts : (start time : ℕ) → start ≤ time → (left : List NamedFile) (standing : List ℕ → Option (List ℕ)) → IsAtWork flow tells held moment images s new → s.lot ≡ lot
       → IsConsistent (kept_by s) → (kept_by s).batches ≡ [] → (kept_by s).last_event ≡ s.events.end → images new (moment new) (held new)
       → SinceSync moment images old new (SameMeaning (identity_of flow) lot (held old)) → stands_for (identity_of flow) lot (held old) ≡ Ok state
-      → IsRunningAt flow moment images s.lot (machine_at state left standing) old new [] (machine_at state left standing) left standing
-  starts left standing work is consistent none last is_left since stands =
+      → IsRunningAt flow start time moment images s.lot (machine_at state left standing) old new [] (machine_at state left standing) left standing
+  starts start time le left standing work is consistent none last is_left since stands =
       let same : SameMeaning (identity_of flow) lot (held old) (held new) = since.each (moment new) (held new) since.begun (omega arith) is_left in
       let holds : Holds s (held new) = work.kept.holds work.works (held new) is_left in
       let events : List Event = holds.events.events in
@@ -57,5 +57,5 @@ module _ {D : Type 0} (moment : D → ℕ) (images : D → ℕ → Files → Typ
       let sound : IsValid flow (state_with (content_in (held new)) events (kept_by s)) = valid flow (content_in (held new)) events (kept_by s) consistent none row.0
       (ap (λ (f : store.Flow). length f.connections) work.flow_is ∙ length-map flow.connections (λ (connection : Connection). connection.id)) (ap (λ (f : store.Flow). f.processors) work.flow_is)
       in
-      subst (λ (l : ℕ). IsRunningAt flow moment images l (machine_at state left standing) old new [] (machine_at state left standing) left standing) (sym is)
-      (begins flow lot (held old) old new state left standing (subst (λ (x : State). IsValid flow x) (sym kept) sound) stands since)
+      subst (λ (l : ℕ). IsRunningAt flow start time moment images l (machine_at state left standing) old new [] (machine_at state left standing) left standing) (sym is)
+      (begins flow start time lot (held old) old new state left standing (subst (λ (x : State). IsValid flow x) (sym kept) sound) le stands since)

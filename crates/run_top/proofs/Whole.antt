@@ -31,15 +31,15 @@ module _ (tells : Bool) (text : List ℕ) (one : Flow) (read : IsRead tells text
   shut_one lot files shut = subst (λ (f : store.Flow). IsShut f lot files) (same_identity text any one in_any in_text) shut
 
   module _ {D I O : Type 0} (moment : D → ℕ) (images : D → ℕ → Files → Type 0) (old new : D) (inbox_old inbox_new : I) (outbox_old outbox_new : O) (status result : ℕ) (is : result ≡ status) {X : Type 0} where
-    pub has_run : (time : ℕ) (disk_tells : Bool) (held : D → Files) (lot most : ℕ) (opened : Machine) (left : List NamedFile) (standing : List ℕ → Option (List ℕ))
-        → EndsWith one status time disk_tells held moment images lot most opened old new left standing ⊎ IsNotOpened status moment images old new inbox_old inbox_new outbox_old outbox_new
-        → HasRunText text result time disk_tells held moment images lot most opened old new left standing
+    pub has_run : (start time : ℕ) (disk_tells : Bool) (held : D → Files) (lot most : ℕ) (opened : Machine) (left : List NamedFile) (standing : List ℕ → Option (List ℕ))
+        → EndsWith one status start time disk_tells held moment images lot most opened old new left standing ⊎ IsNotOpened status moment images old new inbox_old inbox_new outbox_old outbox_new
+        → HasRunText text result start time disk_tells held moment images lot most opened old new left standing
         ⊎ IsNotOpened result moment images old new inbox_old inbox_new outbox_old outbox_new ⊎ X
-    has_run time disk_tells held lot most opened left standing ran = ⊎_elim
-        (λ (ends : EndsWith one status time disk_tells held moment images lot most opened old new left standing). inl (record {
+    has_run start time disk_tells held lot most opened left standing ran = ⊎_elim
+        (λ (ends : EndsWith one status start time disk_tells held moment images lot most opened old new left standing). inl (record {
           flow = one;
           read = record { bytes = read.bytes; whole = λ yes. read.whole told; size = read.size; is = read.is; sound = read.sound };
-          ends = record { ended = ends.ended; told = is ∙ ends.told; ran = ends.ran; limited = ends.limited };
+          ends = record { ended = ends.ended; told = is ∙ ends.told; journal = ends.journal; ran = ends.ran; limited = ends.limited };
         }))
         (λ (un : IsNotOpened status moment images old new inbox_old inbox_new outbox_old outbox_new).
         inr (inl (subst (λ (n : ℕ). IsNotOpened n moment images old new inbox_old inbox_new outbox_old outbox_new) (sym is) un)))

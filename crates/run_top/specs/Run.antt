@@ -8,6 +8,7 @@ use Rattle.flowfile_record.specs.NamedFile.{NamedFile}
 use Rattle.flowfile_wal.specs.Current.{current_number}
 use Rattle.kept_state.specs.declared.limit.Limit.{Limit}
 use Rattle.machine_model.specs.declared.flow.Flow.{Flow}
+use Rattle.machine_model.specs.declared.journal.Entry.{Entry}
 use Rattle.machine_model.specs.State.{Machine}
 use Rattle.store_core.specs.Calls.{SinceSync, IsUnwritten}
 use Rattle.store_core.specs.Flow as store
@@ -26,24 +27,25 @@ use Rattle.run_top.specs.declared.status.TheConstants.{DONE, FLOW_REFUSED, DAMAG
 
 -- ---- a flow has run
 
--- The flow has run, and how it ended at this time of the clock tells the status. Where the journal's limit ended
--- it, that is `most`.
-pub record EndsWith {D : Type 0} (flow : Flow) (status time : ℕ) (tells : Bool) (held : D → Files) (moment : D → ℕ)
-    (images : D → ℕ → Files → Type 0) (lot most : ℕ) (opened : Machine) (old new : D) (left : List NamedFile)
+-- The flow has run from one time of the clock to another, with this journal, and how it ended tells the status. Where
+-- the journal's limit ended it, that is `most`.
+pub record EndsWith {D : Type 0} (flow : Flow) (status start time : ℕ) (tells : Bool) (held : D → Files)
+    (moment : D → ℕ) (images : D → ℕ → Files → Type 0) (lot most : ℕ) (opened : Machine) (old new : D) (left : List NamedFile)
     (standing : List ℕ → Option (List ℕ)) : Type 0 where
   pub ended : Ended
   pub told : status ≡ status_of_end ended
-  pub ran : HasRun flow ended time tells held moment images lot opened old new left standing
+  pub journal : List Entry
+  pub ran : HasRun flow ended start time tells held moment images lot opened old new left standing journal
   pub limited : (limit : Limit) → ended ≡ ending.Limit limit
       → IsLimitMet flow tells held moment images lot (moment old + 1) most limit new
 
 -- .. and it is a flow of the text
-pub record HasRunText {D : Type 0} (text : List ℕ) (status time : ℕ) (tells : Bool) (held : D → Files) (moment : D → ℕ)
-    (images : D → ℕ → Files → Type 0) (lot most : ℕ) (opened : Machine) (old new : D) (left : List NamedFile)
+pub record HasRunText {D : Type 0} (text : List ℕ) (status start time : ℕ) (tells : Bool) (held : D → Files)
+    (moment : D → ℕ) (images : D → ℕ → Files → Type 0) (lot most : ℕ) (opened : Machine) (old new : D) (left : List NamedFile)
     (standing : List ℕ → Option (List ℕ)) : Type 0 where
   pub flow : Flow
   pub read : IsRead true text flow
-  pub ends : EndsWith flow status time tells held moment images lot most opened old new left standing
+  pub ends : EndsWith flow status start time tells held moment images lot most opened old new left standing
 
 -- ---- where nothing was done
 

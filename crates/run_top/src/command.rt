@@ -66,7 +66,7 @@ pub fn run<R, D: Disk, I: Inbox, O: Outbox, F: Source, P: Patterns, S: Sink, C: 
     // of which all that HasRun says is true, whatever the status; or the run didn't begin.
     ensures headline { IsTrue D.tells → IsTrue I.tells → IsTrue O.tells → IsTrue F.tells → is_run words.now ≡ true
         → (any : TheFlow) → IsFlowIn (F.rest flow.old) any → (state : State) → IsOfFlow any lot (D.held disk.old) state
-        → HasRunText (F.rest flow.old) result (C.time clock.new) D.tells D.held D.moment D.images lot MAX_COMMITS
+        → HasRunText (F.rest flow.old) result (C.time clock.old) (C.time clock.new) D.tells D.held D.moment D.images lot MAX_COMMITS
         (machine_at state (I.left inbox.old) (O.standing outbox.old))
         disk.old disk.new (I.left inbox.new) (O.standing outbox.new)
         ⊎ HasNotBegun result D.moment D.images (HasRisen (P.faults patterns.old) (P.faults patterns.new)) F.tells
@@ -158,7 +158,7 @@ pub(crate) fn run_over<D: Disk, I: Inbox, O: Outbox, C: Clock>(
     requires most { most < 2 ^ 64 - 1 }
     ensures headline { IsTrue D.tells → IsTrue I.tells → IsTrue O.tells
         → (state : State) → IsOfFlow flow.now lot (D.held disk.old) state
-        → EndsWith flow.now (status_at result) (C.time clock.new) D.tells D.held D.moment D.images lot most
+        → EndsWith flow.now (status_at result) (C.time clock.old) (C.time clock.new) D.tells D.held D.moment D.images lot most
         (machine_at state (I.left inbox.old) (O.standing outbox.old))
         disk.old disk.new (I.left inbox.new) (O.standing outbox.new)
         ⊎ IsNotOpened (status_at result) D.moment D.images disk.old disk.new inbox.old inbox.new outbox.old outbox.new }

@@ -74,8 +74,9 @@ pub record IsWithinLimits (store : StoreState) (s : Settled) : Type 0 where
   pub claims : HasRoom store.slots (fresh_sizes s)
   pub numbers : numbers_limit (kept_with store s) ≡ None
 
+-- not all new contents find a slot: none of the SLOTS slots that a store has takes the next one
 abbrev pub PassesClaims : StoreState → Settled → Limit → Type 0
-PassesClaims store s limit = (HasRoom store.slots (fresh_sizes s) → ⊥) × (limit ≡ claims_full)
+PassesClaims store s limit = (HasRoom store.slots (fresh_sizes s) → ⊥) × (length store.slots ≡ SLOTS) × (limit ≡ claims_full)
 
 abbrev pub PassesNumbers : StoreState → Settled → Limit → Type 0
 PassesNumbers store s limit = HasRoom store.slots (fresh_sizes s) × (numbers_limit (kept_with store s) ≡ Some limit)

@@ -19,7 +19,6 @@ returns-clause-step c job hand work =
       kept = c.worlds_follow_steps.ensures.kept;
       unsent = c.worlds_follow_steps.ensures.unsent;
       put = c.worlds_follow_steps.ensures.put;
-      queued = c.what_is_kept_is_a_state.ensures.queued;
     } in
     makes_step_on c.args.flow.now (kept_by c.args.store.now) job c.args.done c.end_session-ended.result c.take_sending.new.ended c.requires.sound c.state-stored.ensures.consistent hand work
     c.end_session-ended.ensures.is c.in_ok-sending.ensures.left laws

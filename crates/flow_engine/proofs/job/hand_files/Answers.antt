@@ -31,6 +31,7 @@ returns-clause-handed g c =
     let read = c.in_ok-contents.ensures.read in
     record {
       processor = refl;
+      connection = refl;
       numbers = refl;
       given = refl;
       has = refl;

@@ -1,59 +1,68 @@
-use Rattle.std.proofs.Common.{arith, ◌≡◌, List, refl, sym, ◌∙◌, ap, subst}
+use Rattle.std.proofs.Common.{arith, ◌≡◌, false, IsTrue, List, [], sym, ◌∙◌, ap, subst}
 use Rattle.std.specs.Prelude.{Err}
 use Rattle.flowfile_record.specs.NamedFile.{NamedFile}
 use Rattle.machine_model.specs.declared.flow.Flow.{Flow}
 use Rattle.store_core.specs.Store.{StoreState}
 use Rattle.engine_core.specs.Committing.{identity_of}
 use Rattle.engine_choice.specs.declared.choice.Ending.{Ending}
-use Rattle.flow_run.specs.Run.{HasRun, machine_at}
+use Rattle.flow_run.specs.Run.{HasRun, IsTidied, machine_at}
+use Rattle.flow_run.specs.Work.{IsAtWork}
 use Rattle.flow_run.specs.declared.ended.Ended.{Ended}
+use Rattle.flow_run.specs.declared.ended.Ended.TheVariants as ended
 use Rattle.flow_engine.specs.Driving.{IsEnded}
 use Rattle.flow_engine.specs.Engine.{EngineState}
 use Rattle.flow_engine.specs.Errors.{ended_by}
 use Rattle.flow_engine.specs.declared.error.EngineError.{EngineError}
 use Rattle.flow_engine.specs.declared.error.EngineError.TheVariants.{Limit}
-use Rattle.flow_engine.proofs.Closing.{begun, by_damage, closes_blocked, closes_limited, closes_quiet, ends_on_faults, limit_met, limit_of, no_limit_faults, not_opened, run_of, works_on}
-use Rattle.flow_engine.proofs.Turning.{IsNoLimit, damaged_by, each_counts_after, has_run}
-use Rattle.flow_engine.proofs.Short.{ends_by_error, ends_by_limit, ends_short}
+use Rattle.flow_engine.proofs.Closing.{IsNoLimit, begun, by_damage, closes_blocked, closes_limited, closes_quiet, closes_so, ends_on_faults, has_ended, limit_met, limit_of, no_limit_faults, not_opened, run_of, wanted_or_disk, works_at_limit, works_behind, works_on}
+use Rattle.flow_engine.proofs.Turning.{damaged_by, each_counts_after}
+use Rattle.flow_engine.proofs.Short.{ends_by_error, ends_short}
 use Rattle.flow_run.proofs.Writing.{same_log, writes_in_turn, writes_none, writes_on}
 use Rattle.flow_engine.proofs.Writes.{writes_by_close}
 use Rattle.flow_engine.proofs.run.run_flow.Goals as goal
 
 pub returns-in-Err-clause-headline : goal.returns-in-Err-clause-headline
-returns-in-Err-clause-headline g c telling in_telling out_telling state first run =
+returns-in-Err-clause-headline g c telling in_telling out_telling state first start run =
     let D = g.D.Disk in
     let left : List NamedFile = g.I.Inbox.left c.args.inbox.now in
-    let standing = g.O.Outbox.standing c.args.outbox.now in
-    not_opened D.tells D.held D.moment D.images c.faults_end_a_run.ensures.between c.args.flow.now c.args.store.lot (g.C.Clock.time c.args.clock.now) (machine_at state left standing) first c.args.disk.now left (g.I.Inbox.left c.new.new.inbox) standing
-    c.in-Err.error c.ended.result c.in-Err.ensures.kinds c.ended.ensures c.new.ensures.left run
-
-pub returns-in-Err-clause-checkpointed : goal.returns-in-Err-clause-checkpointed
-returns-in-Err-clause-checkpointed g c =
-    ends_by_error g.D.Disk.moment g.D.Disk.images c.args.checkpoint c.in-Err.error c.ended.result c.args.disk.now c.ended.ensures
+    let standing = g.O.Outbox.standing c.args.outbox.now in (
+      [],
+      not_opened D.tells D.held D.moment D.images c.faults_end_a_run.ensures.between c.args.flow.now c.args.store.lot start (g.C.Clock.time c.args.clock.now) (machine_at state left standing) first c.args.disk.now left
+          (g.I.Inbox.left c.new.new.inbox) standing c.in-Err.error c.ended.result c.in-Err.ensures.kinds c.ended.ensures c.new.ensures.left run,
+    )
 
 pub returns-in-Ok-Blocked-clause-headline : goal.returns-in-Ok-Blocked-clause-headline
-returns-in-Ok-Blocked-clause-headline g c telling in_telling out_telling state first run =
+returns-in-Ok-Blocked-clause-headline g c telling in_telling out_telling state first start run =
     let D = g.D.Disk in
     let left : List NamedFile = g.I.Inbox.left c.args.inbox.now in
     let standing = g.O.Outbox.standing c.args.outbox.now in
+    let now_left : List NamedFile = g.I.Inbox.left c.drive.new.inbox in
+    let now_standing = g.O.Outbox.standing c.drive.new.outbox in
+    let time = g.C.Clock.time c.drive.new.clock in
     let opened = machine_at state left standing in
     let flow : Flow = c.args.flow.now in
     let is = c.in-Ok.ensures.opened in
     let e : EngineState = c.drive.new.self in
     let laws = g.met.D.Disk g.world.𝓛 g.world.𝓜 g.world.𝓡 ((λ s x. x), (λ x. x), (λ x. x), λ x. x) in
-    let begins = begun D.tells D.held D.moment D.images flow c.args.store c.args.most c.in-Ok.engine is opened first c.args.disk.now left (g.I.Inbox.left c.new.new.inbox) standing c.new.ensures.left
+    let works : e.failed ≡ false = works_behind c.drive.result e.failed c.in-Ok-Blocked.field-0 c.in-Ok-Blocked.is c.drive.ensures.failed in
+    let begins = begun D.moment D.images flow c.args.store c.args.most c.in-Ok.engine is opened first c.args.disk.now start (g.C.Clock.time c.args.clock.now) left (g.I.Inbox.left c.new.new.inbox) standing c.new.ensures.left
     (c.in-Ok.ensures.coming in_telling state standing) run in
-    let end = subst (λ (a : Ending). IsEnded D.moment D.images e opened first c.drive.new.disk (g.I.Inbox.left c.drive.new.inbox) (g.O.Outbox.standing c.drive.new.outbox) (g.C.Clock.time c.drive.new.clock) a) c.in-Ok-Blocked.field-0-is
-    (c.in-Ok-Blocked.ensures.ended telling in_telling out_telling opened first begins) in
-    closes_blocked D.tells D.held D.moment D.images c.faults_end_a_run.ensures.between e flow c.args.store.lot (c.drive.ensures.same.flow ∙ is.flow_is) (c.drive.ensures.same.lot ∙ ap (λ (t : StoreState). t.lot) is.store_is)
-    c.drive.new.self.store refl (c.in-Ok-Blocked.ensures.work.flow_is ∙ ap identity_of (sym c.drive.ensures.same.flow)) opened first c.drive.new.disk c.close.new.disk
-    (g.I.Inbox.left c.drive.new.inbox) (g.O.Outbox.standing c.drive.new.outbox) (g.C.Clock.time c.drive.new.clock) c.close.result c.close.ensures.states (laws.held_is_left c.close.new.disk telling)
-    c.run_ends.ensures.blocked c.in-Ok-Blocked.connection end c.close.ensures.told c.close.ensures.tidied telling
+    let end = subst (λ (a : Ending). IsEnded D.moment D.images e opened first start time c.drive.new.disk now_left now_standing a) c.in-Ok-Blocked.field-0-is
+    (c.in-Ok-Blocked.ensures.ended telling in_telling out_telling opened first start (g.C.Clock.time c.args.clock.now) (omega arith) begins) in
+    let closes = closes_so c.close.result e.failed c.ended_by.result (ended.Blocked c.in-Ok-Blocked.connection) (IsTrue D.tells → IsTidied e.flow e.store.lot (D.held c.close.new.disk)) works c.ended_by.ensures.ok c.ended_by.ensures.err c.close.ensures.tidied
+    c.close.ensures.reopen c.close.ensures.kinds in (
+      e.journal,
+      closes_blocked D.tells D.held D.moment D.images c.faults_end_a_run.ensures.between e flow c.args.store.lot (c.drive.ensures.same.flow ∙ is.flow_is) (c.drive.ensures.same.lot ∙ ap (λ (t : StoreState). t.lot) is.store_is)
+          (c.in-Ok-Blocked.ensures.work.flow_is ∙ ap identity_of (sym c.drive.ensures.same.flow)) opened first c.drive.new.disk c.close.new.disk now_left now_standing start time c.ended_by.result (c.close.ensures.states works)
+          (laws.held_is_left c.close.new.disk telling) c.close.result c.run_ends.ensures.blocked c.in-Ok-Blocked.connection end closes telling,
+    )
 
 pub returns-in-Ok-Blocked-clause-checkpointed : goal.returns-in-Ok-Blocked-clause-checkpointed
 returns-in-Ok-Blocked-clause-checkpointed g c =
-    ends_short g.D.Disk.moment g.D.Disk.images c.args.checkpoint c.drive.new.self.checkpoint c.close.result c.drive.new.disk c.close.new.disk (c.drive.ensures.same.checkpoint ∙ c.in-Ok.ensures.checkpoint)
-    c.in-Ok-Blocked.ensures.short c.close.ensures.short
+    let e : EngineState = c.drive.new.self in
+    let works : e.failed ≡ false = works_behind c.drive.result e.failed c.in-Ok-Blocked.field-0 c.in-Ok-Blocked.is c.drive.ensures.failed in
+    ends_short g.D.Disk.moment g.D.Disk.images c.args.checkpoint e.checkpoint c.ended_by.result c.drive.new.disk c.close.new.disk (c.drive.ensures.same.checkpoint ∙ c.in-Ok.ensures.checkpoint)
+    c.in-Ok-Blocked.ensures.short (c.close.ensures.short works)
 
 pub returns-in-Ok-Blocked-clause-alone : goal.returns-in-Ok-Blocked-clause-alone
 returns-in-Ok-Blocked-clause-alone g c =
@@ -63,28 +72,37 @@ returns-in-Ok-Blocked-clause-alone g c =
     writes_in_turn D.moment D.images log c.args.disk.now c.drive.new.disk c.close.new.disk drives (writes_by_close D.moment D.images log c.drive.new.self.store c.drive.new.disk c.close.new.disk c.close.ensures.alone)
 
 pub returns-in-Ok-Quiet-clause-headline : goal.returns-in-Ok-Quiet-clause-headline
-returns-in-Ok-Quiet-clause-headline g c telling in_telling out_telling state first run =
+returns-in-Ok-Quiet-clause-headline g c telling in_telling out_telling state first start run =
     let D = g.D.Disk in
     let left : List NamedFile = g.I.Inbox.left c.args.inbox.now in
     let standing = g.O.Outbox.standing c.args.outbox.now in
+    let now_left : List NamedFile = g.I.Inbox.left c.drive.new.inbox in
+    let now_standing = g.O.Outbox.standing c.drive.new.outbox in
+    let time = g.C.Clock.time c.drive.new.clock in
     let opened = machine_at state left standing in
     let flow : Flow = c.args.flow.now in
     let is = c.in-Ok.ensures.opened in
     let e : EngineState = c.drive.new.self in
     let laws = g.met.D.Disk g.world.𝓛 g.world.𝓜 g.world.𝓡 ((λ s x. x), (λ x. x), (λ x. x), λ x. x) in
-    let begins = begun D.tells D.held D.moment D.images flow c.args.store c.args.most c.in-Ok.engine is opened first c.args.disk.now left (g.I.Inbox.left c.new.new.inbox) standing c.new.ensures.left
+    let works : e.failed ≡ false = works_behind c.drive.result e.failed c.in-Ok-Quiet.field-0 c.in-Ok-Quiet.is c.drive.ensures.failed in
+    let begins = begun D.moment D.images flow c.args.store c.args.most c.in-Ok.engine is opened first c.args.disk.now start (g.C.Clock.time c.args.clock.now) left (g.I.Inbox.left c.new.new.inbox) standing c.new.ensures.left
     (c.in-Ok.ensures.coming in_telling state standing) run in
-    let end = subst (λ (a : Ending). IsEnded D.moment D.images e opened first c.drive.new.disk (g.I.Inbox.left c.drive.new.inbox) (g.O.Outbox.standing c.drive.new.outbox) (g.C.Clock.time c.drive.new.clock) a) c.in-Ok-Quiet.field-0-is
-    (c.in-Ok-Quiet.ensures.ended telling in_telling out_telling opened first begins) in
-    closes_quiet D.tells D.held D.moment D.images c.faults_end_a_run.ensures.between e flow c.args.store.lot (c.drive.ensures.same.flow ∙ is.flow_is) (c.drive.ensures.same.lot ∙ ap (λ (t : StoreState). t.lot) is.store_is)
-    c.drive.new.self.store refl (c.in-Ok-Quiet.ensures.work.flow_is ∙ ap identity_of (sym c.drive.ensures.same.flow)) opened first c.drive.new.disk c.close-in-Ok-Quiet.new.disk
-    (g.I.Inbox.left c.drive.new.inbox) (g.O.Outbox.standing c.drive.new.outbox) (g.C.Clock.time c.drive.new.clock) c.close-in-Ok-Quiet.result c.close-in-Ok-Quiet.ensures.states (laws.held_is_left c.close-in-Ok-Quiet.new.disk telling)
-    c.run_ends.ensures.quiet end c.close-in-Ok-Quiet.ensures.told c.close-in-Ok-Quiet.ensures.tidied telling
+    let end = subst (λ (a : Ending). IsEnded D.moment D.images e opened first start time c.drive.new.disk now_left now_standing a) c.in-Ok-Quiet.field-0-is
+    (c.in-Ok-Quiet.ensures.ended telling in_telling out_telling opened first start (g.C.Clock.time c.args.clock.now) (omega arith) begins) in
+    let closes = closes_so c.close-in-Ok-Quiet.result e.failed c.ended_by-in-Ok-Quiet.result ended.Quiet (IsTrue D.tells → IsTidied e.flow e.store.lot (D.held c.close-in-Ok-Quiet.new.disk)) works c.ended_by-in-Ok-Quiet.ensures.ok c.ended_by-in-Ok-Quiet.ensures.err c.close-in-Ok-Quiet.ensures.tidied
+    c.close-in-Ok-Quiet.ensures.reopen c.close-in-Ok-Quiet.ensures.kinds in (
+      e.journal,
+      closes_quiet D.tells D.held D.moment D.images c.faults_end_a_run.ensures.between e flow c.args.store.lot (c.drive.ensures.same.flow ∙ is.flow_is) (c.drive.ensures.same.lot ∙ ap (λ (t : StoreState). t.lot) is.store_is)
+          (c.in-Ok-Quiet.ensures.work.flow_is ∙ ap identity_of (sym c.drive.ensures.same.flow)) opened first c.drive.new.disk c.close-in-Ok-Quiet.new.disk now_left now_standing start time c.ended_by-in-Ok-Quiet.result (c.close-in-Ok-Quiet.ensures.states works)
+          (laws.held_is_left c.close-in-Ok-Quiet.new.disk telling) c.close-in-Ok-Quiet.result c.run_ends.ensures.quiet end closes telling,
+    )
 
 pub returns-in-Ok-Quiet-clause-checkpointed : goal.returns-in-Ok-Quiet-clause-checkpointed
 returns-in-Ok-Quiet-clause-checkpointed g c =
-    ends_short g.D.Disk.moment g.D.Disk.images c.args.checkpoint c.drive.new.self.checkpoint c.close-in-Ok-Quiet.result c.drive.new.disk c.close-in-Ok-Quiet.new.disk (c.drive.ensures.same.checkpoint ∙ c.in-Ok.ensures.checkpoint)
-    c.in-Ok-Quiet.ensures.short c.close-in-Ok-Quiet.ensures.short
+    let e : EngineState = c.drive.new.self in
+    let works : e.failed ≡ false = works_behind c.drive.result e.failed c.in-Ok-Quiet.field-0 c.in-Ok-Quiet.is c.drive.ensures.failed in
+    ends_short g.D.Disk.moment g.D.Disk.images c.args.checkpoint e.checkpoint c.ended_by-in-Ok-Quiet.result c.drive.new.disk c.close-in-Ok-Quiet.new.disk (c.drive.ensures.same.checkpoint ∙ c.in-Ok.ensures.checkpoint)
+    c.in-Ok-Quiet.ensures.short (c.close-in-Ok-Quiet.ensures.short works)
 
 pub returns-in-Ok-Quiet-clause-alone : goal.returns-in-Ok-Quiet-clause-alone
 returns-in-Ok-Quiet-clause-alone g c =
@@ -93,62 +111,62 @@ returns-in-Ok-Quiet-clause-alone g c =
     let drives = writes_on D.moment D.images log c.in-Ok.engine.store.log.number c.args.disk.now c.args.disk.now c.drive.new.disk (same_log log c.in-Ok.engine.store.log.number (ap (λ (t : StoreState). t.log.number) c.in-Ok.ensures.opened.store_is)) (writes_none D.moment D.images log c.args.disk.now) c.drive.ensures.alone in
     writes_in_turn D.moment D.images log c.args.disk.now c.drive.new.disk c.close-in-Ok-Quiet.new.disk drives (writes_by_close D.moment D.images log c.drive.new.self.store c.drive.new.disk c.close-in-Ok-Quiet.new.disk c.close-in-Ok-Quiet.ensures.alone)
 
-pub close-requires-in-Err-drive-clause-kept : goal.close-requires-in-Err-drive-clause-kept
-close-requires-in-Err-drive-clause-kept g c κs within =
+pub close-requires-in-Err-drive-clause-work : goal.close-requires-in-Err-drive-clause-work
+close-requires-in-Err-drive-clause-work g c κs within works =
     let D = g.D.Disk in
     let e0 : EngineState = c.in-Ok.engine in
-    let met = c.drive.ensures.refused c.in-Limit.limit (c.in-Err-drive.is ∙ ap Err c.in-Limit.is) in
-    (works_on D.tells D.held D.moment D.images e0.flow e0.most c.in-Limit.limit c.drive.new.self c.drive.new.disk met).kept
+    subst (λ (f : Flow). IsAtWork f D.tells D.held D.moment D.images c.drive.new.self.store c.drive.new.disk) (sym c.drive.ensures.same.flow)
+    (works_on D.tells D.held D.moment D.images e0.flow e0.most c.in-Limit.limit c.drive.new.self.store c.drive.new.disk (c.drive.ensures.why.limited c.in-Limit.limit (c.in-Err-drive.is ∙ ap Err c.in-Limit.is)))
 
-pub close-requires-in-Err-drive-clause-works : goal.close-requires-in-Err-drive-clause-works
-close-requires-in-Err-drive-clause-works g c κs within =
-    let D = g.D.Disk in
-    let e0 : EngineState = c.in-Ok.engine in
-    let met = c.drive.ensures.refused c.in-Limit.limit (c.in-Err-drive.is ∙ ap Err c.in-Limit.is) in
-    (works_on D.tells D.held D.moment D.images e0.flow e0.most c.in-Limit.limit c.drive.new.self c.drive.new.disk met).works
-
-pub returns-clause-headline : goal.returns-clause-headline
-returns-clause-headline g c telling in_telling out_telling state first run =
+pub returns-in-Limit-clause-headline : goal.returns-in-Limit-clause-headline
+returns-in-Limit-clause-headline g c telling in_telling out_telling state first start run =
     let D = g.D.Disk in
     let left : List NamedFile = g.I.Inbox.left c.args.inbox.now in
     let standing = g.O.Outbox.standing c.args.outbox.now in
+    let now_left : List NamedFile = g.I.Inbox.left c.drive.new.inbox in
+    let now_standing = g.O.Outbox.standing c.drive.new.outbox in
+    let time = g.C.Clock.time c.drive.new.clock in
     let opened = machine_at state left standing in
     let flow : Flow = c.args.flow.now in
     let is = c.in-Ok.ensures.opened in
     let e : EngineState = c.drive.new.self in
     let laws = g.met.D.Disk g.world.𝓛 g.world.𝓜 g.world.𝓡 ((λ s x. x), (λ x. x), (λ x. x), λ x. x) in
-    let begins = begun D.tells D.held D.moment D.images flow c.args.store c.args.most c.in-Ok.engine is opened first c.args.disk.now left (g.I.Inbox.left c.new.new.inbox) standing c.new.ensures.left
-    (c.in-Ok.ensures.coming in_telling state standing) run in
-    let e0 : EngineState = c.in-Ok.engine in
     let limit = c.in-Limit.limit in
     let was = c.in-Err-drive.is ∙ ap Err c.in-Limit.is in
-    let work = works_on D.tells D.held D.moment D.images e0.flow e0.most limit e c.drive.new.disk (c.drive.ensures.refused limit was) in
-    let stop = c.drive.ensures.stopped (Limit limit) was telling in_telling out_telling opened first begins in
-    closes_limited D.tells D.held D.moment D.images c.faults_end_a_run.ensures.between e flow c.args.store.lot (c.drive.ensures.same.flow ∙ is.flow_is) (c.drive.ensures.same.lot ∙ ap (λ (t : StoreState). t.lot) is.store_is)
-    c.drive.new.self.store refl (work.flow_is ∙ ap identity_of (sym c.drive.ensures.same.flow)) opened first c.drive.new.disk c.close-in-Err-drive.new.disk
-    (g.I.Inbox.left c.drive.new.inbox) (g.O.Outbox.standing c.drive.new.outbox) (g.C.Clock.time c.drive.new.clock) c.close-in-Err-drive.result c.close-in-Err-drive.ensures.states (laws.held_is_left c.close-in-Err-drive.new.disk telling)
-    c.run_ends.ensures.limited limit stop c.close-in-Err-drive.ensures.told c.close-in-Err-drive.ensures.tidied telling
+    let works : e.failed ≡ false = works_at_limit c.drive.result e.failed limit was c.drive.ensures.failed in
+    let begins = begun D.moment D.images flow c.args.store c.args.most c.in-Ok.engine is opened first c.args.disk.now start (g.C.Clock.time c.args.clock.now) left (g.I.Inbox.left c.new.new.inbox) standing c.new.ensures.left
+    (c.in-Ok.ensures.coming in_telling state standing) run in
+    let e0 : EngineState = c.in-Ok.engine in
+    let work = works_on D.tells D.held D.moment D.images e0.flow e0.most limit e.store c.drive.new.disk (c.drive.ensures.why.limited limit was) in
+    let stop = c.drive.ensures.stopped (Limit limit) was telling in_telling out_telling opened first start (g.C.Clock.time c.args.clock.now) (omega arith) begins in
+    let closes = closes_so c.close-in-Err-drive.result e.failed c.ended_by-in-Err-drive.result (ended.Limit limit) (IsTrue D.tells → IsTidied e.flow e.store.lot (D.held c.close-in-Err-drive.new.disk)) works c.ended_by-in-Err-drive.ensures.ok c.ended_by-in-Err-drive.ensures.err c.close-in-Err-drive.ensures.tidied
+    c.close-in-Err-drive.ensures.reopen c.close-in-Err-drive.ensures.kinds in (
+      e.journal,
+      closes_limited D.tells D.held D.moment D.images c.faults_end_a_run.ensures.between e flow c.args.store.lot (c.drive.ensures.same.flow ∙ is.flow_is) (c.drive.ensures.same.lot ∙ ap (λ (t : StoreState). t.lot) is.store_is)
+          (work.flow_is ∙ ap identity_of (sym c.drive.ensures.same.flow)) opened first c.drive.new.disk c.close-in-Err-drive.new.disk now_left now_standing start time c.ended_by-in-Err-drive.result (c.close-in-Err-drive.ensures.states works)
+          (laws.held_is_left c.close-in-Err-drive.new.disk telling) c.close-in-Err-drive.result c.run_ends.ensures.limited limit stop closes telling,
+    )
 
-pub returns-clause-checkpointed : goal.returns-clause-checkpointed
-returns-clause-checkpointed g c =
-    ends_by_limit g.D.Disk.moment g.D.Disk.images c.args.checkpoint c.in-Limit.limit c.close-in-Err-drive.result c.close-in-Err-drive.new.disk c.close-in-Err-drive.ensures.told
-
-pub returns-clause-alone : goal.returns-clause-alone
-returns-clause-alone g c =
+pub returns-in-Limit-clause-alone : goal.returns-in-Limit-clause-alone
+returns-in-Limit-clause-alone g c =
     let D = g.D.Disk in
     let log = c.args.store.log.number in
     let drives = writes_on D.moment D.images log c.in-Ok.engine.store.log.number c.args.disk.now c.args.disk.now c.drive.new.disk (same_log log c.in-Ok.engine.store.log.number (ap (λ (t : StoreState). t.log.number) c.in-Ok.ensures.opened.store_is)) (writes_none D.moment D.images log c.args.disk.now) c.drive.ensures.alone in
     writes_in_turn D.moment D.images log c.args.disk.now c.drive.new.disk c.close-in-Err-drive.new.disk drives (writes_by_close D.moment D.images log c.drive.new.self.store c.drive.new.disk c.close-in-Err-drive.new.disk c.close-in-Err-drive.ensures.alone)
 
-pub returns-clause-limited : goal.returns-clause-limited
-returns-clause-limited g c limit so =
+pub returns-in-Limit-clause-limited : goal.returns-in-Limit-clause-limited
+returns-in-Limit-clause-limited g c limit so =
     let D = g.D.Disk in
     let e0 : EngineState = c.in-Ok.engine in
+    let e : EngineState = c.drive.new.self in
     let is = c.in-Ok.ensures.opened in
-    let met = c.drive.ensures.refused c.in-Limit.limit (c.in-Err-drive.is ∙ ap Err c.in-Limit.is) in
-    limit_met D.tells D.held D.moment D.images c.args.flow.now e0.flow c.args.store.lot (D.moment c.args.disk.now) c.args.most e0.most c.in-Limit.limit limit c.drive.new.self c.drive.new.self.store c.drive.new.disk c.close-in-Err-drive.new.disk
-    (limit_of c.close-in-Err-drive.result c.in-Limit.limit limit c.close-in-Err-drive.ensures.told so) is.flow_is is.most_is (c.drive.ensures.same.lot ∙ ap (λ (t : StoreState). t.lot) is.store_is)
-    refl c.drive.ensures.alone.later met c.close-in-Err-drive.ensures.alone
+    let was = c.in-Err-drive.is ∙ ap Err c.in-Limit.is in
+    let works : e.failed ≡ false = works_at_limit c.drive.result e.failed c.in-Limit.limit was c.drive.ensures.failed in
+    let closes = closes_so c.close-in-Err-drive.result e.failed c.ended_by-in-Err-drive.result (ended.Limit c.in-Limit.limit) (IsTrue D.tells → IsTidied e.flow e.store.lot (D.held c.close-in-Err-drive.new.disk)) works c.ended_by-in-Err-drive.ensures.ok c.ended_by-in-Err-drive.ensures.err
+    c.close-in-Err-drive.ensures.tidied c.close-in-Err-drive.ensures.reopen c.close-in-Err-drive.ensures.kinds in
+    limit_met D.tells D.held D.moment D.images c.args.flow.now e0.flow c.args.store.lot (D.moment c.args.disk.now) c.args.most e0.most c.in-Limit.limit limit e.store c.drive.new.disk c.close-in-Err-drive.new.disk
+    (limit_of c.ended_by-in-Err-drive.result c.in-Limit.limit limit (wanted_or_disk c.close-in-Err-drive.result c.ended_by-in-Err-drive.result (ended.Limit c.in-Limit.limit) (IsTrue D.tells → IsTidied e.flow e.store.lot (D.held c.close-in-Err-drive.new.disk)) closes) so) is.flow_is is.most_is
+    (c.drive.ensures.same.lot ∙ ap (λ (t : StoreState). t.lot) is.store_is) c.drive.ensures.alone.later (c.drive.ensures.why.limited c.in-Limit.limit was) c.close-in-Err-drive.ensures.alone
 
 pub returns-in_default : goal.returns-in_default
 returns-in_default g c =
@@ -161,20 +179,22 @@ returns-in_default g c =
     let end : Ended = c.ended-in_default.result in
     let so : end ≡ ended_by error = c.ended-in_default.ensures in
     record {
-      headline = λ telling in_telling out_telling state first run.
+      headline = λ telling in_telling out_telling state first start run.
           let left : List NamedFile = g.I.Inbox.left c.args.inbox.now in
           let standing = g.O.Outbox.standing c.args.outbox.now in
           let opened = machine_at state left standing in
           let now_left : List NamedFile = g.I.Inbox.left c.drive.new.inbox in
           let now_standing = g.O.Outbox.standing c.drive.new.outbox in
           let time = g.C.Clock.time c.drive.new.clock in
-          let begins = begun D.tells D.held D.moment D.images c.args.flow.now c.args.store c.args.most e0 is opened first c.args.disk.now left (g.I.Inbox.left c.new.new.inbox) standing c.new.ensures.left
+          let begins = begun D.moment D.images c.args.flow.now c.args.store c.args.most e0 is opened first c.args.disk.now start (g.C.Clock.time c.args.clock.now) left (g.I.Inbox.left c.new.new.inbox) standing c.new.ensures.left
           (c.in-Ok.ensures.coming in_telling state standing) run in
-          let stop = c.drive.ensures.stopped error c.in-Err-drive.is telling in_telling out_telling opened first begins in
-          subst (λ (r : Ended). HasRun c.args.flow.now r time D.tells D.held D.moment D.images c.args.store.lot opened first c.drive.new.disk now_left now_standing) (sym so)
-          (run_of c.args.flow.now e.flow (ended_by error) time D.tells D.held D.moment D.images c.args.store.lot e.store.lot opened first c.drive.new.disk now_left now_standing
-          (c.drive.ensures.same.flow ∙ is.flow_is) (c.drive.ensures.same.lot ∙ ap (λ (t : StoreState). t.lot) is.store_is)
-          (has_run D.tells D.held D.moment D.images e opened first c.drive.new.disk now_left now_standing error none stop time));
+          let stop = c.drive.ensures.stopped error c.in-Err-drive.is telling in_telling out_telling opened first start (g.C.Clock.time c.args.clock.now) (omega arith) begins in (
+            e.journal,
+            subst (λ (r : Ended). HasRun c.args.flow.now r start time D.tells D.held D.moment D.images c.args.store.lot opened first c.drive.new.disk now_left now_standing e.journal) (sym so)
+                (run_of c.args.flow.now e.flow (ended_by error) start time D.tells D.held D.moment D.images c.args.store.lot e.store.lot opened first c.drive.new.disk now_left now_standing e.journal
+                (c.drive.ensures.same.flow ∙ is.flow_is) (c.drive.ensures.same.lot ∙ ap (λ (t : StoreState). t.lot) is.store_is)
+                (has_ended D.tells D.held D.moment D.images e opened first c.drive.new.disk now_left now_standing start time error none stop)),
+          );
       checkpointed = ends_by_error D.moment D.images c.args.checkpoint error end c.drive.new.disk so;
       alone =
           writes_on D.moment D.images c.args.store.log.number e0.store.log.number c.args.disk.now c.args.disk.now c.drive.new.disk (same_log c.args.store.log.number e0.store.log.number (ap (λ (t : StoreState). t.log.number) is.store_is))
@@ -182,10 +202,10 @@ returns-in_default g c =
       limited = λ limit ends. absurd (no_limit_faults error none limit (sym so ∙ ends));
       damaged = λ damage ends.
           damaged_by D.tells D.held D.moment D.images c.args.flow.now e0.flow c.args.store.lot e0.store.lot c.drive.new.disk is.flow_is (ap (λ (t : StoreState). t.lot) is.store_is)
-          (c.drive.ensures.damaged damage (c.in-Err-drive.is ∙ ap Err (by_damage error damage (sym so ∙ ends))));
+          (c.drive.ensures.why.damaged damage (c.in-Err-drive.is ∙ ap Err (by_damage error damage (sym so ∙ ends))));
       causes =
           ends_on_faults c.drive.result error end (D.faults c.args.disk.now) (D.faults c.drive.new.disk) (g.I.Inbox.faults c.args.inbox.now) (g.I.Inbox.faults c.drive.new.inbox) (g.O.Outbox.faults c.args.outbox.now) (g.O.Outbox.faults c.drive.new.outbox)
-          c.in-Err-drive.is so
+          c.in-Err-drive.is (λ reopen. c.drive.ensures.works (c.in-Err-drive.is ∙ ap Err reopen)) so
           (each_counts_after c.drive.result (D.faults c.args.disk.now) (D.faults c.args.disk.now) (D.faults c.drive.new.disk) (g.I.Inbox.faults c.args.inbox.now) (g.I.Inbox.faults c.new.new.inbox) (g.I.Inbox.faults c.drive.new.inbox)
           (g.O.Outbox.faults c.args.outbox.now) (g.O.Outbox.faults c.args.outbox.now) (g.O.Outbox.faults c.drive.new.outbox) (omega arith) c.new.ensures.cause.never_falls (omega arith) c.drive.ensures.cause);
     }

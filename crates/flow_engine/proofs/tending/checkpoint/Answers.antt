@@ -19,7 +19,8 @@ pub returns-in_err-checkpoint-clause-unwritten : goal.returns-in_err-checkpoint-
 returns-in_err-checkpoint-clause-unwritten g c is =
     let p = err_from_is_err_and c.from_residual.result c.from_residual.ensures.1 in
     let was : c.in_err-checkpoint.field-0.0 ≡ StoreError.Memory = memory_of c.in_err-checkpoint.field-0.0 c.in_err-checkpoint.ensures.refusal.kinds (cc (p.1, p.2, is)) in
-    (c.checkpoint.ensures.refusal.untouched (inl (c.in_err-checkpoint.was ∙ ap Err was))).1
+    let stays = c.checkpoint.ensures.refusal.untouched (inl (c.in_err-checkpoint.was ∙ ap Err was)) in
+    (stays.1, stays.0)
 
 pub returns-clause-spared : goal.returns-clause-spared
 returns-clause-spared g c flow before work stands =

@@ -1,11 +1,10 @@
-use Rattle.std.proofs.Common.{◌≡◌, ℕ, List, length, ap, refl, subst, sym, ◌∙◌, inl}
+use Rattle.std.proofs.Common.{◌≡◌, ℕ, List, length, ap, refl, subst, sym, ◌∙◌}
 use Rattle.std.specs.Prelude.{Err}
 use Rattle.std.proofs.lemmas.List.{length-map}
 use Rattle.std.proofs.lemmas.Result.{err_from_is_err_and}
 use Rattle.content_repo.specs.Claims.{content_in}
 use Rattle.kept_state.specs.Applied.{left_after}
 use Rattle.machine_model.specs.Changing.{state_after}
-use Rattle.machine_model.specs.declared.journal.Step.TheVariants.{Expire}
 use Rattle.store_core.specs.Flow as store
 use Rattle.store_core.specs.Store.{kept_by}
 use Rattle.store_core.specs.declared.error.StoreError.{StoreError}
@@ -15,7 +14,7 @@ use Rattle.flow_engine.proofs.Tends.{committed, committed_between, kept_after, l
 use Rattle.flow_engine.proofs.tending.expire.Goals as goal
 
 pub returns-in_err-prepared-clause-limited : goal.returns-in_err-prepared-clause-limited
-returns-in_err-prepared-clause-limited g c limit is telling before stands journal =
+returns-in_err-prepared-clause-limited g c limit is telling before stands =
     let disk = c.args.disk.now in
     let held = g.D.Disk.held disk in
     let s = c.args.store.now in
@@ -27,19 +26,20 @@ returns-in_err-prepared-clause-limited g c limit is telling before stands journa
     let p = err_from_is_err_and c.from_residual-in_err-prepared.result c.from_residual-in_err-prepared.ensures.1 in
     let was : c.in_err-prepared.field-0.0 ≡ StoreError.Limit limit = limit_of c.in_err-prepared.field-0.0 limit (cc (p.1, p.2, is)) in
     record {
-      next = Expire c.args.expiry.connection c.args.expiry.numbers c.args.moment;
       after = goes.after;
       goes = goes.goes;
-      stands = stands held (laws.held_is_left disk telling);
-      met = inl (record {
-        store = s;
-        works = c.requires.work.works;
-        kept = c.requires.work.kept;
-        tied = tied;
-        settled = c.in_ok-expiry.expiry.settled;
-        makes = goes.is_so;
-        passes = passes s c.in_ok-expiry.expiry limit c.holds_its_state.ensures.kept.0 c.in_ok-expiry.ensures.may (c.prepare_expiry.ensures.limit limit (c.in_err-prepared.was ∙ ap Err was));
-      });
+      is_so = (
+        stands held (laws.held_is_left disk telling),
+        record {
+          store = s;
+          works = c.requires.work.works;
+          kept = c.requires.work.kept;
+          tied = tied;
+          settled = c.in_ok-expiry.expiry.settled;
+          makes = goes.is_so;
+          passes = passes s c.in_ok-expiry.expiry limit c.holds_its_state.ensures.kept.0 c.in_ok-expiry.ensures.may (c.prepare_expiry.ensures.limit limit (c.in_err-prepared.was ∙ ap Err was));
+        },
+      );
     }
 
 pub returns-in_err-prepared-clause-refused : goal.returns-in_err-prepared-clause-refused
@@ -49,8 +49,8 @@ returns-in_err-prepared-clause-refused g c limit is =
     refuses c.args.flow.now g.D.Disk.tells g.D.Disk.held g.D.Disk.moment g.D.Disk.images c.args.store.now c.in_ok-expiry.expiry limit c.args.disk.now c.requires.work
     c.holds_its_state.ensures.kept.0 c.in_ok-expiry.ensures.may (c.prepare_expiry.ensures.limit limit (c.in_err-prepared.was ∙ ap Err was))
 
-pub returns-in_err-commit-clause-cut_off : goal.returns-in_err-commit-clause-cut_off
-returns-in_err-commit-clause-cut_off g c is telling before stands =
+pub returns-in_err-moment-clause-cut_off : goal.returns-in_err-moment-clause-cut_off
+returns-in_err-moment-clause-cut_off g c is telling before stands =
     let disk = c.args.disk.now in
     let held = g.D.Disk.held disk in
     let s = c.args.store.now in
@@ -78,7 +78,7 @@ returns-clause-done g c telling before stands =
       after = goes.after;
       goes = goes.goes;
       is_so = committed g.D.Disk.moment g.D.Disk.images flow s disk c.commit.new.disk before c.requires.work.flow_is stands g.D.Disk.held goes.after c.in_ok-prepared.prepared.settled
-          (ap (state_after (content_in held) before.state) c.in_ok-prepared.ensures.prepared.0 ∙ goes.is_so) (c.commit.ensures.whole c.requires.work.works).states c.in_ok-commit.ensures.acknowledged.states;
+          (ap (state_after (content_in held) before.state) c.in_ok-prepared.ensures.prepared.0 ∙ goes.is_so) (c.commit.ensures.whole c.requires.work.works).states c.in_ok-moment.ensures.acknowledged.states;
     }
 
 pub returns-clause-queues : goal.returns-clause-queues
@@ -100,8 +100,8 @@ returns-clause-queues g c =
     (subst (λ (ns : List ℕ). MayExpireIn flow (kept_by s) x.connection ns c.args.queues.now) (sym same) may)
     (left.files ∙ ap (λ (ns : List ℕ). left_after ns (kept_by s).files) (sym same))
 
-pub returns-in_err-commit-clause-alone : goal.returns-in_err-commit-clause-alone
-returns-in_err-commit-clause-alone g c = touches_log g.D.Disk.moment g.D.Disk.images c.args.store.now.log.number c.args.store.now.log.number c.args.disk.now c.commit.new.disk refl c.commit.ensures.alone
+pub returns-in_err-moment-clause-alone : goal.returns-in_err-moment-clause-alone
+returns-in_err-moment-clause-alone g c = touches_log g.D.Disk.moment g.D.Disk.images c.args.store.now.log.number c.args.store.now.log.number c.args.disk.now c.commit.new.disk refl c.commit.ensures.alone
 
 pub returns-clause-alone : goal.returns-clause-alone
 returns-clause-alone g c = touches_log g.D.Disk.moment g.D.Disk.images c.args.store.now.log.number c.args.store.now.log.number c.args.disk.now c.commit.new.disk refl c.commit.ensures.alone

@@ -15,7 +15,7 @@ run_over-requires-clause-built g c κs within = are_built c.in-Ok.ensures.accept
 pub returns-in-Ok-clause-headline : goal.returns-in-Ok-clause-headline
 returns-in-Ok-clause-headline g c disk_told in_told out_told told run any in_any state of =
     has_run g.F.Source.tells (g.F.Source.rest c.args.flow.now) c.in-Ok.flow c.in-Ok.ensures.accepted told any in_any g.D.Disk.moment g.D.Disk.images c.args.disk.now c.run_over.new.disk c.args.inbox.now c.run_over.new.inbox c.args.outbox.now c.run_over.new.outbox _ c.status_of_run.result c.status_of_run.ensures
-    (g.C.Clock.time c.run_over.new.clock) g.D.Disk.tells g.D.Disk.held c.args.lot _ (machine_at state (g.I.Inbox.left c.args.inbox.now) (g.O.Outbox.standing c.args.outbox.now)) (g.I.Inbox.left c.run_over.new.inbox) (g.O.Outbox.standing c.run_over.new.outbox)
+    (g.C.Clock.time c.args.clock.now) (g.C.Clock.time c.run_over.new.clock) g.D.Disk.tells g.D.Disk.held c.args.lot _ (machine_at state (g.I.Inbox.left c.args.inbox.now) (g.O.Outbox.standing c.args.outbox.now)) (g.I.Inbox.left c.run_over.new.inbox) (g.O.Outbox.standing c.run_over.new.outbox)
     (c.run_over.ensures.headline disk_told in_told out_told state (of_one g.F.Source.tells (g.F.Source.rest c.args.flow.now) c.in-Ok.flow c.in-Ok.ensures.accepted told any in_any c.args.lot (g.D.Disk.held c.args.disk.now) state of))
 
 pub returns-in-Ok-clause-shut_left : goal.returns-in-Ok-clause-shut_left

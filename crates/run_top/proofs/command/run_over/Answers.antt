@@ -1,4 +1,4 @@
-use Rattle.std.proofs.Common.{◌≡◌, ◌∙◌, ◌⊎◌, inl, inr, ⊎_elim, List, refl, sym, ap, subst}
+use Rattle.std.proofs.Common.{◌≡◌, ◌∙◌, ◌⊎◌, inl, inr, ⊎_elim, List, refl, sym, ap, subst, arith}
 use Rattle.std.proofs.lemmas.Result.{err_from_is_err_and}
 use Rattle.std.specs.Prelude.{Err, Result}
 use Rattle.flowfile_record.specs.NamedFile.{NamedFile}
@@ -25,10 +25,10 @@ returns-in_err-store-clause-headline g c disk_told in_told out_told state of =
     let p = err_from_is_err_and c.from_residual.result c.from_residual.ensures.1 in
     let fails : c.from_residual.result ≡ Err error = cc (p.1, p.2) in
     let kinds : IsOfStore error = record { source = c.in_err-store.ensures.kinds.0; refused = c.in_err-store.ensures.kinds.1 } in
-    subst (λ (r : Result Ended RunError). EndsWith c.args.flow.now (status_at r) (g.C.Clock.time c.args.clock.now) g.D.Disk.tells g.D.Disk.held g.D.Disk.moment g.D.Disk.images c.args.lot c.args.most (machine_at state left standing) c.args.disk.now c.open.new.disk left standing
+    subst (λ (r : Result Ended RunError). EndsWith c.args.flow.now (status_at r) (g.C.Clock.time c.args.clock.now) (g.C.Clock.time c.args.clock.now) g.D.Disk.tells g.D.Disk.held g.D.Disk.moment g.D.Disk.images c.args.lot c.args.most (machine_at state left standing) c.args.disk.now c.open.new.disk left standing
     ⊎ IsNotOpened (status_at r) g.D.Disk.moment g.D.Disk.images c.args.disk.now c.open.new.disk c.args.inbox.now c.args.inbox.now c.args.outbox.now c.args.outbox.now) (sym fails)
     (refused_ends g.D.Disk.tells g.D.Disk.held g.D.Disk.moment g.D.Disk.images c.args.flow.now c.args.lot c.args.disk.now c.open.new.disk c.args.inbox.now c.args.outbox.now c.open.result error c.in_err-store.was kinds c.open.ensures.images
-    c.failed_openings_end_a_run.ensures (g.C.Clock.time c.args.clock.now) c.args.most state left standing (λ other. (c.open.ensures.other_flow (c.in_err-store.was ∙ ap Err other)).found disk_told) of)
+    c.failed_openings_end_a_run.ensures (g.C.Clock.time c.args.clock.now) (g.C.Clock.time c.args.clock.now) c.args.most (omega arith) state left standing (λ other. (c.open.ensures.other_flow (c.in_err-store.was ∙ ap Err other)).found disk_told) of)
 
 pub returns-in_err-store-clause-shut_left : goal.returns-in_err-store-clause-shut_left
 returns-in_err-store-clause-shut_left g c told shut =
@@ -49,11 +49,11 @@ returns-clause-headline g c disk_told in_told out_told state of =
     let opened = c.in_ok-store.ensures.opened in
     let disk_laws = g.met.D.Disk g.world.𝓛 g.world.𝓜 g.world.𝓡 ((λ s x. x), (λ x. x), (λ x. x), λ x. x) in
     ⊎_elim
-    (λ since. inl (ran_ends g.D.Disk.tells g.D.Disk.held g.D.Disk.moment g.D.Disk.images c.args.flow.now c.args.lot s.lot opened.1 c.run_flow.result (g.C.Clock.time c.run_flow.new.clock) c.args.most (machine_at state left standing) c.args.disk.now c.open.new.disk c.run_flow.new.disk (g.I.Inbox.left c.run_flow.new.inbox) (g.O.Outbox.standing c.run_flow.new.outbox)
+    (λ since. inl (ran_ends g.D.Disk.tells g.D.Disk.held g.D.Disk.moment g.D.Disk.images c.args.flow.now c.args.lot s.lot opened.1 c.run_flow.result (g.C.Clock.time c.args.clock.now) (g.C.Clock.time c.run_flow.new.clock) c.args.most (machine_at state left standing) c.args.disk.now c.open.new.disk c.run_flow.new.disk (g.I.Inbox.left c.run_flow.new.inbox) (g.O.Outbox.standing c.run_flow.new.outbox)
     since.begun c.run_flow.ensures.limited
-    (c.run_flow.ensures.headline disk_told in_told out_told state c.args.disk.now
+    (c.run_flow.ensures.headline disk_told in_told out_told state c.args.disk.now (g.C.Clock.time c.args.clock.now)
     (starts g.D.Disk.moment g.D.Disk.images c.run_begins.ensures.opened c.what_is_kept_is_a_state.ensures.stands c.what_is_kept_is_a_state.ensures.valid c.events_up_to_the_last_are_in_a_row.ensures.numbered
-    c.args.flow.now g.D.Disk.tells g.D.Disk.held s c.args.lot c.args.disk.now c.open.new.disk state left standing opened.0 opened.1
+    c.args.flow.now g.D.Disk.tells g.D.Disk.held s c.args.lot c.args.disk.now c.open.new.disk state (g.C.Clock.time c.args.clock.now) (g.C.Clock.time c.args.clock.now) (omega arith) left standing opened.0 opened.1
     c.state-stored.ensures.consistent c.state-stored.ensures.no_batches (c.state-stored.ensures.last_event opened.0.works) (disk_laws.held_is_left c.open.new.disk disk_told) since of.stands))))
     (λ failed. absurd (⊎_elim (λ disk. cc (disk, c.in_ok-store.was)) (λ memory. cc (memory.0, c.in_ok-store.was)) failed.told))
     c.open.ensures.images

@@ -1,4 +1,5 @@
-use Rattle.std.proofs.Common.{◌≡◌, ◌⊎◌, ◌∙◌, refl, sym, subst}
+use Rattle.std.proofs.Common.{◌≡◌, ◌⊎◌, ◌∙◌, refl, sym, subst, arith}
+use Rattle.std.specs.Prelude.{None}
 use Rattle.std.proofs.lemmas.Result.{err_from_is_err_and}
 use Rattle.flow_run.specs.Work.{IsAtWork, IsNoEarlier, HasShortLog, WritesLog}
 use Rattle.flow_engine.specs.Engine.{EngineState, IsOfSameRun}
@@ -13,7 +14,7 @@ pub checkpoint-requires-clause-number : goal.checkpoint-requires-clause-number
 checkpoint-requires-clause-number g c κs within number is = c.wants_checkpoint.ensures.next c.if-not-wants_checkpoint.false number is
 
 pub returns-in_err-checkpoint-clause-stopped : goal.returns-in_err-checkpoint-clause-stopped
-returns-in_err-checkpoint-clause-stopped g c error is opened first left standing run =
+returns-in_err-checkpoint-clause-stopped g c error is opened first start time left standing run =
     let tells = g.D.Disk.tells in
     let held = g.D.Disk.held in
     let moment = g.D.Disk.moment in
@@ -21,23 +22,23 @@ returns-in_err-checkpoint-clause-stopped g c error is opened first left standing
     let old = c.args.disk.now in
     let new = c.checkpoint.new.disk in
     let i = c.self.inside in
-    let e : EngineState = record { flow = i.flow.now; store = i.store; queues = i.queues; listing = i.listing; last = i.last; entries = i.entries; most = i.most; checkpoint = i.checkpoint; since_reclaim = i.since_reclaim } in
-    let f : EngineState = record e { store = c.checkpoint.new.store } in
+    let e : EngineState = record { flow = i.flow.now; store = i.store; queues = i.queues; listing = i.listing; last = i.last; journal = i.journal.items; most = i.most; checkpoint = i.checkpoint; since_reclaim = i.since_reclaim; failed = i.has_failed; tended = i.tended } in
+    let f : EngineState = record e { store = c.checkpoint.new.store; tended = None } in
     let same : IsOfSameRun e f = record { flow = refl; most = refl; checkpoint = refl; lot = c.checkpoint.ensures.same.1 } in
     let work = subst (λ (u : EngineState). IsAtWork u.flow tells held moment images u.store old) (sym c.self.view_is) c.requires.work in
     let p = err_from_is_err_and c.from_residual.result c.from_residual.ensures.1 in
     let told : c.in_err-checkpoint.field-0.0 ≡ error = cc (p.1, p.2, is) in
-    stops_by tells held moment images e f same opened first old new left standing c.faults_end_a_run.ensures.between error
-    (subst (λ (er : EngineError). (er ≡ EngineError.Disk) ⊎ (er ≡ EngineError.Memory)) told c.in_err-checkpoint.ensures.kinds)
+    stops_by tells held moment images e f same opened first old new start time left standing c.faults_end_a_run.ensures.between error
+    (subst (λ (er : EngineError). (er ≡ EngineError.Disk) ⊎ (er ≡ EngineError.Memory)) told c.in_err-checkpoint.ensures.kinds) time (omega arith) refl
     (λ m stands. c.checkpoint.ensures.spared i.flow.now m work stands)
-    (subst (λ (u : EngineState). IsRunning moment images u opened first old left standing) (sym c.self.view_is) run)
+    (subst (λ (u : EngineState). IsRunning moment images u opened first start time old left standing) (sym c.self.view_is) run)
 
 pub returns-in_err-checkpoint-clause-alone : goal.returns-in_err-checkpoint-clause-alone
 returns-in_err-checkpoint-clause-alone g c =
     subst (λ (u : EngineState). WritesLog g.D.Disk.moment g.D.Disk.images u.store.log.number c.args.disk.now c.checkpoint.new.disk) c.self.view_is c.checkpoint.ensures.alone
 
-pub returns-clause-goes_on : goal.returns-clause-goes_on
-returns-clause-goes_on g c opened first left standing run =
+pub returns-in_err-checkpoint-clause-goes_on : goal.returns-in_err-checkpoint-clause-goes_on
+returns-in_err-checkpoint-clause-goes_on g c well opened first start time left standing run =
     let tells = g.D.Disk.tells in
     let held = g.D.Disk.held in
     let moment = g.D.Disk.moment in
@@ -45,13 +46,30 @@ returns-clause-goes_on g c opened first left standing run =
     let old = c.args.disk.now in
     let new = c.checkpoint.new.disk in
     let i = c.self.inside in
-    let e : EngineState = record { flow = i.flow.now; store = i.store; queues = i.queues; listing = i.listing; last = i.last; entries = i.entries; most = i.most; checkpoint = i.checkpoint; since_reclaim = i.since_reclaim } in
-    let f : EngineState = record e { store = c.checkpoint.new.store } in
+    let e : EngineState = record { flow = i.flow.now; store = i.store; queues = i.queues; listing = i.listing; last = i.last; journal = i.journal.items; most = i.most; checkpoint = i.checkpoint; since_reclaim = i.since_reclaim; failed = i.has_failed; tended = i.tended } in
+    let f : EngineState = record e { store = c.checkpoint.new.store; tended = None } in
     let same : IsOfSameRun e f = record { flow = refl; most = refl; checkpoint = refl; lot = c.checkpoint.ensures.same.1 } in
     let work = subst (λ (u : EngineState). IsAtWork u.flow tells held moment images u.store old) (sym c.self.view_is) c.requires.work in
-    runs_spared tells held moment images e f same opened first old new left standing c.run_goes_on.ensures.spared refl refl
+    runs_spared tells held moment images e f same opened first old new start time left standing c.run_goes_on.ensures.spared time (omega arith) refl refl refl
     (λ m stands. c.checkpoint.ensures.spared i.flow.now m work stands)
-    (subst (λ (u : EngineState). IsRunning moment images u opened first old left standing) (sym c.self.view_is) run)
+    (subst (λ (u : EngineState). IsRunning moment images u opened first start time old left standing) (sym c.self.view_is) run)
+
+pub returns-clause-goes_on : goal.returns-clause-goes_on
+returns-clause-goes_on g c well opened first start time left standing run =
+    let tells = g.D.Disk.tells in
+    let held = g.D.Disk.held in
+    let moment = g.D.Disk.moment in
+    let images = g.D.Disk.images in
+    let old = c.args.disk.now in
+    let new = c.checkpoint.new.disk in
+    let i = c.self.inside in
+    let e : EngineState = record { flow = i.flow.now; store = i.store; queues = i.queues; listing = i.listing; last = i.last; journal = i.journal.items; most = i.most; checkpoint = i.checkpoint; since_reclaim = i.since_reclaim; failed = i.has_failed; tended = i.tended } in
+    let f : EngineState = record e { store = c.checkpoint.new.store; tended = None } in
+    let same : IsOfSameRun e f = record { flow = refl; most = refl; checkpoint = refl; lot = c.checkpoint.ensures.same.1 } in
+    let work = subst (λ (u : EngineState). IsAtWork u.flow tells held moment images u.store old) (sym c.self.view_is) c.requires.work in
+    runs_spared tells held moment images e f same opened first old new start time left standing c.run_goes_on.ensures.spared time (omega arith) refl refl refl
+    (λ m stands. c.checkpoint.ensures.spared i.flow.now m work stands)
+    (subst (λ (u : EngineState). IsRunning moment images u opened first start time old left standing) (sym c.self.view_is) run)
 
 pub returns-clause-log : goal.returns-clause-log
 returns-clause-log g c =

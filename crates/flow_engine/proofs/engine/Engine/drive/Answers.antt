@@ -1,5 +1,6 @@
-use Rattle.std.proofs.Common.{arith, ◌≡◌, refl, ◌∙◌, ap, subst}
-use Rattle.std.specs.Prelude.{Some}
+use Rattle.std.proofs.Common.{◌≡◌, ◌≤◌, refl, ◌∙◌, ap, subst, arith}
+use Rattle.std.specs.Prelude.{Err, Some}
+use Rattle.std.proofs.lemmas.Result.{err_from_is_err_and}
 use Rattle.engine_choice.specs.declared.choice.Ending.{Ending}
 use Rattle.engine_choice.specs.declared.choice.Ending.TheVariants.{Blocked, Quiet}
 use Rattle.flow_run.proofs.Writing.{later_log, writes_on}
@@ -9,9 +10,18 @@ use Rattle.flow_engine.specs.declared.error.EngineError.{EngineError}
 use Rattle.flow_engine.proofs.Goes.{stops_unmoved}
 use Rattle.flow_engine.proofs.RunsOn.{spared_by_none}
 use Rattle.flow_engine.proofs.Ending.{ends_blocked, ends_quiet, rests, went_on}
-use Rattle.flow_engine.proofs.Turning.{no_fault, same_run_on, works_for}
+use Rattle.flow_engine.proofs.Turning.{same_run_on, works_on}
 use Rattle.flow_engine.proofs.engine.Engine.drive.Goals.{in-None, in-Some-Rest}
 use Rattle.flow_engine.proofs.engine.Engine.drive.Goals as goal
+
+pub returns-in_err-turn-clause-stopped : goal.returns-in_err-turn-clause-stopped
+returns-in_err-turn-clause-stopped g c error is telling in_telling out_telling opened first start time le run =
+    let D = g.D.Disk in
+    let p = err_from_is_err_and c.from_residual.result c.from_residual.ensures.1 in
+    let told : c.in_err-turn.field-0.0 ≡ error = cc (p.1, p.2, is) in
+    let on = c.loop-turn.invariant.runs telling in_telling out_telling opened first start time le run in
+    subst (λ t. Stops error D.tells D.held D.moment D.images c.turn.new.self opened first start t c.turn.new.disk (g.I.Inbox.left c.turn.new.inbox) (g.O.Outbox.standing c.turn.new.outbox)) c.now-moment.ensures.moment
+    (c.in_err-turn.ensures.stopped error (ap Err told) telling in_telling out_telling opened first start on.0 (omega (arith, on.1, c.now-moment.ensures.later, c.now-moment.ensures.moment)) on.2)
 
 pub returns-in_err-turn-clause-alone : goal.returns-in_err-turn-clause-alone
 returns-in_err-turn-clause-alone g c =
@@ -23,77 +33,77 @@ pub loop-turn-preserved : goal.loop-turn-preserved
 loop-turn-preserved g c =
     let D = g.D.Disk in
     let inv = c.loop-turn.invariant in
+    let behind : c.now-moment.result ≤ g.C.Clock.time c.match-branch-2.clock = elim c.match-branch-2.branch [
+      | in-None w ↦ let is = ap g.C.Clock.time w.clock-is in omega (arith, is, c.now-moment.ensures.moment)
+      | in-Some-Rest w ↦ let is = ap g.C.Clock.time w.clock-is in omega (arith, is, w.wait.ensures.later, c.now-moment.ensures.moment)
+    ] in
     record {
       ready = c.in_ok-turn.ensures.ready;
+      works = works_on c.in_ok-turn.field-0 c.turn.new.self c.in_ok-turn.ensures.failed;
       left = λ told. c.in_ok-turn.ensures.left told;
       same = same_run_on c.args.self.now c.loop-turn.self c.turn.new.self inv.same c.turn.ensures.same;
       log = later_log c.args.self.now.store.log.number c.loop-turn.self.store.log.number c.turn.new.self.store.log.number inv.log c.in_ok-turn.ensures.log;
       alone = writes_on D.moment D.images c.args.self.now.store.log.number c.loop-turn.self.store.log.number c.args.disk.now c.loop-turn.disk c.turn.new.disk inv.log inv.alone c.turn.ensures.alone;
-      runs = λ telling in_telling out_telling opened first run.
-          elim c.match-branch-2.branch [
-            | in-None w ↦ went_on D.moment D.images c.turn.new.self opened first c.turn.new.disk (g.I.Inbox.left c.turn.new.inbox) (g.O.Outbox.standing c.turn.new.outbox) c.now-moment.result c.in_ok-turn.field-0
-                (c.in_ok-turn.ensures.turned telling in_telling out_telling opened first (inv.runs telling in_telling out_telling opened first run)) w.in-None.is
-            | in-Some-Rest w ↦ rests D.moment D.images c.turn.new.self opened first c.turn.new.disk (g.I.Inbox.left c.turn.new.inbox) (g.O.Outbox.standing c.turn.new.outbox) c.now-moment.result c.in_ok-turn.field-0
-                (c.in_ok-turn.ensures.turned telling in_telling out_telling opened first (inv.runs telling in_telling out_telling opened first run)) w.in-Some-Rest.until (w.in-Some-Rest.is ∙ ap (λ (a : Ending). Some a) w.in-Some-Rest.field-0-is)
-          ];
+      later = omega (arith, inv.later, c.now-moment.ensures.later, c.now-moment.ensures.moment, behind);
+      runs = λ telling in_telling out_telling opened first start time le run.
+          let on = inv.runs telling in_telling out_telling opened first start time le run in
+          let turned = c.in_ok-turn.ensures.turned telling in_telling out_telling opened first start on.0 (omega (arith, on.1, c.now-moment.ensures.later, c.now-moment.ensures.moment)) on.2 in (
+            c.now-moment.result,
+            behind,
+            elim c.match-branch-2.branch [
+              | in-None w ↦ went_on D.moment D.images c.turn.new.self opened first c.turn.new.disk start (g.I.Inbox.left c.turn.new.inbox) (g.O.Outbox.standing c.turn.new.outbox) c.now-moment.result c.in_ok-turn.field-0 turned w.in-None.is
+              | in-Some-Rest w ↦ rests D.moment D.images c.turn.new.self opened first c.turn.new.disk start (g.I.Inbox.left c.turn.new.inbox) (g.O.Outbox.standing c.turn.new.outbox) c.now-moment.result c.in_ok-turn.field-0 turned
+                  w.in-Some-Rest.until (w.in-Some-Rest.is ∙ ap (λ (a : Ending). Some a) w.in-Some-Rest.field-0-is)
+            ],
+          );
       disk_faults = omega (arith, inv.disk_faults, c.turn.ensures.cause.disk.never_falls);
       inbox_faults = omega (arith, inv.inbox_faults, c.turn.ensures.cause.inbox.never_falls);
       outbox_faults = omega (arith, inv.outbox_faults, c.turn.ensures.cause.outbox.never_falls);
     }
 
 pub returns-clause-stopped : goal.returns-clause-stopped
-returns-clause-stopped g c error is telling in_telling out_telling opened first run =
+returns-clause-stopped g c error is telling in_telling out_telling opened first start time le run =
     let D = g.D.Disk in
     let e : EngineState = c.loop-turn.self in
+    let left = g.I.Inbox.left c.loop-turn.inbox in
+    let standing = g.O.Outbox.standing c.loop-turn.outbox in
     let memory : EngineError.Memory ≡ error = cc in
-    let on = c.loop-turn.invariant.runs telling in_telling out_telling opened first run in
-    subst (λ (x : EngineError). Stops x D.tells D.held D.moment D.images e opened first c.loop-turn.disk (g.I.Inbox.left c.loop-turn.inbox) (g.O.Outbox.standing c.loop-turn.outbox)) memory
-    (stops_unmoved D.tells D.held D.moment D.images e e opened first c.loop-turn.disk c.loop-turn.disk (g.I.Inbox.left c.loop-turn.inbox) (g.O.Outbox.standing c.loop-turn.outbox) on refl refl
-    c.faults_end_a_run.ensures.between (spared_by_none D.tells D.held D.moment D.images e.flow e.store.lot on.reached c.loop-turn.disk on.to.run.holds)
-    EngineError.Memory (λ limit limited. cc) (g.I.Inbox.left c.loop-turn.inbox) (g.O.Outbox.standing c.loop-turn.outbox) refl refl)
+    let on = c.loop-turn.invariant.runs telling in_telling out_telling opened first start time le run in
+    subst (λ (x : EngineError). Stops x D.tells D.held D.moment D.images e opened first start (g.C.Clock.time c.loop-turn.clock) c.loop-turn.disk left standing) memory
+    (stops_unmoved D.tells D.held D.moment D.images e e opened first start on.0 c.loop-turn.disk c.loop-turn.disk left standing on.2 refl refl
+    c.faults_end_a_run.ensures.between refl (spared_by_none D.tells D.held D.moment D.images e.flow e.store.lot on.2.reached c.loop-turn.disk on.2.to.run.holds)
+    EngineError.Memory (λ limit limited. cc) (g.C.Clock.time c.loop-turn.clock) on.1 left standing refl refl)
 
-pub returns-in-Some-Blocked : goal.returns-in-Some-Blocked
-returns-in-Some-Blocked g c =
+pub returns-in-Some-Blocked-clause-ended : goal.returns-in-Some-Blocked-clause-ended
+returns-in-Some-Blocked-clause-ended g c telling in_telling out_telling opened first start time le run =
+    let D = g.D.Disk in
+    let on = c.loop-turn.invariant.runs telling in_telling out_telling opened first start time le run in
+    ends_blocked D.moment D.images c.turn.new.self opened first c.turn.new.disk start (g.I.Inbox.left c.turn.new.inbox) (g.O.Outbox.standing c.turn.new.outbox) c.now-moment.result c.in_ok-turn.field-0
+    (c.in_ok-turn.ensures.turned telling in_telling out_telling opened first start on.0 (omega (arith, on.1, c.now-moment.ensures.later, c.now-moment.ensures.moment)) on.2)
+    c.in-Some-Blocked.connection (g.C.Clock.time c.now-moment.new.self) (c.in-Some-Blocked.is ∙ ap (λ (a : Ending). Some a) c.in-Some-Blocked.field-0-is) c.now-moment.ensures.moment
+
+pub returns-in-Some-Blocked-clause-short : goal.returns-in-Some-Blocked-clause-short
+returns-in-Some-Blocked-clause-short g c = c.in_ok-turn.ensures.short (Blocked c.in-Some-Blocked.connection) (c.in-Some-Blocked.is ∙ ap (λ (a : Ending). Some a) c.in-Some-Blocked.field-0-is)
+
+pub returns-in-Some-Blocked-clause-alone : goal.returns-in-Some-Blocked-clause-alone
+returns-in-Some-Blocked-clause-alone g c =
     let D = g.D.Disk in
     let inv = c.loop-turn.invariant in
-    let is : c.in_ok-turn.field-0 ≡ Some (Blocked c.in-Some-Blocked.connection) = c.in-Some-Blocked.is ∙ ap (λ (a : Ending). Some a) c.in-Some-Blocked.field-0-is in
-    record {
-      ended = λ telling in_telling out_telling opened first run.
-          ends_blocked D.moment D.images c.turn.new.self opened first c.turn.new.disk (g.I.Inbox.left c.turn.new.inbox) (g.O.Outbox.standing c.turn.new.outbox) c.now-moment.result c.in_ok-turn.field-0
-          (c.in_ok-turn.ensures.turned telling in_telling out_telling opened first (inv.runs telling in_telling out_telling opened first run)) c.in-Some-Blocked.connection (g.C.Clock.time c.now-moment.new.self) is c.now-moment.ensures.moment;
-      stopped = λ error is telling in_telling out_telling opened first run. absurd cc;
-      no_rest = λ until is. cc;
-      short = c.in_ok-turn.ensures.short _ is;
-      work = works_for D.tells D.held D.moment D.images c.args.self.now.flow c.turn.new.self.flow c.turn.new.self c.turn.new.disk (c.turn.ensures.same.flow ∙ inv.same.flow) c.in_ok-turn.ensures.ready.work;
-      same = same_run_on c.args.self.now c.loop-turn.self c.turn.new.self inv.same c.turn.ensures.same;
-      alone = writes_on D.moment D.images c.args.self.now.store.log.number c.loop-turn.self.store.log.number c.args.disk.now c.loop-turn.disk c.turn.new.disk inv.log inv.alone c.turn.ensures.alone;
-      refused = λ limit is. absurd cc;
-      damaged = λ damage is. absurd cc;
-      cause =
-          no_fault _ (D.faults c.args.disk.now) (D.faults c.turn.new.disk) (g.I.Inbox.faults c.args.inbox.now) (g.I.Inbox.faults c.turn.new.inbox) (g.O.Outbox.faults c.args.outbox.now) (g.O.Outbox.faults c.turn.new.outbox)
-          (omega (arith, inv.disk_faults, c.turn.ensures.cause.disk.never_falls)) (omega (arith, inv.inbox_faults, c.turn.ensures.cause.inbox.never_falls))
-          (omega (arith, inv.outbox_faults, c.turn.ensures.cause.outbox.never_falls));
-    }
+    writes_on D.moment D.images c.args.self.now.store.log.number c.loop-turn.self.store.log.number c.args.disk.now c.loop-turn.disk c.turn.new.disk inv.log inv.alone c.turn.ensures.alone
 
-pub returns-in-Some-Quiet : goal.returns-in-Some-Quiet
-returns-in-Some-Quiet g c =
+pub returns-in-Some-Quiet-clause-ended : goal.returns-in-Some-Quiet-clause-ended
+returns-in-Some-Quiet-clause-ended g c telling in_telling out_telling opened first start time le run =
+    let D = g.D.Disk in
+    let on = c.loop-turn.invariant.runs telling in_telling out_telling opened first start time le run in
+    ends_quiet D.moment D.images c.turn.new.self opened first c.turn.new.disk start (g.I.Inbox.left c.turn.new.inbox) (g.O.Outbox.standing c.turn.new.outbox) c.now-moment.result c.in_ok-turn.field-0
+    (c.in_ok-turn.ensures.turned telling in_telling out_telling opened first start on.0 (omega (arith, on.1, c.now-moment.ensures.later, c.now-moment.ensures.moment)) on.2)
+    (g.C.Clock.time c.now-moment.new.self) (c.in-Some-Quiet.is ∙ ap (λ (a : Ending). Some a) c.in-Some-Quiet.field-0-is) c.now-moment.ensures.moment
+
+pub returns-in-Some-Quiet-clause-short : goal.returns-in-Some-Quiet-clause-short
+returns-in-Some-Quiet-clause-short g c = c.in_ok-turn.ensures.short Quiet (c.in-Some-Quiet.is ∙ ap (λ (a : Ending). Some a) c.in-Some-Quiet.field-0-is)
+
+pub returns-in-Some-Quiet-clause-alone : goal.returns-in-Some-Quiet-clause-alone
+returns-in-Some-Quiet-clause-alone g c =
     let D = g.D.Disk in
     let inv = c.loop-turn.invariant in
-    let is : c.in_ok-turn.field-0 ≡ Some (Quiet) = c.in-Some-Quiet.is ∙ ap (λ (a : Ending). Some a) c.in-Some-Quiet.field-0-is in
-    record {
-      ended = λ telling in_telling out_telling opened first run.
-          ends_quiet D.moment D.images c.turn.new.self opened first c.turn.new.disk (g.I.Inbox.left c.turn.new.inbox) (g.O.Outbox.standing c.turn.new.outbox) c.now-moment.result c.in_ok-turn.field-0
-          (c.in_ok-turn.ensures.turned telling in_telling out_telling opened first (inv.runs telling in_telling out_telling opened first run)) (g.C.Clock.time c.now-moment.new.self) is c.now-moment.ensures.moment;
-      stopped = λ error is telling in_telling out_telling opened first run. absurd cc;
-      no_rest = λ until is. cc;
-      short = c.in_ok-turn.ensures.short _ is;
-      work = works_for D.tells D.held D.moment D.images c.args.self.now.flow c.turn.new.self.flow c.turn.new.self c.turn.new.disk (c.turn.ensures.same.flow ∙ inv.same.flow) c.in_ok-turn.ensures.ready.work;
-      same = same_run_on c.args.self.now c.loop-turn.self c.turn.new.self inv.same c.turn.ensures.same;
-      alone = writes_on D.moment D.images c.args.self.now.store.log.number c.loop-turn.self.store.log.number c.args.disk.now c.loop-turn.disk c.turn.new.disk inv.log inv.alone c.turn.ensures.alone;
-      refused = λ limit is. absurd cc;
-      damaged = λ damage is. absurd cc;
-      cause =
-          no_fault _ (D.faults c.args.disk.now) (D.faults c.turn.new.disk) (g.I.Inbox.faults c.args.inbox.now) (g.I.Inbox.faults c.turn.new.inbox) (g.O.Outbox.faults c.args.outbox.now) (g.O.Outbox.faults c.turn.new.outbox)
-          (omega (arith, inv.disk_faults, c.turn.ensures.cause.disk.never_falls)) (omega (arith, inv.inbox_faults, c.turn.ensures.cause.inbox.never_falls))
-          (omega (arith, inv.outbox_faults, c.turn.ensures.cause.outbox.never_falls));
-    }
+    writes_on D.moment D.images c.args.self.now.store.log.number c.loop-turn.self.store.log.number c.args.disk.now c.loop-turn.disk c.turn.new.disk inv.log inv.alone c.turn.ensures.alone

@@ -1,52 +1,85 @@
-use Rattle.std.proofs.Common.{arith, ◌≡◌, inr, sym, ◌∙◌, subst}
+use Rattle.std.proofs.Common.{◌≡◌, length, refl, sym, ◌∙◌, ap, subst, arith}
+use Rattle.std.specs.Prelude.{Err}
+use Rattle.std.proofs.lemmas.Result.{err_from_is_err_and}
 use Rattle.kept_state.specs.declared.limit.Limit.{Limit as TheLimit}
 use Rattle.engine_choice.specs.declared.choice.Ending.TheVariants.{Blocked, Quiet}
 use Rattle.flow_engine.specs.Checkout.{choice_in, ending_in}
 use Rattle.flow_engine.specs.Engine.{EngineState}
 use Rattle.flow_engine.specs.Running.{IsLimited, Stops}
+use Rattle.flow_engine.specs.declared.checkout.Checkout.TheVariants as next
 use Rattle.flow_engine.specs.declared.error.EngineError.{EngineError}
 use Rattle.flow_engine.specs.declared.error.EngineError.TheVariants.{Limit}
 use Rattle.flow_engine.proofs.Choosing.{goes_on}
-use Rattle.flow_engine.proofs.Ending.{ends_as, full_as, none_expired, turned_at_end}
-use Rattle.flow_engine.proofs.Turning.{limited}
+use Rattle.flow_engine.proofs.Ending.{comes_next, ends_as, full_as, none_expired, turned_at_end}
+use Rattle.flow_engine.proofs.Goes.{stops_unmoved}
+use Rattle.flow_engine.proofs.RunsOn.{runs_idle, spared_by_none}
+use Rattle.flow_engine.proofs.Turning.{limited, no_limit}
 use Rattle.flow_engine.proofs.engine.Engine.go_on.Goals as goal
 
-pub returns-in-Limit-clause-stopped : goal.returns-in-Limit-clause-stopped
-returns-in-Limit-clause-stopped g c error is telling in_telling out_telling opened first run =
+pub returns-in_err-checkout-clause-stopped : goal.returns-in_err-checkout-clause-stopped
+returns-in_err-checkout-clause-stopped g c error is telling in_telling out_telling opened first start time le run =
     let D = g.D.Disk in
     let e : EngineState = c.args.self.now in
     let disk = c.args.disk.now in
     let left = g.I.Inbox.left c.args.inbox.now in
     let standing = g.O.Outbox.standing c.args.outbox.now in
+    let p = err_from_is_err_and c.from_residual.result c.from_residual.ensures.1 in
+    let told : c.in_err-checkout.field-0.0 ≡ error = cc (p.1, p.2, is) in
+    stops_unmoved D.tells D.held D.moment D.images e e opened first start time disk disk left standing run refl refl c.faults_end_a_run.ensures.between refl
+    (spared_by_none D.tells D.held D.moment D.images e.flow e.store.lot run.reached disk run.to.run.holds)
+    error (no_limit c.in_err-checkout.field-0.0 error told c.in_err-checkout.ensures.kinds) c.args.moment le left standing refl refl
+
+pub returns-in_err-run_session-in-Session-clause-stopped : goal.returns-in_err-run_session-in-Session-clause-stopped
+returns-in_err-run_session-in-Session-clause-stopped g c error is =
+    let p = err_from_is_err_and c.from_residual-in_err-run_session-in-Session.result c.from_residual-in_err-run_session-in-Session.ensures.1 in
+    let told : c.in_err-run_session-in-Session.field-0.0 ≡ error = cc (p.1, p.2, is) in
+    c.in_err-run_session-in-Session.ensures.stopped error (ap Err told)
+
+pub returns-in-Limit-clause-stopped : goal.returns-in-Limit-clause-stopped
+returns-in-Limit-clause-stopped g c error is telling in_telling out_telling opened first start time le run =
+    let D = g.D.Disk in
+    let e : EngineState = c.args.self.now in
+    let disk = c.args.disk.now in
+    let moment = c.args.moment in
+    let left = g.I.Inbox.left c.args.inbox.now in
+    let standing = g.O.Outbox.standing c.args.outbox.now in
     let laws = g.met.D.Disk g.world.𝓛 g.world.𝓜 g.world.𝓡 ((λ s x. x), (λ x. x), (λ x. x), λ x. x) in
     let shown = c.shows_its_state.ensures telling run.reached run.to.run.holds in
-    let it = full_as e.entries e.most (choice_in e c.args.moment) (ending_in e c.args.moment) c.in-Limit.limit (sym c.in_ok-choice.ensures ∙ c.in-Limit.is) in
-    let full : e.entries ≡ e.most = omega (arith, it.3, c.requires.ready.entries) in
-    let step = goes_on c.choices_are_sessions.ensures c.sessions_are_steps.ensures.steps e run.reached c.args.moment it.0 run.to.run.valid shown.seen shown.counts run.to.coming it.1 in
+    let it = full_as (length e.journal) e.most (choice_in e moment) (ending_in e moment) c.in-Limit.limit (comes_next e moment (next.Limit c.in-Limit.limit) c.requires.tended (sym c.in-Limit.is ∙ c.in_ok-checkout.ensures.next)) in
+    let full : length e.journal ≡ e.most = omega (arith, it.3, c.requires.ready.entries) in
+    let step = goes_on c.choices_are_sessions.ensures c.choices_are_seen.ensures c.sessions_are_steps.ensures.steps e run.reached moment it.0 run.to.run.valid shown.seen shown.counts run.to.coming
+    (none_expired e moment c.requires.tended) it.1 in
     let told : Limit c.in-Limit.limit ≡ error = cc in
-    subst (λ (x : EngineError). Stops x D.tells D.held D.moment D.images e opened first disk left standing) told
-    (subst (λ (l : TheLimit). IsLimited D.tells D.held D.moment D.images e l opened first disk left standing) (sym it.2)
-    (limited D.tells D.held D.moment D.images e opened first disk left standing run full (laws.held_is_left disk telling) step))
+    subst (λ (x : EngineError). Stops x D.tells D.held D.moment D.images e opened first start moment disk left standing) told
+    (subst (λ (l : TheLimit). IsLimited D.tells D.held D.moment D.images e l opened first start moment disk left standing) (sym it.2)
+    (limited D.tells D.held D.moment D.images e opened first start time disk left standing c.run_goes_on.ensures.spared moment le c.run_goes_on.ensures.turn run full (laws.held_is_left disk telling) step))
 
-pub returns-in-Limit-clause-refused : goal.returns-in-Limit-clause-refused
-returns-in-Limit-clause-refused g c limit is =
-    let e : EngineState = c.args.self.now in
-    let it = full_as e.entries e.most (choice_in e c.args.moment) (ending_in e c.args.moment) c.in-Limit.limit (sym c.in_ok-choice.ensures ∙ c.in-Limit.is) in
-    let told : c.in-Limit.limit ≡ limit = cc in
-    inr (sym told ∙ it.2, c.requires.ready.work)
+pub returns-in-Rest-clause-turned : goal.returns-in-Rest-clause-turned
+returns-in-Rest-clause-turned g c telling in_telling out_telling opened first start time le run =
+    let D = g.D.Disk in
+    runs_idle D.tells D.held D.moment D.images c.args.self.now opened first c.args.disk.now start time c.args.moment le (g.I.Inbox.left c.args.inbox.now) (g.O.Outbox.standing c.args.outbox.now) run c.run_goes_on.ensures.spared
 
 pub returns-in-Blocked-clause-turned : goal.returns-in-Blocked-clause-turned
-returns-in-Blocked-clause-turned g c telling in_telling out_telling opened first run =
+returns-in-Blocked-clause-turned g c telling in_telling out_telling opened first start time le run =
+    let D = g.D.Disk in
     let e : EngineState = c.args.self.now in
-    let it = ends_as e.entries e.most (choice_in e c.args.moment) (ending_in e c.args.moment) (Blocked c.in-Blocked.connection) (sym c.in_ok-choice.ensures ∙ c.in-Blocked.is) in
-    let shown = c.shows_its_state.ensures telling run.reached run.to.run.holds in
-    turned_at_end c.ends_are_machine_ends.ensures g.D.Disk.moment g.D.Disk.images e opened first c.args.disk.now (g.I.Inbox.left c.args.inbox.now) (g.O.Outbox.standing c.args.outbox.now) c.args.moment run
-    shown.seen shown.counts (Blocked c.in-Blocked.connection) it.1 (none_expired e c.args.moment c.requires.tended) it.0
+    let moment = c.args.moment in
+    let left = g.I.Inbox.left c.args.inbox.now in
+    let standing = g.O.Outbox.standing c.args.outbox.now in
+    let it = ends_as (length e.journal) e.most (choice_in e moment) (ending_in e moment) (Blocked c.in-Blocked.connection)
+    (comes_next e moment (next.Blocked c.in-Blocked.connection) c.requires.tended (sym c.in-Blocked.is ∙ c.in_ok-checkout.ensures.next)) in
+    let on = runs_idle D.tells D.held D.moment D.images e opened first c.args.disk.now start time moment le left standing run c.run_goes_on.ensures.spared in
+    let shown = c.shows_its_state.ensures telling on.reached on.to.run.holds in
+    turned_at_end c.ends_are_machine_ends.ensures D.moment D.images e opened first c.args.disk.now left standing start moment on shown.seen shown.counts c.requires.tended (Blocked c.in-Blocked.connection) it.1 it.0
 
 pub returns-in-Quiet-clause-turned : goal.returns-in-Quiet-clause-turned
-returns-in-Quiet-clause-turned g c telling in_telling out_telling opened first run =
+returns-in-Quiet-clause-turned g c telling in_telling out_telling opened first start time le run =
+    let D = g.D.Disk in
     let e : EngineState = c.args.self.now in
-    let it = ends_as e.entries e.most (choice_in e c.args.moment) (ending_in e c.args.moment) Quiet (sym c.in_ok-choice.ensures ∙ c.in-Quiet.is) in
-    let shown = c.shows_its_state.ensures telling run.reached run.to.run.holds in
-    turned_at_end c.ends_are_machine_ends.ensures g.D.Disk.moment g.D.Disk.images e opened first c.args.disk.now (g.I.Inbox.left c.args.inbox.now) (g.O.Outbox.standing c.args.outbox.now) c.args.moment run
-    shown.seen shown.counts Quiet it.1 (none_expired e c.args.moment c.requires.tended) it.0
+    let moment = c.args.moment in
+    let left = g.I.Inbox.left c.args.inbox.now in
+    let standing = g.O.Outbox.standing c.args.outbox.now in
+    let it = ends_as (length e.journal) e.most (choice_in e moment) (ending_in e moment) Quiet (comes_next e moment next.Quiet c.requires.tended (sym c.in-Quiet.is ∙ c.in_ok-checkout.ensures.next)) in
+    let on = runs_idle D.tells D.held D.moment D.images e opened first c.args.disk.now start time moment le left standing run c.run_goes_on.ensures.spared in
+    let shown = c.shows_its_state.ensures telling on.reached on.to.run.holds in
+    turned_at_end c.ends_are_machine_ends.ensures D.moment D.images e opened first c.args.disk.now left standing start moment on shown.seen shown.counts c.requires.tended Quiet it.1 it.0

@@ -20,9 +20,11 @@ returns-clause-opened g c =
       queues = subst (λ (k : Kept). AreQueuesOf c.args.flow.now k c.in_ok-queues.queues) c.state.ensures.kept c.in_ok-queues.ensures;
       listing = ap (λ (l : Left). l.flow) c.in_ok-listing.ensures;
       distinct = subst AreDistinct (sym listed) (ascending_differ c.in_ok-coming.coming.items c.in_ok-coming.ensures.ascending);
-      entries = refl;
+      journal = c.new-2.ensures.items;
       last = refl;
       since = refl;
+      works = refl;
+      tended = refl;
       most_is = refl;
     }
 

@@ -1,4 +1,5 @@
-use Rattle.std.proofs.Common.{refl, sym, subst}
+use Rattle.std.proofs.Common.{refl, sym, subst, arith}
+use Rattle.std.specs.Prelude.{None}
 use Rattle.flow_run.specs.Work.{IsAtWork, WritesLog}
 use Rattle.flow_run.specs.declared.ended.Fault.TheVariants as fault
 use Rattle.flow_engine.specs.Engine.{EngineState, IsOfSameRun}
@@ -8,7 +9,7 @@ use Rattle.flow_engine.proofs.RunsOn.{runs_spared, stops_spared}
 use Rattle.flow_engine.proofs.engine.Engine.reclaim_due.Goals as goal
 
 pub returns-in_err-reclaim-clause-stopped : goal.returns-in_err-reclaim-clause-stopped
-returns-in_err-reclaim-clause-stopped g c is opened first left standing run =
+returns-in_err-reclaim-clause-stopped g c is opened first start time left standing run =
     let tells = g.D.Disk.tells in
     let held = g.D.Disk.held in
     let moment = g.D.Disk.moment in
@@ -16,20 +17,20 @@ returns-in_err-reclaim-clause-stopped g c is opened first left standing run =
     let old = c.args.disk.now in
     let new = c.reclaim.new.disk in
     let i = c.self.inside in
-    let e : EngineState = record { flow = i.flow.now; store = i.store; queues = i.queues; listing = i.listing; last = i.last; entries = i.entries; most = i.most; checkpoint = i.checkpoint; since_reclaim = i.since_reclaim } in
-    let f : EngineState = record e { store = c.reclaim.new.store } in
+    let e : EngineState = record { flow = i.flow.now; store = i.store; queues = i.queues; listing = i.listing; last = i.last; journal = i.journal.items; most = i.most; checkpoint = i.checkpoint; since_reclaim = i.since_reclaim; failed = i.has_failed; tended = i.tended } in
+    let f : EngineState = record e { store = c.reclaim.new.store; tended = None } in
     let same : IsOfSameRun e f = record { flow = refl; most = refl; checkpoint = refl; lot = c.reclaim.ensures.same.1 } in
     let work = subst (λ (u : EngineState). IsAtWork u.flow tells held moment images u.store old) (sym c.self.view_is) c.requires.work in
-    stops_spared tells held moment images e f same opened first old new left standing c.faults_end_a_run.ensures.between EngineError.Disk fault.Disk refl
+    stops_spared tells held moment images e f same opened first old new start time left standing c.faults_end_a_run.ensures.between EngineError.Disk fault.Disk refl refl
     (λ m stands. c.reclaim.ensures.spared i.flow.now m work stands)
-    (subst (λ (u : EngineState). IsRunning moment images u opened first old left standing) (sym c.self.view_is) run)
+    (subst (λ (u : EngineState). IsRunning moment images u opened first start time old left standing) (sym c.self.view_is) run)
 
 pub returns-in_err-reclaim-clause-alone : goal.returns-in_err-reclaim-clause-alone
 returns-in_err-reclaim-clause-alone g c =
     subst (λ (u : EngineState). WritesLog g.D.Disk.moment g.D.Disk.images u.store.log.number c.args.disk.now c.reclaim.new.disk) c.self.view_is c.reclaim.ensures.alone
 
 pub returns-clause-goes_on : goal.returns-clause-goes_on
-returns-clause-goes_on g c opened first left standing run =
+returns-clause-goes_on g c well opened first start time left standing run =
     let tells = g.D.Disk.tells in
     let held = g.D.Disk.held in
     let moment = g.D.Disk.moment in
@@ -37,13 +38,13 @@ returns-clause-goes_on g c opened first left standing run =
     let old = c.args.disk.now in
     let new = c.reclaim.new.disk in
     let i = c.self.inside in
-    let e : EngineState = record { flow = i.flow.now; store = i.store; queues = i.queues; listing = i.listing; last = i.last; entries = i.entries; most = i.most; checkpoint = i.checkpoint; since_reclaim = i.since_reclaim } in
-    let f : EngineState = record e { store = c.reclaim.new.store; since_reclaim = 0 } in
+    let e : EngineState = record { flow = i.flow.now; store = i.store; queues = i.queues; listing = i.listing; last = i.last; journal = i.journal.items; most = i.most; checkpoint = i.checkpoint; since_reclaim = i.since_reclaim; failed = i.has_failed; tended = i.tended } in
+    let f : EngineState = record e { store = c.reclaim.new.store; since_reclaim = 0; tended = None } in
     let same : IsOfSameRun e f = record { flow = refl; most = refl; checkpoint = refl; lot = c.reclaim.ensures.same.1 } in
     let work = subst (λ (u : EngineState). IsAtWork u.flow tells held moment images u.store old) (sym c.self.view_is) c.requires.work in
-    runs_spared tells held moment images e f same opened first old new left standing c.run_goes_on.ensures.spared refl refl
+    runs_spared tells held moment images e f same opened first old new start time left standing c.run_goes_on.ensures.spared time (omega arith) refl refl refl
     (λ m stands. c.reclaim.ensures.spared i.flow.now m work stands)
-    (subst (λ (u : EngineState). IsRunning moment images u opened first old left standing) (sym c.self.view_is) run)
+    (subst (λ (u : EngineState). IsRunning moment images u opened first start time old left standing) (sym c.self.view_is) run)
 
 pub returns-clause-alone : goal.returns-clause-alone
 returns-clause-alone g c =

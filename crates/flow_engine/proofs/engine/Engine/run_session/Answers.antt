@@ -1,53 +1,73 @@
-use Rattle.std.proofs.Common.{◌≡◌, ap, subst}
-use Rattle.std.specs.Prelude.{Err, Ok}
+use Rattle.std.proofs.Common.{◌≡◌, ℕ, ◌∙◌, ap, subst, arith}
+use Rattle.std.specs.Prelude.{false, Err}
 use Rattle.std.proofs.lemmas.Result.{err_from_is_err_and}
-use Rattle.flow_run.specs.Work.{IsRefused}
+use Rattle.store_core.specs.Store.{kept_by}
+use Rattle.flow_run.proofs.Writing.{reads_only}
 use Rattle.flow_engine.specs.Engine.{EngineState}
-use Rattle.flow_engine.specs.Running.{IsRunning, IsRunningTo}
-use Rattle.flow_engine.specs.declared.commit.Committed.{Committed}
-use Rattle.flow_engine.specs.declared.commit.Committed.TheVariants.{Acked, Changed}
+use Rattle.flow_engine.specs.Running.{IsRunning, Stops}
 use Rattle.flow_engine.specs.declared.error.EngineError.{EngineError}
+use Rattle.flow_engine.proofs.Goes.{spared_by_read, stops_unmoved}
 use Rattle.flow_engine.proofs.Reread.{still_runs}
+use Rattle.flow_engine.proofs.Turning.{moment_of_work, read_same, still_works}
 use Rattle.flow_engine.proofs.engine.Engine.run_session.Goals as goal
 
-pub returns-in_err-commit-clause-stopped : goal.returns-in_err-commit-clause-stopped
-returns-in_err-commit-clause-stopped g c error is telling in_telling out_telling opened first run =
+pub returns-in_err-job-clause-stopped : goal.returns-in_err-job-clause-stopped
+returns-in_err-job-clause-stopped g c error is telling in_telling out_telling opened first start time le run =
     let D = g.D.Disk in
-    let p = err_from_is_err_and c.from_residual-in_err-commit.result c.from_residual-in_err-commit.ensures.1 in
-    let same : c.in_err-commit.field-0.0 ≡ error = cc (p.1, p.2, is) in
-    c.in_err-commit.ensures.stopped error (ap Err same) telling in_telling out_telling opened first
-    (record {
-      journal = run.journal;
-      reached = run.reached;
-      to = still_runs D.tells D.held D.moment D.images c.args.disk.now c.read.new.disk c.read.ensures.stays c.run_goes_on.ensures.spared c.args.self.now c.read.new.self c.in_ok-job.ensures.unchanged opened first
-          (g.I.Inbox.left c.args.inbox.now) (g.I.Inbox.left c.read.new.inbox) (g.O.Outbox.standing c.args.outbox.now) (g.O.Outbox.standing c.read.new.outbox) c.read.ensures.left c.read.ensures.standing run.journal run.reached run.to;
-    })
+    let e : EngineState = c.args.self.now in
+    let p = err_from_is_err_and c.from_residual.result c.from_residual.ensures.1 in
+    let told : c.in_err-job.field-0.0 ≡ error = cc (p.1, p.2, is) in
+    let same = read_same c.read.result e c.read.new.self c.read.ensures.engine error (c.in_err-job.was ∙ ap Err told) in
+    stops_unmoved D.tells D.held D.moment D.images e c.read.new.self opened first start time c.args.disk.now c.read.new.disk (g.I.Inbox.left c.args.inbox.now) (g.O.Outbox.standing c.args.outbox.now)
+    run same.0 same.1 c.faults_end_a_run.ensures.between same.2 (spared_by_read D.tells D.held D.moment D.images e.flow e.store.lot run.reached c.args.disk.now c.read.new.disk c.read.ensures.world.0 run.to.run.holds)
+    error (λ limit limited. c.in_err-job.ensures.refusal.unlimited limit (ap Err (told ∙ limited))) c.args.moment le
+    (g.I.Inbox.left c.read.new.inbox) (g.O.Outbox.standing c.read.new.outbox) c.read.ensures.world.1 c.read.ensures.world.2
 
-pub returns-in_err-commit-clause-refused : goal.returns-in_err-commit-clause-refused
-returns-in_err-commit-clause-refused g c limit is =
+pub returns-in_err-done-clause-stopped : goal.returns-in_err-done-clause-stopped
+returns-in_err-done-clause-stopped g c error is telling in_telling out_telling opened first start time le run =
     let D = g.D.Disk in
+    let e : EngineState = c.args.self.now in
+    let same : c.read.new.self ≡ e = c.in_ok-job.ensures.engine.unchanged (λ disk. cc) in
+    let p = err_from_is_err_and c.from_residual-in_err-done.result c.from_residual-in_err-done.ensures.1 in
+    let told : EngineError.Memory ≡ error = cc (p.1, p.2, is) in
+    stops_unmoved D.tells D.held D.moment D.images e c.read.new.self opened first start time c.args.disk.now c.read.new.disk (g.I.Inbox.left c.args.inbox.now) (g.O.Outbox.standing c.args.outbox.now)
+    run (ap (λ (x : EngineState). x.flow) same) (ap (λ (x : EngineState). x.store.lot) same) c.faults_end_a_run.ensures.between (ap (λ (x : EngineState). x.journal) same)
+    (spared_by_read D.tells D.held D.moment D.images e.flow e.store.lot run.reached c.args.disk.now c.read.new.disk c.read.ensures.world.0 run.to.run.holds)
+    error (λ limit limited. let both : EngineError.Memory ≡ EngineError.Limit limit = told ∙ limited in cc) c.args.moment le
+    (g.I.Inbox.left c.read.new.inbox) (g.O.Outbox.standing c.read.new.outbox) c.read.ensures.world.1 c.read.ensures.world.2
+
+pub returns-in_err-done-clause-alone : goal.returns-in_err-done-clause-alone
+returns-in_err-done-clause-alone g c = reads_only g.D.Disk.moment g.D.Disk.images c.args.self.now.store.log.number g.D.Disk.held c.args.disk.now c.read.new.disk c.read.ensures.world.0
+
+pub returns-in_err-commit-clause-stopped : goal.returns-in_err-commit-clause-stopped
+returns-in_err-commit-clause-stopped g c error is telling in_telling out_telling opened first start time le run =
+    let D = g.D.Disk in
+    let e : EngineState = c.args.self.now in
+    let next = c.in_ok-job.ensures.job.0 in
     let p = err_from_is_err_and c.from_residual-in_err-commit.result c.from_residual-in_err-commit.ensures.1 in
-    let same : c.in_err-commit.field-0.0 ≡ EngineError.Limit limit = cc (p.1, p.2, is) in
-    subst (λ (e : EngineState). IsRefused e.flow D.tells D.held D.moment D.images limit c.commit.new.self.store c.commit.new.disk) c.in_ok-job.ensures.unchanged
-    (c.in_err-commit.ensures.refused limit (ap Err same))
+    let told : c.in_err-commit.field-0.0 ≡ error = cc (p.1, p.2, is) in
+    let same : c.read.new.self ≡ e = c.in_ok-job.ensures.engine.unchanged (λ disk. cc) in
+    let at : c.in_ok-done.done.given.moment ≡ c.args.moment = moment_of_work (kept_by e.store) c.args.moment next.choice c.in_ok-job.job c.in_ok-done.done.given next.handed c.in_ok-done.ensures.given in
+    subst (λ (t : ℕ). Stops error D.tells D.held D.moment D.images c.commit.new.self opened first start t c.commit.new.disk (g.I.Inbox.left c.commit.new.inbox) (g.O.Outbox.standing c.commit.new.outbox)) at
+    (c.in_err-commit.ensures.stopped error (ap Err told) (ap (λ (x : EngineState). x.failed) same ∙ c.requires.works) telling in_telling out_telling opened first start time (omega (arith, le, at))
+    (still_runs D.tells D.held D.moment D.images c.args.disk.now c.read.new.disk c.read.ensures.world.0 c.run_goes_on.ensures.spared e c.read.new.self same opened first start time time (omega arith)
+    (g.I.Inbox.left c.args.inbox.now) (g.I.Inbox.left c.read.new.inbox) (g.O.Outbox.standing c.args.outbox.now) (g.O.Outbox.standing c.read.new.outbox) c.read.ensures.world.1 c.read.ensures.world.2 run))
 
 pub returns-clause-goes_on : goal.returns-clause-goes_on
-returns-clause-goes_on g c telling in_telling out_telling opened first run = by c.in_ok-commit.field-0 c.in_ok-commit.was
-  where
-    mid : IsRunningTo g.D.Disk.moment g.D.Disk.images c.read.new.self opened first c.read.new.disk (g.I.Inbox.left c.read.new.inbox) (g.O.Outbox.standing c.read.new.outbox) run.journal run.reached
-    mid = still_runs g.D.Disk.tells g.D.Disk.held g.D.Disk.moment g.D.Disk.images c.args.disk.now c.read.new.disk c.read.ensures.stays c.run_goes_on.ensures.spared c.args.self.now c.read.new.self c.in_ok-job.ensures.unchanged opened first
-        (g.I.Inbox.left c.args.inbox.now) (g.I.Inbox.left c.read.new.inbox) (g.O.Outbox.standing c.args.outbox.now) (g.O.Outbox.standing c.read.new.outbox) c.read.ensures.left c.read.ensures.standing run.journal run.reached run.to
+returns-clause-goes_on g c telling in_telling out_telling opened first start time le run =
+    let D = g.D.Disk in
+    let e : EngineState = c.args.self.now in
+    let next = c.in_ok-job.ensures.job.0 in
+    let same : c.read.new.self ≡ e = c.in_ok-job.ensures.engine.unchanged (λ disk. cc) in
+    let works : c.read.new.self.failed ≡ false = ap (λ (x : EngineState). x.failed) same ∙ c.requires.works in
+    let at : c.in_ok-done.done.given.moment ≡ c.args.moment = moment_of_work (kept_by e.store) c.args.moment next.choice c.in_ok-job.job c.in_ok-done.done.given next.handed c.in_ok-done.ensures.given in
+    subst (λ (t : ℕ). IsRunning D.moment D.images c.commit.new.self opened first start t c.commit.new.disk (g.I.Inbox.left c.commit.new.inbox) (g.O.Outbox.standing c.commit.new.outbox)) at
+    (c.in_ok-commit.ensures.goes_on (still_works c.in_ok-commit.field-0 c.read.new.self c.commit.new.self _ _ works c.in_ok-commit.ensures.refusal.reopen) (λ inbox. absurd cc) telling in_telling out_telling opened first start time (omega (arith, le, at))
+    (still_runs D.tells D.held D.moment D.images c.args.disk.now c.read.new.disk c.read.ensures.world.0 c.run_goes_on.ensures.spared e c.read.new.self same opened first start time time (omega arith)
+    (g.I.Inbox.left c.args.inbox.now) (g.I.Inbox.left c.read.new.inbox) (g.O.Outbox.standing c.args.outbox.now) (g.O.Outbox.standing c.read.new.outbox) c.read.ensures.world.1 c.read.ensures.world.2 run))
 
-    by : (x : Committed) → c.commit.result ≡ Ok x
-        → IsRunning g.D.Disk.moment g.D.Disk.images c.commit.new.self opened first c.commit.new.disk (g.I.Inbox.left c.commit.new.inbox) (g.O.Outbox.standing c.commit.new.outbox)
-    by (Acked entry moment) is =
-        let it = c.commit.ensures.acked entry moment is telling in_telling out_telling opened first run.journal run.reached mid in
-        record { journal = _; reached = it.0; to = it.1 }
-    by Changed is =
-        let none = c.commit.ensures.untouched is in
-        record {
-          journal = run.journal;
-          reached = run.reached;
-          to = still_runs g.D.Disk.tells g.D.Disk.held g.D.Disk.moment g.D.Disk.images c.read.new.disk c.commit.new.disk none.1 c.run_goes_on.ensures.spared c.read.new.self c.commit.new.self none.0 opened first
-              (g.I.Inbox.left c.read.new.inbox) (g.I.Inbox.left c.commit.new.inbox) (g.O.Outbox.standing c.read.new.outbox) (g.O.Outbox.standing c.commit.new.outbox) none.2 none.3 run.journal run.reached mid;
-        }
+pub returns-clause-ready : goal.returns-clause-ready
+returns-clause-ready g c =
+    let same : c.read.new.self ≡ c.args.self.now = c.in_ok-job.ensures.engine.unchanged (λ disk. cc) in
+    let works : c.read.new.self.failed ≡ false = ap (λ (x : EngineState). x.failed) same ∙ c.requires.works in
+    c.commit.ensures.usable.0 (still_works c.in_ok-commit.field-0 c.read.new.self c.commit.new.self _ _ works c.in_ok-commit.ensures.refusal.reopen)

@@ -1,18 +1,43 @@
-use Rattle.std.proofs.Common.{◌≡◌, false, subst}
-use Rattle.std.specs.Prelude.{Ok}
-use Rattle.flow_run.specs.Work.{IsShortOn}
+use Rattle.std.proofs.Common.{◌≡◌, ◌∙◌, ap, rules, subst, sym, true}
+use Rattle.std.specs.Prelude.{Err}
 use Rattle.flow_engine.specs.Engine.{EngineState}
+use Rattle.flow_engine.specs.Running.{Stops}
+use Rattle.flow_engine.specs.declared.error.EngineError.{EngineError}
 use Rattle.flow_engine.proofs.engine.Engine.tend.Goals as goal
 
-pub returns-clause-short : goal.returns-clause-short
-returns-clause-short g c is =
-    let D = g.D.Disk in
-    let was = c.in_ok-expire_due.was in
-    let there = c.in_ok-expire_due.is in
-    let fresh : c.expire_due.result ≡ Ok false = cc in
-    let none = c.expire_due.ensures.none fresh in
-    let was_too = c.in_ok-checkpoint_due.was in
-    let there_too = c.in_ok-checkpoint_due.is in
-    let idle : c.checkpoint_due.result ≡ Ok false = cc in
-    subst (λ (e : EngineState). IsShortOn D.moment D.images e.checkpoint c.args.disk.now) none.0
-    (subst (λ (d : _). IsShortOn D.moment D.images c.expire_due.new.self.checkpoint d) none.1 (c.checkpoint_due.ensures.short idle))
+pub returns-in-Err-Disk-clause-stopped : goal.returns-in-Err-Disk-clause-stopped
+returns-in-Err-Disk-clause-stopped g c error is works telling opened first start time left standing by run =
+    let tells = g.D.Disk.tells in
+    let held = g.D.Disk.held in
+    let moment = g.D.Disk.moment in
+    let images = g.D.Disk.images in
+    let new = c.tend_first-tended.new.disk in
+    let i = c.self-2.inside in
+    let e : EngineState = record { flow = i.flow.now; store = i.store; queues = i.queues; listing = i.listing; last = i.last; journal = i.journal.items; most = i.most; checkpoint = i.checkpoint; since_reclaim = i.since_reclaim; failed = i.has_failed; tended = i.tended } in
+    let told : error ≡ EngineError.Disk = cc (is, c.in-Err-Disk.field-0-is) in
+    subst (λ (er : EngineError). Stops er tells held moment images (record e { failed = true }) opened first start c.args.moment new left standing) (sym told)
+    (subst (λ (u : EngineState). Stops EngineError.Disk tells held moment images u opened first start c.args.moment new left standing) (sym c.self-2.view_is)
+    (c.tend_first-tended.ensures.stopped EngineError.Disk (is ∙ ap Err told) telling opened first start time left standing by run))
+
+pub returns-else-self-clause-goes_on : goal.returns-else-self-clause-goes_on
+returns-else-self-clause-goes_on g c works telling opened first start time left standing by run =
+    let other : c.tend_first-tended.result ≡ Err EngineError.Disk → ⊥ = λ is. search rules in
+    c.tend_first-tended.ensures.goes_on other telling opened first start time left standing by run
+
+pub returns-else-self-clause-stopped : goal.returns-else-self-clause-stopped
+returns-else-self-clause-stopped g c error is works telling opened first start time left standing by run = c.tend_first-tended.ensures.stopped error is telling opened first start time left standing by run
+
+pub returns-else-self-2-clause-goes_on : goal.returns-else-self-2-clause-goes_on
+returns-else-self-2-clause-goes_on g c works telling opened first start time left standing by run =
+    let other : c.tend_first-tended.result ≡ Err EngineError.Disk → ⊥ = λ is. cc in
+    c.tend_first-tended.ensures.goes_on other telling opened first start time left standing by run
+
+pub returns-else-self-clause-idle : goal.returns-else-self-clause-idle
+returns-else-self-clause-idle g c works none telling opened first start time left standing run =
+    let other : c.tend_first-tended.result ≡ Err EngineError.Disk → ⊥ = λ is. search rules in
+    c.tend_first-tended.ensures.idle other none telling opened first start time left standing run
+
+pub returns-else-self-2-clause-idle : goal.returns-else-self-2-clause-idle
+returns-else-self-2-clause-idle g c works none telling opened first start time left standing run =
+    let other : c.tend_first-tended.result ≡ Err EngineError.Disk → ⊥ = λ is. cc in
+    c.tend_first-tended.ensures.idle other none telling opened first start time left standing run

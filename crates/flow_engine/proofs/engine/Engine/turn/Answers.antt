@@ -1,31 +1,61 @@
-use Rattle.std.proofs.Common.{◌≡◌, sym, subst}
-use Rattle.std.specs.Prelude.{Ok}
-use Rattle.std.proofs.lemmas.Result.{IfOk-weaker}
-use Rattle.flow_run.proofs.Writing.{writes_on}
+use Rattle.std.proofs.Common.{◌≡◌, ℕ, false, sym, ap, subst, arith}
+use Rattle.std.specs.Prelude.{Err, Ok, None}
+use Rattle.std.proofs.lemmas.Result.{IfOk-weaker, err_from_is_err_and}
+use Rattle.engine_choice.specs.Listing.{Left}
 use Rattle.flow_run.specs.Work.{IsShortOn}
-use Rattle.flow_engine.specs.Engine.{EngineState}
+use Rattle.flow_engine.specs.Engine.{AreTakeable}
 use Rattle.flow_engine.specs.declared.tending.Tended.TheVariants.{Nothing}
+use Rattle.flow_engine.proofs.Turning.{no_fault, still_works}
 use Rattle.flow_engine.proofs.engine.Engine.turn.Goals as goal
+
+pub returns-in_err-tend-clause-stopped : goal.returns-in_err-tend-clause-stopped
+returns-in_err-tend-clause-stopped g c error is telling in_telling out_telling opened first start time le run =
+    let p = err_from_is_err_and c.from_residual.result c.from_residual.ensures.1 in
+    let told : c.in_err-tend.field-0.0 ≡ error = cc (p.1, p.2, is) in
+    c.in_err-tend.ensures.stopped error (ap Err told) c.requires.works telling opened first start time (g.I.Inbox.left c.args.inbox.now) (g.O.Outbox.standing c.args.outbox.now) le run
 
 pub go_on-requires-clause-short : goal.go_on-requires-clause-short
 go_on-requires-clause-short g c κs within =
     let was = c.in_ok-tend.was in
-    let there = c.in_ok-tend.is in
     let nothing = c.in-Nothing.is in
     let is : c.tend.result ≡ Ok Nothing = cc in
     let none = c.tend.ensures.nothing is in
-    subst (λ (e : EngineState). IsShortOn g.D.Disk.moment g.D.Disk.images e.checkpoint c.tend.new.disk) (sym none.0)
-    (subst (λ (d : _). IsShortOn g.D.Disk.moment g.D.Disk.images c.args.self.now.checkpoint d) (sym none.1) (c.tend.ensures.short is))
+    subst (λ (checkpoint : ℕ). IsShortOn g.D.Disk.moment g.D.Disk.images checkpoint c.tend.new.disk) (sym c.tend.ensures.same.0.checkpoint)
+    (subst (λ (d : _). IsShortOn g.D.Disk.moment g.D.Disk.images c.args.self.now.checkpoint d) (sym none.0) none.1)
 
 pub returns-in-Nothing-clause-turned : goal.returns-in-Nothing-clause-turned
 returns-in-Nothing-clause-turned g c =
+    let well : c.tend.new.self.failed ≡ false = still_works c.in_ok-tend.field-0 c.args.self.now c.tend.new.self _ _ c.requires.works c.in_ok-tend.ensures.refusal.reopen in
     IfOk-weaker c.go_on.result _ _
-    (λ ending turned telling in_telling out_telling opened first run.
-    turned telling in_telling out_telling opened first
-    (c.in_ok-tend.ensures.goes_on telling opened first (g.I.Inbox.left c.args.inbox.now) (g.O.Outbox.standing c.args.outbox.now) run))
+    (λ ending turned telling in_telling out_telling opened first start time le run.
+    turned telling in_telling out_telling opened first start c.args.moment (omega arith)
+    (c.in_ok-tend.ensures.goes_on well telling opened first start time (g.I.Inbox.left c.args.inbox.now) (g.O.Outbox.standing c.args.outbox.now) le run))
     c.go_on.ensures.turned
 
-pub returns-in-Nothing-clause-alone : goal.returns-in-Nothing-clause-alone
-returns-in-Nothing-clause-alone g c =
-    writes_on g.D.Disk.moment g.D.Disk.images c.args.self.now.store.log.number c.tend.new.self.store.log.number c.args.disk.now c.tend.new.disk c.go_on.new.disk
-    c.in_ok-tend.ensures.log c.tend.ensures.alone c.go_on.ensures.alone
+pub returns-in-Nothing-clause-stopped : goal.returns-in-Nothing-clause-stopped
+returns-in-Nothing-clause-stopped g c error is telling in_telling out_telling opened first start time le run =
+    let well : c.tend.new.self.failed ≡ false = still_works c.in_ok-tend.field-0 c.args.self.now c.tend.new.self _ _ c.requires.works c.in_ok-tend.ensures.refusal.reopen in
+    c.go_on.ensures.stopped error is telling in_telling out_telling opened first start c.args.moment (omega arith)
+    (c.in_ok-tend.ensures.goes_on well telling opened first start time (g.I.Inbox.left c.args.inbox.now) (g.O.Outbox.standing c.args.outbox.now) le run)
+
+pub returns-in-Expired : goal.returns-in-Expired
+returns-in-Expired g c =
+    let D = g.D.Disk in
+    let well : c.tend.new.self.failed ≡ false = still_works c.in_ok-tend.field-0 c.args.self.now c.tend.new.self _ _ c.requires.works c.in_ok-tend.ensures.refusal.reopen in
+    record {
+      turned = λ telling in_telling out_telling opened first start time le run.
+          c.in_ok-tend.ensures.goes_on well telling opened first start time (g.I.Inbox.left c.args.inbox.now) (g.O.Outbox.standing c.args.outbox.now) le run;
+      short = λ end is. absurd cc;
+      stopped = λ error is. absurd cc;
+      ready = c.in_ok-tend.ensures.usable well;
+      failed = λ fails. absurd cc;
+      works = λ is. absurd cc;
+      left = λ telling. subst (λ (l : Left). AreTakeable (g.I.Inbox.left c.args.inbox.now) l.names) (sym c.tend.ensures.same.1) (c.requires.left telling);
+      same = c.tend.ensures.same.0;
+      log = c.in_ok-tend.ensures.log;
+      alone = c.tend.ensures.alone;
+      why = record { limited = λ limit is. absurd cc; damaged = λ damage is. absurd cc };
+      cause =
+          no_fault None (D.faults c.args.disk.now) (D.faults c.tend.new.disk) (g.I.Inbox.faults c.args.inbox.now) (g.I.Inbox.faults c.args.inbox.now) (g.O.Outbox.faults c.args.outbox.now) (g.O.Outbox.faults c.args.outbox.now)
+          c.tend.ensures.refusal.disk.never_falls (omega arith) (omega arith);
+    }

@@ -8,26 +8,25 @@ use Rattle.flow_engine.specs.Done.{MayWorkOn}
 use Rattle.flow_engine.specs.Engine.{AreTakeable, EngineState}
 use Rattle.flow_engine.specs.declared.job.Job.{Job}
 use Rattle.flow_engine.proofs.Chosen.{may_hand, next_is_left}
-use Rattle.flow_engine.proofs.Reread.{next_job}
+use Rattle.flow_engine.proofs.NextJob.{next_job, next_session}
 use Rattle.flow_engine.proofs.SessionSteps.{may_work}
-use Rattle.flow_engine.proofs.Steps.{next_there}
-use Rattle.flow_engine.proofs.engine.Engine.read.Goals as goal
+use Rattle.flow_engine.proofs.engine.Engine.read_job.Goals as goal
 
 pub hand-requires-clause-taken : goal.hand-requires-clause-taken
 hand-requires-clause-taken g c κs within =
-    (next_there g.D.Disk.tells g.D.Disk.held g.D.Disk.moment g.D.Disk.images _ c.args.self.now c.self.view_is c.args.disk.now c.requires.ready c.holds_its_state.ensures.kept.0 c.args.moment c.args.choice c.requires.chosen
+    (next_session g.D.Disk.tells g.D.Disk.held g.D.Disk.moment g.D.Disk.images _ c.args.self.now c.self.view_is c.args.disk.now c.requires.ready c.holds_its_state.ensures.kept.0 c.args.moment c.args.choice c.requires.chosen
     c.what_is_kept_is_seen.ensures.shown).takes.may
 
 pub hand-requires-clause-received : goal.hand-requires-clause-received
 hand-requires-clause-received g c κs within telling =
-    let next = next_there g.D.Disk.tells g.D.Disk.held g.D.Disk.moment g.D.Disk.images _ c.args.self.now c.self.view_is c.args.disk.now c.requires.ready c.holds_its_state.ensures.kept.0 c.args.moment c.args.choice c.requires.chosen
+    let next = next_session g.D.Disk.tells g.D.Disk.held g.D.Disk.moment g.D.Disk.images _ c.args.self.now c.self.view_is c.args.disk.now c.requires.ready c.holds_its_state.ensures.kept.0 c.args.moment c.args.choice c.requires.chosen
     c.what_is_kept_is_seen.ensures.shown in
     next_is_left (kept_by c.self.inside.store) (g.I.Inbox.left c.args.inbox.now) c.self.inside.listing.names c.args.moment next.processor.kind c.args.choice.taking
     (subst (λ (e : EngineState). AreTakeable (g.I.Inbox.left c.args.inbox.now) e.listing.names) (sym c.self.view_is) (c.requires.left telling)) next.takes
 
 pub returns-clause-job : goal.returns-clause-job
 returns-clause-job g c =
-    let next = next_there g.D.Disk.tells g.D.Disk.held g.D.Disk.moment g.D.Disk.images _ c.args.self.now c.self.view_is c.args.disk.now c.requires.ready c.holds_its_state.ensures.kept.0 c.args.moment c.args.choice c.requires.chosen
+    let next = next_session g.D.Disk.tells g.D.Disk.held g.D.Disk.moment g.D.Disk.images _ c.args.self.now c.self.view_is c.args.disk.now c.requires.ready c.holds_its_state.ensures.kept.0 c.args.moment c.args.choice c.requires.chosen
     c.what_is_kept_is_seen.ensures.shown in
     next_job c.hand.result (IsTrue g.D.Disk.tells) (IsTrue g.I.Inbox.tells) (IsTrue g.O.Outbox.tells) _ c.args.self.now c.self.view_is (content_in (g.D.Disk.held c.args.disk.now)) (g.I.Inbox.left c.args.inbox.now)
     (g.O.Outbox.standing c.args.outbox.now) c.args.moment c.args.choice c.requires.chosen
@@ -36,7 +35,7 @@ returns-clause-job g c =
 
 pub returns-clause-may : goal.returns-clause-may
 returns-clause-may g c =
-    let next = next_there g.D.Disk.tells g.D.Disk.held g.D.Disk.moment g.D.Disk.images _ c.args.self.now c.self.view_is c.args.disk.now c.requires.ready c.holds_its_state.ensures.kept.0 c.args.moment c.args.choice c.requires.chosen
+    let next = next_session g.D.Disk.tells g.D.Disk.held g.D.Disk.moment g.D.Disk.images _ c.args.self.now c.self.view_is c.args.disk.now c.requires.ready c.holds_its_state.ensures.kept.0 c.args.moment c.args.choice c.requires.chosen
     c.what_is_kept_is_seen.ensures.shown in
     IfOk-weaker c.hand.result _ _
     (λ (job : Job) handed.

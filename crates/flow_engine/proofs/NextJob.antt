@@ -1,0 +1,42 @@
+-- The session that comes next, and its job.
+use Rattle.std.proofs.Common.{◌≡◌, ℕ, Bool, List, sym, subst}
+use Rattle.std.specs.Prelude.{Option, Some, Result, Ok, Err, IfOk}
+use Rattle.disk_trait.specs.Files.{Files}
+use Rattle.flowfile_record.specs.NamedFile.{NamedFile}
+use Rattle.flowfile_record.specs.declared.content.ContentRef.{ContentRef}
+use Rattle.checkpoint_store.specs.Consistent.{IsConsistent}
+use Rattle.store_core.specs.Store.{kept_by}
+use Rattle.engine_choice.specs.declared.choice.Choice.{Choice}
+use Rattle.engine_queues.specs.Laws.{QueuesShowKept}
+use Rattle.flow_engine.specs.Checkout.{session_in}
+use Rattle.flow_engine.specs.Engine.{EngineState}
+use Rattle.flow_engine.specs.Ready.{IsReady}
+use Rattle.flow_engine.specs.Handing.{IsHanded, IsHandedAs}
+use Rattle.flow_engine.specs.Job.{IsNextJob, MayHand}
+use Rattle.flow_engine.specs.declared.error.EngineError.{EngineError}
+use Rattle.flow_engine.specs.declared.job.Job.{Job}
+use Rattle.flow_engine.proofs.Chosen.{IsNext, next_takes}
+use Rattle.flow_engine.proofs.Due.{chosen_of}
+
+-- the session that comes next, by the fields of the engine whose value this is
+module _ (tells : Bool) {D : Type 0} (held : D → Files) (moment : D → ℕ) (images : D → ℕ → Files → Type 0) (v e : EngineState) (is : v ≡ e) (disk : D) (ready : IsReady tells held moment images e disk)
+    (consistent : IsConsistent (kept_by v.store)) (time : ℕ) (choice : Choice) (session : session_in e time ≡ Some choice) where
+  pub next_session : QueuesShowKept → IsNext v.flow (kept_by v.store) v.listing.names time choice
+  next_session shown =
+      let so : IsReady tells held moment images v disk = subst (λ (x : EngineState). IsReady tells held moment images x disk) (sym is) ready in
+      next_takes shown v.flow (kept_by v.store) v.queues v.listing.names time v.last choice consistent so.work.flow_is so.sound so.built so.queues
+      (chosen_of v time choice (subst (λ (x : EngineState). session_in x time ≡ Some choice) (sym is) session))
+
+-- what it was handed is the next job
+pub next_job : (result : Result Job EngineError) (tells in_tells out_tells : Type 0) (v e : EngineState) → v ≡ e → (contents : ContentRef → List ℕ) (left : List NamedFile) (standing : List ℕ → Option (List ℕ)) (moment : ℕ) (choice : Choice)
+    → session_in e moment ≡ Some choice → ((job : Job) → IsHanded (kept_by v.store) moment choice job → MayHand v.flow (kept_by v.store) job)
+    → IfOk result (IsHanded (kept_by v.store) moment choice) → IfOk result (λ job. tells → in_tells → out_tells → IsHandedAs (kept_by v.store) contents left standing choice job)
+    → IfOk result (IsNextJob (tells × in_tells × out_tells) e contents left standing moment)
+next_job (Ok job) tells in_tells out_tells v e is contents left standing moment choice session may handed told = record {
+  choice = choice;
+  chosen = session;
+  handed = subst (λ (x : EngineState). IsHanded (kept_by x.store) moment choice job) is handed;
+  told = λ all. subst (λ (x : EngineState). IsHandedAs (kept_by x.store) contents left standing choice job) is (told all.0 all.1 all.2);
+  may = subst (λ (x : EngineState). MayHand x.flow (kept_by x.store) job) is (may job handed);
+}
+next_job (Err error) tells in_tells out_tells v e is contents left standing moment choice session may handed told = tt

@@ -1,0 +1,53 @@
+-- What the disk holds once a store was closed.
+use Rattle.std.proofs.Common.{◌≡◌, ◌⊎◌, ⊎_elim, Bool, true, false, refl, sym, ◌∙◌, ap, subst}
+use Rattle.std.proofs.lemmas.Bool.{false≢true}
+use Rattle.std.specs.Prelude.{ℕ, ◌↔◌, Result, Ok, Err, IsErrOf}
+use Rattle.disk_trait.specs.Files.{Files}
+use Rattle.disk_trait.specs.Images.{Since}
+use Rattle.machine_model.specs.declared.flow.Flow.{Flow}
+use Rattle.machine_model.specs.State.{State}
+use Rattle.store_core.specs.Calls.{KeepsMeaning}
+use Rattle.store_core.specs.Flow as store
+use Rattle.store_core.specs.Flow.{flow_in}
+use Rattle.store_core.specs.Kept.{kept_in}
+use Rattle.store_core.specs.State.{stands_for}
+use Rattle.store_core.specs.Store.{EachStandsFor, IsKeptOn, IsTidy, StoreState, kept_by}
+use Rattle.store_core.specs.declared.error.StoreError.{StoreError}
+use Rattle.store_core.specs.declared.error.StoreError.TheVariants as refusal
+use Rattle.flow_run.specs.Run.{IsTidied}
+use Rattle.flow_run.specs.Work.{IsAtWork}
+
+-- a call that ended well met no fault
+still_works : {A : Type 0} (result : Result A StoreError) (s t : StoreState) (answer : A) → result ≡ Ok answer → s.failed ≡ false → (t.failed ≡ true) ↔ ((s.failed ≡ true) ⊎ IsErrOf result refusal.Disk) → t.failed ≡ false
+still_works {A = A} result s t answer is works fails = by t.failed refl
+  where
+    by : (b : Bool) → t.failed ≡ b → t.failed ≡ false
+    by false so = so
+    by true so =
+        absurd
+        (⊎_elim (λ (was : s.failed ≡ true). false≢true (sym works ∙ was)) (λ (failed : result ≡ Err refusal.Disk). let both : ◌≡◌ {A = Result A StoreError} (Ok answer) (Err refusal.Disk) = sym is ∙ failed in cc)
+        (fails.0 so))
+
+-- where an engine's store is this one
+module _ (flow : Flow) (tells : Bool) {D : Type 0} (held : D → Files) (moment : D → ℕ) (images : D → ℕ → Files → Type 0) (s own : StoreState) (same : s ≡ own) (old new : D) (work : IsAtWork flow tells held moment images own old) where
+  -- what its claims hold is needed
+  pub tidied : {A : Type 0} (result : Result A StoreError) (t : StoreState) (answer : A) → result ≡ Ok answer → (t.failed ≡ true) ↔ ((s.failed ≡ true) ⊎ IsErrOf result refusal.Disk) → kept_by t ≡ kept_by s → t.lot ≡ s.lot
+      → IsKeptOn tells held moment images t new → images new (moment new) (held new) → IsTidy (kept_by t) (held new) → IsTidied flow own.lot (held new)
+  tidied result t answer is fails kept lot on is_left tidy =
+      let works : s.failed ≡ false = ap (λ (x : StoreState). x.failed) same ∙ work.works in
+      record {
+        kept = kept_by t;
+        keeps =
+            ap (λ (f : store.Flow). kept_in f own.lot (held new)) (sym (ap flow_in kept ∙ ap (λ (x : StoreState). flow_in (kept_by x)) same ∙ work.flow_is))
+            ∙ ap (λ (l : ℕ). kept_in (flow_in (kept_by t)) l (held new)) (sym (lot ∙ ap (λ (x : StoreState). x.lot) same))
+            ∙ (on.holds (still_works result s t answer is works fails) (held new) is_left).kept;
+        tidy = tidy;
+      }
+
+  -- whatever a stop leaves stands for the same state
+  pub stand_still : (s.failed ≡ false → KeepsMeaning moment images s old new) → (state : State) → EachStandsFor (flow_in (kept_by own)) own.lot state (images old (moment old))
+      → Since moment images old new (λ files. stands_for (flow_in (kept_by own)) own.lot files ≡ Ok state)
+  stand_still keeps state stands =
+      subst (λ (x : StoreState). Since moment images old new (λ files. stands_for (flow_in (kept_by x)) x.lot files ≡ Ok state)) same
+      ((keeps (ap (λ (x : StoreState). x.failed) same ∙ work.works)).states state
+      (subst (λ (x : StoreState). EachStandsFor (flow_in (kept_by x)) x.lot state (images old (moment old))) (sym same) stands))

@@ -1,0 +1,57 @@
+-- What is due of an engine, and what holds of it between two calls on any devices.
+use Rattle.std.specs.Prelude.{◌≡◌, ℕ, ◌≤◌, ◌&&◌, nat_lt, nat_le, Bool, true, false, Some, length, is_some}
+use Rattle.std.specs.Option.{option_map_or}
+use Rattle.disk_trait.specs.Files.{Files}
+use Rattle.machine_model.specs.declared.journal.TheConstants.{RECLAIM_ENTRIES}
+use Rattle.machine_model.specs.Due.{due_expiry, is_checkpoint_due}
+use Rattle.machine_model.specs.Sound.{IsSound}
+use Rattle.store_core.specs.Store.{StoreState, kept_by}
+use Rattle.engine_choice.specs.Listing.{AreDistinct}
+use Rattle.engine_queues.specs.Queues.{AreQueuesOf, queue_seen}
+use Rattle.flow_run.specs.Work.{IsAtWork}
+use Rattle.flow_engine.specs.Engine.{AreBuilt, EngineState}
+use Rattle.flow_engine.specs.declared.tending.Tended.{Tended}
+use Rattle.flow_engine.specs.declared.tending.Tended.TheVariants.{Expired, Checkpointed, Reclaimed, Nothing}
+
+-- ---- what is due
+
+-- a new log is: the log has entries, as many as it takes
+abbrev pub is_log_due : (checkpoint : ℕ) → StoreState → Bool
+is_log_due checkpoint s =
+    nat_lt 0 s.entries && option_map_or (λ number. is_checkpoint_due checkpoint s.entries number) s.log.number false
+
+-- which of these comes first
+abbrev pub first_of : (expired log claims : Bool) → Tended
+first_of true log claims = Expired
+first_of false true claims = Checkpointed
+first_of false false true = Reclaimed
+first_of false false false = Nothing
+
+-- what is due first at this moment: that files have expired, a new log, or that claims be reclaimed
+abbrev pub due_in : EngineState → (moment : ℕ) → Tended
+due_in e moment =
+    first_of (is_some (due_expiry e.flow (queue_seen e.queues) moment)) (is_log_due e.checkpoint e.store)
+    (nat_le RECLAIM_ENTRIES e.since_reclaim)
+
+-- where it knows a moment at which nothing was due, nothing is due then
+abbrev pub KnowsDue : EngineState → Type 0
+KnowsDue e = (moment : ℕ) → e.tended ≡ Some moment → due_in e moment ≡ Nothing
+
+-- ---- between two calls
+
+-- It works, and its queues are those of what its store keeps.
+pub record IsReady {D : Type 0} (tells : Bool) (held : D → Files) (moment : D → ℕ) (images : D → ℕ → Files → Type 0)
+    (e : EngineState) (disk : D) : Type 0 where
+  pub sound : IsSound e.flow
+  pub built : AreBuilt e.flow
+  pub work : IsAtWork e.flow tells held moment images e.store disk
+  pub queues : AreQueuesOf e.flow (kept_by e.store) e.queues
+  pub listing : e.listing.flow ≡ e.flow
+  pub distinct : AreDistinct e.listing.names
+  pub entries : length e.journal ≤ e.most
+  pub due : KnowsDue e
+
+-- so it is, unless its store must be opened anew
+abbrev pub IsUsable : {D : Type 0} → (tells : Bool) → (D → Files) → (D → ℕ) → (D → ℕ → Files → Type 0) → EngineState
+    → (disk : D) → Type 0
+IsUsable tells held moment images e disk = e.failed ≡ false → IsReady tells held moment images e disk
