@@ -49,13 +49,15 @@ def stopped_in(program, folder, path, call, when, change):
 def wait_for_stop(child, trace):
     for _ in range(60_000):
         said = trace.read_text(errors="replace") if trace.exists() else ""
-        # The signal is told before the stop, and nothing of the program runs between them.
-        found = re.search(r"^(\d+) --- (?:stopped by SIGSTOP|SIGSTOP )", said, re.MULTILINE)
+        # A short number has spaces behind it.
+        found = re.search(r"^(\d+) +--- stopped by SIGSTOP", said, re.MULTILINE)
         if found:
             return int(found.group(1))
         if child.poll() is not None:
             raise Wrong(f"the program ended before it was stopped, with {child.returncode}")
         time.sleep(0.001)
+    for line in said.splitlines()[:1]:
+        os.kill(int(line.split()[0]), signal.SIGKILL)
     child.kill()
     raise Wrong("the program wasn't stopped within a minute")
 
