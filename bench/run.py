@@ -45,10 +45,8 @@ SYNCS_OF_CLONES = 4 + 5 * QUEUES
 # Within so few files no claim is emptied on the way. Each one that is asks for one sync more, as it is made anew.
 FEW, MORE = 20, 120
 
-# Each further file may ask the system so many times. What comes once in many files, as a claim that is made anew, is
-# less than a tenth of a call for each, and isn't counted.
+# Each further file may ask the system so many times at most, with its share of what comes once in many files.
 CALLS_OF_A_FILE = 36
-SELDOM = 0.1
 
 # Of these sizes all contents of a run go into one claim.
 SMALL = 64
@@ -227,7 +225,7 @@ def count_calls(program, parent):
                           if number >= 0.01)
     print(f"calls of the system with 1,000 files: {sum(one.values())}; with 2,000 files: {sum(two.values())}")
     print(f"  for each further file: {total:.2f}, at most {CALLS_OF_A_FILE} are demanded: {told_each}", flush=True)
-    return total < CALLS_OF_A_FILE + SELDOM
+    return total <= CALLS_OF_A_FILE
 
 
 def told(kinds):

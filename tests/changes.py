@@ -4,9 +4,11 @@
 strace stops the program behind a call on one path; then a change is made there, as by another program, and it goes on.
 A file of the inbox is opened once and read twice before its session is committed. Whatever becomes of it between, what is
 delivered is what stood under the name at the second reading, and only that is removed. A put is durable in the folder
-that the outbox's path leads to.
+that the outbox's path leads to. The folder in which puts are written stays from one to the next; another one is made
+where it is gone, or something else stands in its place.
 """
 
+import contextlib
 import os
 import re
 import signal
@@ -14,8 +16,8 @@ import subprocess
 import time
 
 import store_format
-from support import (DONE, INBOX, OUTBOX, Report, Wrong, find_program, names, need, new_folder, options, read_files,
-                     run, work_folder, write_files)
+from support import (DONE, INBOX, OUTBOX, THE_TEXT, Report, Wrong, find_program, names, need, new_folder, none_aside,
+                     options, read_files, run, work_folder, write_files)
 
 CONTENT_MAX = 16_777_216
 
@@ -24,10 +26,13 @@ LONGEST = 120
 
 FILES = {"a": b"the first bytes", "b": b"another file"}
 
+# The folder in which puts are written.
+ASIDE = ".flow-aside-0"
 
-def stopped_in(program, folder, path, call, when, change):
-    """Runs the program, makes a change in the folder behind one of its calls of this name on a path, and lets it go on.
-    Gives its status, and the names of the calls on that path: those of this name, and those that open it."""
+
+def stopped_in(program, folder, path, call, when, change, then=signal.SIGCONT):
+    """Runs the program, makes a change in the folder behind one of its calls of this name on a path, and lets it go on
+    or kills it. Gives its status, and the names of the calls on that path: of this name, and those that open it."""
     with new_folder() as aside:
         trace = aside / "trace"
         child = subprocess.Popen(["strace", "-f", "-q", "-y", "-P", path, "-e", f"trace={call},openat",
@@ -37,7 +42,7 @@ def stopped_in(program, folder, path, call, when, change):
         try:
             change(folder)
         finally:
-            os.kill(process, signal.SIGCONT)
+            os.kill(process, then)
         try:
             status = child.wait(LONGEST)
         except subprocess.TimeoutExpired as waited:
@@ -157,10 +162,120 @@ class Cases:
             need(run(self.program, folder).status == DONE, "the next run doesn't end with 0")
             need(read_files(folder / "out") == {"b": FILES["b"]}, f"out holds {names(folder / 'out')}")
 
+    # The folder aside.
+
+    def aside_made(self):
+        """A run makes one folder aside for all puts, and a further one behind each put whose name is that folder's."""
+        for files, wanted in ((("a", "b", "c"), (0,)),
+                              (("-", ".flow-aside-0", ".flow-aside-3", "b", "c"), (0, 1)),
+                              (("-", ".flow-aside-0", ".flow-aside-1", "b", ".flow-aside-5"), (0, 1, 2)),
+                              ((".flow-aside-0", ".flow-aside-1", "b"), (1, 2))):
+            made = self.made_for({name: name.encode() for name in files})
+            need(made == [f"out/.flow-aside-{number}" for number in wanted], f"{files}: it makes {made}")
+
+    def made_for(self, files):
+        """The folders that a run over these files makes in the outbox, which it has to deliver."""
+        text = THE_TEXT.replace(b'"GetFile"', b'"GetFile", "properties": {"File Filter": "[^/]+"}')
+        with work_folder(self.parent, text) as folder, new_folder() as aside:
+            write_files(folder / "in", files)
+            ended = subprocess.run(["strace", "-f", "-qq", "-e", "trace=mkdir,mkdirat", "-e", "signal=none",
+                                    "-o", aside / "trace", self.program, "run"], cwd=folder, check=False,
+                                   stdin=subprocess.DEVNULL, stderr=subprocess.DEVNULL)
+            need(ended.returncode == DONE, f"{sorted(files)}: status {ended.returncode}")
+            self.holds(folder, files)
+            return re.findall(r'"(out/[^"]*)".* = 0$', (aside / "trace").read_text(), re.MULTILINE)
+
+    def holds(self, folder, files):
+        """The outbox holds these files and nothing else."""
+        need(names(folder / "out") == sorted(files), f"out holds {names(folder / 'out')}")
+        need(read_files(folder / "out") == files, "a file of out has other bytes")
+
+    @contextlib.contextmanager
+    def behind_a_put(self, change, wanted):
+        """Makes a change in a folder behind the first of two puts. The run has to end with this status."""
+        def stays(folder):
+            need(names(folder / "out") == [ASIDE, "a"], f"behind a put out holds {names(folder / 'out')}")
+            need(names(folder / "out" / ASIDE) == [], f"aside there is {names(folder / 'out' / ASIDE)}")
+            change(folder / "out" / ASIDE)
+
+        with work_folder(self.parent) as folder:
+            write_files(folder / "in", FILES)
+            (folder / "out").mkdir()
+            status, _ = stopped_in(self.program, folder, "out", "fsync", 1, stays)
+            need(status == wanted, f"status {status}")
+            yield folder
+
+    def aside_stays(self):
+        with self.behind_a_put(lambda aside: None, DONE) as folder:
+            self.holds(folder, FILES)
+
+    def aside_removed(self):
+        with self.behind_a_put(os.rmdir, DONE) as folder:
+            self.holds(folder, FILES)
+
+    def aside_filled(self):
+        """What somebody puts into the folder aside stays there, until the next run."""
+        others = {"other": b"x", "part": b"y", "part-0": b"z"}
+        with self.behind_a_put(lambda aside: write_files(aside, others), DONE) as folder:
+            need(names(folder / "out") == [ASIDE, *FILES], f"out holds {names(folder / 'out')}")
+            need(read_files(folder / "out" / ASIDE) == others, f"aside there is {names(folder / 'out' / ASIDE)}")
+            need(run(self.program, folder).status == DONE, "the next run doesn't end with 0")
+            self.holds(folder, FILES)
+
+    def aside_replaced(self):
+        """Whatever takes its place stays, and another folder is made. No link is followed."""
+        for make in (lambda aside: aside.write_bytes(b"mine"), lambda aside: os.symlink(".", aside), os.mkfifo):
+            def replace_it(aside, make=make):
+                os.rmdir(aside)
+                make(aside)
+
+            with self.behind_a_put(replace_it, DONE) as folder:
+                need(names(folder / "out") == [ASIDE, *FILES], f"out holds {names(folder / 'out')}")
+                os.unlink(folder / "out" / ASIDE)
+                self.holds(folder, FILES)
+
+    def outbox_moved_within_a_put(self):
+        """The outbox is moved away within the second put, and one takes its place in which a stop left a part."""
+        def move(folder):
+            os.rename(folder / "out", folder / "old")
+            (folder / "out" / ASIDE).mkdir(parents=True)
+            write_files(folder / "out" / ASIDE, {"part": b"half", "part-0": b"half"})
+
+        with work_folder(self.parent) as folder:
+            write_files(folder / "in", FILES)
+            (folder / "out").mkdir()
+            status, _ = stopped_in(self.program, folder, "out", "statx", 3, move)
+            need(status == OUTBOX, f"status {status}")
+            need(names(folder / "old") == [ASIDE, "a"], f"old holds {names(folder / 'old')}")
+            need(len(names(folder / "old" / ASIDE)) == 1, f"aside there is {names(folder / 'old' / ASIDE)}")
+            need(run(self.program, folder).status == DONE, "the next run doesn't end with 0")
+            self.holds(folder, {"b": FILES["b"]})
+
+    def killed_behind(self, path, call, when, left):
+        """Kills a run behind this call. In the outbox stand these files and one empty folder, which the next run
+        removes."""
+        with work_folder(self.parent) as folder:
+            write_files(folder / "in", FILES)
+            (folder / "out").mkdir()
+            status, _ = stopped_in(self.program, folder, path, call, when, lambda folder: None, signal.SIGKILL)
+            need(status == -signal.SIGKILL, f"status {status}")
+            need(names(folder / "out") == [ASIDE, *left], f"out holds {names(folder / 'out')}")
+            need(names(folder / "out" / ASIDE) == [], f"aside there is {names(folder / 'out' / ASIDE)}")
+            need(run(self.program, folder).status == DONE, "the next run doesn't end with 0")
+            self.holds(folder, FILES)
+
+    def killed_behind_a_put(self):
+        self.killed_behind("out", "fsync", 1, ["a"])
+        self.killed_behind("out", "fsync", 2, ["a", "b"])
+
+    def killed_behind_all(self):
+        """The claim goes once all is done: the next run puts nothing."""
+        self.killed_behind("store/claim-0", "unlink", 1, ["a", "b"])
+
     def refused_looks(self):
-        """Each look at a file of the inbox, or at the outbox's folder, is refused alone: its device has failed."""
+        """Each look at a file of the inbox, at the outbox's folder or at that aside is refused alone: its device failed."""
         tried = 0
-        for path, wanted in (("in/a", INBOX), ("out", OUTBOX)):
+        for path, wanted in (("in/a", INBOX), ("out", OUTBOX), (f"out/{ASIDE}", OUTBOX)):
             looks = self.looks_at(path, "trace=statx", DONE)
             need(looks, f"there is no look at {path}")
             for number in range(1, looks + 1):
@@ -177,8 +292,10 @@ class Cases:
                                     "-o", aside / "trace", self.program, "run"], cwd=folder, check=False,
                                    stdin=subprocess.DEVNULL, stderr=subprocess.DEVNULL)
             need(ended.returncode == wanted, f"{asked} on {path}: status {ended.returncode}")
+            none_aside(folder)
             need(run(self.program, folder).status == DONE, f"{asked} on {path}: the next run doesn't end with 0")
             need(names(folder / "in") == [] and read_files(folder / "out") == FILES, f"{asked} on {path}: a file is lost")
+            none_aside(folder)
             return (aside / "trace").read_text().count("statx(")
 
 
@@ -228,7 +345,15 @@ def main():
             ("it goes, becomes a pipe or too large behind the listing: 6, nothing taken", cases.behind_the_listing),
             ("another folder takes the outbox's place between two puts: that one is synced", cases.other_outbox),
             ("the outbox is moved away between two puts: 7, and later delivered", cases.no_outbox),
-            ("each look at a file of the inbox or at the outbox is refused alone: 6 or 7", cases.refused_looks)):
+            ("each look at a file of the inbox, the outbox or its folder aside is refused alone", cases.refused_looks),
+            ("puts share a folder aside, and one whose name is that folder's has another made", cases.aside_made),
+            ("behind a put the folder aside is empty, and at the end it is gone", cases.aside_stays),
+            ("the folder aside is removed between two puts: it is made anew", cases.aside_removed),
+            ("something is put into the folder aside between two puts: it goes with the next run", cases.aside_filled),
+            ("a file, a link or a pipe takes that folder's place: it stays, and another is made", cases.aside_replaced),
+            ("the outbox is moved away within a put: 7, and later delivered", cases.outbox_moved_within_a_put),
+            ("killed behind a put: an empty folder is left, and the next run removes it", cases.killed_behind_a_put),
+            ("killed once all is done: so it is, though the next run puts nothing", cases.killed_behind_all)):
         report.case(text, body)
     report.end()
 

@@ -14,8 +14,8 @@ import store_format
 from flow_texts import flow, generator, let_go, put, queue, source, state_of, told
 from store_format import CLONE, CREATE, DROP, EXPIRED, RECEIVE, SEND, Expire, Writer
 from support import (BLOCKED, DAMAGED, DONE, LIMIT, REFUSED, SOURCE, THE_TEXT, USAGE, Report, find_program,
-                     in_memory, names, need, need_status, new_folder, options, parse_seeded, photo, put_flow,
-                     read_files, run, run_for, start, wait_for, work_folder, write_files)
+                     in_memory, names, need, need_status, new_folder, none_aside, options, parse_seeded, photo,
+                     put_flow, read_files, run, run_for, start, wait_for, work_folder, write_files)
 
 STRATEGIES = ("replace", "ignore", "fail")
 
@@ -63,6 +63,7 @@ class Cases:
         ended = run(self.program, folder)
         need_status(ended, status)
         need(ended.said == b"", f"it printed {ended.said!r}")
+        none_aside(folder)
         return ended
 
     def ends_with(self, folder, out):

@@ -11,8 +11,8 @@ import time
 
 import store_format
 from support import (DISK, DONE, INBOX, MEMORY, OUTBOX, THE_TEXT, USAGE, Report, find_program, names, need, need_status,
-                     new_folder, options, parse_seeded, photo, put_flow, read_files, run, start, wait_for, work_folder,
-                     write_files)
+                     new_folder, none_aside, options, parse_seeded, photo, put_flow, read_files, run, start, wait_for,
+                     work_folder, write_files)
 
 CONTENT_MAX = 16_777_216
 
@@ -292,6 +292,7 @@ class Cases:
                 resource.setrlimit(resource.RLIMIT_FSIZE, (limit, limit))
 
             need_status(self.run(folder, limits=limits), DISK)
+            none_aside(folder)
             put = read_files(folder / "out")
             left = read_files(folder / "in")
             need(0 < len(put) < len(files), f"{len(put)} files were put")
@@ -318,6 +319,7 @@ class Cases:
 
                 statuses[megabytes] = status = self.run(folder, limits=limits).status
                 need(status in (DONE, MEMORY), f"status {status} with {megabytes} MB")
+                none_aside(folder)
                 kept = {**read_files(folder / "out"), **dict(waiting(folder)), **read_files(folder / "in")}
                 need(kept == files, f"a file is lost with {megabytes} MB")
                 self.delivers(folder, files)
@@ -339,10 +341,23 @@ class Cases:
     def aside_is_swept(self):
         with self.folder() as folder:
             write_files(folder / "in", THREE)
-            for number in (0, 5):
-                (folder / "out" / f".flow-aside-{number}").mkdir(parents=True)
-                write_files(folder / "out" / f".flow-aside-{number}", {"part": b"half"})
+            leave_aside(folder)
             self.delivers(folder, THREE)
+
+    def aside_is_swept_at_the_end(self):
+        """A run that puts nothing sweeps where it ends with 0. Else it leaves what isn't its own."""
+        with self.folder() as folder:
+            write_files(folder / "in", THREE)
+            self.delivers(folder, THREE)
+            leave_aside(folder)
+            before = photo(folder / "out")
+            (folder / "in").rmdir()
+            (folder / "in").write_bytes(b"no folder")
+            need_status(self.run(folder), INBOX)
+            need(photo(folder / "out") == before, "out changed")
+            (folder / "in").unlink()
+            write_files(folder / "out", {".flow-aside-7": b"mine"})
+            self.delivers(folder, {**THREE, ".flow-aside-7": b"mine"})
 
     def taken_twice(self):
         """A removal from the inbox that a stop took back: the file is delivered a second time, the same."""
@@ -351,6 +366,13 @@ class Cases:
             self.delivers(folder, {"a": b"one"})
             write_files(folder / "in", {"a": b"one"})
             self.delivers(folder, {"a": b"one"})
+
+
+def leave_aside(folder):
+    """Leaves aside in the outbox what a stop may leave."""
+    for number in (0, 5):
+        (folder / "out" / f".flow-aside-{number}").mkdir(parents=True)
+        write_files(folder / "out" / f".flow-aside-{number}", {"part": b"half"})
 
 
 def state_of(folder):
@@ -406,6 +428,7 @@ def main():
             ("memory that the system refuses: 12, nothing lost", cases.memory_is_refused),
             ("the standard streams are closed", cases.streams_are_closed),
             ("what a stop left aside in out is swept", cases.aside_is_swept),
+            ("it is swept at the end of a run that puts nothing, with 0 alone", cases.aside_is_swept_at_the_end),
             ("a file that comes back to in is delivered again", cases.taken_twice)):
         report.case(text, body)
     report.end()

@@ -2,10 +2,10 @@
 """Kills the built program at random moments over many files, and starts it again until it ends with 0.
 
 After each kill the store's files stand for a state, and each file is in the inbox, whole in `out`, or in the store
-with its bytes. At the end every file's bytes have to be in `out`, `in` and the store have to be empty, no claim may be
-left, and no start may end with a status but 0: the store opens every time. That is done in new folders until there
-were so many kills. A kill ends the process and not the machine, so this tries the order of the program's steps, and
-not what a power cut leaves of pending writes.
+with its bytes; besides, `out` has one folder aside at most. At the end every file's bytes have to be in `out` and
+nothing else, `in` and the store have to be empty, no claim may be left, and no start may end with a status but 0: the
+store opens every time. That is done in new folders until there were so many kills. A kill ends the process and not the
+machine, so this tries the order of the program's steps, and not what a power cut leaves of pending writes.
 """
 
 import random
@@ -42,6 +42,10 @@ def none_is_lost(folder, files):
     put = set(names(folder / "out")) if (folder / "out").exists() else set()
     missing = set(files) - left - put - set(waits)
     need(not missing, f"lost after a stop: {sorted(missing)[:5]}")
+    aside = sorted(put - set(files))
+    need(aside in ([], [".flow-aside-0"]), f"besides files out holds {aside}")
+    parts = names(folder / "out" / aside[0]) if aside else []
+    need(not parts or len(parts) == 1 and parts[0].startswith("part-"), f"aside there is {parts}")
 
 
 class Rounds:

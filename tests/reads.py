@@ -10,8 +10,8 @@ import re
 import shutil
 import subprocess
 
-from support import (DISK, DONE, INBOX, OUTBOX, SOURCE, Report, find_program, need, need_status, new_folder, options,
-                     read_files, run, work_folder, write_files)
+from support import (DISK, DONE, INBOX, OUTBOX, SOURCE, Report, find_program, need, need_status, new_folder, none_aside,
+                     options, read_files, run, work_folder, write_files)
 
 FILES = {"a": b"first", "b": bytes(range(256)) * 9, "c": b"third"}
 
@@ -63,6 +63,7 @@ class Cases:
         what = f"read {number} of {paths[number]}"
         status, _ = traced(self.program, copy, call, "-e", f"inject={call}:error=EIO:when={number + 1}+")
         need(status == status_of(paths[number]), f"{what} was refused, and the run ended with {status}")
+        none_aside(copy)
         need_status(run(self.program, copy), DONE)
         need(read_files(copy / "out") == FILES, f"{what} was refused, and the next run delivered something else")
 

@@ -188,6 +188,13 @@ def names(folder):
     return sorted(os.listdir(folder))
 
 
+def none_aside(folder):
+    """No folder aside is left in `out` by a run that ended by itself, whatever its status."""
+    out = folder / "out"
+    left = [path.name for path in out.glob(".flow-aside-*") if path.is_dir()] if out.is_dir() else []
+    need(not left, f"out has {left}")
+
+
 def photo(*folders):
     """All that stands in these folders: kind, times, size and bytes of each entry, and of the folders."""
     seen = {}

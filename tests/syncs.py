@@ -13,7 +13,7 @@ import subprocess
 
 import store_format
 from support import (DAMAGED, DISK, DONE, INBOX, OUTBOX, REFUSED, Report, find_program, names, need, need_status,
-                     new_folder, options, photo, read_files, run, work_folder, write_files)
+                     new_folder, none_aside, options, photo, read_files, run, work_folder, write_files)
 
 FILES = {"a": b"first", "b": b"", "c": bytes(range(256)) * 9}
 
@@ -31,6 +31,9 @@ OPENING = [*FOLDERS, LOG, SNAPSHOT, STORE]
 
 # An entry is added behind a closed gate, with its events at the first of its syncs, and the gate is opened.
 ENTRY = [LOG, EVENTS, LOG]
+
+# The file that a put writes has the run's random number in its name, which is left out here.
+PART = re.compile(r"\bpart-\d+$")
 
 # A file is taken by an entry, with its content at the first of its syncs; it is put; an entry lets it go.
 PUT = [("fsync", "out/.flow-aside-0/part"), ("fsync", "out")]
@@ -60,7 +63,7 @@ def traced(program, folder, *asked):
         child = subprocess.run(["strace", "-f", "-qq", "-y", "-e", "trace=fsync,fdatasync", "-e", "signal=none", *asked,
                                 "-o", trace, program, "run"], cwd=folder, stdin=subprocess.DEVNULL)
         top = os.path.realpath(folder)
-        syncs = [(kind, os.path.relpath(path, top))
+        syncs = [(kind, PART.sub("part", os.path.relpath(path, top)))
                  for kind, path in re.findall(r"\b(fsync|fdatasync)\(\d+<(.*)>\)", trace.read_text())]
         return child.returncode, syncs
 
@@ -218,6 +221,7 @@ class Cases:
         was = mark(folder)
         status = refused(self.program, folder, syncs, number)
         need(status == status_of(syncs, number), f"{what}: status {status}")
+        none_aside(folder)
         # A mark stays until the store was written anew, which the syncs of its copies and of the folder end.
         left = b"\1" if is_store(syncs[number]) else mark_left(syncs, number, was)
         need(mark(folder) == left, f"{what}: the lock holds {mark(folder)}")

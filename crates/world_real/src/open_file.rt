@@ -125,20 +125,24 @@ pub(crate) struct OpenFolder {
     file: File,
 }
 
-/// Syncs which entries stand in the folder at a path. The one that is open serves only where the path
-/// still leads to it: else its sync would make durable what stands elsewhere.
-pub(crate) fn sync_folder<R: Files<File = File>>(
+impl OpenFolder {
+    /// Syncs which entries stand in it.
+    pub(crate) fn sync(&self) -> io::Result<()> {
+        self.file.sync_all()
+    }
+}
+
+/// The folder at a path, open. The one that is open serves only where the path still leads to it: else its
+/// sync would make durable what stands elsewhere.
+pub(crate) fn folder_at<R: Files<File = File>>(
     rt: &R,
     path: &str,
-    open: &mut Option<OpenFolder>,
-) -> io::Result<()> {
-    let folder = match still_at(rt, path, open.take())? {
-        Some(folder) => folder,
-        None => keep_open(rt, path)?,
-    };
-    folder.file.sync_all()?;
-    *open = Some(folder);
-    Ok(())
+    open: Option<OpenFolder>,
+) -> io::Result<OpenFolder> {
+    match still_at(rt, path, open)? {
+        Some(folder) => Ok(folder),
+        None => keep_open(rt, path),
+    }
 }
 
 fn still_at<R: Files<File = File>>(

@@ -5,12 +5,13 @@ ghost use Rattle.world_real.specs.Untold.{told_by_none};
 use crate::faults::counted;
 use crate::folder::{Entry, Folder, Place, entry_at};
 use crate::numbered::{is_no_text, read_number};
-use crate::open_file::{OpenFolder, create_file, sync_folder};
+use crate::open_file::{OpenFolder, create_file, folder_at};
 use disk_trait::Failed;
 use flowfile_record::Name;
 use std::alloc::Global;
 use std::fs::{self, File};
 use std::io::{self, ErrorKind};
+use std::mem;
 use std::rt::Files;
 use world_io::Outbox;
 
@@ -19,30 +20,65 @@ const ASIDE: &str = ".flow-aside-";
 
 /// A folder that files are put into.
 ///
-/// A put that answered Ok is durable, and no reader sees a part of it: it is written in a folder of its
-/// own, synced, and given its name. That folder is `.flow-aside-N` in the outbox, N being the least
-/// number where nothing or a folder stands. Whatever folder stands under such a name is what a stop
-/// left: the first `put` or `holds` removes it with all that it holds.
+/// A put that answered Ok is durable, and no reader sees a part of it: it is written in a folder aside,
+/// synced, and given its name. That folder is `.flow-aside-N` in the outbox, N being the least number
+/// where nothing or a folder stands. It stays there, empty, for the next put, until `finish` removes it
+/// or a put fails; where something else took its place, another one is made. Whatever folder stood under such a name before is what a stop left: the first `put` or
+/// `holds` removes it with all that it holds, and so does `sweep`.
 #[derive(Drop)]
 pub struct OutboxFolder<'r, R> {
     place: Place<'r, R>,
-    /// Whether it is known that no earlier put left a folder there.
-    is_swept: bool,
+    /// Tells the parts of this run from those of others.
+    lot: u64,
+    aside: FoldersAside,
     /// The folder, which stays open from the first put on.
     open: Option<OpenFolder>,
     faults: u64,
 }
 
+/// What is known of the folders aside.
+#[derive(Drop)]
+enum FoldersAside {
+    /// Earlier puts may have left some.
+    Unknown,
+    /// There is none.
+    Swept,
+    /// There is the one at this path alone, which an earlier put left empty for the next one.
+    Kept(String),
+}
+
 impl<'r, R: Files<File = File> + Alloc + Sync> OutboxFolder<'r, R> {
-    /// The outbox over a folder, with no fault.
-    pub fn new(rt: &'r R, alloc: Global, folder: Folder<'r>) -> OutboxFolder<'r, R>
+    /// The outbox over a folder, with no fault. No other run has this lot, which is a random number.
+    pub fn new(rt: &'r R, alloc: Global, folder: Folder<'r>, lot: u64) -> OutboxFolder<'r, R>
         ensures { ⟦<OutboxFolder<'r, R> as Outbox>⟧.faults result ≡ 0 }
     {
         OutboxFolder {
             place: Place { rt, alloc, folder },
-            is_swept: false,
+            lot,
+            aside: FoldersAside::Unknown,
             open: None,
             faults: 0,
+        }
+    }
+
+    /// Removes what stops of earlier runs left aside, where no call did yet. What can't be removed stays,
+    /// and that is no fault. Another process may not be putting files there meanwhile.
+    pub fn sweep(&mut self)
+        ensures { ⟦<OutboxFolder<'r, R> as Outbox>⟧.faults self.new
+            ≡ ⟦<OutboxFolder<'r, R> as Outbox>⟧.faults self.old }
+    {
+        let _ = sweep_once(&self.place, &mut self.aside);
+    }
+
+    /// Removes the folder that stands there for the next put, at the end of a run. Where it can't be
+    /// removed, as somebody put something there, it stays as behind a stop, and that is no fault. The
+    /// removal isn't synced.
+    pub fn finish(&mut self)
+        ensures { ⟦<OutboxFolder<'r, R> as Outbox>⟧.faults self.new
+            ≡ ⟦<OutboxFolder<'r, R> as Outbox>⟧.faults self.old }
+    {
+        if let FoldersAside::Kept(folder) = mem::replace(&mut self.aside, FoldersAside::Unknown) {
+            let _ = fs::remove_dir(self.place.rt, folder.as_str());
         }
     }
 }
@@ -55,14 +91,15 @@ impl<'r, R: Files<File = File> + Alloc + Sync> Outbox for OutboxFolder<'r, R> {
     ghost faults = { λ outbox. outbox.faults };
 
     fn holds(&mut self, name: &Name) -> Result<bool, Failed> {
-        let answer = holds(&self.place, &mut self.is_swept, name);
+        let answer = holds(&self.place, &mut self.aside, name);
         counted(&mut self.faults, answer)
     }
 
     fn put(&mut self, name: &Name, bytes: &[u8]) -> Result<(), Failed> {
         let answer = put(
             &self.place,
-            &mut self.is_swept,
+            self.lot,
+            &mut self.aside,
             &mut self.open,
             name.text(),
             bytes,
@@ -73,10 +110,10 @@ impl<'r, R: Files<File = File> + Alloc + Sync> Outbox for OutboxFolder<'r, R> {
 
 fn holds<R: Files<File = File> + Alloc>(
     place: &Place<'_, R>,
-    is_swept: &mut bool,
+    aside: &mut FoldersAside,
     name: &Name,
 ) -> io::Result<bool> {
-    sweep_once(place, is_swept)?;
+    sweep_once(place, aside)?;
     match entry_at(place.rt, place.entry(name.text())?.as_str())? {
         Entry::File(_) | Entry::Other => Ok(true),
         Entry::Folder | Entry::Nothing => Ok(false),
@@ -85,49 +122,51 @@ fn holds<R: Files<File = File> + Alloc>(
 
 fn put<R: Files<File = File> + Alloc>(
     place: &Place<'_, R>,
-    is_swept: &mut bool,
+    lot: u64,
+    aside: &mut FoldersAside,
     open: &mut Option<OpenFolder>,
     name: &str,
     bytes: &[u8],
 ) -> io::Result<()> {
-    sweep_once(place, is_swept)?;
+    sweep_once(place, aside)?;
     let path = place.entry(name)?;
-    *is_swept = false;
-    let aside = make_aside(place, name)?;
-    let answer = put_through(place, open, aside.as_str(), path.as_str(), bytes);
+    let folder = folder_of_a_put(place, aside, path.as_str())?;
+    let answer = put_through(place, lot, open, folder.as_str(), path.as_str(), bytes);
     if answer.is_err() {
         // The next put looks again for what this one leaves.
-        let _ = fs::remove_dir_all(place.rt, aside.as_str());
+        let _ = remove_folder(place.rt, folder.as_str());
     } else {
-        *is_swept = true;
+        *aside = FoldersAside::Kept(folder);
     }
     answer
 }
 
 fn sweep_once<R: Files<File = File> + Alloc>(
     place: &Place<'_, R>,
-    is_swept: &mut bool,
+    aside: &mut FoldersAside,
 ) -> io::Result<()> {
-    if !*is_swept {
+    if let FoldersAside::Unknown = aside {
         sweep(place)?;
-        *is_swept = true;
+        *aside = FoldersAside::Swept;
     }
     Ok(())
 }
 
-/// Removes what earlier puts left aside.
+/// Removes what earlier puts left aside, all that can be removed.
 fn sweep<R: Files<File = File> + Alloc>(place: &Place<'_, R>) -> io::Result<()> {
+    let mut answer = Ok(());
     for entry in fs::read_dir(&place.rt, place.path()?)? {
         match entry {
             Ok(entry) if is_aside(entry.file_name()) => {
-                remove_folder(place.rt, place.entry(entry.file_name())?.as_str())?;
+                let path = place.entry(entry.file_name())?;
+                answer = answer.and(remove_folder(place.rt, path.as_str()));
             }
             Ok(_) => {}
             Err(error) if is_no_text(&error) => {}
             Err(error) => return Err(error),
         }
     }
-    Ok(())
+    answer
 }
 
 fn is_aside(name: &str) -> bool {
@@ -139,18 +178,47 @@ fn is_aside(name: &str) -> bool {
 
 fn remove_folder<R: Files + Alloc>(rt: &R, path: &str) -> io::Result<()> {
     match entry_at(rt, path)? {
-        Entry::Folder => fs::remove_dir_all(rt, path),
+        // An empty one is removed whoever may read it.
+        Entry::Folder => match fs::remove_dir(rt, path) {
+            Err(_) => fs::remove_dir_all(rt, path),
+            removed => removed,
+        },
         Entry::Nothing | Entry::File(_) | Entry::Other => Ok(()),
     }
 }
 
-/// Makes the folder of a put under `name`, and gives its path.
-fn make_aside<R: Files + Alloc>(place: &Place<'_, R>, name: &str) -> io::Result<String> {
+/// The folder in which a put at `path` is written: the one that is kept, where it still stands there, or
+/// else a new one. It is taken out of what is known.
+fn folder_of_a_put<R: Files + Alloc>(
+    place: &Place<'_, R>,
+    aside: &mut FoldersAside,
+    path: &str,
+) -> io::Result<String> {
+    match mem::replace(aside, FoldersAside::Unknown) {
+        // Its name is the put's own.
+        FoldersAside::Kept(folder) if folder.as_str() == path => {
+            remove_folder(place.rt, folder.as_str())?;
+        }
+        FoldersAside::Kept(folder) => match entry_at(place.rt, folder.as_str()) {
+            Ok(Entry::Folder) => return Ok(folder),
+            Ok(Entry::Nothing | Entry::File(_) | Entry::Other) => {}
+            Err(error) => {
+                *aside = FoldersAside::Kept(folder);
+                return Err(error);
+            }
+        },
+        FoldersAside::Swept | FoldersAside::Unknown => {}
+    }
+    make_aside(place, path)
+}
+
+/// Makes the folder of a put at `path`, and gives its own path.
+fn make_aside<R: Files + Alloc>(place: &Place<'_, R>, path: &str) -> io::Result<String> {
     for number in 0..u64::MAX {
-        let aside = format!(in place.alloc; "{ASIDE}{number}")?;
-        let path = place.entry(aside.as_str())?;
-        if aside.as_str() != name && is_made(place.rt, path.as_str())? {
-            return Ok(path);
+        let name = format!(in place.alloc; "{ASIDE}{number}")?;
+        let aside = place.entry(name.as_str())?;
+        if aside.as_str() != path && is_made(place.rt, aside.as_str())? {
+            return Ok(aside);
         }
     }
     Err(ErrorKind::AlreadyExists.into())
@@ -174,21 +242,24 @@ fn is_made_anew<R: Files + Alloc>(rt: &R, path: &str) -> io::Result<bool> {
     }
 }
 
-fn put_through<R: Files<File = File>>(
+fn put_through<R: Files<File = File> + Alloc>(
     place: &Place<'_, R>,
+    lot: u64,
     open: &mut Option<OpenFolder>,
     aside: &str,
     path: &str,
     bytes: &[u8],
 ) -> io::Result<()> {
-    let part = format!(in place.alloc; "{aside}/part")?;
+    let part = format!(in place.alloc; "{aside}/part-{lot}")?;
     let mut opened = create_file(place.rt, part.as_str())?;
     opened.write(0, bytes)?;
     opened.file.sync_all()?;
     drop(opened);
+    // The folder is looked at first: no other one has this part, so what the rename changes is synced.
+    let folder = folder_at(place.rt, place.path()?, open.take())?;
     // The system refuses it where a folder stands under the name.
     fs::rename(place.rt, part.as_str(), path)?;
-    fs::remove_dir(place.rt, aside)?;
-    // Last, so that both the name and the end of what stood aside are durable.
-    sync_folder(place.rt, place.path()?, open)
+    folder.sync()?;
+    *open = Some(folder);
+    Ok(())
 }
