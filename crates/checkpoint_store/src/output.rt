@@ -150,7 +150,7 @@ impl Output {
     }
 
     /// Writes the piece behind what was written.
-    pub fn write_piece<D: Disk>(&mut self, disk: &mut D) -> Result<(), Failed>
+    pub(crate) fn write_piece<D: Disk>(&mut self, disk: &mut D) -> Result<(), Failed>
         requires room { HasRoom self.old }
         requires within { IsTrue D.tells → self.old.offset ≤ length (D.held disk.old self.old.file) }
         ensures room { OnOk result (HasFreeRoom self.new) }

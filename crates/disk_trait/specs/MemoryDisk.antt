@@ -1,6 +1,7 @@
 -- What a disk in memory shows.
-use Rattle.std.specs.Prelude.{◌≡◌, ℕ, List}
+use Rattle.std.specs.Prelude.{◌≡◌, ℕ, List, []}
 use Rattle.disk_trait.specs.Files.{Files}
+use Rattle.disk_trait.specs.Images.{IsOnly}
 use Rattle.disk_trait.specs.Memory.{FileState}
 use Rattle.disk_trait.specs.MemoryHistory.{past_of}
 use Rattle.disk_trait.specs.MemoryPast.{file_at, left_at}
@@ -33,3 +34,12 @@ state_at disk k file = file_at (past_of disk.history) k file
 pub record IsUndone (old new : MemoryDisk) : Type 0 where
   pub held : (f : FileName) → held_by new f ≡ held_by old f
   pub calls : recorded new ≡ recorded old
+
+-- a disk that no call was made to: none fails, nothing failed, and nothing is pending
+pub record IsAnew (disk : MemoryDisk) : Type 0 where
+  pub synced : IsOnly (held_by disk) (left_by disk 0)
+  pub moment : moment_of disk ≡ 0
+  pub calls : recorded disk ≡ []
+  pub faults : disk.counted.faults ≡ 0
+  pub count : disk.counted.count ≡ 0
+  pub failing : disk.counted.failing.items ≡ []

@@ -32,7 +32,7 @@ impl MemoryDisk {
     ghost use Rattle.std.specs.Prelude.{◌≡◌, ◌≤◌, [], IfOk};
     ghost use Rattle.disk_trait.specs.Files.{Files};
     ghost use Rattle.disk_trait.specs.Images.{IsOnly};
-    ghost use Rattle.disk_trait.specs.MemoryDisk.{recorded, state_at};
+    ghost use Rattle.disk_trait.specs.MemoryDisk.{recorded, state_at, IsAnew};
     ghost use Rattle.disk_trait.specs.MemoryStop.{IsPicked};
 
     /// An empty disk, whose calls with these numbers fail. Its memory comes from their allocator.
@@ -67,13 +67,7 @@ impl MemoryDisk {
             (⟦<MemoryDisk as Disk>⟧.held stopped)) }
         ensures present { pick ≡ Pick.New → at ≡ ⟦<MemoryDisk as Disk>⟧.moment self.now
             → IfOk result (λ stopped. ⟦<MemoryDisk as Disk>⟧.held stopped ≡ ⟦<MemoryDisk as Disk>⟧.held self.now) }
-        ensures synced { IfOk result (λ stopped. IsOnly (⟦<MemoryDisk as Disk>⟧.held stopped)
-            (⟦<MemoryDisk as Disk>⟧.images stopped 0)) }
-        ensures moment { IfOk result (λ stopped. ⟦<MemoryDisk as Disk>⟧.moment stopped ≡ 0) }
-        ensures faults { IfOk result (λ stopped. ⟦<MemoryDisk as Disk>⟧.faults stopped ≡ 0) }
-        ensures calls { IfOk result (λ stopped. recorded stopped ≡ []) }
-        ensures failing { IfOk result (λ stopped. stopped.counted.failing.items ≡ []) }
-        ensures count { IfOk result (λ stopped. stopped.counted.count ≡ 0) }
+        ensures anew { IfOk result IsAnew }
     {
         let table = self.history.image(at, pick)?;
         let alloc = table.alloc;

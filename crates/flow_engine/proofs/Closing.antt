@@ -141,10 +141,10 @@ module _ {D : Type 0} (tells : Bool) (held : D → Files) (moment : D → ℕ) (
 
 -- ---- an engine that was opened
 
-pub begun : {D : Type 0} (moment : D → ℕ) (images : D → ℕ → Files → Type 0) (flow : Flow) (s : StoreState) (most : ℕ) (e : EngineState) → IsOpened flow s most e → (opened : Machine) (first disk : D) (start time : ℕ) (left now_left : List NamedFile)
+pub begun : {D : Type 0} (moment : D → ℕ) (images : D → ℕ → Files → Type 0) (flow : Flow) (s : StoreState) (most checkpoint : ℕ) (e : EngineState) → IsOpened flow s most checkpoint e → (opened : Machine) (first disk : D) (start time : ℕ) (left now_left : List NamedFile)
     (standing : List ℕ → Option (List ℕ)) → now_left ≡ left → coming_of opened.world ≡ e.listing.names
     → IsRunningAt flow start time moment images s.lot opened first disk [] opened left standing → IsRunning moment images e opened first start time disk now_left standing
-begun moment images flow s most e is opened first disk start time left now_left standing left_is coming run = record {
+begun moment images flow s most checkpoint e is opened first disk start time left now_left standing left_is coming run = record {
   reached = opened;
   to = record {
     run = subst (λ (l : List NamedFile). IsRunningAt e.flow start time moment images e.store.lot opened first disk e.journal opened l standing) (sym left_is)

@@ -1,21 +1,17 @@
 -- A session comes next only where nothing is due.
 use Rattle.std.proofs.Common.{◌≡◌, ℕ, refl, ap, ◌∙◌}
-use Rattle.std.specs.Prelude.{Option, Some}
+use Rattle.std.specs.Prelude.{Option, None, Some}
 use Rattle.engine_choice.specs.declared.choice.Choice.{Choice}
 use Rattle.flow_engine.specs.Checkout.{choice_behind, choice_in, session_in}
 use Rattle.flow_engine.specs.Engine.{EngineState}
-use Rattle.flow_engine.specs.Ready.{due_in}
-use Rattle.flow_engine.specs.declared.tending.Tended.{Tended}
-use Rattle.flow_engine.specs.declared.tending.Tended.TheVariants.{Checkpointed, Expired, Nothing, Reclaimed}
+use Rattle.flow_engine.specs.Ready.{Due, due_in}
 
-none_behind : (due : Tended) (chosen : Option Choice) (choice : Choice) → choice_behind due chosen ≡ Some choice → (due ≡ Nothing) × (chosen ≡ Some choice)
-none_behind Nothing chosen choice is = (refl, is)
-none_behind Expired chosen choice is = absurd cc
-none_behind Checkpointed chosen choice is = absurd cc
-none_behind Reclaimed chosen choice is = absurd cc
+none_behind : (due : Option Due) (chosen : Option Choice) (choice : Choice) → choice_behind due chosen ≡ Some choice → (due ≡ None) × (chosen ≡ Some choice)
+none_behind None chosen choice is = (refl, is)
+none_behind (Some due) chosen choice is = absurd cc
 
 module _ (e : EngineState) (moment : ℕ) (choice : Choice) (session : session_in e moment ≡ Some choice) where
-  pub nothing_due : due_in e moment ≡ Nothing
+  pub nothing_due : due_in e moment ≡ None
   nothing_due = (none_behind (due_in e moment) (choice_in e moment) choice session).0
 
   -- it is the first that is ready
@@ -23,5 +19,5 @@ module _ (e : EngineState) (moment : ℕ) (choice : Choice) (session : session_i
   chosen_of = (none_behind (due_in e moment) (choice_in e moment) choice session).1
 
 -- and where nothing is due, the first that is ready comes next
-pub session_of : (e : EngineState) (moment : ℕ) (chosen : Option Choice) → due_in e moment ≡ Nothing → choice_in e moment ≡ chosen → session_in e moment ≡ chosen
-session_of e moment chosen none is = ap (λ (due : Tended). choice_behind due (choice_in e moment)) none ∙ is
+pub session_of : (e : EngineState) (moment : ℕ) (chosen : Option Choice) → due_in e moment ≡ None → choice_in e moment ≡ chosen → session_in e moment ≡ chosen
+session_of e moment chosen none is = ap (λ (due : Option Due). choice_behind due (choice_in e moment)) none ∙ is

@@ -22,25 +22,23 @@ use Rattle.flow_engine.specs.Checkout.{checkout_in, choice_in, ended_as, ending_
 use Rattle.flow_engine.specs.Driving.{IsEnded, IsTurned}
 use Rattle.flow_engine.specs.Engine.{EngineState}
 use Rattle.flow_engine.specs.Running.{IsRunning}
-use Rattle.flow_engine.specs.Ready.{due_in, first_of, is_log_due}
+use Rattle.flow_engine.specs.Ready.{Due, due_in, first_of, is_log_due}
 use Rattle.flow_engine.specs.declared.checkout.Checkout.{Checkout}
 use Rattle.flow_engine.specs.declared.checkout.Checkout.TheVariants as next
-use Rattle.flow_engine.specs.declared.tending.Tended.{Tended}
-use Rattle.flow_engine.specs.declared.tending.Tended.TheVariants.{Nothing}
 
 -- ---- what comes next
 
-none_by : {A : Type 0} (o : Option A) (log claims : Bool) → first_of (is_some o) log claims ≡ Nothing → o ≡ None
+none_by : {A : Type 0} (o : Option A) (log claims : Bool) → first_of (is_some o) log claims ≡ None → o ≡ None
 none_by None log claims is = refl
 none_by (Some a) log claims is = absurd cc
 
 -- where nothing is due, no file has expired
-pub none_expired : (e : EngineState) (moment : ℕ) → due_in e moment ≡ Nothing → due_expiry e.flow (queue_seen e.queues) moment ≡ None
+pub none_expired : (e : EngineState) (moment : ℕ) → due_in e moment ≡ None → due_expiry e.flow (queue_seen e.queues) moment ≡ None
 none_expired e moment is = none_by (due_expiry e.flow (queue_seen e.queues) moment) (is_log_due e.checkpoint e.store) (nat_le RECLAIM_ENTRIES e.since_reclaim) is
 
 -- .. and this comes next
-pub comes_next : (e : EngineState) (moment : ℕ) (next : Checkout) → due_in e moment ≡ Nothing → next ≡ checkout_in e moment → next_of (length e.journal) e.most (choice_in e moment) (ending_in e moment) ≡ next
-comes_next e moment next none is = sym (is ∙ ap (λ (due : Tended). next_behind due (next_of (length e.journal) e.most (choice_in e moment) (ending_in e moment))) none)
+pub comes_next : (e : EngineState) (moment : ℕ) (next : Checkout) → due_in e moment ≡ None → next ≡ checkout_in e moment → next_of (length e.journal) e.most (choice_in e moment) (ending_in e moment) ≡ next
+comes_next e moment next none is = sym (is ∙ ap (λ (due : Option Due). next_behind due (next_of (length e.journal) e.most (choice_in e moment) (ending_in e moment))) none)
 
 same_end : (one other : Ending) → ended_as one ≡ ended_as other → one ≡ other
 same_end (Rest until) (Rest later) is = let same : until ≡ later = cc in ap (λ (n : ℕ). Rest n) same
@@ -86,7 +84,7 @@ full_as entries most (Some choice) end limit is = by (nat_lt entries most) refl 
 
 module _ (law : EndsAreMachineEnds) {D : Type 0} (moment : D → ℕ) (images : D → ℕ → Files → Type 0) (e : EngineState) (opened : Machine) (first now : D) (left : List NamedFile) (standing : List ℕ → Option (List ℕ))
     (start time : ℕ) (run : IsRunning moment images e opened first start time now left standing) (seen : SeesTheSame e.flow (queue_seen e.queues) (queues_of run.reached.state)) (counts : (kept_by e.store).counts ≡ run.reached.state.counts)
-    (due : due_in e time ≡ Nothing) where
+    (due : due_in e time ≡ None) where
   machine_end : choice_in e time ≡ None → IsMachineEnd e.flow run.reached.state run.reached.world time (ending_in e time)
   machine_end none =
       let choice_of_counts = λ (made : List ℕ). next_choice e.flow (queue_seen e.queues) made (coming_of run.reached.world) time e.last in

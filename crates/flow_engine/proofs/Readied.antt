@@ -33,6 +33,7 @@ module _ {D : Type 0} (tells : Bool) (held : D → Files) (moment : D → ℕ) (
     queues = subst (λ (fl : Flow). AreQueuesOf fl (kept_by f.store) f.queues) (sym flow_is) queued.are;
     listing = listing ∙ ready.listing ∙ sym flow_is;
     distinct = distinct;
+    most = omega (arith, ready.most, most_is);
     entries = omega (arith, entries, most_is);
     due = due;
   }

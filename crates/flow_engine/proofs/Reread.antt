@@ -27,6 +27,7 @@ module _ (tells : Bool) {D : Type 0} (held : D → Files) (moment : D → ℕ) (
         queues = ready.queues;
         listing = ready.listing;
         distinct = ready.distinct;
+        most = ready.most;
         entries = ready.entries;
         due = ready.due;
       })

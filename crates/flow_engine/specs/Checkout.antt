@@ -8,11 +8,9 @@ use Rattle.engine_queues.specs.Queues.{queue_seen}
 use Rattle.store_core.specs.Store.{kept_by}
 use Rattle.flow_run.specs.Ending.{journal_full}
 use Rattle.flow_engine.specs.Engine.{EngineState}
-use Rattle.flow_engine.specs.Ready.{KnowsDue, due_in}
+use Rattle.flow_engine.specs.Ready.{Due as WhatIsDue, KnowsDue, due_in}
 use Rattle.flow_engine.specs.declared.checkout.Checkout.{Checkout}
 use Rattle.flow_engine.specs.declared.checkout.Checkout.TheVariants.{Due, Session, Limit, Rest, Blocked, Quiet}
-use Rattle.flow_engine.specs.declared.tending.Tended.{Tended}
-use Rattle.flow_engine.specs.declared.tending.Tended.TheVariants.{Nothing}
 
 -- ---- a session
 
@@ -22,9 +20,9 @@ choice_in e moment =
     next_choice e.flow (queue_seen e.queues) (kept_by e.store).counts e.listing.names moment e.last
 
 -- none, where anything is due
-abbrev pub choice_behind : Tended → Option Choice → Option Choice
-choice_behind Nothing choice = choice
-choice_behind due choice = None
+abbrev pub choice_behind : Option WhatIsDue → Option Choice → Option Choice
+choice_behind None choice = choice
+choice_behind (Some due) choice = None
 
 -- the session that comes next
 abbrev pub session_in : EngineState → (moment : ℕ) → Option Choice
@@ -47,9 +45,9 @@ next_of entries most None end = ended_as end
 next_of entries most (Some choice) end = if nat_lt entries most then Session choice else Limit (journal_full most)
 
 -- what is due comes before that
-abbrev pub next_behind : Tended → Checkout → Checkout
-next_behind Nothing next = next
-next_behind due next = Due
+abbrev pub next_behind : Option WhatIsDue → Checkout → Checkout
+next_behind None next = next
+next_behind (Some due) next = Due
 
 abbrev pub checkout_in : EngineState → (moment : ℕ) → Checkout
 checkout_in e moment =

@@ -1,17 +1,21 @@
 -- What becomes of a session that was worked on.
-use Rattle.std.specs.Prelude.{◌≡◌, ◌⊎◌, ℕ, true, List, [], ◌∷◌, ◌++◌, length, Option, None, Some, Result, Ok, Err, IsErrOf}
+use Rattle.std.specs.Prelude.{◌≡◌, ◌⊎◌, ℕ, true, List, [], ◌∷◌, ◌++◌, length, Bool, IsTrue, Option, None, Some, Result, Ok, Err, IsErrOf}
+use Rattle.disk_trait.specs.Files.{Files}
+use Rattle.disk_trait.specs.Images.{Stays}
 use Rattle.flowfile_record.specs.NamedFile.{NamedFile}
 use Rattle.flowfile_record.specs.declared.content.ContentRef.{ContentRef}
+use Rattle.content_repo.specs.Claims.{content_in}
 use Rattle.kept_state.specs.declared.limit.Limit.{Limit as TheLimit}
 use Rattle.store_core.specs.Store.{kept_by}
+use Rattle.flow_run.specs.Work.{WritesLog}
 use Rattle.flow_engine.specs.Checkout.{session_in}
 use Rattle.flow_engine.specs.Change.{names_without, without_received}
 use Rattle.flow_engine.specs.Done.{IsSame, IsWorkOn, step_done}
-use Rattle.flow_engine.specs.Engine.{EngineState}
+use Rattle.flow_engine.specs.Engine.{EngineState, IsOfSameRun}
 use Rattle.flow_engine.specs.Job.{IsNextJob}
 use Rattle.flow_engine.specs.Tending.{counted_on}
 use Rattle.flow_engine.specs.declared.commit.Committed.{Committed}
-use Rattle.flow_engine.specs.declared.commit.Committed.TheVariants.{Acked}
+use Rattle.flow_engine.specs.declared.commit.Committed.TheVariants.{Acked, Changed}
 use Rattle.flow_engine.specs.declared.done.Done.{Done}
 use Rattle.flow_engine.specs.declared.error.EngineError.{EngineError}
 use Rattle.flow_engine.specs.declared.error.EngineError.TheVariants.{Disk, Inbox, Limit}
@@ -85,9 +89,33 @@ IsInboxLeft (Ok moment) received old new = new ≡ without_received received old
 IsInboxLeft (Err Inbox) received old new = (new ≡ old) ⊎ (new ≡ without_received received old)
 IsInboxLeft _ received old new = new ≡ old
 
--- Nothing was made of the session: there is no entry, no limit was met, and the store must be opened anew only where it had
--- to be before, or the disk failed.
+-- Nothing was made of the session: there is no entry, no limit was met, and the store must be opened anew only where it
+-- had to be before, or the disk failed.
 pub record IsLeftOut {A : Type 0} (result : Result A EngineError) (old new : EngineState) : Type 0 where
   pub journal : new.journal ≡ old.journal
   pub limit : (limit : TheLimit) → IsErrOf result (Limit limit) → ⊥
   pub failed : new.failed ≡ true → (old.failed ≡ true) ⊎ IsErrOf result Disk
+
+-- Acknowledged, the journal has one entry more, this session, and its file has left the inbox. Else both are as they
+-- were, but at a failure of the disk or the inbox.
+pub record MakesEntry (result : Result Committed EngineError) (done : Done) (now : ℕ) (in_tells : Bool)
+    (old new : EngineState) (left now_left : List NamedFile) : Type 0 where
+  pub journal : IsJournaled result done now old new
+  pub inbox : IsTrue in_tells → IsInboxBehind result done.given.file left now_left
+
+-- Only what stands is made part of the run. Where something has changed, another job comes next at the session's moment,
+-- or none, and nothing is done.
+pub record TakesWhatStands {D : Type 0} (result : Result Committed EngineError) (telling : Type 0) (held : D → Files)
+    (moment : D → ℕ) (images : D → ℕ → Files → Type 0) (done : Done) (e_old e_new : EngineState) (old new : D)
+    (left : List NamedFile) (standing now_standing : List ℕ → Option (List ℕ)) : Type 0 where
+  pub stands : IsLeftOut result e_old e_new ⊎ StandsSo telling e_old (content_in (held old)) left standing done
+  pub changed : result ≡ Ok Changed → StandsOtherwise telling e_old (content_in (held old)) left standing done
+      × (e_new ≡ e_old) × Stays held moment images old new × (now_standing ≡ standing)
+
+-- What stays: the run's constants and the number of the log. Only claims, files of events, the log and what may follow
+-- it are written.
+pub record CommitsAlone {D : Type 0} (moment : D → ℕ) (images : D → ℕ → Files → Type 0) (e_old e_new : EngineState)
+    (old new : D) : Type 0 where
+  pub same : IsOfSameRun e_old e_new
+  pub log : e_new.store.log.number ≡ e_old.store.log.number
+  pub alone : WritesLog moment images e_old.store.log.number old new

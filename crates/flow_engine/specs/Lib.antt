@@ -1,5 +1,6 @@
 pub mod Change
 pub mod Checkout
+pub mod Closing
 pub mod Commit
 pub mod Committing
 pub mod Done

@@ -1,5 +1,5 @@
 -- What holds between two calls of an engine, where the devices tell what they hold.
-use Rattle.std.specs.Prelude.{◌≡◌, ℕ, ◌≤◌, Bool, List, Option, None}
+use Rattle.std.specs.Prelude.{◌≡◌, ℕ, ◌≤◌, Bool, false, List, Option, None, Result, Ok, IsErrOf}
 use Rattle.disk_trait.specs.Files.{Files}
 use Rattle.flowfile_record.specs.NamedFile.{NamedFile}
 use Rattle.kept_state.specs.declared.limit.Limit.{Limit as TheLimit}
@@ -12,7 +12,9 @@ use Rattle.flow_run.specs.Turns.{last_worker}
 use Rattle.flow_engine.specs.Engine.{EngineState}
 use Rattle.flow_engine.specs.Errors.{ended_by}
 use Rattle.flow_engine.specs.declared.error.EngineError.{EngineError}
-use Rattle.flow_engine.specs.declared.error.EngineError.TheVariants.{Limit}
+use Rattle.flow_engine.specs.declared.error.EngineError.TheVariants.{Inbox, Limit}
+use Rattle.flow_engine.specs.declared.tending.Tended.{Tended}
+use Rattle.flow_engine.specs.declared.tending.Tended.TheVariants.{Expired}
 
 -- The engine's journal, of steps from the clock's time at the start up to this time, leads from the opened machine to
 -- this one; and the engine knows which files are to come, and which processor got the last session.
@@ -49,3 +51,35 @@ Stops error tells held moment images e opened first start time now left standing
     (later : ℕ) → time ≤ later
     → HasRun e.flow (ended_by error) start later tells held moment images e.store.lot opened first now left standing
     e.journal
+
+-- ---- what a run becomes
+
+-- .. by a call that tends at this moment: it goes on, at the time that it had where no files expired, or it is stopped
+pub record TendsRun {D : Type 0} (result : Result Tended EngineError) (tells : Bool) (held : D → Files)
+    (moment_of : D → ℕ) (images : D → ℕ → Files → Type 0) (moment : ℕ) (e_old e_new : EngineState) (old new : D)
+    : Type 0 where
+  pub goes_on : e_new.failed ≡ false → (opened : Machine) (first : D) (start time : ℕ) (left : List NamedFile)
+      (standing : List ℕ → Option (List ℕ)) → time ≤ moment
+      → IsRunning moment_of images e_old opened first start time old left standing
+      → IsRunning moment_of images e_new opened first start moment new left standing
+  pub idle : e_new.failed ≡ false → (result ≡ Ok Expired → ⊥) → (opened : Machine) (first : D) (start time : ℕ)
+      (left : List NamedFile) (standing : List ℕ → Option (List ℕ))
+      → IsRunning moment_of images e_old opened first start time old left standing
+      → IsRunning moment_of images e_new opened first start time new left standing
+  pub stopped : (error : EngineError) → IsErrOf result error → e_old.failed ≡ false → (opened : Machine) (first : D)
+      (start time : ℕ) (left : List NamedFile) (standing : List ℕ → Option (List ℕ)) → time ≤ moment
+      → IsRunning moment_of images e_old opened first start time old left standing
+      → Stops error tells held moment_of images e_new opened first start moment new left standing
+
+-- .. by a commit at this moment: it goes on, unless a file that was received couldn't be removed, or it is stopped
+pub record CommitsRun {D A : Type 0} (result : Result A EngineError) (tells : Bool) (held : D → Files)
+    (moment_of : D → ℕ) (images : D → ℕ → Files → Type 0) (moment : ℕ) (e_old e_new : EngineState) (old new : D)
+    (left now_left : List NamedFile) (standing now_standing : List ℕ → Option (List ℕ)) : Type 0 where
+  pub goes_on : e_new.failed ≡ false → (IsErrOf result Inbox → e_new.journal ≡ e_old.journal) → (opened : Machine)
+      (first : D) (start time : ℕ) → time ≤ moment
+      → IsRunning moment_of images e_old opened first start time old left standing
+      → IsRunning moment_of images e_new opened first start moment new now_left now_standing
+  pub stopped : (error : EngineError) → IsErrOf result error → e_old.failed ≡ false → (opened : Machine) (first : D)
+      (start time : ℕ) → time ≤ moment
+      → IsRunning moment_of images e_old opened first start time old left standing
+      → Stops error tells held moment_of images e_new opened first start moment new now_left now_standing

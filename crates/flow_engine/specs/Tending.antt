@@ -1,5 +1,5 @@
 -- Files of a connection expire by a step of the machine, and a new log begins where that is due.
-use Rattle.std.specs.Prelude.{◌≡◌, ◌⊎◌, ℕ, ◌+◌, ◌-◌, ◌^◌, min, List, [], ◌∷◌, ◌++◌, Option, Some, None, Result, Ok, Err}
+use Rattle.std.specs.Prelude.{◌≡◌, ◌⊎◌, ℕ, ◌+◌, ◌-◌, ◌^◌, min, List, [], ◌∷◌, ◌++◌, Option, Some, None, Result, Ok, Err, IfOk, OnOk}
 use Rattle.disk_trait.specs.Files.{Files}
 use Rattle.flowfile_record.specs.declared.change.Settled.{Settled}
 use Rattle.flowfile_record.specs.declared.content.ContentRef.{ContentRef}
@@ -12,13 +12,14 @@ use Rattle.machine_model.specs.Due.{due_expiry}
 use Rattle.machine_model.specs.State.{Machine}
 use Rattle.machine_model.specs.Stepping.{step}
 use Rattle.content_repo.specs.Slots.{IsReclaimed}
-use Rattle.content_repo.specs.declared.reclaim.Reclaimed.{Reclaimed as TheCount}
 use Rattle.store_core.specs.Store.{StoreState}
 use Rattle.engine_core.specs.Expiring.{HaveContents}
 use Rattle.engine_queues.specs.Queues.{queue_seen}
 use Rattle.flow_run.specs.Going.{IsBetween, IsStepped}
 use Rattle.flow_run.specs.Run.{IsStateOf}
-use Rattle.flow_engine.specs.Engine.{EngineState}
+use Rattle.flow_run.specs.Work.{IsNoEarlier, IsShortOn, WritesLog}
+use Rattle.flow_engine.specs.Engine.{EngineState, IsOfSameRun}
+use Rattle.flow_engine.specs.Ready.{due_behind, due_in}
 use Rattle.flow_engine.specs.declared.error.EngineError.{EngineError}
 use Rattle.flow_engine.specs.declared.error.EngineError.TheVariants.{Disk}
 use Rattle.flow_engine.specs.declared.tending.Tended.{Tended}
@@ -73,25 +74,37 @@ abbrev pub IsCheckpointed : (old new : StoreState) → Type 0
 IsCheckpointed old new =
     (number : ℕ) → old.log.number ≡ Some number → (new.log.number ≡ Some (number + 1)) × (new.entries ≡ 0)
 
--- ---- claims
-
--- each claim without references is empty, and its slot is free
-abbrev pub AreReclaimed : (old new : StoreState) → Type 0
-AreReclaimed old new = (answer : TheCount) × IsReclaimed old.slots new.slots answer
-
 -- ---- what a call has done
 
--- What a call leaves that tended, at a disk whose moment is then this one: an entry of the files that expired, which may
--- be in the journal, not acknowledged, where the disk failed; a new log; empty claims; or nothing but that the engine
--- knows it.
+-- What a call leaves that tended, at a disk whose moment is then this one: an entry of the files that expired, which
+-- may be in the journal, not acknowledged, where the disk failed; a new log; empty claims, as many as are told; or
+-- nothing but that the engine knows it.
 abbrev pub HasTended : Result Tended EngineError → (moment now : ℕ) → (old new : EngineState) → Type 0
 HasTended (Ok Expired) moment now old new =
     HasExpired moment (Some now) old new × (new.since_reclaim ≡ counted_on old.since_reclaim)
 HasTended (Ok Checkpointed) moment now old new =
     (new.journal ≡ old.journal) × IsCheckpointed old.store new.store × (new.since_reclaim ≡ old.since_reclaim)
-HasTended (Ok Reclaimed) moment now old new =
-    (new.journal ≡ old.journal) × AreReclaimed old.store new.store × (new.since_reclaim ≡ 0)
+HasTended (Ok (Reclaimed answer)) moment now old new =
+    (new.journal ≡ old.journal) × IsReclaimed old.store.slots new.store.slots answer × (new.since_reclaim ≡ 0)
 HasTended (Ok Nothing) moment now old new = new ≡ record old { tended = Some moment }
 HasTended (Err Disk) moment now old new =
     ((new.journal ≡ old.journal) ⊎ HasExpired moment None old new) × (new.since_reclaim ≡ old.since_reclaim)
 HasTended (Err _) moment now old new = (new.journal ≡ old.journal) × (new.since_reclaim ≡ old.since_reclaim)
+
+-- The first thing that is due at the moment is what was done. Where nothing is, the disk isn't called, and the log is
+-- short.
+pub record TendsFirst {D : Type 0} (result : Result Tended EngineError) (moment_of : D → ℕ)
+    (images : D → ℕ → Files → Type 0) (moment : ℕ) (e_old e_new : EngineState) (old new : D) : Type 0 where
+  pub due : IfOk result (λ tended. due_behind tended ≡ due_in e_old moment)
+  pub done : HasTended result moment (moment_of new) e_old e_new
+  pub nothing : result ≡ Ok Nothing → (new ≡ old) × IsShortOn moment_of images e_old.checkpoint old
+
+-- What stays: the run's constants, what is to come and who worked last. The log is no earlier one. Only claims, files of
+-- events, the log and what may follow it are written.
+pub record TendsAlone {D : Type 0} (result : Result Tended EngineError) (moment_of : D → ℕ)
+    (images : D → ℕ → Files → Type 0) (e_old e_new : EngineState) (old new : D) : Type 0 where
+  pub same : IsOfSameRun e_old e_new
+  pub listing : e_new.listing ≡ e_old.listing
+  pub last : e_new.last ≡ e_old.last
+  pub log : OnOk result (IsNoEarlier e_old.store.log.number e_new.store.log.number)
+  pub alone : WritesLog moment_of images e_old.store.log.number old new

@@ -6,7 +6,6 @@ ghost use Rattle.store_core.specs.Store.{kept_by};
 ghost use Rattle.flow_engine.specs.Checkout.{MayCheckOut, checkout_in, choice_in, ending_in, ended_as, session_in};
 ghost use Rattle.flow_engine.specs.Ready.{due_in};
 ghost use Rattle.flow_engine.specs.declared.error.EngineError.TheVariants.{Memory, MustReopen};
-ghost use Rattle.flow_engine.specs.declared.tending.Tended.TheVariants.{Nothing};
 
 use crate::EngineError;
 use crate::engine::Engine;
@@ -84,7 +83,7 @@ impl Engine<'_> {
     // Whether anything is due. Where the engine knows that nothing is, the queues aren't searched.
     fn is_due(&self, alloc: Global, moment: u64) -> Result<bool, AllocError>
         requires { MayCheckOut self.now }
-        ensures { IfOk result (λ due. (due ≡ false) ↔ (due_in self.now moment ≡ Nothing)) }
+        ensures { IfOk result (λ due. (due ≡ false) ↔ (due_in self.now moment ≡ None)) }
     {
         if self.tended == Some(moment) {
             return Ok(false);

@@ -1,13 +1,12 @@
 //! The end of an engine.
-ghost use Rattle.std.specs.Prelude.{◌≡◌, ◌⊎◌, ◌↔◌, ℕ, true, false, Ok, IfOk, OnOk, IfErr, IsErrOf, IsTrue};
-ghost use Rattle.disk_trait.specs.Faults.{CountsFaults};
-ghost use Rattle.disk_trait.specs.Images.{After, IsOnly, Since};
+ghost use Rattle.std.specs.Prelude.{◌≡◌, ℕ, false, Ok, IfOk};
+ghost use Rattle.disk_trait.specs.Images.{After, Since};
 ghost use Rattle.machine_model.specs.State.{State};
 ghost use Rattle.store_core.specs.Flow.{flow_in};
 ghost use Rattle.store_core.specs.State.{stands_for};
 ghost use Rattle.store_core.specs.Store.{kept_by, live_in, EachStandsFor};
 ghost use Rattle.store_core.specs.Touched.{Frees};
-ghost use Rattle.flow_run.specs.Run.{IsTidied};
+ghost use Rattle.flow_engine.specs.Closing.{IsClosed, RefusesToClose};
 ghost use Rattle.flow_run.specs.Work.{IsAtWork, IsShortOn};
 
 use crate::EngineError;
@@ -26,24 +25,17 @@ impl Engine<'_> {
     /// the same state.
     pub fn close<D: Disk>(self, disk: &mut D) -> Result<Closed, EngineError>
         requires work { self.failed ≡ false → IsAtWork self.flow D.tells D.held D.moment D.images self.store disk.old }
-        ensures journal { IfOk result (λ closed. closed.journal ≡ self.entry.journal) }
+        ensures closed { IfOk result (IsClosed D.tells D.held D.moment D.images self.entry disk.new) }
         ensures states { self.entry.failed ≡ false → (state : State)
             → EachStandsFor (flow_in (kept_by self.entry.store)) self.entry.store.lot state
             (D.images disk.old (D.moment disk.old))
             → Since D.moment D.images disk.old disk.new
             (λ c. stands_for (flow_in (kept_by self.entry.store)) self.entry.store.lot c ≡ Ok state) }
-        // One image alone is left.
-        ensures synced { OnOk result (IsOnly (D.held disk.new) (D.images disk.new (D.moment disk.new))) }
-        ensures tidied { OnOk result (IsTrue D.tells
-            → IsTidied self.entry.flow self.entry.store.lot (D.held disk.new)) }
         ensures short { self.entry.failed ≡ false → (checkpoint : ℕ) → IsShortOn D.moment D.images checkpoint disk.old
             → IsShortOn D.moment D.images checkpoint disk.new }
         ensures alone { Since D.moment D.images disk.old disk.new
             (After (Frees (live_in self.entry.store)) (D.images disk.old (D.moment disk.old))) }
-        ensures reopen { IsErrOf result EngineError.MustReopen ↔ (self.entry.failed ≡ true) }
-        ensures untouched { self.entry.failed ≡ true → disk.new ≡ disk.old }
-        ensures kinds { IfErr result (λ error. (error ≡ EngineError.Disk) ⊎ (error ≡ EngineError.MustReopen)) }
-        ensures cause { CountsFaults (D.faults disk.old) (D.faults disk.new) (IsErrOf result EngineError.Disk) }
+        ensures refusal { RefusesToClose result D.faults self.entry disk.old disk.new }
     {
         let Engine {
             mut store,

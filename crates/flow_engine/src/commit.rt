@@ -10,14 +10,14 @@ ghost use Rattle.machine_model.specs.State.{Machine};
 ghost use Rattle.machine_model.specs.declared.flow.Flow.{Flow as TheFlow};
 ghost use Rattle.store_core.specs.Change.{HasLiveContents, MayChange};
 ghost use Rattle.store_core.specs.Store.{kept_by};
-ghost use Rattle.flow_engine.specs.Commit.{IsEntered, IsInboxBehind, IsInboxLeft, IsJournaled, IsLeftOut, StandsOtherwise, StandsSo};
+ghost use Rattle.flow_engine.specs.Commit.{CommitsAlone, IsEntered, IsInboxBehind, IsInboxLeft, IsJournaled, IsLeftOut, MakesEntry, StandsOtherwise, StandsSo, TakesWhatStands};
 ghost use Rattle.flow_engine.specs.Committing.{HasWritten, IsQueued};
 ghost use Rattle.flow_engine.specs.Done.{IsDone, step_done};
 ghost use Rattle.flow_engine.specs.Engine.{AreTakeable, IsOfSameRun};
 ghost use Rattle.flow_engine.specs.Errors.{CountsEachFault, HasCause, IsReadBy, RefusesToCommit};
 ghost use Rattle.flow_engine.specs.Journal.{journaled};
-ghost use Rattle.flow_engine.specs.Ready.{IsReady, IsUsable};
-ghost use Rattle.flow_engine.specs.Running.{IsRunning, Stops};
+ghost use Rattle.flow_engine.specs.Ready.{IsReady, IsUsableWith};
+ghost use Rattle.flow_engine.specs.Running.{CommitsRun, IsRunning, Stops};
 ghost use Rattle.flow_run.specs.Work.{IsReadDamaged, WritesLog};
 ghost use Rattle.flow_engine.specs.declared.error.EngineError.{EngineError as TheError};
 
@@ -59,46 +59,23 @@ impl Engine<'_> {
         outbox: &mut O,
         done: Done,
     ) -> Result<Committed, EngineError>
-        requires usable { IsUsable D.tells D.held D.moment D.images self.old disk.old }
-        requires most { self.old.most < 2 ^ 64 - 1 }
-        requires left { IsTrue I.tells → AreTakeable (I.left inbox.old) self.old.listing.names }
+        requires usable { IsUsableWith D.tells D.held D.moment D.images I.tells (I.left inbox.old) self.old disk.old }
         requires done { IsDone self.old.flow (kept_by self.old.store).store done }
         // Acknowledged, the journal has one entry more: this session. Else it is as it was, but at a failure of the disk
         // or the inbox.
-        ensures journal { IsJournaled result done (D.moment disk.new) self.old self.new }
-        ensures inbox { IsTrue I.tells
-            → IsInboxBehind result done.given.file (I.left inbox.old) (I.left inbox.new) }
+        ensures entered { MakesEntry result done (D.moment disk.new) I.tells self.old self.new
+            (I.left inbox.old) (I.left inbox.new) }
         // Only what stands is made part of the run.
-        ensures stands { IsLeftOut result self.old self.new
-            ⊎ StandsSo (IsTrue D.tells × IsTrue I.tells × IsTrue O.tells) self.old (content_in (D.held disk.old))
-            (I.left inbox.old) (O.standing outbox.old) done }
-        // Where something has changed, another job comes next at the session's moment, and nothing is done.
-        ensures changed { result ≡ Ok Committed.Changed
-            → StandsOtherwise (IsTrue D.tells × IsTrue I.tells × IsTrue O.tells) self.old (content_in (D.held disk.old))
-            (I.left inbox.old) (O.standing outbox.old) done
-            × (self.new ≡ self.old) × Stays D.held D.moment D.images disk.old disk.new
-            × (O.standing outbox.new ≡ O.standing outbox.old) }
+        ensures stands { TakesWhatStands result (IsTrue D.tells × IsTrue I.tells × IsTrue O.tells) D.held D.moment
+            D.images done self.old self.new disk.old disk.new (I.left inbox.old)
+            (O.standing outbox.old) (O.standing outbox.new) }
         // The run goes on, unless a file that was received couldn't be removed, or it is stopped.
-        ensures goes_on { self.new.failed ≡ false
-            → (IsErrOf result EngineError.Inbox → self.new.journal ≡ self.old.journal)
-            → IsTrue D.tells → IsTrue I.tells → IsTrue O.tells
-            → (opened : Machine) (first : D) (start time : ℕ) → time ≤ done.given.moment
-            → IsRunning D.moment D.images self.old opened first start time disk.old (I.left inbox.old)
-            (O.standing outbox.old)
-            → IsRunning D.moment D.images self.new opened first start done.given.moment disk.new (I.left inbox.new)
-            (O.standing outbox.new) }
-        ensures stopped { (error : TheError) → IsErrOf result error → self.old.failed ≡ false
-            → IsTrue D.tells → IsTrue I.tells → IsTrue O.tells
-            → (opened : Machine) (first : D) (start time : ℕ) → time ≤ done.given.moment
-            → IsRunning D.moment D.images self.old opened first start time disk.old (I.left inbox.old)
-            (O.standing outbox.old)
-            → Stops error D.tells D.held D.moment D.images self.new opened first start done.given.moment disk.new
-            (I.left inbox.new) (O.standing outbox.new) }
+        ensures run { IsTrue D.tells → IsTrue I.tells → IsTrue O.tells
+            → CommitsRun result D.tells D.held D.moment D.images done.given.moment self.old self.new disk.old disk.new
+            (I.left inbox.old) (I.left inbox.new) (O.standing outbox.old) (O.standing outbox.new) }
         // On any devices.
-        ensures usable { IsUsable D.tells D.held D.moment D.images self.new disk.new
-            × (IsTrue I.tells → AreTakeable (I.left inbox.new) self.new.listing.names) }
-        ensures same { IsOfSameRun self.old self.new × (self.new.store.log.number ≡ self.old.store.log.number)
-            × WritesLog D.moment D.images self.old.store.log.number disk.old disk.new }
+        ensures usable { IsUsableWith D.tells D.held D.moment D.images I.tells (I.left inbox.new) self.new disk.new }
+        ensures alone { CommitsAlone D.moment D.images self.old self.new disk.old disk.new }
         ensures refusal { RefusesToCommit result D.tells D.held D.moment D.images D.faults I.faults O.faults
             self.old self.new disk.old disk.new inbox.old inbox.new outbox.old outbox.new }
     {
@@ -123,7 +100,6 @@ impl Engine<'_> {
     ) -> Result<Committed, EngineError>
         requires ready { IsReady D.tells D.held D.moment D.images self.old disk.old }
         requires works { self.old.failed ≡ false }
-        requires most { self.old.most < 2 ^ 64 - 1 }
         requires left { IsTrue I.tells → AreTakeable (I.left inbox.old) self.old.listing.names }
         requires done { IsDone self.old.flow (kept_by self.old.store).store done }
         ensures journal { IsJournaled result done (D.moment disk.new) self.old self.new }
@@ -185,7 +161,6 @@ impl Engine<'_> {
         done: &Done,
     ) -> Result<bool, EngineError>
         requires ready { IsReady D.tells D.held D.moment D.images self.old disk.old }
-        requires most { self.old.most < 2 ^ 64 - 1 }
         requires left { IsTrue I.tells → AreTakeable (I.left inbox.old) self.old.listing.names }
         requires done { IsDone self.old.flow (kept_by self.old.store).store done.now }
         ensures so { result ≡ Ok true
@@ -225,7 +200,6 @@ impl Engine<'_> {
     ) -> Result<u64, EngineError>
         requires ready { IsReady D.tells D.held D.moment D.images self.old disk.old }
         requires works { self.old.failed ≡ false }
-        requires most { self.old.most < 2 ^ 64 - 1 }
         requires left { IsTrue I.tells → AreTakeable (I.left inbox.old) self.old.listing.names }
         requires stands { StandsSo (IsTrue D.tells × IsTrue I.tells × IsTrue O.tells) self.old
             (content_in (D.held disk.old)) (I.left inbox.old) (O.standing outbox.old) done }

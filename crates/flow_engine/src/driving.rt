@@ -1,5 +1,5 @@
 //! An engine goes on until nothing is left to do.
-ghost use Rattle.std.specs.Prelude.{◌≡◌, ◌⊎◌, ℕ, ◌-◌, ◌^◌, ◌<◌, ◌≤◌, true, false, Option, Some, IfOk, OnOk, IsErrOf, IsTrue};
+ghost use Rattle.std.specs.Prelude.{◌≡◌, ◌⊎◌, ℕ, ◌-◌, ◌^◌, ◌<◌, ◌≤◌, true, false, Option, None, Some, IfOk, OnOk, IsErrOf, IsTrue};
 ghost use Rattle.kept_state.specs.declared.limit.Limit.{Limit as TheLimit};
 ghost use Rattle.machine_model.specs.State.{Machine};
 ghost use Rattle.engine_choice.specs.declared.choice.Ending.{Ending as TheEnding};
@@ -13,7 +13,6 @@ ghost use Rattle.flow_engine.specs.Ready.{IsReady, due_in};
 ghost use Rattle.flow_engine.specs.Running.{IsRunning, Stops};
 ghost use Rattle.flow_run.specs.Work.{IsAtWork, IsNoEarlier, IsShortOn, WritesLog};
 ghost use Rattle.flow_engine.specs.declared.error.EngineError.{EngineError as TheError};
-ghost use Rattle.flow_engine.specs.declared.tending.Tended.TheVariants.{Nothing};
 
 use crate::EngineError;
 use crate::checkout::Checkout;
@@ -45,7 +44,6 @@ impl Engine<'_> {
         requires ready { IsReady D.tells D.held D.moment D.images self.old disk.old }
         requires works { self.old.failed ≡ false }
         requires left { IsTrue I.tells → AreTakeable (I.left inbox.old) self.old.listing.names }
-        requires most { self.old.most < 2 ^ 64 - 1 }
         // The run went on until nothing was left to do, or it was stopped.
         ensures ended { IfOk result (λ ending. IsTrue D.tells → IsTrue I.tells → IsTrue O.tells
             → (opened : Machine) (first : D) (start time : ℕ) → time ≤ C.time clock.old
@@ -99,7 +97,6 @@ impl Engine<'_> {
         requires ready { IsReady D.tells D.held D.moment D.images self.old disk.old }
         requires works { self.old.failed ≡ false }
         requires left { IsTrue I.tells → AreTakeable (I.left inbox.old) self.old.listing.names }
-        requires most { self.old.most < 2 ^ 64 - 1 }
         ensures turned { IfOk result (λ ending. IsTrue D.tells → IsTrue I.tells → IsTrue O.tells
             → (opened : Machine) (first : D) (start time : ℕ) → time ≤ moment
             → IsRunning D.moment D.images self.old opened first start time disk.old (I.left inbox.old)
@@ -128,7 +125,7 @@ impl Engine<'_> {
     {
         match self.tend(alloc, disk, moment)? {
             Tended::Nothing => self.go_on(alloc, disk, inbox, outbox, moment),
-            Tended::Expired | Tended::Checkpointed | Tended::Reclaimed => Ok(None),
+            Tended::Expired | Tended::Checkpointed | Tended::Reclaimed(_) => Ok(None),
         }
     }
 
@@ -144,9 +141,8 @@ impl Engine<'_> {
         requires ready { IsReady D.tells D.held D.moment D.images self.old disk.old }
         requires works { self.old.failed ≡ false }
         requires left { IsTrue I.tells → AreTakeable (I.left inbox.old) self.old.listing.names }
-        requires tended { due_in self.old moment ≡ Nothing }
+        requires tended { due_in self.old moment ≡ None }
         requires short { IsShortOn D.moment D.images self.old.checkpoint disk.old }
-        requires most { self.old.most < 2 ^ 64 - 1 }
         ensures turned { IfOk result (λ ending. IsTrue D.tells → IsTrue I.tells → IsTrue O.tells
             → (opened : Machine) (first : D) (start time : ℕ) → time ≤ moment
             → IsRunning D.moment D.images self.old opened first start time disk.old (I.left inbox.old)
@@ -207,7 +203,6 @@ impl Engine<'_> {
     ) -> Result<(), EngineError>
         requires ready { IsReady D.tells D.held D.moment D.images self.old disk.old }
         requires works { self.old.failed ≡ false }
-        requires most { self.old.most < 2 ^ 64 - 1 }
         requires chosen { session_in self.old moment ≡ Some choice }
         requires left { IsTrue I.tells → AreTakeable (I.left inbox.old) self.old.listing.names }
         ensures goes_on { OnOk result (IsTrue D.tells → IsTrue I.tells → IsTrue O.tells

@@ -1,17 +1,13 @@
 //! What an engine has in memory.
-ghost use Rattle.std.specs.Prelude.{◌≡◌, ◌⊎◌, ℕ, List, Option, filter, length, map, IfOk, IfErr, IsErrOf, IsTrue};
+ghost use Rattle.std.specs.Prelude.{◌≡◌, ◌⊎◌, ◌-◌, ◌^◌, ◌<◌, filter, length, map, IfOk, IfErr, IsErrOf, IsTrue};
 ghost use Rattle.disk_trait.specs.Faults.{CountsFaults};
 ghost use Rattle.flowfile_record.specs.NamedFile.{bytes_of};
 ghost use Rattle.world_io.specs.Inbox.{IsAscending};
 ghost use Rattle.machine_model.specs.Sound.{IsSound};
-ghost use Rattle.machine_model.specs.State.{State};
 ghost use Rattle.store_core.specs.Flow.{flow_in};
 ghost use Rattle.store_core.specs.Store.{kept_by};
 ghost use Rattle.engine_core.specs.Committing.{identity_of};
-ghost use Rattle.engine_choice.specs.Choice.{coming_of};
-ghost use Rattle.flow_run.specs.Run.{machine_at};
-ghost use Rattle.flow_engine.specs.Engine.{AreTakeable};
-ghost use Rattle.flow_engine.specs.Opening.{IsOpened, fits_in};
+ghost use Rattle.flow_engine.specs.Opening.{IsOpened, IsToCome, fits_in};
 
 use crate::EngineError;
 use engine_choice::Listing;
@@ -81,14 +77,9 @@ impl<'f> Engine<'f> {
     ) -> Result<Engine<'f>, EngineError>
         requires sound { IsSound flow.now }
         requires flow { flow_in (kept_by store) ≡ identity_of flow.now }
-        ensures opened { IfOk result (IsOpened flow.now store most) }
-        ensures checkpoint { IfOk result (λ engine. engine.checkpoint ≡ checkpoint) }
-        // All that the machine may take is to come.
-        ensures coming { IfOk result (λ engine. IsTrue I.tells → (state : State)
-            (standing : List ℕ → Option (List ℕ))
-            → coming_of (machine_at state (I.left inbox.old) standing).world ≡ engine.listing.names) }
-        ensures takeable { IfOk result (λ engine. IsTrue I.tells
-            → AreTakeable (I.left inbox.new) engine.listing.names) }
+        requires most { most < 2 ^ 64 - 1 }
+        ensures opened { IfOk result (IsOpened flow.now store most checkpoint) }
+        ensures listed { IfOk result (IsToCome I.tells (I.left inbox.old) (I.left inbox.new)) }
         ensures left { I.left inbox.new ≡ I.left inbox.old }
         ensures kinds { IfErr result (λ error. (error ≡ EngineError.Inbox) ⊎ (error ≡ EngineError.Memory)) }
         ensures cause { CountsFaults (I.faults inbox.old) (I.faults inbox.new) (IsErrOf result EngineError.Inbox) }

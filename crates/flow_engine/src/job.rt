@@ -18,7 +18,7 @@ ghost use Rattle.flow_engine.specs.Engine.{AreTakeable};
 ghost use Rattle.flow_engine.specs.Errors.{CountsEachFault, IsReadBy, OnlyReads, RefusesToRead};
 ghost use Rattle.flow_engine.specs.Handing.{IsHanded, IsHandedAs, MayBeReceived, MayBeTaken};
 ghost use Rattle.flow_engine.specs.Job.{IsNextJob};
-ghost use Rattle.flow_engine.specs.Ready.{IsReady, IsUsable};
+ghost use Rattle.flow_engine.specs.Ready.{IsReady, IsUsableWith};
 ghost use Rattle.flow_run.specs.Work.{IsAtWork, IsReadDamaged};
 
 use crate::EngineError;
@@ -60,16 +60,15 @@ impl Engine<'_> {
         moment: u64,
         choice: Choice,
     ) -> Result<Job, EngineError>
-        requires usable { IsUsable D.tells D.held D.moment D.images self.old disk.old }
+        requires usable { IsUsableWith D.tells D.held D.moment D.images I.tells (I.left inbox.old) self.old disk.old }
         requires chosen { session_in self.old moment ≡ Some choice }
-        requires left { IsTrue I.tells → AreTakeable (I.left inbox.old) self.old.listing.names }
         ensures job { IfOk result (λ job. IsNextJob (IsTrue D.tells × IsTrue I.tells × IsTrue O.tells) self.old
             (content_in (D.held disk.old)) (I.left inbox.old) (O.standing outbox.old) moment job
             × MayWorkOn self.old.flow (kept_by self.old.store).store job) }
         ensures engine { OnlyReads result self.old self.new }
         ensures world { Stays D.held D.moment D.images disk.old disk.new × (I.left inbox.new ≡ I.left inbox.old)
             × (O.standing outbox.new ≡ O.standing outbox.old) }
-        ensures usable { IsUsable D.tells D.held D.moment D.images self.new disk.new }
+        ensures usable { IsUsableWith D.tells D.held D.moment D.images I.tells (I.left inbox.new) self.new disk.new }
         ensures refusal { RefusesToRead result D.tells D.held D.moment D.images D.faults I.faults O.faults
             self.old self.new disk.old disk.new inbox.old inbox.new outbox.old outbox.new }
     {

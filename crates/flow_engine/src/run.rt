@@ -1,17 +1,14 @@
 //! A flow runs over an opened store until nothing is left to do, and the store is closed.
 ghost use Rattle.std.specs.Prelude.{◌≡◌, ℕ, ◌-◌, ◌^◌, ◌<◌, List, [], OnOk, IfErr, IsTrue};
-ghost use Rattle.disk_trait.specs.declared.damage.Damage.{Damage as TheDamage};
-ghost use Rattle.kept_state.specs.declared.limit.Limit.{Limit as TheLimit};
 ghost use Rattle.machine_model.specs.Sound.{IsSound};
 ghost use Rattle.machine_model.specs.State.{State};
 ghost use Rattle.machine_model.specs.declared.journal.Entry.{Entry as TheEntry};
 ghost use Rattle.flow_run.specs.Going.{IsRunningAt};
 ghost use Rattle.flow_run.specs.Run.{HasRun, machine_at};
-ghost use Rattle.flow_run.specs.declared.ended.Fault.TheVariants.{Damaged};
-ghost use Rattle.flow_run.specs.Ending.{EndsOnFaults, EndsShort, IsLimitMet};
+ghost use Rattle.flow_run.specs.Ending.{EndsForCause, EndsShort};
 ghost use Rattle.flow_engine.specs.Engine.{AreBuilt};
 ghost use Rattle.flow_engine.specs.Errors.{ended_by};
-ghost use Rattle.flow_run.specs.Work.{IsAtWork, IsReadDamaged, WritesLog};
+ghost use Rattle.flow_run.specs.Work.{IsAtWork, WritesLog};
 
 use crate::EngineError;
 use crate::close::Closed;
@@ -54,12 +51,8 @@ pub fn run_flow<D: Disk, I: Inbox, O: Outbox, C: Clock>(
     // On any devices.
     ensures checkpointed { EndsShort D.moment D.images checkpoint result disk.new }
     ensures alone { WritesLog D.moment D.images store.log.number disk.old disk.new }
-    ensures limited { (limit : TheLimit) → result ≡ Ended.Limit limit
-        → IsLimitMet flow.now D.tells D.held D.moment D.images store.lot (D.moment disk.old) most limit disk.new }
-    ensures damaged { (damage : TheDamage) → result ≡ Ended.Fault (Damaged damage)
-        → IsReadDamaged flow.now D.tells D.held D.moment D.images store.lot disk.new }
-    ensures causes { EndsOnFaults result (D.faults disk.old) (D.faults disk.new)
-        (I.faults inbox.old) (I.faults inbox.new) (O.faults outbox.old) (O.faults outbox.new) }
+    ensures why { EndsForCause result flow.now D.tells D.held D.moment D.images D.faults store.lot most
+        disk.old disk.new (I.faults inbox.old) (I.faults inbox.new) (O.faults outbox.old) (O.faults outbox.new) }
 {
     faults_end_a_run::<D>();
     run_ends::<D>();

@@ -1,6 +1,8 @@
 //! What an engine does between two sessions: files expire, a new log begins, and claims are reclaimed.
 ghost use Rattle.std.specs.Prelude.{◌≡◌, ◌⊎◌, ℕ, ◌+◌, ◌-◌, ◌^◌, ◌<◌, ◌≤◌, nat_le, true, false, List, Option, Some, None, Ok, is_some, IfOk, OnOk, IfErr, IsErrOf, IsTrue};
 ghost use Rattle.disk_trait.specs.Faults.{CountsFaults};
+ghost use Rattle.content_repo.specs.Slots.{IsReclaimed};
+ghost use Rattle.content_repo.specs.declared.reclaim.Reclaimed.{Reclaimed as TheCount};
 ghost use Rattle.flowfile_record.specs.Encoding.{IsNumber};
 ghost use Rattle.flowfile_record.specs.NamedFile.{NamedFile};
 ghost use Rattle.flowfile_wal.specs.Calls.{InEach};
@@ -23,9 +25,9 @@ ghost use Rattle.flow_run.specs.Going.{IsSpared};
 ghost use Rattle.flow_run.specs.Run.{IsAtStoreLimit, StandsFor};
 ghost use Rattle.flow_engine.specs.Engine.{IsOfSameRun};
 ghost use Rattle.flow_engine.specs.Errors.{RefusesToTend};
-ghost use Rattle.flow_engine.specs.Ready.{IsReady, IsUsable, due_in, is_log_due};
-ghost use Rattle.flow_engine.specs.Running.{IsRunning, Stops};
-ghost use Rattle.flow_engine.specs.Tending.{AreReclaimed, GoesTo, HasExpired, HasTended, IsCheckpointed, IsCutOff, IsDone, MakesExpiry, counted_on};
+ghost use Rattle.flow_engine.specs.Ready.{IsReady, IsUsable, due_behind, due_in, is_log_due};
+ghost use Rattle.flow_engine.specs.Running.{IsRunning, Stops, TendsRun};
+ghost use Rattle.flow_engine.specs.Tending.{GoesTo, HasExpired, HasTended, IsCheckpointed, IsCutOff, IsDone, MakesExpiry, TendsAlone, TendsFirst, counted_on};
 ghost use Rattle.flow_run.specs.Work.{IsAtWork, IsNoEarlier, IsRefused, IsShortOn, WritesLog};
 ghost use Rattle.flow_engine.specs.declared.error.EngineError.{EngineError as TheError};
 ghost use Rattle.flow_engine.specs.declared.tending.Tended.TheVariants.{Expired, Nothing};
@@ -34,6 +36,7 @@ use crate::EngineError;
 use crate::engine::Engine;
 use crate::journal::note;
 use crate::tied::holds_its_state;
+use content_repo::Reclaimed;
 use disk_trait::Disk;
 use engine_core::{due_expiries_may_expire, expire_files, held_contents_are_read};
 use engine_queues::{Expiry, Queues, what_is_kept_is_seen};
@@ -50,8 +53,8 @@ pub enum Tended {
     Expired,
     /// A new log has begun behind a snapshot.
     Checkpointed,
-    /// The claims that no live content stands in are empty.
-    Reclaimed,
+    /// The claims that no live content stands in are empty: so many.
+    Reclaimed(Reclaimed),
     Nothing,
 }
 
@@ -65,31 +68,13 @@ impl Engine<'_> {
         moment: u64,
     ) -> Result<Tended, EngineError>
         requires usable { IsUsable D.tells D.held D.moment D.images self.old disk.old }
-        requires most { self.old.most < 2 ^ 64 - 1 }
-        ensures due { IfOk result (λ tended. tended ≡ due_in self.old moment) }
-        ensures done { HasTended result moment (D.moment disk.new) self.old self.new }
-        ensures nothing { result ≡ Ok Nothing
-            → (disk.new ≡ disk.old) × IsShortOn D.moment D.images self.old.checkpoint disk.old }
+        ensures tended { TendsFirst result D.moment D.images moment self.old self.new disk.old disk.new }
         // The run goes on, at the time that it had where nothing expired, or it is stopped.
-        ensures goes_on { self.new.failed ≡ false → IsTrue D.tells → (opened : Machine) (first : D) (start time : ℕ)
-            (left : List NamedFile) (standing : List ℕ → Option (List ℕ)) → time ≤ moment
-            → IsRunning D.moment D.images self.old opened first start time disk.old left standing
-            → IsRunning D.moment D.images self.new opened first start moment disk.new left standing }
-        ensures idle { self.new.failed ≡ false → (result ≡ Ok Expired → ⊥) → IsTrue D.tells → (opened : Machine) (first : D)
-            (start time : ℕ) (left : List NamedFile) (standing : List ℕ → Option (List ℕ))
-            → IsRunning D.moment D.images self.old opened first start time disk.old left standing
-            → IsRunning D.moment D.images self.new opened first start time disk.new left standing }
-        ensures stopped { (error : TheError) → IsErrOf result error → self.old.failed ≡ false → IsTrue D.tells
-            → (opened : Machine) (first : D) (start time : ℕ) (left : List NamedFile)
-            (standing : List ℕ → Option (List ℕ)) → time ≤ moment
-            → IsRunning D.moment D.images self.old opened first start time disk.old left standing
-            → Stops error D.tells D.held D.moment D.images self.new opened first start moment disk.new left standing }
+        ensures run { IsTrue D.tells
+            → TendsRun result D.tells D.held D.moment D.images moment self.old self.new disk.old disk.new }
         // On any devices.
         ensures usable { IsUsable D.tells D.held D.moment D.images self.new disk.new }
-        ensures same { IsOfSameRun self.old self.new × (self.new.listing ≡ self.old.listing)
-            × (self.new.last ≡ self.old.last) }
-        ensures log { OnOk result (IsNoEarlier self.old.store.log.number self.new.store.log.number) }
-        ensures alone { WritesLog D.moment D.images self.old.store.log.number disk.old disk.new }
+        ensures alone { TendsAlone result D.moment D.images self.old self.new disk.old disk.new }
         ensures refusal { RefusesToTend result D.tells D.held D.moment D.images D.faults self.old self.new
             disk.old disk.new }
     {
@@ -111,8 +96,7 @@ impl Engine<'_> {
         moment: u64,
     ) -> Result<Tended, EngineError>
         requires ready { IsReady D.tells D.held D.moment D.images self.old disk.old }
-        requires most { self.old.most < 2 ^ 64 - 1 }
-        ensures due { IfOk result (λ tended. tended ≡ due_in self.old moment) }
+        ensures due { IfOk result (λ tended. due_behind tended ≡ due_in self.old moment) }
         ensures done { HasTended result moment (D.moment disk.new) self.old self.new }
         ensures nothing { result ≡ Ok Nothing
             → (disk.new ≡ disk.old) × IsShortOn D.moment D.images self.old.checkpoint disk.old }
@@ -120,8 +104,9 @@ impl Engine<'_> {
             (start time : ℕ) (left : List NamedFile) (standing : List ℕ → Option (List ℕ)) → time ≤ moment
             → IsRunning D.moment D.images self.old opened first start time disk.old left standing
             → IsRunning D.moment D.images self.new opened first start moment disk.new left standing }
-        ensures idle { (IsErrOf result EngineError.Disk → ⊥) → (result ≡ Ok Expired → ⊥) → IsTrue D.tells → (opened : Machine) (first : D)
-            (start time : ℕ) (left : List NamedFile) (standing : List ℕ → Option (List ℕ))
+        ensures idle { (IsErrOf result EngineError.Disk → ⊥) → (result ≡ Ok Expired → ⊥) → IsTrue D.tells
+            → (opened : Machine) (first : D) (start time : ℕ) (left : List NamedFile)
+            (standing : List ℕ → Option (List ℕ))
             → IsRunning D.moment D.images self.old opened first start time disk.old left standing
             → IsRunning D.moment D.images self.new opened first start time disk.new left standing }
         ensures stopped { (error : TheError) → IsErrOf result error → IsTrue D.tells → (opened : Machine) (first : D)
@@ -149,8 +134,8 @@ impl Engine<'_> {
         if self.checkpoint_due(disk)? {
             return Ok(Tended::Checkpointed);
         }
-        if self.reclaim_due(disk)? {
-            return Ok(Tended::Reclaimed);
+        if let Some(reclaimed) = self.reclaim_due(disk)? {
+            return Ok(Tended::Reclaimed(reclaimed));
         }
         self.tended = Some(moment);
         Ok(Tended::Nothing)
@@ -192,10 +177,10 @@ impl Engine<'_> {
         Ok(true)
     }
 
-    // Reclaims the claims where that is due, and answers whether it was.
-    fn reclaim_due<D: Disk>(&mut self, disk: &mut D) -> Result<bool, EngineError>
+    // Reclaims the claims where that is due, and answers how many became empty.
+    fn reclaim_due<D: Disk>(&mut self, disk: &mut D) -> Result<Option<Reclaimed>, EngineError>
         requires { IsReady D.tells D.held D.moment D.images self.old disk.old }
-        ensures due { IfOk result (λ done. done ≡ nat_le RECLAIM_ENTRIES self.old.since_reclaim) }
+        ensures due { IfOk result (λ answer. is_some answer ≡ nat_le RECLAIM_ENTRIES self.old.since_reclaim) }
         ensures goes_on { (IsErrOf result EngineError.Disk → ⊥) → (opened : Machine) (first : D) (start time : ℕ)
             (left : List NamedFile) (standing : List ℕ → Option (List ℕ))
             → IsRunning D.moment D.images self.old opened first start time disk.old left standing
@@ -205,9 +190,9 @@ impl Engine<'_> {
             → IsRunning D.moment D.images self.old opened first start time disk.old left standing
             → Stops EngineError.Disk D.tells D.held D.moment D.images self.new opened first start time disk.new left
             standing }
-        ensures done { result ≡ Ok true → AreReclaimed self.old.store self.new.store
-            × (self.new.since_reclaim ≡ 0) }
-        ensures none { result ≡ Ok false → (self.new ≡ self.old) × (disk.new ≡ disk.old) }
+        ensures done { (answer : TheCount) → result ≡ Ok (Some answer)
+            → IsReclaimed self.old.store.slots self.new.store.slots answer × (self.new.since_reclaim ≡ 0) }
+        ensures none { result ≡ Ok None → (self.new ≡ self.old) × (disk.new ≡ disk.old) }
         ensures since { IsErrOf result EngineError.Disk → self.new.since_reclaim ≡ self.old.since_reclaim }
         ensures ready { (IsErrOf result EngineError.Disk → ⊥)
             → IsReady D.tells D.held D.moment D.images self.new disk.new }
@@ -220,14 +205,14 @@ impl Engine<'_> {
         ensures cause { CountsFaults (D.faults disk.old) (D.faults disk.new) (IsErrOf result EngineError.Disk) }
     {
         if self.since_reclaim < RECLAIM_ENTRIES {
-            return Ok(false);
+            return Ok(None);
         }
         run_goes_on::<D>();
         faults_end_a_run::<D>();
         self.tended = None;
-        reclaim(&mut self.store, disk)?;
+        let reclaimed = reclaim(&mut self.store, disk)?;
         self.since_reclaim = 0;
-        Ok(true)
+        Ok(Some(reclaimed))
     }
 
     // Lets the expired files of the first connection that has some go, and answers whether there were any.
@@ -238,15 +223,15 @@ impl Engine<'_> {
         moment: u64,
     ) -> Result<bool, EngineError>
         requires ready { IsReady D.tells D.held D.moment D.images self.old disk.old }
-        requires most { self.old.most < 2 ^ 64 - 1 }
         ensures due { IfOk result (λ done.
             done ≡ is_some (due_expiry self.old.flow (queue_seen self.old.queues) moment)) }
         ensures goes_on { (IsErrOf result EngineError.Disk → ⊥) → IsTrue D.tells → (opened : Machine) (first : D)
             (start time : ℕ) (left : List NamedFile) (standing : List ℕ → Option (List ℕ)) → time ≤ moment
             → IsRunning D.moment D.images self.old opened first start time disk.old left standing
             → IsRunning D.moment D.images self.new opened first start moment disk.new left standing }
-        ensures idle { (IsErrOf result EngineError.Disk → ⊥) → (result ≡ Ok true → ⊥) → IsTrue D.tells → (opened : Machine) (first : D)
-            (start time : ℕ) (left : List NamedFile) (standing : List ℕ → Option (List ℕ))
+        ensures idle { (IsErrOf result EngineError.Disk → ⊥) → (result ≡ Ok true → ⊥) → IsTrue D.tells
+            → (opened : Machine) (first : D) (start time : ℕ) (left : List NamedFile)
+            (standing : List ℕ → Option (List ℕ))
             → IsRunning D.moment D.images self.old opened first start time disk.old left standing
             → IsRunning D.moment D.images self.new opened first start time disk.new left standing }
         ensures stopped { (error : TheError) → IsErrOf result error → IsTrue D.tells → (opened : Machine) (first : D)
@@ -353,7 +338,7 @@ fn checkpoint<D: Disk>(store: &mut Store, disk: &mut D) -> Result<(), EngineErro
 }
 
 // Empties the claims that no live content stands in. Whatever a stop leaves stands for the same state.
-fn reclaim<D: Disk>(store: &mut Store, disk: &mut D) -> Result<(), EngineError>
+fn reclaim<D: Disk>(store: &mut Store, disk: &mut D) -> Result<Reclaimed, EngineError>
     requires { (flow : TheFlow) × IsAtWork flow D.tells D.held D.moment D.images store.old disk.old }
     ensures spared { (flow : TheFlow) (before : Machine)
         → IsAtWork flow D.tells D.held D.moment D.images store.old disk.old
@@ -364,13 +349,13 @@ fn reclaim<D: Disk>(store: &mut Store, disk: &mut D) -> Result<(), EngineError>
         → IsAtWork flow D.tells D.held D.moment D.images store.new disk.new) }
     ensures same { (kept_by store.new ≡ kept_by store.old) × (store.new.lot ≡ store.old.lot)
         × (store.new.log.number ≡ store.old.log.number) }
-    ensures reclaimed { OnOk result (AreReclaimed store.old store.new) }
+    ensures reclaimed { IfOk result (IsReclaimed store.old.slots store.new.slots) }
     ensures alone { WritesLog D.moment D.images store.old.log.number disk.old disk.new }
     ensures kinds { IfErr result (λ error. error ≡ EngineError.Disk) }
     ensures cause { CountsFaults (D.faults disk.old) (D.faults disk.new) (IsErrOf result EngineError.Disk) }
 {
-    store.reclaim(disk)?;
-    Ok(())
+    let reclaimed = store.reclaim(disk)?;
+    Ok(reclaimed)
 }
 
 // Lets expired files go, which are due, and answers the moment of the acknowledgement. All memory is taken before the

@@ -1,10 +1,10 @@
 -- What is in memory of the files of events, and how it is tied to them.
-use Rattle.std.specs.Prelude.{◌≡◌, ◌≢◌, ℕ, zero, suc, ◌+◌, ◌-◌, ◌/◌, ◌<◌, ◌≤◌, ◌==◌, Bool, IsTrue, List, length, map, filter, take, All, Contains, Ok, slice_index, if◌then◌else◌}
+use Rattle.std.specs.Prelude.{◌≡◌, ◌≢◌, ℕ, zero, suc, ◌+◌, ◌-◌, ◌/◌, ◌<◌, ◌≤◌, ◌==◌, Bool, IsTrue, List, [], length, map, filter, take, All, Contains, Ok, slice_index, if◌then◌else◌}
 use Rattle.std.specs.List.{range_with_len, AllPairs}
 use Rattle.disk_trait.specs.Files.{Files, Shortened}
 use Rattle.disk_trait.specs.declared.file_name.FileKind.TheVariants.{Events}
 use Rattle.disk_trait.specs.declared.file_name.FileName.{FileName}
-use Rattle.disk_trait.specs.Images.{next_moment}
+use Rattle.disk_trait.specs.Images.{After, Since, next_moment}
 use Rattle.flowfile_record.specs.Events.{code_of}
 use Rattle.flowfile_record.specs.declared.event.Event.{Event}
 use Rattle.prov_event.specs.Encoding.{event, IsEvent}
@@ -109,6 +109,12 @@ pub record CutsStale (stale : List Stale) (old new : Files) : Type 0 where
   pub rest : (k : ℕ) → (Contains (map (λ s. s.file) stale) k → ⊥) → new (events_file k) ≡ old (events_file k)
   pub cut : All (λ s. Shortened s.size (old (events_file s.file)) (new (events_file s.file))) stale
 
+-- From a call's start on files change by such a step alone: those that are held, and whatever a stop leaves.
+pub record ChangesBy {D : Type 0} (tells : Bool) (held : D → Files) (moment : D → ℕ) (images : D → ℕ → Files → Type 0)
+    (step : Files → Files → Type 0) (old new : D) : Type 0 where
+  pub files : IsTrue tells → step (held old) (held new)
+  pub left : Since moment images old new (After step (images old (moment old)))
+
 -- ---- what is known once events are added
 
 -- the counts of some more events
@@ -137,3 +143,31 @@ pub record HasCalled (limit before now : ℕ) : Type 0 where
   pub some : 0 < calls
   pub most : calls ≤ limit
   pub moment : now ≡ calls_later calls before
+
+-- ---- what the answers of calls say
+
+-- These are the events up to a last one that the files have, with the files that are longer than what is covered.
+pub record IsFoundOn (tells : Bool) (files : Files) (last : ℕ) (state : EventsState) : Type 0 where
+  pub end : state.end ≡ last
+  pub has : IsTrue tells → HasEvents state files
+  pub stale : IsTrue tells → HasStale state files
+  pub longer : AreLonger tells files state.stale
+
+-- The events are known and stand in the files with nothing behind them, by one write for each file that got some.
+pub record HasAppended {D : Type 0} (tells : Bool) (held : D → Files) (moment : D → ℕ) (events : List Event)
+    (s_old s_new : EventsState) (old new : D) : Type 0 where
+  pub ready : IsTrue tells → IsReady s_new (held new)
+  pub state : IsAppended events s_old s_new
+  pub writes : moment new ≡ calls_later (files_for s_old.end (length events)) (moment old)
+
+-- Nothing stands behind the last event any more, by one cut for each file that was longer.
+pub record HasTrimmed {D : Type 0} (tells : Bool) (held : D → Files) (moment : D → ℕ) (s_old s_new : EventsState)
+    (old new : D) : Type 0 where
+  pub ready : IsTrue tells → IsReady s_new (held new)
+  pub state : s_new ≡ record s_old { stale = [] }
+  pub cuts : moment new ≡ calls_later (length s_old.stale) (moment old)
+
+-- A call refused: what is in memory is as it was, and of so many calls at least one was made.
+pub record HasRefused (limit : ℕ) (s_old s_new : EventsState) (before now : ℕ) : Type 0 where
+  pub unchanged : s_new ≡ s_old
+  pub called : HasCalled limit before now

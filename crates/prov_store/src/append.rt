@@ -7,7 +7,7 @@ ghost use Rattle.flowfile_record.specs.declared.event.Event.{Event as TheEvent};
 ghost use Rattle.prov_store.specs.Blocks.{next_offset};
 ghost use Rattle.prov_store.specs.Events.{events_file, events_in};
 ghost use Rattle.prov_store.specs.Growing.{Stands};
-ghost use Rattle.prov_store.specs.State.{IsReady, IsAppended, GrowsBehind, HasCalled, files_for, calls_later, next_file};
+ghost use Rattle.prov_store.specs.State.{IsReady, GrowsBehind, ChangesBy, HasAppended, HasRefused, HasCalled, files_for, calls_later, next_file};
 
 use crate::blocks::Part;
 use crate::counts::count_all;
@@ -30,18 +30,13 @@ impl Events {
         ensures added { OnOk result (IsTrue D.tells → (before : List TheEvent)
             → events_in (D.held disk.old) self.old.end ≡ Ok before
             → events_in (D.held disk.new) self.new.end ≡ Ok (before ++ blocks.now.events)) }
-        ensures ready { OnOk result (IsTrue D.tells → IsReady self.new (D.held disk.new)) }
-        ensures state { OnOk result (IsAppended blocks.now.events self.old self.new) }
-        ensures unchanged { OnErr result (self.new ≡ self.old) }
+        ensures appended { OnOk result (HasAppended D.tells D.held D.moment blocks.now.events self.old self.new
+            disk.old disk.new) }
+        ensures refused { OnErr result (HasRefused (files_for self.old.end (length blocks.now.events))
+            self.old self.new (D.moment disk.old) (D.moment disk.new)) }
         // Whatever a stop leaves, the events before have their bytes.
-        ensures held { IsTrue D.tells → GrowsBehind self.old (D.held disk.old) (D.held disk.new) }
-        ensures images { Since D.moment D.images disk.old disk.new
-            (After (GrowsBehind self.old) (D.images disk.old (D.moment disk.old))) }
-        ensures writes { OnOk result (D.moment disk.new
-            ≡ calls_later (files_for self.old.end (length blocks.now.events)) (D.moment disk.old)) }
+        ensures behind { ChangesBy D.tells D.held D.moment D.images (GrowsBehind self.old) disk.old disk.new }
         ensures none { blocks.now.events ≡ [] → disk.new ≡ disk.old }
-        ensures refused { OnErr result (HasCalled (files_for self.old.end (length blocks.now.events))
-            (D.moment disk.old) (D.moment disk.new)) }
         ensures cause { CountsFaults (D.faults disk.old) (D.faults disk.new) (IsErr result) }
     {
         if blocks.events.is_empty() {
@@ -63,9 +58,7 @@ impl Events {
             → Stands self.now.end self.now.offset (D.held disk.old) before
             → Stands place.end place.offset (D.held disk.new) (before ++ blocks.now.events)) }
         ensures end { IfOk result (λ place. place.end ≡ self.now.end + length blocks.now.events) }
-        ensures held { IsTrue D.tells → GrowsBehind self.now (D.held disk.old) (D.held disk.new) }
-        ensures images { Since D.moment D.images disk.old disk.new
-            (After (GrowsBehind self.now) (D.images disk.old (D.moment disk.old))) }
+        ensures behind { ChangesBy D.tells D.held D.moment D.images (GrowsBehind self.now) disk.old disk.new }
         ensures writes { OnOk result (D.moment disk.new
             ≡ calls_later (files_for self.now.end (length blocks.now.events)) (D.moment disk.old)) }
         ensures refused { OnErr result (HasCalled (files_for self.now.end (length blocks.now.events))

@@ -8,7 +8,7 @@ ghost use Rattle.prov_store.specs.Events.{events_file, events_from, events_of_fi
 ghost use Rattle.prov_store.specs.Loading.{bytes_there, AreLater, AreListed, HaveCounted, IsLoaded};
 ghost use Rattle.prov_store.specs.Reading.{HasWhole, IsThere};
 ghost use Rattle.record_codec.specs.Block.{reading_of};
-ghost use Rattle.prov_store.specs.State.{AreLonger, HasEvents, HasStale};
+ghost use Rattle.prov_store.specs.State.{AreLonger, IsFoundOn};
 
 use crate::counts::count;
 use crate::events::file_named;
@@ -33,10 +33,7 @@ impl Events {
     /// its lists it takes memory for one block.
     pub fn load<D: Disk>(alloc: Global, disk: &mut D, end: u64) -> Result<Events, EventsError>
         requires { IsNumber end }
-        ensures end { IfOk result (λ events. events.end ≡ end) }
-        ensures found { IfOk result (λ events. IsTrue D.tells → HasEvents events (D.held disk.old)) }
-        ensures stale { IfOk result (λ events. IsTrue D.tells → HasStale events (D.held disk.old)) }
-        ensures longer { IfOk result (λ events. AreLonger D.tells (D.held disk.old) events.stale) }
+        ensures found { IfOk result (IsFoundOn D.tells (D.held disk.old) end) }
         // The first damage by the events' numbers is told, where there is one.
         ensures damaged { (damage : TheDamage) → IsErrOf result (EventsError.Damaged damage) → IsTrue D.tells
             → events_in (D.held disk.old) end ≡ Err damage }

@@ -58,14 +58,15 @@ pub record HasChange (p : PreparedChange) (old new : StoreState) : Type 0 where
 abbrev pub HoldsEither : (old new : StoreState) → Files → Type 0
 HoldsEither old new files = Holds old files ⊎ Holds new files
 
--- Within a commit whatever a stop may leave has all of the change or nothing of it.
+-- The store in memory has the change, and within the commit whatever a stop may leave has all of it or nothing.
 pub record IsAllOrNothing {D : Type 0} (held : D → Files) (moment : D → ℕ) (images : D → ℕ → Files → Type 0)
-    (s_old s_new : StoreState) (settled : Settled) (old new : D) : Type 0 where
+    (p : PreparedChange) (s_old s_new : StoreState) (old new : D) : Type 0 where
+  pub change : HasChange p s_old s_new
   pub holds : Since moment images old new (HoldsEither s_old s_new)
   pub states : (state : State) → EachStandsFor (flow_in (kept_by s_old)) s_old.lot state (images old (moment old))
       → Since moment images old new (λ c.
       (stands_for (flow_in (kept_by s_old)) s_old.lot c ≡ Ok state)
-      ⊎ (stands_for (flow_in (kept_by s_old)) s_old.lot c ≡ Ok (state_after (content_in (held old)) state settled)))
+      ⊎ (stands_for (flow_in (kept_by s_old)) s_old.lot c ≡ Ok (state_after (content_in (held old)) state p.settled)))
 
 -- A commit is acknowledged: the disk's present moment is told, the events are the store's, and whatever a stop may leave
 -- stands for the state with the change.

@@ -48,10 +48,13 @@ ClaimsGrow slots old new =
     (k : ℕ) → (take (size_of slots k) (new (claim k)) ≡ take (size_of slots k) (old (claim k)))
     × (length (old (claim k)) ≤ length (new (claim k)))
 
--- Whatever a stop leaves, claims only grow, and so do those that are held once the call has answered Ok.
-pub record AppendsToClaims {D A E : Type 0} (tells : Bool) (held : D → Files) (moment : D → ℕ)
-    (images : D → ℕ → Files → Type 0) (slots : List Slot) (old new : D) (result : Result A E) : Type 0 where
-  pub left : Since moment images old new (After (ClaimsGrow slots) (images old (moment old)))
+-- Whatever a stop leaves of a commit, only claims, files of events and the store's log are changed, and claims only
+-- grow. So do those that are held once it has answered Ok.
+pub record CommitsTo {D A E : Type 0} (tells : Bool) (held : D → Files) (moment : D → ℕ)
+    (images : D → ℕ → Files → Type 0) (log : Option ℕ) (slots : List Slot) (old new : D) (result : Result A E)
+    : Type 0 where
+  pub alone : Since moment images old new (After (TouchesOnly (MayTouch log)) (images old (moment old)))
+  pub claims : Since moment images old new (After (ClaimsGrow slots) (images old (moment old)))
   pub acknowledged : OnOk result (IsTrue tells → ClaimsGrow slots (held old) (held new))
 
 -- only claims change, and they get shorter; one that any of these contents stands in stays

@@ -8,10 +8,10 @@ ghost use Rattle.kept_state.specs.Changes.{placed_in, record_of};
 ghost use Rattle.prov_store.specs.State.{IsReady};
 ghost use Rattle.store_core.specs.Calls.{StopsOnFault};
 ghost use Rattle.store_core.specs.Change.{HasLiveContents};
-ghost use Rattle.store_core.specs.Committed.{IsPrepared, HasChange, IsAcknowledged, IsAllOrNothing};
+ghost use Rattle.store_core.specs.Committed.{IsPrepared, IsAcknowledged, IsAllOrNothing};
 ghost use Rattle.store_core.specs.Placing.{MayPlace, PlacesAll, AddsEvents, GrowsAhead};
 ghost use Rattle.store_core.specs.Store.{IsKeptOn};
-ghost use Rattle.store_core.specs.Touched.{AppendsToClaims, MayTouch, TouchesOnly};
+ghost use Rattle.store_core.specs.Touched.{CommitsTo};
 
 use crate::contents::{give_up, place_contents};
 use crate::{Prepared, Store, StoreError};
@@ -36,16 +36,14 @@ impl Store {
         requires prepared { IsPrepared self.old prepared }
         requires contents { HasLiveContents self.old prepared.settled }
         // The change is made in memory, and once it is acknowledged whatever a stop leaves has it: see `kept`.
-        ensures changed { self.old.failed ≡ false → HasChange prepared.entry self.old self.new }
+        ensures changed { self.old.failed ≡ false → IsAllOrNothing D.held D.moment D.images prepared.entry
+            self.old self.new disk.old disk.new }
         ensures acknowledged { IfOk result (IsAcknowledged D.held D.moment D.images self.old self.new
             prepared.entry.settled disk.old disk.new) }
         ensures kept { IsKeptOn D.tells D.held D.moment D.images self.new disk.new }
-        ensures whole { self.old.failed ≡ false → IsAllOrNothing D.held D.moment D.images self.old self.new
-            prepared.entry.settled disk.old disk.new }
-        ensures alone { Since D.moment D.images disk.old disk.new
-            (After (TouchesOnly (MayTouch self.old.log.number)) (D.images disk.old (D.moment disk.old))) }
         // What stood in a claim stands there.
-        ensures claims { AppendsToClaims D.tells D.held D.moment D.images self.old.slots disk.old disk.new result }
+        ensures touched { CommitsTo D.tells D.held D.moment D.images self.old.log.number self.old.slots
+            disk.old disk.new result }
         ensures refusal { StopsOnFault result self.old self.new D.faults disk.old disk.new }
     {
         if self.has_failed {

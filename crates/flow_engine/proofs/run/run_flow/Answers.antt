@@ -1,5 +1,6 @@
-use Rattle.std.proofs.Common.{arith, ◌≡◌, false, IsTrue, List, [], sym, ◌∙◌, ap, subst}
+use Rattle.std.proofs.Common.{arith, rules, ◌≡◌, false, IsTrue, List, [], sym, ◌∙◌, ap, subst}
 use Rattle.std.specs.Prelude.{Err}
+use Rattle.std.proofs.lemmas.Result.{IfOk-weaker}
 use Rattle.flowfile_record.specs.NamedFile.{NamedFile}
 use Rattle.machine_model.specs.declared.flow.Flow.{Flow}
 use Rattle.store_core.specs.Store.{StoreState}
@@ -45,12 +46,12 @@ returns-in-Ok-Blocked-clause-headline g c telling in_telling out_telling state f
     let e : EngineState = c.drive.new.self in
     let laws = g.met.D.Disk g.world.𝓛 g.world.𝓜 g.world.𝓡 ((λ s x. x), (λ x. x), (λ x. x), λ x. x) in
     let works : e.failed ≡ false = works_behind c.drive.result e.failed c.in-Ok-Blocked.field-0 c.in-Ok-Blocked.is c.drive.ensures.failed in
-    let begins = begun D.moment D.images flow c.args.store c.args.most c.in-Ok.engine is opened first c.args.disk.now start (g.C.Clock.time c.args.clock.now) left (g.I.Inbox.left c.new.new.inbox) standing c.new.ensures.left
-    (c.in-Ok.ensures.coming in_telling state standing) run in
+    let begins = begun D.moment D.images flow c.args.store c.args.most c.args.checkpoint c.in-Ok.engine is opened first c.args.disk.now start (g.C.Clock.time c.args.clock.now) left (g.I.Inbox.left c.new.new.inbox) standing c.new.ensures.left
+    (c.in-Ok.ensures.listed.coming in_telling state standing) run in
     let end = subst (λ (a : Ending). IsEnded D.moment D.images e opened first start time c.drive.new.disk now_left now_standing a) c.in-Ok-Blocked.field-0-is
     (c.in-Ok-Blocked.ensures.ended telling in_telling out_telling opened first start (g.C.Clock.time c.args.clock.now) (omega arith) begins) in
-    let closes = closes_so c.close.result e.failed c.ended_by.result (ended.Blocked c.in-Ok-Blocked.connection) (IsTrue D.tells → IsTidied e.flow e.store.lot (D.held c.close.new.disk)) works c.ended_by.ensures.ok c.ended_by.ensures.err c.close.ensures.tidied
-    c.close.ensures.reopen c.close.ensures.kinds in (
+    let closes = closes_so c.close.result e.failed c.ended_by.result (ended.Blocked c.in-Ok-Blocked.connection) (IsTrue D.tells → IsTidied e.flow e.store.lot (D.held c.close.new.disk)) works c.ended_by.ensures.ok c.ended_by.ensures.err (IfOk-weaker c.close.result _ _ (λ closed is_closed. is_closed.tidied) c.close.ensures.closed)
+    c.close.ensures.refusal.reopen c.close.ensures.refusal.kinds in (
       e.journal,
       closes_blocked D.tells D.held D.moment D.images c.faults_end_a_run.ensures.between e flow c.args.store.lot (c.drive.ensures.same.flow ∙ is.flow_is) (c.drive.ensures.same.lot ∙ ap (λ (t : StoreState). t.lot) is.store_is)
           (c.in-Ok-Blocked.ensures.work.flow_is ∙ ap identity_of (sym c.drive.ensures.same.flow)) opened first c.drive.new.disk c.close.new.disk now_left now_standing start time c.ended_by.result (c.close.ensures.states works)
@@ -61,7 +62,7 @@ pub returns-in-Ok-Blocked-clause-checkpointed : goal.returns-in-Ok-Blocked-claus
 returns-in-Ok-Blocked-clause-checkpointed g c =
     let e : EngineState = c.drive.new.self in
     let works : e.failed ≡ false = works_behind c.drive.result e.failed c.in-Ok-Blocked.field-0 c.in-Ok-Blocked.is c.drive.ensures.failed in
-    ends_short g.D.Disk.moment g.D.Disk.images c.args.checkpoint e.checkpoint c.ended_by.result c.drive.new.disk c.close.new.disk (c.drive.ensures.same.checkpoint ∙ c.in-Ok.ensures.checkpoint)
+    ends_short g.D.Disk.moment g.D.Disk.images c.args.checkpoint e.checkpoint c.ended_by.result c.drive.new.disk c.close.new.disk (c.drive.ensures.same.checkpoint ∙ c.in-Ok.ensures.opened.checkpoint_is)
     c.in-Ok-Blocked.ensures.short (c.close.ensures.short works)
 
 pub returns-in-Ok-Blocked-clause-alone : goal.returns-in-Ok-Blocked-clause-alone
@@ -85,12 +86,12 @@ returns-in-Ok-Quiet-clause-headline g c telling in_telling out_telling state fir
     let e : EngineState = c.drive.new.self in
     let laws = g.met.D.Disk g.world.𝓛 g.world.𝓜 g.world.𝓡 ((λ s x. x), (λ x. x), (λ x. x), λ x. x) in
     let works : e.failed ≡ false = works_behind c.drive.result e.failed c.in-Ok-Quiet.field-0 c.in-Ok-Quiet.is c.drive.ensures.failed in
-    let begins = begun D.moment D.images flow c.args.store c.args.most c.in-Ok.engine is opened first c.args.disk.now start (g.C.Clock.time c.args.clock.now) left (g.I.Inbox.left c.new.new.inbox) standing c.new.ensures.left
-    (c.in-Ok.ensures.coming in_telling state standing) run in
+    let begins = begun D.moment D.images flow c.args.store c.args.most c.args.checkpoint c.in-Ok.engine is opened first c.args.disk.now start (g.C.Clock.time c.args.clock.now) left (g.I.Inbox.left c.new.new.inbox) standing c.new.ensures.left
+    (c.in-Ok.ensures.listed.coming in_telling state standing) run in
     let end = subst (λ (a : Ending). IsEnded D.moment D.images e opened first start time c.drive.new.disk now_left now_standing a) c.in-Ok-Quiet.field-0-is
     (c.in-Ok-Quiet.ensures.ended telling in_telling out_telling opened first start (g.C.Clock.time c.args.clock.now) (omega arith) begins) in
-    let closes = closes_so c.close-in-Ok-Quiet.result e.failed c.ended_by-in-Ok-Quiet.result ended.Quiet (IsTrue D.tells → IsTidied e.flow e.store.lot (D.held c.close-in-Ok-Quiet.new.disk)) works c.ended_by-in-Ok-Quiet.ensures.ok c.ended_by-in-Ok-Quiet.ensures.err c.close-in-Ok-Quiet.ensures.tidied
-    c.close-in-Ok-Quiet.ensures.reopen c.close-in-Ok-Quiet.ensures.kinds in (
+    let closes = closes_so c.close-in-Ok-Quiet.result e.failed c.ended_by-in-Ok-Quiet.result ended.Quiet (IsTrue D.tells → IsTidied e.flow e.store.lot (D.held c.close-in-Ok-Quiet.new.disk)) works c.ended_by-in-Ok-Quiet.ensures.ok c.ended_by-in-Ok-Quiet.ensures.err (IfOk-weaker c.close-in-Ok-Quiet.result _ _ (λ closed is_closed. is_closed.tidied) c.close-in-Ok-Quiet.ensures.closed)
+    c.close-in-Ok-Quiet.ensures.refusal.reopen c.close-in-Ok-Quiet.ensures.refusal.kinds in (
       e.journal,
       closes_quiet D.tells D.held D.moment D.images c.faults_end_a_run.ensures.between e flow c.args.store.lot (c.drive.ensures.same.flow ∙ is.flow_is) (c.drive.ensures.same.lot ∙ ap (λ (t : StoreState). t.lot) is.store_is)
           (c.in-Ok-Quiet.ensures.work.flow_is ∙ ap identity_of (sym c.drive.ensures.same.flow)) opened first c.drive.new.disk c.close-in-Ok-Quiet.new.disk now_left now_standing start time c.ended_by-in-Ok-Quiet.result (c.close-in-Ok-Quiet.ensures.states works)
@@ -101,7 +102,7 @@ pub returns-in-Ok-Quiet-clause-checkpointed : goal.returns-in-Ok-Quiet-clause-ch
 returns-in-Ok-Quiet-clause-checkpointed g c =
     let e : EngineState = c.drive.new.self in
     let works : e.failed ≡ false = works_behind c.drive.result e.failed c.in-Ok-Quiet.field-0 c.in-Ok-Quiet.is c.drive.ensures.failed in
-    ends_short g.D.Disk.moment g.D.Disk.images c.args.checkpoint e.checkpoint c.ended_by-in-Ok-Quiet.result c.drive.new.disk c.close-in-Ok-Quiet.new.disk (c.drive.ensures.same.checkpoint ∙ c.in-Ok.ensures.checkpoint)
+    ends_short g.D.Disk.moment g.D.Disk.images c.args.checkpoint e.checkpoint c.ended_by-in-Ok-Quiet.result c.drive.new.disk c.close-in-Ok-Quiet.new.disk (c.drive.ensures.same.checkpoint ∙ c.in-Ok.ensures.opened.checkpoint_is)
     c.in-Ok-Quiet.ensures.short (c.close-in-Ok-Quiet.ensures.short works)
 
 pub returns-in-Ok-Quiet-clause-alone : goal.returns-in-Ok-Quiet-clause-alone
@@ -134,13 +135,13 @@ returns-in-Limit-clause-headline g c telling in_telling out_telling state first 
     let limit = c.in-Limit.limit in
     let was = c.in-Err-drive.is ∙ ap Err c.in-Limit.is in
     let works : e.failed ≡ false = works_at_limit c.drive.result e.failed limit was c.drive.ensures.failed in
-    let begins = begun D.moment D.images flow c.args.store c.args.most c.in-Ok.engine is opened first c.args.disk.now start (g.C.Clock.time c.args.clock.now) left (g.I.Inbox.left c.new.new.inbox) standing c.new.ensures.left
-    (c.in-Ok.ensures.coming in_telling state standing) run in
+    let begins = begun D.moment D.images flow c.args.store c.args.most c.args.checkpoint c.in-Ok.engine is opened first c.args.disk.now start (g.C.Clock.time c.args.clock.now) left (g.I.Inbox.left c.new.new.inbox) standing c.new.ensures.left
+    (c.in-Ok.ensures.listed.coming in_telling state standing) run in
     let e0 : EngineState = c.in-Ok.engine in
     let work = works_on D.tells D.held D.moment D.images e0.flow e0.most limit e.store c.drive.new.disk (c.drive.ensures.why.limited limit was) in
     let stop = c.drive.ensures.stopped (Limit limit) was telling in_telling out_telling opened first start (g.C.Clock.time c.args.clock.now) (omega arith) begins in
-    let closes = closes_so c.close-in-Err-drive.result e.failed c.ended_by-in-Err-drive.result (ended.Limit limit) (IsTrue D.tells → IsTidied e.flow e.store.lot (D.held c.close-in-Err-drive.new.disk)) works c.ended_by-in-Err-drive.ensures.ok c.ended_by-in-Err-drive.ensures.err c.close-in-Err-drive.ensures.tidied
-    c.close-in-Err-drive.ensures.reopen c.close-in-Err-drive.ensures.kinds in (
+    let closes = closes_so c.close-in-Err-drive.result e.failed c.ended_by-in-Err-drive.result (ended.Limit limit) (IsTrue D.tells → IsTidied e.flow e.store.lot (D.held c.close-in-Err-drive.new.disk)) works c.ended_by-in-Err-drive.ensures.ok c.ended_by-in-Err-drive.ensures.err (IfOk-weaker c.close-in-Err-drive.result _ _ (λ closed is_closed. is_closed.tidied) c.close-in-Err-drive.ensures.closed)
+    c.close-in-Err-drive.ensures.refusal.reopen c.close-in-Err-drive.ensures.refusal.kinds in (
       e.journal,
       closes_limited D.tells D.held D.moment D.images c.faults_end_a_run.ensures.between e flow c.args.store.lot (c.drive.ensures.same.flow ∙ is.flow_is) (c.drive.ensures.same.lot ∙ ap (λ (t : StoreState). t.lot) is.store_is)
           (work.flow_is ∙ ap identity_of (sym c.drive.ensures.same.flow)) opened first c.drive.new.disk c.close-in-Err-drive.new.disk now_left now_standing start time c.ended_by-in-Err-drive.result (c.close-in-Err-drive.ensures.states works)
@@ -154,8 +155,8 @@ returns-in-Limit-clause-alone g c =
     let drives = writes_on D.moment D.images log c.in-Ok.engine.store.log.number c.args.disk.now c.args.disk.now c.drive.new.disk (same_log log c.in-Ok.engine.store.log.number (ap (λ (t : StoreState). t.log.number) c.in-Ok.ensures.opened.store_is)) (writes_none D.moment D.images log c.args.disk.now) c.drive.ensures.alone in
     writes_in_turn D.moment D.images log c.args.disk.now c.drive.new.disk c.close-in-Err-drive.new.disk drives (writes_by_close D.moment D.images log c.drive.new.self.store c.drive.new.disk c.close-in-Err-drive.new.disk c.close-in-Err-drive.ensures.alone)
 
-pub returns-in-Limit-clause-limited : goal.returns-in-Limit-clause-limited
-returns-in-Limit-clause-limited g c limit so =
+pub returns-in-Limit-clause-why : goal.returns-in-Limit-clause-why
+returns-in-Limit-clause-why g c =
     let D = g.D.Disk in
     let e0 : EngineState = c.in-Ok.engine in
     let e : EngineState = c.drive.new.self in
@@ -163,10 +164,15 @@ returns-in-Limit-clause-limited g c limit so =
     let was = c.in-Err-drive.is ∙ ap Err c.in-Limit.is in
     let works : e.failed ≡ false = works_at_limit c.drive.result e.failed c.in-Limit.limit was c.drive.ensures.failed in
     let closes = closes_so c.close-in-Err-drive.result e.failed c.ended_by-in-Err-drive.result (ended.Limit c.in-Limit.limit) (IsTrue D.tells → IsTidied e.flow e.store.lot (D.held c.close-in-Err-drive.new.disk)) works c.ended_by-in-Err-drive.ensures.ok c.ended_by-in-Err-drive.ensures.err
-    c.close-in-Err-drive.ensures.tidied c.close-in-Err-drive.ensures.reopen c.close-in-Err-drive.ensures.kinds in
-    limit_met D.tells D.held D.moment D.images c.args.flow.now e0.flow c.args.store.lot (D.moment c.args.disk.now) c.args.most e0.most c.in-Limit.limit limit e.store c.drive.new.disk c.close-in-Err-drive.new.disk
-    (limit_of c.ended_by-in-Err-drive.result c.in-Limit.limit limit (wanted_or_disk c.close-in-Err-drive.result c.ended_by-in-Err-drive.result (ended.Limit c.in-Limit.limit) (IsTrue D.tells → IsTidied e.flow e.store.lot (D.held c.close-in-Err-drive.new.disk)) closes) so) is.flow_is is.most_is
-    (c.drive.ensures.same.lot ∙ ap (λ (t : StoreState). t.lot) is.store_is) c.drive.ensures.alone.later (c.drive.ensures.why.limited c.in-Limit.limit was) c.close-in-Err-drive.ensures.alone
+    (IfOk-weaker c.close-in-Err-drive.result _ _ (λ closed is_closed. is_closed.tidied) c.close-in-Err-drive.ensures.closed) c.close-in-Err-drive.ensures.refusal.reopen c.close-in-Err-drive.ensures.refusal.kinds in
+    record {
+      limited = λ limit so.
+          limit_met D.tells D.held D.moment D.images c.args.flow.now e0.flow c.args.store.lot (D.moment c.args.disk.now) c.args.most e0.most c.in-Limit.limit limit e.store c.drive.new.disk c.close-in-Err-drive.new.disk
+          (limit_of c.ended_by-in-Err-drive.result c.in-Limit.limit limit (wanted_or_disk c.close-in-Err-drive.result c.ended_by-in-Err-drive.result (ended.Limit c.in-Limit.limit) (IsTrue D.tells → IsTidied e.flow e.store.lot (D.held c.close-in-Err-drive.new.disk)) closes) so) is.flow_is is.most_is
+          (c.drive.ensures.same.lot ∙ ap (λ (t : StoreState). t.lot) is.store_is) c.drive.ensures.alone.later (c.drive.ensures.why.limited c.in-Limit.limit was) c.close-in-Err-drive.ensures.alone;
+      damaged = search rules;
+      faults_counted = search rules;
+    }
 
 pub returns-in_default : goal.returns-in_default
 returns-in_default g c =
@@ -186,8 +192,8 @@ returns-in_default g c =
           let now_left : List NamedFile = g.I.Inbox.left c.drive.new.inbox in
           let now_standing = g.O.Outbox.standing c.drive.new.outbox in
           let time = g.C.Clock.time c.drive.new.clock in
-          let begins = begun D.moment D.images c.args.flow.now c.args.store c.args.most e0 is opened first c.args.disk.now start (g.C.Clock.time c.args.clock.now) left (g.I.Inbox.left c.new.new.inbox) standing c.new.ensures.left
-          (c.in-Ok.ensures.coming in_telling state standing) run in
+          let begins = begun D.moment D.images c.args.flow.now c.args.store c.args.most c.args.checkpoint e0 is opened first c.args.disk.now start (g.C.Clock.time c.args.clock.now) left (g.I.Inbox.left c.new.new.inbox) standing c.new.ensures.left
+          (c.in-Ok.ensures.listed.coming in_telling state standing) run in
           let stop = c.drive.ensures.stopped error c.in-Err-drive.is telling in_telling out_telling opened first start (g.C.Clock.time c.args.clock.now) (omega arith) begins in (
             e.journal,
             subst (λ (r : Ended). HasRun c.args.flow.now r start time D.tells D.held D.moment D.images c.args.store.lot opened first c.drive.new.disk now_left now_standing e.journal) (sym so)
@@ -199,13 +205,15 @@ returns-in_default g c =
       alone =
           writes_on D.moment D.images c.args.store.log.number e0.store.log.number c.args.disk.now c.args.disk.now c.drive.new.disk (same_log c.args.store.log.number e0.store.log.number (ap (λ (t : StoreState). t.log.number) is.store_is))
           (writes_none D.moment D.images c.args.store.log.number c.args.disk.now) c.drive.ensures.alone;
-      limited = λ limit ends. absurd (no_limit_faults error none limit (sym so ∙ ends));
-      damaged = λ damage ends.
-          damaged_by D.tells D.held D.moment D.images c.args.flow.now e0.flow c.args.store.lot e0.store.lot c.drive.new.disk is.flow_is (ap (λ (t : StoreState). t.lot) is.store_is)
-          (c.drive.ensures.why.damaged damage (c.in-Err-drive.is ∙ ap Err (by_damage error damage (sym so ∙ ends))));
-      causes =
-          ends_on_faults c.drive.result error end (D.faults c.args.disk.now) (D.faults c.drive.new.disk) (g.I.Inbox.faults c.args.inbox.now) (g.I.Inbox.faults c.drive.new.inbox) (g.O.Outbox.faults c.args.outbox.now) (g.O.Outbox.faults c.drive.new.outbox)
-          c.in-Err-drive.is (λ reopen. c.drive.ensures.works (c.in-Err-drive.is ∙ ap Err reopen)) so
-          (each_counts_after c.drive.result (D.faults c.args.disk.now) (D.faults c.args.disk.now) (D.faults c.drive.new.disk) (g.I.Inbox.faults c.args.inbox.now) (g.I.Inbox.faults c.new.new.inbox) (g.I.Inbox.faults c.drive.new.inbox)
-          (g.O.Outbox.faults c.args.outbox.now) (g.O.Outbox.faults c.args.outbox.now) (g.O.Outbox.faults c.drive.new.outbox) (omega arith) c.new.ensures.cause.never_falls (omega arith) c.drive.ensures.cause);
+      why = record {
+        limited = λ limit ends. absurd (no_limit_faults error none limit (sym so ∙ ends));
+        damaged = λ damage ends.
+            damaged_by D.tells D.held D.moment D.images c.args.flow.now e0.flow c.args.store.lot e0.store.lot c.drive.new.disk is.flow_is (ap (λ (t : StoreState). t.lot) is.store_is)
+            (c.drive.ensures.why.damaged damage (c.in-Err-drive.is ∙ ap Err (by_damage error damage (sym so ∙ ends))));
+        faults_counted =
+            ends_on_faults c.drive.result error end (D.faults c.args.disk.now) (D.faults c.drive.new.disk) (g.I.Inbox.faults c.args.inbox.now) (g.I.Inbox.faults c.drive.new.inbox) (g.O.Outbox.faults c.args.outbox.now) (g.O.Outbox.faults c.drive.new.outbox)
+            c.in-Err-drive.is (λ reopen. c.drive.ensures.works (c.in-Err-drive.is ∙ ap Err reopen)) so
+            (each_counts_after c.drive.result (D.faults c.args.disk.now) (D.faults c.args.disk.now) (D.faults c.drive.new.disk) (g.I.Inbox.faults c.args.inbox.now) (g.I.Inbox.faults c.new.new.inbox) (g.I.Inbox.faults c.drive.new.inbox)
+            (g.O.Outbox.faults c.args.outbox.now) (g.O.Outbox.faults c.args.outbox.now) (g.O.Outbox.faults c.drive.new.outbox) (omega arith) c.new.ensures.cause.never_falls (omega arith) c.drive.ensures.cause);
+      };
     }

@@ -18,12 +18,12 @@ use Rattle.flow_engine.proofs.session.commit.Goals as goal
 pub returns-in_err-moment-clause-alone : goal.returns-in_err-moment-clause-alone
 returns-in_err-moment-clause-alone g c =
     touches_log g.D.Disk.moment g.D.Disk.images c.args.store.now.log.number c.prepare.new.self.log.number c.args.disk.now c.commit.new.disk (ap (λ (s : StoreState). s.log.number) c.prepare.ensures.same)
-    c.commit.ensures.alone
+    c.commit.ensures.touched.alone
 
 pub returns-clause-alone : goal.returns-clause-alone
 returns-clause-alone g c =
     touches_log g.D.Disk.moment g.D.Disk.images c.args.store.now.log.number c.prepare.new.self.log.number c.args.disk.now c.commit.new.disk (ap (λ (s : StoreState). s.log.number) c.prepare.ensures.same)
-    c.commit.ensures.alone
+    c.commit.ensures.touched.alone
 
 pub settle-requires-clause-kept : goal.settle-requires-clause-kept
 settle-requires-clause-kept g c =
@@ -43,7 +43,7 @@ settle-requires-clause-kept g c =
       kept_by s,
       may_still_settle c.args.queues.now c.reserve.new.self c.reserve.ensures.same flow (kept_by s) c.args.changed.settled over,
       subst (λ (k : Kept). IsKeptAfter (kept_by s) c.args.connection c.args.changed.settled k) (sym c.state.ensures.kept)
-          (kept_after c.in_ok-prepared.prepared s t c.commit.new.self t.memory.room c.args.changed.settled c.args.connection c.prepare.ensures.same (c.commit.ensures.changed works)
+          (kept_after c.in_ok-prepared.prepared s t c.commit.new.self t.memory.room c.args.changed.settled c.args.connection c.prepare.ensures.same (c.commit.ensures.changed works).change
           c.in_ok-prepared.ensures.entry c.requires.gone),
     )
 
@@ -75,11 +75,11 @@ returns-in_err-moment-clause-written g c =
     let s = c.args.store.now in
     let t = c.prepare.new.self in
     let p = err_from_is_err_and c.from_residual-in_err-moment.result c.from_residual-in_err-moment.ensures.1 in
-    let change = c.commit.ensures.changed (works_roomy s t t.memory.room c.prepare.ensures.same c.requires.work.1.work.works) in
+    let change = (c.commit.ensures.changed (works_roomy s t t.memory.room c.prepare.ensures.same c.requires.work.1.work.works)).change in
     cut_off_by D.tells D.held D.moment D.images g.O.Outbox.tells s c.commit.new.self c.args.queues.now c.reserve.new.self c.args.changed (g.O.Outbox.standing c.args.outbox.now) (g.O.Outbox.standing c.send.new.outbox) c.args.disk.now c.commit.new.disk
     p.0 (p.2 ∙ refused_by_disk c.in_err-moment.field-0.0 c.in_err-moment.ensures.refusal.kinds)
     (λ flow before after work stands makes. committed_between D.held D.moment D.images flow s t t.memory.room c.args.changed.settled c.in_ok-prepared.prepared.settled c.args.disk.now c.commit.new.disk before after
-    c.prepare.ensures.same c.in_ok-prepared.ensures.prepared.0 work.flow_is stands makes work.works (λ works. (c.commit.ensures.whole works).states))
+    c.prepare.ensures.same c.in_ok-prepared.ensures.prepared.0 work.flow_is stands makes work.works (λ works. (c.commit.ensures.changed works).states))
     c.in_ok-send.ensures.sent (lot_after c.in_ok-prepared.prepared s t c.commit.new.self t.memory.room c.prepare.ensures.same change)
     c.from_residual-in_err-moment.result p.1
 
@@ -89,11 +89,11 @@ returns-clause-written g c =
     let s = c.args.store.now in
     let t = c.prepare.new.self in
     let same = c.prepare.ensures.same in
-    let change = c.commit.ensures.changed (works_roomy s t t.memory.room same c.requires.work.1.work.works) in
+    let change = (c.commit.ensures.changed (works_roomy s t t.memory.room same c.requires.work.1.work.works)).change in
     record {
       stepped = λ flow before after work stands makes.
           committed D.held D.moment D.images flow s t t.memory.room c.args.changed.settled c.in_ok-prepared.prepared.settled c.args.disk.now c.commit.new.disk before after
-          same c.in_ok-prepared.ensures.prepared.0 work.flow_is stands makes work.works (λ works. (c.commit.ensures.whole works).states) c.in_ok-moment.ensures.acknowledged.states;
+          same c.in_ok-prepared.ensures.prepared.0 work.flow_is stands makes work.works (λ works. (c.commit.ensures.changed works).states) c.in_ok-moment.ensures.acknowledged.states;
       cut_off = λ is. absurd cc;
       moment_is = c.in_ok-moment.ensures.acknowledged.moment;
       sent = c.in_ok-send.ensures.sent;
@@ -113,12 +113,12 @@ returns-clause-written g c =
             may = c.requires.may.settles;
           } in
           let after = subst (λ (k : Kept). IsKeptAfter (kept_by s) c.args.connection c.args.changed.settled k) (sym c.state.ensures.kept)
-          (kept_after c.in_ok-prepared.prepared s t c.commit.new.self t.memory.room c.args.changed.settled c.args.connection same (c.commit.ensures.changed works)
+          (kept_after c.in_ok-prepared.prepared s t c.commit.new.self t.memory.room c.args.changed.settled c.args.connection same (c.commit.ensures.changed works).change
           c.in_ok-prepared.ensures.entry c.requires.gone) in
           record {
             work = record {
               works = still_works c.commit.result t c.commit.new.self c.in_ok-moment.moment c.in_ok-moment.was works c.commit.ensures.refusal.failed;
-              flow_is = flow_after c.in_ok-prepared.prepared t c.commit.new.self (identity_of flow) (c.commit.ensures.changed works) (ap (λ (u : StoreState). flow_in (kept_by u)) same ∙ queued.work.flow_is);
+              flow_is = flow_after c.in_ok-prepared.prepared t c.commit.new.self (identity_of flow) (c.commit.ensures.changed works).change (ap (λ (u : StoreState). flow_in (kept_by u)) same ∙ queued.work.flow_is);
               kept = c.commit.ensures.kept;
             };
             are = subst (λ (k : Kept). AreQueuesOf flow k c.settle.new.self) c.state.ensures.kept

@@ -62,7 +62,7 @@ returns-in_err-moment-clause-cut_off g c is telling before stands =
       after = goes.after;
       goes = goes.goes;
       is_so = committed_between g.D.Disk.moment g.D.Disk.images flow s disk c.commit.new.disk before c.requires.work.flow_is stands g.D.Disk.held goes.after c.in_ok-prepared.prepared.settled
-          (ap (state_after (content_in held) before.state) c.in_ok-prepared.ensures.prepared.0 ∙ goes.is_so) (c.commit.ensures.whole c.requires.work.works).states;
+          (ap (state_after (content_in held) before.state) c.in_ok-prepared.ensures.prepared.0 ∙ goes.is_so) (c.commit.ensures.changed c.requires.work.works).states;
     }
 
 pub returns-clause-done : goal.returns-clause-done
@@ -78,7 +78,7 @@ returns-clause-done g c telling before stands =
       after = goes.after;
       goes = goes.goes;
       is_so = committed g.D.Disk.moment g.D.Disk.images flow s disk c.commit.new.disk before c.requires.work.flow_is stands g.D.Disk.held goes.after c.in_ok-prepared.prepared.settled
-          (ap (state_after (content_in held) before.state) c.in_ok-prepared.ensures.prepared.0 ∙ goes.is_so) (c.commit.ensures.whole c.requires.work.works).states c.in_ok-moment.ensures.acknowledged.states;
+          (ap (state_after (content_in held) before.state) c.in_ok-prepared.ensures.prepared.0 ∙ goes.is_so) (c.commit.ensures.changed c.requires.work.works).states c.in_ok-moment.ensures.acknowledged.states;
     }
 
 pub returns-clause-queues : goal.returns-clause-queues
@@ -87,7 +87,7 @@ returns-clause-queues g c =
     let flow = c.args.flow.now in
     let x = c.in_ok-expiry.expiry in
     let there = c.in_ok-expiry.ensures.there in
-    let left = kept_after c.in_ok-prepared.prepared s c.commit.new.self x (c.commit.ensures.changed c.requires.work.works) c.in_ok-prepared.ensures.entry in
+    let left = kept_after c.in_ok-prepared.prepared s c.commit.new.self x (c.commit.ensures.changed c.requires.work.works).change c.in_ok-prepared.ensures.entry in
     let same : c.as_slice.result.now ≡ x.settled.gone = c.as_slice.ensures in
     let may : MayExpireIn flow (kept_by s) x.connection x.settled.gone c.args.queues.now = record {
       of_kept = c.requires.queues;
@@ -101,7 +101,7 @@ returns-clause-queues g c =
     (left.files ∙ ap (λ (ns : List ℕ). left_after ns (kept_by s).files) (sym same))
 
 pub returns-in_err-moment-clause-alone : goal.returns-in_err-moment-clause-alone
-returns-in_err-moment-clause-alone g c = touches_log g.D.Disk.moment g.D.Disk.images c.args.store.now.log.number c.args.store.now.log.number c.args.disk.now c.commit.new.disk refl c.commit.ensures.alone
+returns-in_err-moment-clause-alone g c = touches_log g.D.Disk.moment g.D.Disk.images c.args.store.now.log.number c.args.store.now.log.number c.args.disk.now c.commit.new.disk refl c.commit.ensures.touched.alone
 
 pub returns-clause-alone : goal.returns-clause-alone
-returns-clause-alone g c = touches_log g.D.Disk.moment g.D.Disk.images c.args.store.now.log.number c.args.store.now.log.number c.args.disk.now c.commit.new.disk refl c.commit.ensures.alone
+returns-clause-alone g c = touches_log g.D.Disk.moment g.D.Disk.images c.args.store.now.log.number c.args.store.now.log.number c.args.disk.now c.commit.new.disk refl c.commit.ensures.touched.alone

@@ -1,12 +1,12 @@
 use Rattle.flow_engine.proofs.Tends.{spares, writes_by_reclaim}
 use Rattle.flow_engine.proofs.tending.reclaim.Goals as goal
 
-pub returns-in_err-reclaim-clause-spared : goal.returns-in_err-reclaim-clause-spared
-returns-in_err-reclaim-clause-spared g c flow before work stands =
+pub returns-in_err-reclaimed-clause-spared : goal.returns-in_err-reclaimed-clause-spared
+returns-in_err-reclaimed-clause-spared g c flow before work stands =
     spares g.D.Disk.moment g.D.Disk.images flow c.args.store.now c.args.disk.now c.reclaim.new.disk before work.flow_is stands (c.reclaim.ensures.meaning work.works).states
 
-pub returns-in_err-reclaim-clause-alone : goal.returns-in_err-reclaim-clause-alone
-returns-in_err-reclaim-clause-alone g c =
+pub returns-in_err-reclaimed-clause-alone : goal.returns-in_err-reclaimed-clause-alone
+returns-in_err-reclaimed-clause-alone g c =
     writes_by_reclaim g.D.Disk.moment g.D.Disk.images c.args.store.now.log.number c.args.store.now.slots c.args.disk.now c.reclaim.new.disk c.reclaim.ensures.alone
 
 pub returns-clause-spared : goal.returns-clause-spared

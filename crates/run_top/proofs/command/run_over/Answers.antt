@@ -50,7 +50,7 @@ returns-clause-headline g c disk_told in_told out_told state of =
     let disk_laws = g.met.D.Disk g.world.𝓛 g.world.𝓜 g.world.𝓡 ((λ s x. x), (λ x. x), (λ x. x), λ x. x) in
     ⊎_elim
     (λ since. inl (ran_ends g.D.Disk.tells g.D.Disk.held g.D.Disk.moment g.D.Disk.images c.args.flow.now c.args.lot s.lot opened.1 c.run_flow.result (g.C.Clock.time c.args.clock.now) (g.C.Clock.time c.run_flow.new.clock) c.args.most (machine_at state left standing) c.args.disk.now c.open.new.disk c.run_flow.new.disk (g.I.Inbox.left c.run_flow.new.inbox) (g.O.Outbox.standing c.run_flow.new.outbox)
-    since.begun c.run_flow.ensures.limited
+    since.begun c.run_flow.ensures.why.limited
     (c.run_flow.ensures.headline disk_told in_told out_told state c.args.disk.now (g.C.Clock.time c.args.clock.now)
     (starts g.D.Disk.moment g.D.Disk.images c.run_begins.ensures.opened c.what_is_kept_is_a_state.ensures.stands c.what_is_kept_is_a_state.ensures.valid c.events_up_to_the_last_are_in_a_row.ensures.numbered
     c.args.flow.now g.D.Disk.tells g.D.Disk.held s c.args.lot c.args.disk.now c.open.new.disk state (g.C.Clock.time c.args.clock.now) (g.C.Clock.time c.args.clock.now) (omega arith) left standing opened.0 opened.1
@@ -119,11 +119,11 @@ returns-clause-why g c = ⊎_elim
     (λ since. record {
       one_of = end_of_run c.run_flow.result;
       refused = λ is. absurd ((of_end c.run_flow.result).refused is);
-      damaged = λ is. inr (read_tells g.D.Disk.tells g.D.Disk.held g.D.Disk.moment g.D.Disk.images c.args.flow.now c.args.lot c.in_ok-store.store.lot c.in_ok-store.ensures.opened.1 c.run_flow.result c.args.disk.now c.open.new.disk c.run_flow.new.disk since.begun c.run_flow.ensures.alone.later c.run_flow.ensures.damaged is);
-      limited = λ is. limit_tells g.D.Disk.tells g.D.Disk.held g.D.Disk.moment g.D.Disk.images c.args.flow.now c.args.lot c.in_ok-store.store.lot c.in_ok-store.ensures.opened.1 c.run_flow.result _ c.args.disk.now c.open.new.disk c.run_flow.new.disk since.begun c.run_flow.ensures.alone.later c.run_flow.ensures.limited is;
+      damaged = λ is. inr (read_tells g.D.Disk.tells g.D.Disk.held g.D.Disk.moment g.D.Disk.images c.args.flow.now c.args.lot c.in_ok-store.store.lot c.in_ok-store.ensures.opened.1 c.run_flow.result c.args.disk.now c.open.new.disk c.run_flow.new.disk since.begun c.run_flow.ensures.alone.later c.run_flow.ensures.why.damaged is);
+      limited = λ is. limit_tells g.D.Disk.tells g.D.Disk.held g.D.Disk.moment g.D.Disk.images c.args.flow.now c.args.lot c.in_ok-store.store.lot c.in_ok-store.ensures.opened.1 c.run_flow.result _ c.args.disk.now c.open.new.disk c.run_flow.new.disk since.begun c.run_flow.ensures.alone.later c.run_flow.ensures.why.limited is;
     })
     (λ failed. absurd (⊎_elim (λ disk. cc (disk, c.in_ok-store.was)) (λ memory. cc (memory.0, c.in_ok-store.was)) failed.told))
     c.open.ensures.alone
 
 pub returns-clause-faults : goal.returns-clause-faults
-returns-clause-faults g c = run_counts c.run_flow.result _ (g.D.Disk.faults c.open.new.disk) _ _ _ _ _ c.open.ensures.cause.never_falls c.run_flow.ensures.causes
+returns-clause-faults g c = run_counts c.run_flow.result _ (g.D.Disk.faults c.open.new.disk) _ _ _ _ _ c.open.ensures.cause.never_falls c.run_flow.ensures.why.faults_counted

@@ -64,10 +64,10 @@ returns-in_err-check_flow-clause-other_flow g c digest other is =
     let flows : k.flow ≡ (kept_of c.stored-kept.result.now).flow = ap (λ (x : Kept). x.flow) (sym kept_is) in (
       is_ours,
       λ told.
-          let has = c.in_ok-events.ensures.found told in
+          let has = c.in_ok-events.ensures.found.has told in
           is_other c.args.flow.now c.args.lot (held d0) k has.events digest (c.in_ok-found.ensures.found told).kept
           (moved (held d0) (held c.read_kept.new.disk) k (kept_of c.stored-kept.result.now) None c.read_kept.ensures.stays.files kept_is (c.in_ok-opened.ensures.sound told))
-          (events_told (held d0) (held c.read_contents.new.disk) k c.in_ok-events.events (kept_of c.stored-kept.result.now).last_event files c.in_ok-events.ensures.end last_is has)
+          (events_told (held d0) (held c.read_contents.new.disk) k c.in_ok-events.events (kept_of c.stored-kept.result.now).last_event files c.in_ok-events.ensures.found.end last_is has)
           (flows ∙ is_digest) (λ e. told_of.0 (sym flows ∙ e)),
     )
 
@@ -81,10 +81,10 @@ returns-clause-found g c =
     let files : held c.read_contents.new.disk ≡ held d0 = c.read_contents.ensures.stays.files ∙ c.read_kept.ensures.stays.files in
     if_ok c.revive.result _ _
     (λ store revived told.
-    let has = c.in_ok-events.ensures.found told in
+    let has = c.in_ok-events.ensures.found.has told in
     is_found c.args.flow.now c.args.lot (held d0) k has.events _ (c.in_ok-found.ensures.found told).kept
     (moved (held d0) (held c.read_kept.new.disk) k (kept_of c.stored-kept.result.now) None c.read_kept.ensures.stays.files kept_is (c.in_ok-opened.ensures.sound told))
-    (events_told (held d0) (held c.read_contents.new.disk) k c.in_ok-events.events (kept_of c.stored-kept.result.now).last_event files c.in_ok-events.ensures.end last_is has)
+    (events_told (held d0) (held c.read_contents.new.disk) k c.in_ok-events.events (kept_of c.stored-kept.result.now).last_event files c.in_ok-events.ensures.found.end last_is has)
     revived.kept
     (revived.log ∙ ap (λ (o : Option ℕ). Some (log_opened o)) (sym (number_found c.args.flow.now c.args.lot (held d0) c.in_ok-found.found (c.in_ok-found.ensures.found told)))))
     c.revive.ensures.revived
@@ -97,11 +97,11 @@ returns-clause-shut g c told shut =
     let kept_is : kept_of c.stored-kept.result.now ≡ k = c.stored-kept.ensures.kept in
     let last_is : (kept_of c.stored-kept.result.now).last_event ≡ k.last_event = ap (λ (x : Kept). x.last_event) kept_is in
     let files : held c.read_contents.new.disk ≡ held d0 = c.read_contents.ensures.stays.files ∙ c.read_kept.ensures.stays.files in
-    let has = c.in_ok-events.ensures.found told in
+    let has = c.in_ok-events.ensures.found.has told in
     absurd
     (not_shut c.args.flow.now c.args.lot (held d0) k has.events (c.in_ok-found.ensures.found told).kept
     (moved (held d0) (held c.read_kept.new.disk) k (kept_of c.stored-kept.result.now) None c.read_kept.ensures.stays.files kept_is (c.in_ok-opened.ensures.sound told))
-    (events_told (held d0) (held c.read_contents.new.disk) k c.in_ok-events.events (kept_of c.stored-kept.result.now).last_event files c.in_ok-events.ensures.end last_is has)
+    (events_told (held d0) (held c.read_contents.new.disk) k c.in_ok-events.events (kept_of c.stored-kept.result.now).last_event files c.in_ok-events.ensures.found.end last_is has)
     (ap flow_in (sym kept_is) ∙ c.in_ok-check_flow.ensures.same) shut)
 
 pub returns-in_err-check_flow-clause-alone : goal.returns-in_err-check_flow-clause-alone

@@ -100,7 +100,7 @@ returns-in_err-trim-clause-images g c =
     let is_made = subst (λ (x : Kept). c.args.found.log.number ≡ None → InEach (images d1 (moment d1)) (IsMade x)) c.stored.ensures.kept c.in_ok-make_whole.ensures.made in
     let live = c.as_slice.ensures.value ∙ c.requires.opened in
     means_end g.D.Disk.tells g.D.Disk.held moment images (λ disk j e left. laws.left_is_told disk j e left) c.args.lot c.args.found c.args.events d0 d1
-    c.requires.synced c.requires.found c.make_whole.ensures.mended made c.make_whole.ensures.events (state_in c.args.found.state c.make_whole.new.log c.args.found.entries [] c.args.opened.items c.args.events c.args.lot false) refl c.in_ok-make_whole.ensures.ready is_made d2 c.as_slice.result.now live c.hold_opened.ensures.images d3 c.trim.ensures.images
+    c.requires.synced c.requires.found c.make_whole.ensures.mended made c.make_whole.ensures.events (state_in c.args.found.state c.make_whole.new.log c.args.found.entries [] c.args.opened.items c.args.events c.args.lot false) refl c.in_ok-make_whole.ensures.ready is_made d2 c.as_slice.result.now live c.hold_opened.ensures.images d3 c.trim.ensures.behind.left
 
 pub returns-clause-images : goal.returns-clause-images
 returns-clause-images g c =
@@ -115,7 +115,7 @@ returns-clause-images g c =
     let is_made = subst (λ (x : Kept). c.args.found.log.number ≡ None → InEach (images d1 (moment d1)) (IsMade x)) c.stored.ensures.kept c.in_ok-make_whole.ensures.made in
     let live = c.as_slice.ensures.value ∙ c.requires.opened in
     means_end g.D.Disk.tells g.D.Disk.held moment images (λ disk j e left. laws.left_is_told disk j e left) c.args.lot c.args.found c.args.events d0 d1
-    c.requires.synced c.requires.found c.make_whole.ensures.mended made c.make_whole.ensures.events (state_in c.args.found.state c.make_whole.new.log c.args.found.entries [] c.args.opened.items c.args.events c.args.lot false) refl c.in_ok-make_whole.ensures.ready is_made d2 c.as_slice.result.now live c.hold_opened.ensures.images d3 c.trim.ensures.images
+    c.requires.synced c.requires.found c.make_whole.ensures.mended made c.make_whole.ensures.events (state_in c.args.found.state c.make_whole.new.log c.args.found.entries [] c.args.opened.items c.args.events c.args.lot false) refl c.in_ok-make_whole.ensures.ready is_made d2 c.as_slice.result.now live c.hold_opened.ensures.images d3 c.trim.ensures.behind.left
 
 pub returns-clause-kept : goal.returns-clause-kept
 returns-clause-kept g c =
@@ -132,11 +132,11 @@ returns-clause-kept g c =
     let s = state_in c.args.found.state c.make_whole.new.log c.args.found.entries c.in_ok-contents.contents c.args.opened.items c.trim.new.self c.args.lot false in
     record {
       holds = λ works. end_holds g.D.Disk.tells g.D.Disk.held moment images (λ disk j e left. laws.left_is_told disk j e left) c.args.lot c.args.found c.args.events d0 d1
-          c.requires.synced c.requires.found c.make_whole.ensures.mended made c.make_whole.ensures.events s refl c.in_ok-make_whole.ensures.ready is_made d2 c.as_slice.result.now live c.hold_opened.ensures.images d3 c.trim.ensures.images [] c.in_ok-trim.ensures.state refl refl;
+          c.requires.synced c.requires.found c.make_whole.ensures.mended made c.make_whole.ensures.events s refl c.in_ok-make_whole.ensures.ready is_made d2 c.as_slice.result.now live c.hold_opened.ensures.images d3 c.trim.ensures.behind.left [] c.in_ok-trim.ensures.trimmed.state refl refl;
       log = λ works. end_log g.D.Disk.tells g.D.Disk.held moment images (λ disk j e left. laws.left_is_told disk j e left) c.args.lot c.args.found c.args.events d0 d1
-          c.requires.synced c.requires.found c.make_whole.ensures.mended made c.make_whole.ensures.events s refl c.in_ok-make_whole.ensures.ready is_made d2 c.as_slice.result.now live c.hold_opened.ensures.images d3 c.trim.ensures.images;
-      sizes = λ works told. sizes_trimmed c.args.events.stale s.slots (g.D.Disk.held d2) (g.D.Disk.held d3) (c.trim.ensures.held told) (c.in_ok-contents.ensures.files told);
-      trimmed = λ works told. (c.in_ok-trim.ensures.ready told).trimmed;
+          c.requires.synced c.requires.found c.make_whole.ensures.mended made c.make_whole.ensures.events s refl c.in_ok-make_whole.ensures.ready is_made d2 c.as_slice.result.now live c.hold_opened.ensures.images d3 c.trim.ensures.behind.left;
+      sizes = λ works told. sizes_trimmed c.args.events.stale s.slots (g.D.Disk.held d2) (g.D.Disk.held d3) (c.trim.ensures.behind.files told) (c.in_ok-contents.ensures.files told);
+      trimmed = λ works told. (c.in_ok-trim.ensures.trimmed.ready told).trimmed;
     }
 
 pub invariant_of-result : goal.invariant_of-result
@@ -147,7 +147,7 @@ invariant_of-result g c =
       mended = c.in_ok-make_whole.ensures.log.1;
       opened = few_live c.args.found.state.kept c.args.opened.items c.requires.found.consistent c.requires.opened;
       works = λ works. working s c.as_slice.result.now c.in_ok-make_whole.ensures.log.2
-          (sym c.requires.found.last_event ∙ ap (λ (e : EventsState). e.end) (sym c.in_ok-trim.ensures.state))
+          (sym c.requires.found.last_event ∙ ap (λ (e : EventsState). e.end) (sym c.in_ok-trim.ensures.trimmed.state))
           c.requires.opened c.as_slice.ensures.value c.requires.named
           c.in_ok-contents.ensures.counts c.in_ok-contents.ensures.held c.in_ok-contents.ensures.sizes;
     }
@@ -183,7 +183,7 @@ returns-in_err-trim-clause-alone g c =
     (since_revived moment images current d0 d2 d3
     (since_revived moment images current d0 d1 d2 c.make_whole.ensures.alone
     (since_revives moment images current d1 d2 (ShortenedTo ends) c.hold_opened.ensures.images (revives_cut current ends)))
-    (since_revives moment images current d2 d3 (CutsStale c.args.events.stale) c.trim.ensures.images (revives_trimmed current c.args.events.stale)))
+    (since_revives moment images current d2 d3 (CutsStale c.args.events.stale) c.trim.ensures.behind.left (revives_trimmed current c.args.events.stale)))
 
 pub returns-clause-alone : goal.returns-clause-alone
 returns-clause-alone g c =
@@ -199,7 +199,7 @@ returns-clause-alone g c =
     (since_revived moment images current d0 d2 d3
     (since_revived moment images current d0 d1 d2 c.make_whole.ensures.alone
     (since_revives moment images current d1 d2 (ShortenedTo ends) c.hold_opened.ensures.images (revives_cut current ends)))
-    (since_revives moment images current d2 d3 (CutsStale c.args.events.stale) c.trim.ensures.images (revives_trimmed current c.args.events.stale)))
+    (since_revives moment images current d2 d3 (CutsStale c.args.events.stale) c.trim.ensures.behind.left (revives_trimmed current c.args.events.stale)))
 
 pub returns-clause-tidy : goal.returns-clause-tidy
 returns-clause-tidy g c told =
@@ -209,6 +209,6 @@ returns-clause-tidy g c told =
     let d3 = c.trim.new.disk in
     let s = state_in c.args.found.state c.make_whole.new.log c.args.found.entries c.in_ok-contents.contents c.args.opened.items c.trim.new.self c.args.lot false in
     no_leftovers s (log_opened c.args.found.log.number) c.as_slice.result.now c.args.events.stale (held d1) (held d2) (held d3) c.in_ok-make_whole.ensures.log.0
-    (c.as_slice.ensures.value ∙ c.requires.opened) (c.in_ok-make_whole.ensures.others told) (c.in_ok-contents.ensures.cut told) (c.trim.ensures.held told)
-    (sizes_trimmed c.args.events.stale s.slots (held d2) (held d3) (c.trim.ensures.held told) (c.in_ok-contents.ensures.files told))
+    (c.as_slice.ensures.value ∙ c.requires.opened) (c.in_ok-make_whole.ensures.others told) (c.in_ok-contents.ensures.cut told) (c.trim.ensures.behind.files told)
+    (sizes_trimmed c.args.events.stale s.slots (held d2) (held d3) (c.trim.ensures.behind.files told) (c.in_ok-contents.ensures.files told))
     c.in_ok-contents.ensures.sizes

@@ -334,6 +334,7 @@ returns-clause-ready g c well =
       queues = subst (λ (r : Result ℕ EngineError). OnOk r (AreQueuesOf i.flow.now (kept_by c.expire-expired.new.store) c.expire-expired.new.queues)) made c.expire-expired.ensures.queues;
       listing = ready.listing;
       distinct = ready.distinct;
+      most = ready.most;
       entries = subst (λ (es : List Entry). length es ≤ i.most) (sym journal) (omega (arith, length-append i.journal.items (record { step = one; acked = Some (moment new) } ∷ []), count, c.if-entries-self.false));
       due = λ at is. absurd cc;
     }

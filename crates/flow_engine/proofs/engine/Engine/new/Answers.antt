@@ -26,20 +26,21 @@ returns-clause-opened g c =
       works = refl;
       tended = refl;
       most_is = refl;
+      checkpoint_is = refl;
     }
 
-pub returns-clause-coming : goal.returns-clause-coming
-returns-clause-coming g c told state standing =
-    let left : List NamedFile = g.I.Inbox.left c.args.inbox.now in
-    let names : List (List ℕ) = c.list.new.names.items in
-    sym
-    (ap (λ (l : Left). l.names) c.in_ok-listing.ensures ∙ c.in_ok-coming.ensures.fit told
-    ∙ ap (λ (l : List NamedFile). filter (fits_in l) names) c.list.ensures.left ∙ ap (filter (fits_in left)) (c.in_ok-list.ensures.listed told))
-
-pub returns-clause-takeable : goal.returns-clause-takeable
-returns-clause-takeable g c told =
-    let listed : List NamedFile = g.I.Inbox.left c.list.new.self in
-    let names : List (List ℕ) = c.list.new.names.items in
-    let are : c.in_ok-listing.listing.names ≡ filter (fits_in listed) names = ap (λ (l : Left). l.names) c.in_ok-listing.ensures ∙ c.in_ok-coming.ensures.fit told in
-    subst (AreTakeable (g.I.Inbox.left c.names_that_fit.new.inbox)) (sym are)
-    (subst (λ (l : List NamedFile). AreTakeable l (filter (fits_in listed) names)) (sym c.names_that_fit.ensures.left) (fitting_takeable listed names))
+pub returns-clause-listed : goal.returns-clause-listed
+returns-clause-listed g c = record {
+  coming = λ told state standing.
+      let left : List NamedFile = g.I.Inbox.left c.args.inbox.now in
+      let names : List (List ℕ) = c.list.new.names.items in
+      sym
+      (ap (λ (l : Left). l.names) c.in_ok-listing.ensures ∙ c.in_ok-coming.ensures.fit told
+      ∙ ap (λ (l : List NamedFile). filter (fits_in l) names) c.list.ensures.left ∙ ap (filter (fits_in left)) (c.in_ok-list.ensures.listed told));
+  takeable = λ told.
+      let listed : List NamedFile = g.I.Inbox.left c.list.new.self in
+      let names : List (List ℕ) = c.list.new.names.items in
+      let are : c.in_ok-listing.listing.names ≡ filter (fits_in listed) names = ap (λ (l : Left). l.names) c.in_ok-listing.ensures ∙ c.in_ok-coming.ensures.fit told in
+      subst (AreTakeable (g.I.Inbox.left c.names_that_fit.new.inbox)) (sym are)
+      (subst (λ (l : List NamedFile). AreTakeable l (filter (fits_in listed) names)) (sym c.names_that_fit.ensures.left) (fitting_takeable listed names));
+}

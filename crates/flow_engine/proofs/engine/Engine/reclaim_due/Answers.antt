@@ -8,8 +8,8 @@ use Rattle.flow_engine.specs.declared.error.EngineError.{EngineError}
 use Rattle.flow_engine.proofs.RunsOn.{runs_spared, stops_spared}
 use Rattle.flow_engine.proofs.engine.Engine.reclaim_due.Goals as goal
 
-pub returns-in_err-reclaim-clause-stopped : goal.returns-in_err-reclaim-clause-stopped
-returns-in_err-reclaim-clause-stopped g c is opened first start time left standing run =
+pub returns-in_err-reclaimed-clause-stopped : goal.returns-in_err-reclaimed-clause-stopped
+returns-in_err-reclaimed-clause-stopped g c is opened first start time left standing run =
     let tells = g.D.Disk.tells in
     let held = g.D.Disk.held in
     let moment = g.D.Disk.moment in
@@ -25,8 +25,8 @@ returns-in_err-reclaim-clause-stopped g c is opened first start time left standi
     (λ m stands. c.reclaim.ensures.spared i.flow.now m work stands)
     (subst (λ (u : EngineState). IsRunning moment images u opened first start time old left standing) (sym c.self.view_is) run)
 
-pub returns-in_err-reclaim-clause-alone : goal.returns-in_err-reclaim-clause-alone
-returns-in_err-reclaim-clause-alone g c =
+pub returns-in_err-reclaimed-clause-alone : goal.returns-in_err-reclaimed-clause-alone
+returns-in_err-reclaimed-clause-alone g c =
     subst (λ (u : EngineState). WritesLog g.D.Disk.moment g.D.Disk.images u.store.log.number c.args.disk.now c.reclaim.new.disk) c.self.view_is c.reclaim.ensures.alone
 
 pub returns-clause-goes_on : goal.returns-clause-goes_on

@@ -49,7 +49,7 @@ returns-in_err-commit-clause-stopped g c error is telling in_telling out_telling
     let same : c.read.new.self ≡ e = c.in_ok-job.ensures.engine.unchanged (λ disk. cc) in
     let at : c.in_ok-done.done.given.moment ≡ c.args.moment = moment_of_work (kept_by e.store) c.args.moment next.choice c.in_ok-job.job c.in_ok-done.done.given next.handed c.in_ok-done.ensures.given in
     subst (λ (t : ℕ). Stops error D.tells D.held D.moment D.images c.commit.new.self opened first start t c.commit.new.disk (g.I.Inbox.left c.commit.new.inbox) (g.O.Outbox.standing c.commit.new.outbox)) at
-    (c.in_err-commit.ensures.stopped error (ap Err told) (ap (λ (x : EngineState). x.failed) same ∙ c.requires.works) telling in_telling out_telling opened first start time (omega (arith, le, at))
+    ((c.in_err-commit.ensures.run telling in_telling out_telling).stopped error (ap Err told) (ap (λ (x : EngineState). x.failed) same ∙ c.requires.works) opened first start time (omega (arith, le, at))
     (still_runs D.tells D.held D.moment D.images c.args.disk.now c.read.new.disk c.read.ensures.world.0 c.run_goes_on.ensures.spared e c.read.new.self same opened first start time time (omega arith)
     (g.I.Inbox.left c.args.inbox.now) (g.I.Inbox.left c.read.new.inbox) (g.O.Outbox.standing c.args.outbox.now) (g.O.Outbox.standing c.read.new.outbox) c.read.ensures.world.1 c.read.ensures.world.2 run))
 
@@ -62,7 +62,7 @@ returns-clause-goes_on g c telling in_telling out_telling opened first start tim
     let works : c.read.new.self.failed ≡ false = ap (λ (x : EngineState). x.failed) same ∙ c.requires.works in
     let at : c.in_ok-done.done.given.moment ≡ c.args.moment = moment_of_work (kept_by e.store) c.args.moment next.choice c.in_ok-job.job c.in_ok-done.done.given next.handed c.in_ok-done.ensures.given in
     subst (λ (t : ℕ). IsRunning D.moment D.images c.commit.new.self opened first start t c.commit.new.disk (g.I.Inbox.left c.commit.new.inbox) (g.O.Outbox.standing c.commit.new.outbox)) at
-    (c.in_ok-commit.ensures.goes_on (still_works c.in_ok-commit.field-0 c.read.new.self c.commit.new.self _ _ works c.in_ok-commit.ensures.refusal.reopen) (λ inbox. absurd cc) telling in_telling out_telling opened first start time (omega (arith, le, at))
+    ((c.in_ok-commit.ensures.run telling in_telling out_telling).goes_on (still_works c.in_ok-commit.field-0 c.read.new.self c.commit.new.self _ _ works c.in_ok-commit.ensures.refusal.reopen) (λ inbox. absurd cc) opened first start time (omega (arith, le, at))
     (still_runs D.tells D.held D.moment D.images c.args.disk.now c.read.new.disk c.read.ensures.world.0 c.run_goes_on.ensures.spared e c.read.new.self same opened first start time time (omega arith)
     (g.I.Inbox.left c.args.inbox.now) (g.I.Inbox.left c.read.new.inbox) (g.O.Outbox.standing c.args.outbox.now) (g.O.Outbox.standing c.read.new.outbox) c.read.ensures.world.1 c.read.ensures.world.2 run))
 
@@ -70,4 +70,4 @@ pub returns-clause-ready : goal.returns-clause-ready
 returns-clause-ready g c =
     let same : c.read.new.self ≡ c.args.self.now = c.in_ok-job.ensures.engine.unchanged (λ disk. cc) in
     let works : c.read.new.self.failed ≡ false = ap (λ (x : EngineState). x.failed) same ∙ c.requires.works in
-    c.commit.ensures.usable.0 (still_works c.in_ok-commit.field-0 c.read.new.self c.commit.new.self _ _ works c.in_ok-commit.ensures.refusal.reopen)
+    c.commit.ensures.usable.usable (still_works c.in_ok-commit.field-0 c.read.new.self c.commit.new.self _ _ works c.in_ok-commit.ensures.refusal.reopen)

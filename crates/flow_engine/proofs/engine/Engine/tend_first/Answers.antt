@@ -1,6 +1,7 @@
 use Rattle.std.proofs.Common.{◌≡◌, ◌∙◌, ap, Bool, false, true, sym, subst}
-use Rattle.std.specs.Prelude.{Err, Ok, Result, Some}
+use Rattle.std.specs.Prelude.{Err, None, Ok, Option, Result, Some}
 use Rattle.std.proofs.lemmas.Result.{err_from_is_err_and}
+use Rattle.content_repo.specs.declared.reclaim.Reclaimed.{Reclaimed as TheCount}
 use Rattle.flow_run.specs.Work.{IsShortOn}
 use Rattle.flow_engine.specs.Engine.{EngineState}
 use Rattle.flow_engine.specs.Running.{IsRunning, Stops}
@@ -64,8 +65,8 @@ returns-then-branch-2-clause-goes_on g c well telling opened first start time le
     (λ disk. let both : ◌≡◌ {A = Result Bool EngineError} (Ok c.in_ok-checkpoint_due.field-0) (Err EngineError.Disk) = sym c.in_ok-checkpoint_due.was ∙ disk in cc)
     opened first start c.args.moment left standing on
 
-pub returns-in_err-reclaim_due-clause-stopped : goal.returns-in_err-reclaim_due-clause-stopped
-returns-in_err-reclaim_due-clause-stopped g c error is telling opened first start time left standing by run =
+pub returns-in_err-reclaimed-clause-stopped : goal.returns-in_err-reclaimed-clause-stopped
+returns-in_err-reclaimed-clause-stopped g c error is telling opened first start time left standing by run =
     let was = c.in_ok-expire_due.was in
     let there = c.in_ok-expire_due.is in
     let fresh : c.expire_due.result ≡ Ok false = cc in
@@ -74,14 +75,14 @@ returns-in_err-reclaim_due-clause-stopped g c error is telling opened first star
     let there_too = c.in_ok-checkpoint_due.is in
     let idle : c.checkpoint_due.result ≡ Ok false = cc in
     let further = c.checkpoint_due.ensures.goes_on (λ disk. let both : ◌≡◌ {A = Result Bool EngineError} (Ok false) (Err EngineError.Disk) = sym idle ∙ disk in cc) opened first start c.args.moment left standing on in
-    let p = err_from_is_err_and c.from_residual-in_err-reclaim_due.result c.from_residual-in_err-reclaim_due.ensures.1 in
-    let told : c.in_err-reclaim_due.field-0.0 ≡ error = cc (p.1, p.2, is) in
-    let kind : c.in_err-reclaim_due.field-0.0 ≡ EngineError.Disk = c.in_err-reclaim_due.ensures.kinds in
+    let p = err_from_is_err_and c.from_residual-in_err-reclaimed.result c.from_residual-in_err-reclaimed.ensures.1 in
+    let told : c.in_err-reclaimed.field-0.0 ≡ error = cc (p.1, p.2, is) in
+    let kind : c.in_err-reclaimed.field-0.0 ≡ EngineError.Disk = c.in_err-reclaimed.ensures.kinds in
     subst (λ (er : EngineError). Stops er g.D.Disk.tells g.D.Disk.held g.D.Disk.moment g.D.Disk.images c.reclaim_due.new.self opened first start c.args.moment c.reclaim_due.new.disk left standing) (sym kind ∙ told)
-    (c.reclaim_due.ensures.stopped (c.in_err-reclaim_due.was ∙ ap Err kind) opened first start c.args.moment left standing further)
+    (c.reclaim_due.ensures.stopped (c.in_err-reclaimed.was ∙ ap Err kind) opened first start c.args.moment left standing further)
 
-pub returns-then-branch-3-clause-goes_on : goal.returns-then-branch-3-clause-goes_on
-returns-then-branch-3-clause-goes_on g c well telling opened first start time left standing by run =
+pub returns-in-Some-clause-goes_on : goal.returns-in-Some-clause-goes_on
+returns-in-Some-clause-goes_on g c well telling opened first start time left standing by run =
     let was = c.in_ok-expire_due.was in
     let there = c.in_ok-expire_due.is in
     let fresh : c.expire_due.result ≡ Ok false = cc in
@@ -91,7 +92,7 @@ returns-then-branch-3-clause-goes_on g c well telling opened first start time le
     let idle : c.checkpoint_due.result ≡ Ok false = cc in
     let further = c.checkpoint_due.ensures.goes_on (λ disk. let both : ◌≡◌ {A = Result Bool EngineError} (Ok false) (Err EngineError.Disk) = sym idle ∙ disk in cc) opened first start c.args.moment left standing on in
     c.reclaim_due.ensures.goes_on
-    (λ disk. let both : ◌≡◌ {A = Result Bool EngineError} (Ok c.in_ok-reclaim_due.field-0) (Err EngineError.Disk) = sym c.in_ok-reclaim_due.was ∙ disk in cc)
+    (λ disk. let both : ◌≡◌ {A = Result (Option TheCount) EngineError} (Ok c.in_ok-reclaimed.field-0) (Err EngineError.Disk) = sym c.in_ok-reclaimed.was ∙ disk in cc)
     opened first start c.args.moment left standing further
 
 pub returns-clause-nothing : goal.returns-clause-nothing
@@ -105,9 +106,9 @@ returns-clause-nothing g c is =
     let there_too = c.in_ok-checkpoint_due.is in
     let idle : c.checkpoint_due.result ≡ Ok false = cc in
     let none_too = c.checkpoint_due.ensures.none idle in
-    let was_last = c.in_ok-reclaim_due.was in
-    let there_last = c.in_ok-reclaim_due.is in
-    let clean : c.reclaim_due.result ≡ Ok false = cc in
+    let was_last = c.in_ok-reclaimed.was in
+    let there_last = c.in_ok-reclaimed.is in
+    let clean : c.reclaim_due.result ≡ Ok None = cc in
     let none_last = c.reclaim_due.ensures.none clean in (
       none_last.1 ∙ none_too.1 ∙ none.1,
       subst (λ (e : EngineState). IsShortOn D.moment D.images e.checkpoint c.args.disk.now) none.0
@@ -124,10 +125,10 @@ returns-clause-goes_on g c well telling opened first start time left standing by
     let there_too = c.in_ok-checkpoint_due.is in
     let idle : c.checkpoint_due.result ≡ Ok false = cc in
     let further = c.checkpoint_due.ensures.goes_on (λ disk. let both : ◌≡◌ {A = Result Bool EngineError} (Ok false) (Err EngineError.Disk) = sym idle ∙ disk in cc) opened first start c.args.moment left standing on in
-    let was_last = c.in_ok-reclaim_due.was in
-    let there_last = c.in_ok-reclaim_due.is in
-    let clean : c.reclaim_due.result ≡ Ok false = cc in
-    let last = c.reclaim_due.ensures.goes_on (λ disk. let both : ◌≡◌ {A = Result Bool EngineError} (Ok false) (Err EngineError.Disk) = sym clean ∙ disk in cc) opened first start c.args.moment left standing further in
+    let was_last = c.in_ok-reclaimed.was in
+    let there_last = c.in_ok-reclaimed.is in
+    let clean : c.reclaim_due.result ≡ Ok None = cc in
+    let last = c.reclaim_due.ensures.goes_on (λ disk. let both : ◌≡◌ {A = Result (Option TheCount) EngineError} (Ok None) (Err EngineError.Disk) = sym clean ∙ disk in cc) opened first start c.args.moment left standing further in
     let i = c.self.inside in
     let e : EngineState = record { flow = i.flow.now; store = i.store; queues = i.queues; listing = i.listing; last = i.last; journal = i.journal.items; most = i.most; checkpoint = i.checkpoint; since_reclaim = i.since_reclaim; failed = i.has_failed; tended = i.tended } in
     runs_tended g.D.Disk.tells g.D.Disk.held g.D.Disk.moment g.D.Disk.images e (Some c.args.moment) opened first c.reclaim_due.new.disk start c.args.moment left standing
@@ -168,8 +169,8 @@ returns-then-branch-2-clause-idle g c well none telling opened first start time 
     (λ disk. let both : ◌≡◌ {A = Result Bool EngineError} (Ok c.in_ok-checkpoint_due.field-0) (Err EngineError.Disk) = sym c.in_ok-checkpoint_due.was ∙ disk in cc)
     opened first start time left standing on
 
-pub returns-then-branch-3-clause-idle : goal.returns-then-branch-3-clause-idle
-returns-then-branch-3-clause-idle g c well none telling opened first start time left standing run =
+pub returns-in-Some-clause-idle : goal.returns-in-Some-clause-idle
+returns-in-Some-clause-idle g c well none telling opened first start time left standing run =
     let was = c.in_ok-expire_due.was in
     let there = c.in_ok-expire_due.is in
     let fresh : c.expire_due.result ≡ Ok false = cc in
@@ -179,7 +180,7 @@ returns-then-branch-3-clause-idle g c well none telling opened first start time 
     let idle : c.checkpoint_due.result ≡ Ok false = cc in
     let further = c.checkpoint_due.ensures.goes_on (λ disk. let both : ◌≡◌ {A = Result Bool EngineError} (Ok false) (Err EngineError.Disk) = sym idle ∙ disk in cc) opened first start time left standing on in
     c.reclaim_due.ensures.goes_on
-    (λ disk. let both : ◌≡◌ {A = Result Bool EngineError} (Ok c.in_ok-reclaim_due.field-0) (Err EngineError.Disk) = sym c.in_ok-reclaim_due.was ∙ disk in cc)
+    (λ disk. let both : ◌≡◌ {A = Result (Option TheCount) EngineError} (Ok c.in_ok-reclaimed.field-0) (Err EngineError.Disk) = sym c.in_ok-reclaimed.was ∙ disk in cc)
     opened first start time left standing further
 
 pub returns-clause-idle : goal.returns-clause-idle
@@ -192,10 +193,10 @@ returns-clause-idle g c well none telling opened first start time left standing 
     let there_too = c.in_ok-checkpoint_due.is in
     let idle : c.checkpoint_due.result ≡ Ok false = cc in
     let further = c.checkpoint_due.ensures.goes_on (λ disk. let both : ◌≡◌ {A = Result Bool EngineError} (Ok false) (Err EngineError.Disk) = sym idle ∙ disk in cc) opened first start time left standing on in
-    let was_last = c.in_ok-reclaim_due.was in
-    let there_last = c.in_ok-reclaim_due.is in
-    let clean : c.reclaim_due.result ≡ Ok false = cc in
-    let last = c.reclaim_due.ensures.goes_on (λ disk. let both : ◌≡◌ {A = Result Bool EngineError} (Ok false) (Err EngineError.Disk) = sym clean ∙ disk in cc) opened first start time left standing further in
+    let was_last = c.in_ok-reclaimed.was in
+    let there_last = c.in_ok-reclaimed.is in
+    let clean : c.reclaim_due.result ≡ Ok None = cc in
+    let last = c.reclaim_due.ensures.goes_on (λ disk. let both : ◌≡◌ {A = Result (Option TheCount) EngineError} (Ok None) (Err EngineError.Disk) = sym clean ∙ disk in cc) opened first start time left standing further in
     let i = c.self.inside in
     let e : EngineState = record { flow = i.flow.now; store = i.store; queues = i.queues; listing = i.listing; last = i.last; journal = i.journal.items; most = i.most; checkpoint = i.checkpoint; since_reclaim = i.since_reclaim; failed = i.has_failed; tended = i.tended } in
     runs_tended g.D.Disk.tells g.D.Disk.held g.D.Disk.moment g.D.Disk.images e (Some c.args.moment) opened first c.reclaim_due.new.disk start time left standing

@@ -12,15 +12,15 @@ pub returns-in_err-tend-clause-stopped : goal.returns-in_err-tend-clause-stopped
 returns-in_err-tend-clause-stopped g c error is telling in_telling out_telling opened first start time le run =
     let p = err_from_is_err_and c.from_residual.result c.from_residual.ensures.1 in
     let told : c.in_err-tend.field-0.0 ≡ error = cc (p.1, p.2, is) in
-    c.in_err-tend.ensures.stopped error (ap Err told) c.requires.works telling opened first start time (g.I.Inbox.left c.args.inbox.now) (g.O.Outbox.standing c.args.outbox.now) le run
+    (c.in_err-tend.ensures.run telling).stopped error (ap Err told) c.requires.works opened first start time (g.I.Inbox.left c.args.inbox.now) (g.O.Outbox.standing c.args.outbox.now) le run
 
 pub go_on-requires-clause-short : goal.go_on-requires-clause-short
 go_on-requires-clause-short g c κs within =
     let was = c.in_ok-tend.was in
     let nothing = c.in-Nothing.is in
     let is : c.tend.result ≡ Ok Nothing = cc in
-    let none = c.tend.ensures.nothing is in
-    subst (λ (checkpoint : ℕ). IsShortOn g.D.Disk.moment g.D.Disk.images checkpoint c.tend.new.disk) (sym c.tend.ensures.same.0.checkpoint)
+    let none = c.tend.ensures.tended.nothing is in
+    subst (λ (checkpoint : ℕ). IsShortOn g.D.Disk.moment g.D.Disk.images checkpoint c.tend.new.disk) (sym c.tend.ensures.alone.same.checkpoint)
     (subst (λ (d : _). IsShortOn g.D.Disk.moment g.D.Disk.images c.args.self.now.checkpoint d) (sym none.0) none.1)
 
 pub returns-in-Nothing-clause-turned : goal.returns-in-Nothing-clause-turned
@@ -29,14 +29,14 @@ returns-in-Nothing-clause-turned g c =
     IfOk-weaker c.go_on.result _ _
     (λ ending turned telling in_telling out_telling opened first start time le run.
     turned telling in_telling out_telling opened first start c.args.moment (omega arith)
-    (c.in_ok-tend.ensures.goes_on well telling opened first start time (g.I.Inbox.left c.args.inbox.now) (g.O.Outbox.standing c.args.outbox.now) le run))
+    ((c.in_ok-tend.ensures.run telling).goes_on well opened first start time (g.I.Inbox.left c.args.inbox.now) (g.O.Outbox.standing c.args.outbox.now) le run))
     c.go_on.ensures.turned
 
 pub returns-in-Nothing-clause-stopped : goal.returns-in-Nothing-clause-stopped
 returns-in-Nothing-clause-stopped g c error is telling in_telling out_telling opened first start time le run =
     let well : c.tend.new.self.failed ≡ false = still_works c.in_ok-tend.field-0 c.args.self.now c.tend.new.self _ _ c.requires.works c.in_ok-tend.ensures.refusal.reopen in
     c.go_on.ensures.stopped error is telling in_telling out_telling opened first start c.args.moment (omega arith)
-    (c.in_ok-tend.ensures.goes_on well telling opened first start time (g.I.Inbox.left c.args.inbox.now) (g.O.Outbox.standing c.args.outbox.now) le run)
+    ((c.in_ok-tend.ensures.run telling).goes_on well opened first start time (g.I.Inbox.left c.args.inbox.now) (g.O.Outbox.standing c.args.outbox.now) le run)
 
 pub returns-in-Expired : goal.returns-in-Expired
 returns-in-Expired g c =
@@ -44,16 +44,16 @@ returns-in-Expired g c =
     let well : c.tend.new.self.failed ≡ false = still_works c.in_ok-tend.field-0 c.args.self.now c.tend.new.self _ _ c.requires.works c.in_ok-tend.ensures.refusal.reopen in
     record {
       turned = λ telling in_telling out_telling opened first start time le run.
-          c.in_ok-tend.ensures.goes_on well telling opened first start time (g.I.Inbox.left c.args.inbox.now) (g.O.Outbox.standing c.args.outbox.now) le run;
+          (c.in_ok-tend.ensures.run telling).goes_on well opened first start time (g.I.Inbox.left c.args.inbox.now) (g.O.Outbox.standing c.args.outbox.now) le run;
       short = λ end is. absurd cc;
       stopped = λ error is. absurd cc;
       ready = c.in_ok-tend.ensures.usable well;
       failed = λ fails. absurd cc;
       works = λ is. absurd cc;
-      left = λ telling. subst (λ (l : Left). AreTakeable (g.I.Inbox.left c.args.inbox.now) l.names) (sym c.tend.ensures.same.1) (c.requires.left telling);
-      same = c.tend.ensures.same.0;
-      log = c.in_ok-tend.ensures.log;
-      alone = c.tend.ensures.alone;
+      left = λ telling. subst (λ (l : Left). AreTakeable (g.I.Inbox.left c.args.inbox.now) l.names) (sym c.tend.ensures.alone.listing) (c.requires.left telling);
+      same = c.tend.ensures.alone.same;
+      log = c.in_ok-tend.ensures.alone.log;
+      alone = c.tend.ensures.alone.alone;
       why = record { limited = λ limit is. absurd cc; damaged = λ damage is. absurd cc };
       cause =
           no_fault None (D.faults c.args.disk.now) (D.faults c.tend.new.disk) (g.I.Inbox.faults c.args.inbox.now) (g.I.Inbox.faults c.args.inbox.now) (g.O.Outbox.faults c.args.outbox.now) (g.O.Outbox.faults c.args.outbox.now)

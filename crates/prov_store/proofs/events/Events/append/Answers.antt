@@ -1,4 +1,4 @@
-use Rattle.std.proofs.Common.{◌≡◌, ◌+◌, ◌<◌, ◌^◌, ◌++◌, inl, inr, List, length, ap, subst, ◌∙◌, arith}
+use Rattle.std.proofs.Common.{◌≡◌, ℕ, ◌+◌, ◌<◌, ◌^◌, ◌++◌, inl, inr, List, length, ap, subst, ◌∙◌, arith}
 use Rattle.std.proofs.lemmas.Bool.{cases_lt}
 use Rattle.flowfile_record.specs.declared.event.Event.{Event}
 use Rattle.prov_store.specs.State.{AreCounted}
@@ -24,21 +24,32 @@ invariant_of-self g c =
     let most = c.count_all.ensures.most c.self.inside.end c.self.invariant.2 in
     (number, c.count_all.ensures.long, λ k d lt. let here = most k d lt in omega (arith, here, begun, end, long))
 
-pub returns-clause-ready : goal.returns-clause-ready
-returns-clause-ready g c told =
-    let ready = c.requires.ready told in
-    let has = ready.has in
-    let before = has.events in
-    let stands = c.in_ok-place.ensures.stands told before (record { says = has.says; next = has.offset; trimmed = ready.trimmed }) in
+pub returns-clause-appended : goal.returns-clause-appended
+returns-clause-appended g c =
+    let added = c.args.blocks.now.events in
+    let new_counts = c.count_all.new.counts.counts in
+    let counted : AreCounted added c.self.inside.counts.counts new_counts =
+    subst (λ (l : List Event). AreCounted l c.self.inside.counts.counts new_counts) (ap (λ b. b.events) c.blocks-2.view_is) c.count_all.ensures.counted in
+    let counts : c.self.inside.counts.counts ≡ c.args.self.now.counts = ap (λ s. s.counts) c.self.view_is in
     record {
-      has = record {
-        events = before ++ c.args.blocks.now.events;
-        says = stands.says;
-        offset = stands.next;
-        counts =
-            counts_are before c.args.blocks.now.events c.self.inside.counts.counts c.count_all.new.counts.counts c.count_all.ensures.long
-            (ap (λ s. s.counts) c.self.view_is ∙ has.counts)
-            (subst (λ (l : List Event). AreCounted l c.self.inside.counts.counts c.count_all.new.counts.counts) (ap (λ b. b.events) c.blocks-2.view_is) c.count_all.ensures.counted);
+      ready = λ told.
+          let ready = c.requires.ready told in
+          let has = ready.has in
+          let before = has.events in
+          let stands = c.in_ok-place.ensures.stands told before (record { says = has.says; next = has.offset; trimmed = ready.trimmed }) in
+          record {
+            has = record {
+              events = before ++ added;
+              says = stands.says;
+              offset = stands.next;
+              counts = counts_are before added c.self.inside.counts.counts new_counts c.count_all.ensures.long (counts ∙ has.counts) counted;
+            };
+            trimmed = stands.trimmed;
+          };
+      state = record {
+        end = c.in_ok-place.ensures.end;
+        counts = subst (λ (l : List ℕ). AreCounted added l new_counts) counts counted;
+        stale = ap (λ s. s.stale) c.self.view_is;
       };
-      trimmed = stands.trimmed;
+      writes = c.in_ok-place.ensures.writes;
     }

@@ -40,25 +40,23 @@ invariant_of-result g c =
     (c.requires, c.in_ok-find_later.ensures.loaded.long, λ k d lt. let here = few k d lt in omega (arith, here, end))
 
 pub returns-clause-found : goal.returns-clause-found
-returns-clause-found g c told =
+returns-clause-found g c =
     let inv = c.loop-number.invariant in
-    let end : c.find_later.new.self.end ≡ c.args.end = c.find_later.ensures.end ∙ inv.end in
-    let loaded = subst (λ (n : ℕ). IsLoaded g.D.Disk.tells (g.D.Disk.held c.loop-number.disk) (n / EVENTS_PER_FILE + 1) c.find_later.new.self) (sym c.find_later.ensures.end) c.in_ok-find_later.ensures.loaded in
-    let state : EventsState = record { end = c.args.end; offset = c.find_later.new.self.offset; counts = c.find_later.new.self.counts.counts; stale = c.find_later.new.self.stale.items } in
-    subst (λ (f : Files). HasEvents state f) inv.stays.files
-    (has_events g.D.Disk.tells (g.D.Disk.held c.loop-number.disk) c.find_later.new.self loaded told
-    state (sym end) refl refl)
-
-pub returns-clause-stale : goal.returns-clause-stale
-returns-clause-stale g c told =
-    let inv = c.loop-number.invariant in
-    let end : c.find_later.new.self.end ≡ c.args.end = c.find_later.ensures.end ∙ inv.end in
-    let loaded = subst (λ (n : ℕ). IsLoaded g.D.Disk.tells (g.D.Disk.held c.loop-number.disk) (n / EVENTS_PER_FILE + 1) c.find_later.new.self) (sym c.find_later.ensures.end) c.in_ok-find_later.ensures.loaded in
-    let state : EventsState = record { end = c.args.end; offset = c.find_later.new.self.offset; counts = c.find_later.new.self.counts.counts; stale = c.find_later.new.self.stale.items } in
-    subst (λ (f : Files). HasStale state f) inv.stays.files
-    (has_stale g.D.Disk.tells (g.D.Disk.held c.loop-number.disk) c.find_later.new.self loaded told
-    state (sym end) refl
-    (λ j past not. c.in_ok-find_later.ensures.later told j (subst (λ (n : ℕ). n / EVENTS_PER_FILE < j) c.find_later.ensures.end past) not))
+    let held = g.D.Disk.held in
+    let d0 = c.loop-number.disk in
+    let found = c.find_later.new.self in
+    let end : found.end ≡ c.args.end = c.find_later.ensures.end ∙ inv.end in
+    let loaded = subst (λ (n : ℕ). IsLoaded g.D.Disk.tells (held d0) (n / EVENTS_PER_FILE + 1) found) (sym c.find_later.ensures.end) c.in_ok-find_later.ensures.loaded in
+    let state : EventsState = record { end = c.args.end; offset = found.offset; counts = found.counts.counts; stale = found.stale.items } in
+    record {
+      end = refl;
+      has = λ told. subst (λ (f : Files). HasEvents state f) inv.stays.files (has_events g.D.Disk.tells (held d0) found loaded told state (sym end) refl refl);
+      stale = λ told.
+          subst (λ (f : Files). HasStale state f) inv.stays.files
+          (has_stale g.D.Disk.tells (held d0) found loaded told state (sym end) refl
+          (λ j past not. c.in_ok-find_later.ensures.later told j (subst (λ (n : ℕ). n / EVENTS_PER_FILE < j) c.find_later.ensures.end past) not));
+      longer = subst (λ (f : Files). AreLonger g.D.Disk.tells f found.stale.items) inv.stays.files c.in_ok-find_later.ensures.longer;
+    }
 
 pub returns-in_err-read_file-clause-memory : goal.returns-in_err-read_file-clause-memory
 returns-in_err-read_file-clause-memory g c is told some =
@@ -73,7 +71,3 @@ returns-in_err-find_later-clause-memory g c is told some =
     let inv = c.loop-number.invariant in
     first_file_whole c.loop-number.number c.loop-number.loading.end (g.D.Disk.held c.args.disk.now) inv.loaded.events (inv.loaded.says told)
     (omega (arith, c.loop-number-test.false)) (omega (arith, some, inv.end))
-
-pub returns-clause-longer : goal.returns-clause-longer
-returns-clause-longer g c =
-    subst (λ (f : Files). AreLonger g.D.Disk.tells f c.find_later.new.self.stale.items) c.loop-number.invariant.stays.files c.in_ok-find_later.ensures.longer

@@ -43,23 +43,8 @@ cut-requires g c told =
     subst (λ (f : FileName). s.size ≤ length (g.D.Disk.held c.loop-stale.disk f)) (sym c.file_named.ensures) fits
 
 -- what a cut that is under way may leave
-pub returns-in_err-cut-clause-held : goal.returns-in_err-cut-clause-held
-returns-in_err-cut-clause-held g c told =
-    let inv = c.loop-stale.invariant in
-    let i = c.loop-stale.stale-index in
-    let stale = c.args.self.now.stale in
-    let s = get_or c.deref-stale-items.result.now i zero_stale in
-    let is = same_list c.deref-stale-items.result.now stale i inv.list c.loop-stale-test.true in
-    let within : i < length stale = omega (arith, c.loop-stale-test.true, ap length inv.list) in
-    let old = g.D.Disk.held c.args.disk.now in
-    let mid = g.D.Disk.held c.loop-stale.disk in
-    let new = g.D.Disk.held c.cut.new.self in
-    cuts_on stale s old mid new (is_listed stale i s within is) (same_sizes c.args.self.now old s i (c.requires.stale told) within is)
-    (cut_shortens i stale old mid (inv.held told))
-    (subst (λ (f : FileName). At f (Shortened s.size) mid new) c.file_named.ensures (c.cut.ensures.shortened told))
-
-pub returns-in_err-cut-clause-images : goal.returns-in_err-cut-clause-images
-returns-in_err-cut-clause-images g c =
+pub returns-in_err-cut-clause-behind : goal.returns-in_err-cut-clause-behind
+returns-in_err-cut-clause-behind g c =
     let laws = g.met.D.Disk g.world.𝓛 g.world.𝓜 g.world.𝓡 ((λ s x. x), (λ x. x), (λ x. x), λ x. x) in
     let inv = c.loop-stale.invariant in
     let i = c.loop-stale.stale-index in
@@ -67,11 +52,19 @@ returns-in_err-cut-clause-images g c =
     let s = get_or c.deref-stale-items.result.now i zero_stale in
     let is = same_list c.deref-stale-items.result.now stale i inv.list c.loop-stale-test.true in
     let within : i < length stale = omega (arith, c.loop-stale-test.true, ap length inv.list) in
+    let old = g.D.Disk.held c.args.disk.now in
     let mid = c.loop-stale.disk in
     let new = c.cut.new.self in
-    cuts_left g.D.Disk.tells g.D.Disk.moment g.D.Disk.images (λ disk k d left. laws.left_is_told disk k d left) stale s c.args.disk.now mid new
-    (is_listed stale i s within is) (λ told. same_sizes c.args.self.now (g.D.Disk.held c.args.disk.now) s i (c.requires.stale told) within is) inv.left
-    (subst (λ (f : FileName). Since g.D.Disk.moment g.D.Disk.images mid new (After (At f (Shortened s.size)) (g.D.Disk.images mid (g.D.Disk.moment mid)))) c.file_named.ensures c.cut.ensures.images)
+    record {
+      files = λ told.
+          cuts_on stale s old (g.D.Disk.held mid) (g.D.Disk.held new) (is_listed stale i s within is) (same_sizes c.args.self.now old s i (c.requires.stale told) within is)
+          (cut_shortens i stale old (g.D.Disk.held mid) (inv.held told))
+          (subst (λ (f : FileName). At f (Shortened s.size) (g.D.Disk.held mid) (g.D.Disk.held new)) c.file_named.ensures (c.cut.ensures.shortened told));
+      left =
+          cuts_left g.D.Disk.tells g.D.Disk.moment g.D.Disk.images (λ disk k d left. laws.left_is_told disk k d left) stale s c.args.disk.now mid new
+          (is_listed stale i s within is) (λ told. same_sizes c.args.self.now old s i (c.requires.stale told) within is) inv.left
+          (subst (λ (f : FileName). Since g.D.Disk.moment g.D.Disk.images mid new (After (At f (Shortened s.size)) (g.D.Disk.images mid (g.D.Disk.moment mid)))) c.file_named.ensures c.cut.ensures.images);
+    }
 
 pub returns-in_err-cut-clause-cause : goal.returns-in_err-cut-clause-cause
 returns-in_err-cut-clause-cause g c = record {
@@ -104,25 +97,26 @@ loop-stale-preserved g c =
       calls = c.cut.ensures.moment ∙ ap next_moment inv.calls ∙ one_call_more i (g.D.Disk.moment c.args.disk.now);
     }
 
-pub returns-clause-ready : goal.returns-clause-ready
-returns-clause-ready g c told =
+pub returns-clause-trimmed : goal.returns-clause-trimmed
+returns-clause-trimmed g c =
     let inv = c.loop-stale.invariant in
     let all : c.loop-stale.stale-index ≡ length c.args.self.now.stale = omega (arith, c.loop-stale-test.false, c.loop-stale.auto.stale-index-end, ap length inv.list) in
-    all_cut c.args.self.now _ (g.D.Disk.held c.args.disk.now) (g.D.Disk.held c.loop-stale.disk) (c.requires.events told) (c.requires.stale told)
-    (subst (λ (n : ℕ). CutSoFar n c.args.self.now.stale (g.D.Disk.held c.args.disk.now) (g.D.Disk.held c.loop-stale.disk)) all (inv.held told))
-    (search rules)
+    record {
+      ready = λ told.
+          all_cut c.args.self.now _ (g.D.Disk.held c.args.disk.now) (g.D.Disk.held c.loop-stale.disk) (c.requires.events told) (c.requires.stale told)
+          (subst (λ (n : ℕ). CutSoFar n c.args.self.now.stale (g.D.Disk.held c.args.disk.now) (g.D.Disk.held c.loop-stale.disk)) all (inv.held told))
+          (search rules);
+      state = search rules;
+      cuts = inv.calls ∙ ap (λ (n : ℕ). calls_later n (g.D.Disk.moment c.args.disk.now)) all;
+    }
 
-pub returns-clause-held : goal.returns-clause-held
-returns-clause-held g c told = cut_shortens c.loop-stale.stale-index c.args.self.now.stale (g.D.Disk.held c.args.disk.now) (g.D.Disk.held c.loop-stale.disk) (c.loop-stale.invariant.held told)
-
-pub returns-clause-images : goal.returns-clause-images
-returns-clause-images g c = c.loop-stale.invariant.left
-
-pub returns-clause-cuts : goal.returns-clause-cuts
-returns-clause-cuts g c =
+pub returns-clause-behind : goal.returns-clause-behind
+returns-clause-behind g c =
     let inv = c.loop-stale.invariant in
-    let all : c.loop-stale.stale-index ≡ length c.args.self.now.stale = omega (arith, c.loop-stale-test.false, c.loop-stale.auto.stale-index-end, ap length inv.list) in
-    inv.calls ∙ ap (λ (n : ℕ). calls_later n (g.D.Disk.moment c.args.disk.now)) all
+    record {
+      files = λ told. cut_shortens c.loop-stale.stale-index c.args.self.now.stale (g.D.Disk.held c.args.disk.now) (g.D.Disk.held c.loop-stale.disk) (inv.held told);
+      left = inv.left;
+    }
 
 pub returns-clause-cause : goal.returns-clause-cause
 returns-clause-cause g c = record {
@@ -140,4 +134,4 @@ returns-in_err-cut-clause-refused g c =
       most = omega (arith, c.loop-stale-test.true, ap length inv.list);
       moment = c.cut.ensures.moment ∙ ap next_moment inv.calls ∙ one_call_more i (g.D.Disk.moment c.args.disk.now);
     } in
-    on_err c.from_residual.result called
+    on_err c.from_residual.result (record { unchanged = refl; called = called })

@@ -78,19 +78,18 @@ write_part-requires-clause-reaches g c κs within told =
     let there = ends_there c.loop-part.place.end c.loop-part.place.offset (g.D.Disk.held c.loop-part.disk) (known.0 ++ take n c.args.blocks.now.events) (inv.stands told known.0 known.1) in
     omega (arith, there)
 
-pub returns-in_err-place-clause-held : goal.returns-in_err-place-clause-held
-returns-in_err-place-clause-held g c told =
+pub returns-in_err-place-clause-behind : goal.returns-in_err-place-clause-behind
+returns-in_err-place-clause-behind g c =
     let inv = c.loop-part.invariant in
     let late : c.args.self.now.end / EVENTS_PER_FILE ≤ c.loop-part.place.end / EVENTS_PER_FILE = omega (arith, inv.reached) in
-    grows_on c.args.self.now (c.loop-part.place.end / EVENTS_PER_FILE) c.loop-part.place.offset _ (g.D.Disk.held c.args.disk.now) (g.D.Disk.held c.loop-part.disk) (g.D.Disk.held c.write_part.new.disk)
-    late inv.behind (inv.held told) (c.write_part.ensures.torn told)
-
-pub returns-in_err-place-clause-images : goal.returns-in_err-place-clause-images
-returns-in_err-place-clause-images g c =
-    let inv = c.loop-part.invariant in
-    let late : c.args.self.now.end / EVENTS_PER_FILE ≤ c.loop-part.place.end / EVENTS_PER_FILE = omega (arith, inv.reached) in
-    grows_left c.args.self.now g.D.Disk.moment g.D.Disk.images (c.loop-part.place.end / EVENTS_PER_FILE) c.loop-part.place.offset _ c.args.disk.now c.loop-part.disk c.write_part.new.disk
-    late inv.behind inv.left c.write_part.ensures.images
+    record {
+      files = λ told.
+          grows_on c.args.self.now (c.loop-part.place.end / EVENTS_PER_FILE) c.loop-part.place.offset _ (g.D.Disk.held c.args.disk.now) (g.D.Disk.held c.loop-part.disk) (g.D.Disk.held c.write_part.new.disk)
+          late inv.behind (inv.held told) (c.write_part.ensures.torn told);
+      left =
+          grows_left c.args.self.now g.D.Disk.moment g.D.Disk.images (c.loop-part.place.end / EVENTS_PER_FILE) c.loop-part.place.offset _ c.args.disk.now c.loop-part.disk c.write_part.new.disk
+          late inv.behind inv.left c.write_part.ensures.images;
+    }
 
 pub loop-part-preserved : goal.loop-part-preserved
 loop-part-preserved g c =

@@ -239,19 +239,7 @@ invariant_of-self-2 g c =
     }
 
 pub returns-in_default-clause-changed : goal.returns-in_default-clause-changed
-returns-in_default-clause-changed g c =
-    let i = c.self.inside in
-    let s = state_in i.state i.log i.entries i.contents i.opened.items i.events i.lot i.has_failed in
-    let now = c.args.self.now in
-    let view : s ≡ now = c.self.view_is in
-    let change : PreparedChange = record { entry = c.prepared.inside.entry; settled = c.prepared.inside.settled.now; events = c.prepared.inside.events } in
-    let p = c.args.prepared in
-    let p_view : change ≡ p = c.prepared.view_is in
-    let new = state_in c.apply.new.self i.log i.entries c.write_ahead.new.contents i.opened.items c.write_ahead.new.events i.lot true in
-    λ works. has_change s now new change p c.write_ahead.new.entry c.into_frame-entry.result.0 view p_view c.write_ahead.ensures.same c.into_frame-entry.ensures.entry c.apply.ensures.kept refl refl refl
-
-pub returns-in_default-clause-whole : goal.returns-in_default-clause-whole
-returns-in_default-clause-whole g c works =
+returns-in_default-clause-changed g c works =
     let i = c.self.inside in
     let s = state_in i.state i.log i.entries i.contents i.opened.items i.events i.lot i.has_failed in
     let now = c.args.self.now in
@@ -269,12 +257,13 @@ returns-in_default-clause-whole g c works =
     let has = has_placed tells held moment images s now change p e old mid view p_view (c.self.invariant.works c.if-self.false) c.if-self.false c.stored-stored.ensures.consistent c.stored-stored.ensures.no_batches c.requires.kept c.requires.prepared c.requires.contents c.write_ahead.ensures.same c.write_ahead.ensures.images c.write_ahead.ensures.held in
     let new = state_in c.apply.new.self i.log i.entries c.write_ahead.new.contents i.opened.items c.write_ahead.new.events i.lot true in
     record {
+      change = has_change s now new change p c.write_ahead.new.entry c.into_frame-entry.result.0 view p_view c.write_ahead.ensures.same c.into_frame-entry.ensures.entry c.apply.ensures.kept refl refl refl;
       holds = placed_images tells held moment images now p e old mid new has;
       states = λ state stands. placed_states tells held moment images now p e old mid (λ c'. stands_for (flow_in (kept_by now)) now.lot c' ≡ of_state (state_after (content_in (held old)) state p.settled)) state has stands;
     }
 
-pub returns-in_default-clause-alone : goal.returns-in_default-clause-alone
-returns-in_default-clause-alone g c =
+pub returns-in_default-clause-touched : goal.returns-in_default-clause-touched
+returns-in_default-clause-touched g c =
     let i = c.self.inside in
     let s = state_in i.state i.log i.entries i.contents i.opened.items i.events i.lot i.has_failed in
     let now = c.args.self.now in
@@ -290,22 +279,10 @@ returns-in_default-clause-alone g c =
     let held = g.D.Disk.held in
     let tells = g.D.Disk.tells in
     let has = has_placed tells held moment images s now change p e old mid view p_view (c.self.invariant.works c.if-self.false) c.if-self.false c.stored-stored.ensures.consistent c.stored-stored.ensures.no_batches c.requires.kept c.requires.prepared c.requires.contents c.write_ahead.ensures.same c.write_ahead.ensures.images c.write_ahead.ensures.held in
-    placed_alone tells held moment images now p e old mid now.log.number i.contents i.events c.write_ahead.ensures.images
+    record { alone = placed_alone tells held moment images now p e old mid now.log.number i.contents i.events c.write_ahead.ensures.images; claims = placed_claims tells held moment images now p e old mid has; acknowledged = tt }
 
 pub returns-in_default-append-clause-changed : goal.returns-in_default-append-clause-changed
-returns-in_default-append-clause-changed g c =
-    let i = c.self.inside in
-    let s = state_in i.state i.log i.entries i.contents i.opened.items i.events i.lot i.has_failed in
-    let now = c.args.self.now in
-    let view : s ≡ now = c.self.view_is in
-    let change : PreparedChange = record { entry = c.prepared.inside.entry; settled = c.prepared.inside.settled.now; events = c.prepared.inside.events } in
-    let p = c.args.prepared in
-    let p_view : change ≡ p = c.prepared.view_is in
-    let new = state_in c.apply-2.new.self c.append.new.self i.entries c.give_up.new.contents i.opened.items c.write_ahead.new.events i.lot true in
-    λ works. has_change s now new change p c.write_ahead.new.entry c.into_frame-entry-2.result.0 view p_view c.write_ahead.ensures.same c.into_frame-entry-2.ensures.entry c.apply-2.ensures.kept refl refl (ap (λ (l : LogState). l.number) c.in_default-append.ensures.refusal.shown)
-
-pub returns-in_default-append-clause-whole : goal.returns-in_default-append-clause-whole
-returns-in_default-append-clause-whole g c works =
+returns-in_default-append-clause-changed g c works =
     let i = c.self.inside in
     let s = state_in i.state i.log i.entries i.contents i.opened.items i.events i.lot i.has_failed in
     let now = c.args.self.now in
@@ -330,12 +307,13 @@ returns-in_default-append-clause-whole g c works =
     let number = numbered_of i.log.number c.self.invariant.current in
     let logged = has_logged tells held moment images s now new change p e c.into_frame-entry-2.result.0 old mid end number.0 slots view p_view number.1 placed c.in-Ok.ensures.sizes c.in-Ok.ensures.events c.into_frame-entry-2.ensures.entry c.apply-2.ensures.kept refl (c.append.ensures.images number.0 e number.1 framed) (λ disk k c' image. laws.left_is_told disk k c' image) (λ disk told. laws.held_is_left disk told) in
     record {
+      change = has_change s now new change p c.write_ahead.new.entry c.into_frame-entry-2.result.0 view p_view c.write_ahead.ensures.same c.into_frame-entry-2.ensures.entry c.apply-2.ensures.kept refl refl (ap (λ (l : LogState). l.number) c.in_default-append.ensures.refusal.shown);
       holds = logged_images tells held moment images now new p e old mid end number.0 slots has logged;
       states = λ state stands. logged_states tells held moment images now new p e old mid end number.0 slots has logged state stands;
     }
 
-pub returns-in_default-append-clause-alone : goal.returns-in_default-append-clause-alone
-returns-in_default-append-clause-alone g c =
+pub returns-in_default-append-clause-touched : goal.returns-in_default-append-clause-touched
+returns-in_default-append-clause-touched g c =
     let i = c.self.inside in
     let s = state_in i.state i.log i.entries i.contents i.opened.items i.events i.lot i.has_failed in
     let now = c.args.self.now in
@@ -359,22 +337,10 @@ returns-in_default-append-clause-alone g c =
     let laws = g.met.D.Disk g.world.𝓛 g.world.𝓜 g.world.𝓡 ((λ s x. x), (λ x. x), (λ x. x), λ x. x) in
     let number = numbered_of i.log.number c.self.invariant.current in
     let logged = has_logged tells held moment images s now new change p e c.into_frame-entry-2.result.0 old mid end number.0 slots view p_view number.1 placed c.in-Ok.ensures.sizes c.in-Ok.ensures.events c.into_frame-entry-2.ensures.entry c.apply-2.ensures.kept refl (c.append.ensures.images number.0 e number.1 framed) (λ disk k c' image. laws.left_is_told disk k c' image) (λ disk told. laws.held_is_left disk told) in
-    logged_alone tells held moment images now new p e old mid end number.0 slots has logged
+    record { alone = logged_alone tells held moment images now new p e old mid end number.0 slots has logged; claims = logged_claims tells held moment images now new p e old mid end number.0 slots has logged; acknowledged = tt }
 
 pub returns-clause-changed : goal.returns-clause-changed
-returns-clause-changed g c =
-    let i = c.self.inside in
-    let s = state_in i.state i.log i.entries i.contents i.opened.items i.events i.lot i.has_failed in
-    let now = c.args.self.now in
-    let view : s ≡ now = c.self.view_is in
-    let change : PreparedChange = record { entry = c.prepared.inside.entry; settled = c.prepared.inside.settled.now; events = c.prepared.inside.events } in
-    let p = c.args.prepared in
-    let p_view : change ≡ p = c.prepared.view_is in
-    let new = state_in c.apply-2.new.self c.append.new.self c.saturating_add-self-inside.result c.give_up.new.contents i.opened.items c.write_ahead.new.events i.lot i.has_failed in
-    λ works. has_change s now new change p c.write_ahead.new.entry c.into_frame-entry-2.result.0 view p_view c.write_ahead.ensures.same c.into_frame-entry-2.ensures.entry c.apply-2.ensures.kept refl refl (ap (λ (l : LogState). l.number) c.in-Ok-append.ensures.acknowledged.1)
-
-pub returns-clause-whole : goal.returns-clause-whole
-returns-clause-whole g c works =
+returns-clause-changed g c works =
     let i = c.self.inside in
     let s = state_in i.state i.log i.entries i.contents i.opened.items i.events i.lot i.has_failed in
     let now = c.args.self.now in
@@ -399,12 +365,13 @@ returns-clause-whole g c works =
     let number = numbered_of i.log.number c.self.invariant.current in
     let logged = has_logged tells held moment images s now new change p e c.into_frame-entry-2.result.0 old mid end number.0 slots view p_view number.1 placed c.in-Ok.ensures.sizes c.in-Ok.ensures.events c.into_frame-entry-2.ensures.entry c.apply-2.ensures.kept refl (c.append.ensures.images number.0 e number.1 framed) (λ disk k c' image. laws.left_is_told disk k c' image) (λ disk told. laws.held_is_left disk told) in
     record {
+      change = has_change s now new change p c.write_ahead.new.entry c.into_frame-entry-2.result.0 view p_view c.write_ahead.ensures.same c.into_frame-entry-2.ensures.entry c.apply-2.ensures.kept refl refl (ap (λ (l : LogState). l.number) c.in-Ok-append.ensures.acknowledged.1);
       holds = logged_images tells held moment images now new p e old mid end number.0 slots has logged;
       states = λ state stands. logged_states tells held moment images now new p e old mid end number.0 slots has logged state stands;
     }
 
-pub returns-clause-alone : goal.returns-clause-alone
-returns-clause-alone g c =
+pub returns-clause-touched : goal.returns-clause-touched
+returns-clause-touched g c =
     let i = c.self.inside in
     let s = state_in i.state i.log i.entries i.contents i.opened.items i.events i.lot i.has_failed in
     let now = c.args.self.now in
@@ -428,7 +395,11 @@ returns-clause-alone g c =
     let laws = g.met.D.Disk g.world.𝓛 g.world.𝓜 g.world.𝓡 ((λ s x. x), (λ x. x), (λ x. x), λ x. x) in
     let number = numbered_of i.log.number c.self.invariant.current in
     let logged = has_logged tells held moment images s now new change p e c.into_frame-entry-2.result.0 old mid end number.0 slots view p_view number.1 placed c.in-Ok.ensures.sizes c.in-Ok.ensures.events c.into_frame-entry-2.ensures.entry c.apply-2.ensures.kept refl (c.append.ensures.images number.0 e number.1 framed) (λ disk k c' image. laws.left_is_told disk k c' image) (λ disk told. laws.held_is_left disk told) in
-    logged_alone tells held moment images now new p e old mid end number.0 slots has logged
+    record {
+      alone = logged_alone tells held moment images now new p e old mid end number.0 slots has logged;
+      claims = logged_claims tells held moment images now new p e old mid end number.0 slots has logged;
+      acknowledged = acknowledged_claims tells held moment images now new p e old mid end number.0 slots has logged (c.in-Ok-append.ensures.added number.0 e number.1 framed);
+    }
 
 pub returns-clause-kept : goal.returns-clause-kept
 returns-clause-kept g c =
@@ -487,80 +458,4 @@ returns-clause-acknowledged g c =
       moment = c.in-Ok-append.ensures.acknowledged.0;
       events = events_counted s c.args.self.now change c.args.prepared c.write_ahead.new.events c.self.view_is c.prepared.view_is c.requires.prepared c.in-Ok.ensures.events.appended;
       states = λ state stands. state_of_acknowledged tells held moment images now new p e old mid end number.0 slots has logged state stands (c.in-Ok-append.ensures.added number.0 e number.1 framed);
-    }
-
-pub returns-in_default-clause-claims : goal.returns-in_default-clause-claims
-returns-in_default-clause-claims g c =
-    let i = c.self.inside in
-    let s = state_in i.state i.log i.entries i.contents i.opened.items i.events i.lot i.has_failed in
-    let now = c.args.self.now in
-    let view : s ≡ now = c.self.view_is in
-    let change : PreparedChange = record { entry = c.prepared.inside.entry; settled = c.prepared.inside.settled.now; events = c.prepared.inside.events } in
-    let p = c.args.prepared in
-    let p_view : change ≡ p = c.prepared.view_is in
-    let e = c.write_ahead.new.entry in
-    let old = c.args.disk.now in
-    let mid = c.write_ahead.new.disk in
-    let moment = g.D.Disk.moment in
-    let images = g.D.Disk.images in
-    let held = g.D.Disk.held in
-    let tells = g.D.Disk.tells in
-    let has = has_placed tells held moment images s now change p e old mid view p_view (c.self.invariant.works c.if-self.false) c.if-self.false c.stored-stored.ensures.consistent c.stored-stored.ensures.no_batches c.requires.kept c.requires.prepared c.requires.contents c.write_ahead.ensures.same c.write_ahead.ensures.images c.write_ahead.ensures.held in
-    record { left = placed_claims tells held moment images now p e old mid has; acknowledged = tt }
-
-pub returns-in_default-append-clause-claims : goal.returns-in_default-append-clause-claims
-returns-in_default-append-clause-claims g c =
-    let i = c.self.inside in
-    let s = state_in i.state i.log i.entries i.contents i.opened.items i.events i.lot i.has_failed in
-    let now = c.args.self.now in
-    let view : s ≡ now = c.self.view_is in
-    let change : PreparedChange = record { entry = c.prepared.inside.entry; settled = c.prepared.inside.settled.now; events = c.prepared.inside.events } in
-    let p = c.args.prepared in
-    let p_view : change ≡ p = c.prepared.view_is in
-    let e = c.write_ahead.new.entry in
-    let old = c.args.disk.now in
-    let mid = c.write_ahead.new.disk in
-    let moment = g.D.Disk.moment in
-    let images = g.D.Disk.images in
-    let held = g.D.Disk.held in
-    let tells = g.D.Disk.tells in
-    let has = has_placed tells held moment images s now change p e old mid view p_view (c.self.invariant.works c.if-self.false) c.if-self.false c.stored-stored.ensures.consistent c.stored-stored.ensures.no_batches c.requires.kept c.requires.prepared c.requires.contents c.write_ahead.ensures.same c.write_ahead.ensures.images c.write_ahead.ensures.held in
-    let slots = c.write_ahead.new.contents in
-    let placed : PlacesAll tells (held mid) change.settled.placed s.slots slots e = subst (λ (l : List Placed). PlacesAll tells (held mid) l s.slots slots e) c.as_slice.ensures c.in-Ok.ensures.placed in
-    let framed : IsFrame e c.as_slice-3.result.now = entry_frame now p e c.as_slice-3.result.now has.consistent has.prepared has.same c.into_frame-entry-2.ensures.encoded (c.as_slice-3.ensures.value ∙ c.into_frame-entry-2.ensures.frame) in
-    let new = state_in c.apply-2.new.self c.append.new.self i.entries c.give_up.new.contents i.opened.items c.write_ahead.new.events i.lot true in
-    let end = c.append.new.disk in
-    let laws = g.met.D.Disk g.world.𝓛 g.world.𝓜 g.world.𝓡 ((λ s x. x), (λ x. x), (λ x. x), λ x. x) in
-    let number = numbered_of i.log.number c.self.invariant.current in
-    let logged = has_logged tells held moment images s now new change p e c.into_frame-entry-2.result.0 old mid end number.0 slots view p_view number.1 placed c.in-Ok.ensures.sizes c.in-Ok.ensures.events c.into_frame-entry-2.ensures.entry c.apply-2.ensures.kept refl (c.append.ensures.images number.0 e number.1 framed) (λ disk k c' image. laws.left_is_told disk k c' image) (λ disk told. laws.held_is_left disk told) in
-    record { left = logged_claims tells held moment images now new p e old mid end number.0 slots has logged; acknowledged = tt }
-
-pub returns-clause-claims : goal.returns-clause-claims
-returns-clause-claims g c =
-    let i = c.self.inside in
-    let s = state_in i.state i.log i.entries i.contents i.opened.items i.events i.lot i.has_failed in
-    let now = c.args.self.now in
-    let view : s ≡ now = c.self.view_is in
-    let change : PreparedChange = record { entry = c.prepared.inside.entry; settled = c.prepared.inside.settled.now; events = c.prepared.inside.events } in
-    let p = c.args.prepared in
-    let p_view : change ≡ p = c.prepared.view_is in
-    let e = c.write_ahead.new.entry in
-    let old = c.args.disk.now in
-    let mid = c.write_ahead.new.disk in
-    let moment = g.D.Disk.moment in
-    let images = g.D.Disk.images in
-    let held = g.D.Disk.held in
-    let tells = g.D.Disk.tells in
-    let has = has_placed tells held moment images s now change p e old mid view p_view (c.self.invariant.works c.if-self.false) c.if-self.false c.stored-stored.ensures.consistent c.stored-stored.ensures.no_batches c.requires.kept c.requires.prepared c.requires.contents c.write_ahead.ensures.same c.write_ahead.ensures.images c.write_ahead.ensures.held in
-    let slots = c.write_ahead.new.contents in
-    let placed : PlacesAll tells (held mid) change.settled.placed s.slots slots e = subst (λ (l : List Placed). PlacesAll tells (held mid) l s.slots slots e) c.as_slice.ensures c.in-Ok.ensures.placed in
-    let framed : IsFrame e c.as_slice-3.result.now = entry_frame now p e c.as_slice-3.result.now has.consistent has.prepared has.same c.into_frame-entry-2.ensures.encoded (c.as_slice-3.ensures.value ∙ c.into_frame-entry-2.ensures.frame) in
-    let new = state_in c.apply-2.new.self c.append.new.self c.saturating_add-self-inside.result c.give_up.new.contents i.opened.items c.write_ahead.new.events i.lot i.has_failed in
-    let end = c.append.new.disk in
-    let laws = g.met.D.Disk g.world.𝓛 g.world.𝓜 g.world.𝓡 ((λ s x. x), (λ x. x), (λ x. x), λ x. x) in
-    let number = numbered_of i.log.number c.self.invariant.current in
-    let logged = has_logged tells held moment images s now new change p e c.into_frame-entry-2.result.0 old mid end number.0 slots view p_view number.1 placed c.in-Ok.ensures.sizes c.in-Ok.ensures.events c.into_frame-entry-2.ensures.entry c.apply-2.ensures.kept refl (c.append.ensures.images number.0 e number.1 framed) (λ disk k c' image. laws.left_is_told disk k c' image) (λ disk told. laws.held_is_left disk told) in
-    record {
-      left = logged_claims tells held moment images now new p e old mid end number.0 slots has logged;
-      acknowledged = acknowledged_claims tells held moment images now new p e old mid end number.0 slots has logged (c.in-Ok-append.ensures.added number.0 e number.1 framed);
     }
