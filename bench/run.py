@@ -51,9 +51,10 @@ CALLS_OF_A_FILE = 36
 # Of these sizes all contents of a run go into one claim.
 SMALL = 64
 
-# Twice the files may take so many times as long, and a file's name so many bytes of memory.
+# Twice the files may take so many times as long, and a file so many bytes of memory: for its name in the listing, and
+# for its two entries in the journal.
 LEAST_TIME, MOST_TIME = 1.6, 2.5
-MEMORY_OF_A_NAME = 300
+MEMORY_OF_A_FILE = 500
 
 # A file among 16,384 may take so many times as long as one among 1,024, and a try of a put behind many others so many
 # times as long as one behind a quarter of them.
@@ -240,12 +241,12 @@ def grows(program, parent, times):
         two.append(flow(program, parent, twice))
     one, two = middle(one), middle(two)
     ratio, busy = two.seconds / one.seconds, two.busy / one.busy
-    name = (two.peak - one.peak) / 2000
+    file = (two.peak - one.peak) / 2000
     print(f"2,000 files take {one.seconds:.2f} s and 4,000 take {two.seconds:.2f} s: ratio {ratio:.2f}; "
           f"of the processor {one.busy:.2f} s and {two.busy:.2f} s: ratio {busy:.2f}")
-    print(f"  peak of memory {one.peak / 1e6:.2f} and {two.peak / 1e6:.2f} MB: {name:.0f} bytes for each further "
+    print(f"  peak of memory {one.peak / 1e6:.2f} and {two.peak / 1e6:.2f} MB: {file:.0f} bytes for each further "
           "file, all of 4,096 bytes", flush=True)
-    return LEAST_TIME <= ratio <= MOST_TIME and name <= MEMORY_OF_A_NAME
+    return LEAST_TIME <= ratio <= MOST_TIME and file <= MEMORY_OF_A_FILE
 
 
 def grows_far(program, parent, times):
