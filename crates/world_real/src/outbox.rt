@@ -23,8 +23,9 @@ const ASIDE: &str = ".flow-aside-";
 /// A put that answered Ok is durable, and no reader sees a part of it: it is written in a folder aside,
 /// synced, and given its name. That folder is `.flow-aside-N` in the outbox, N being the least number
 /// where nothing or a folder stands. It stays there, empty, for the next put, until `finish` removes it
-/// or a put fails; where something else took its place, another one is made. Whatever folder stood under such a name before is what a stop left: the first `put` or
-/// `holds` removes it with all that it holds, and so does `sweep`.
+/// or a put fails; where something else took its place, another one is made. Whatever folder stood under
+/// such a name before is what a stop left: the first `put` or `holds` removes it with all that it holds,
+/// and so does `sweep`.
 #[derive(Drop)]
 pub struct OutboxFolder<'r, R> {
     place: Place<'r, R>,
