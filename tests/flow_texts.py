@@ -45,6 +45,11 @@ def state_of(folder):
     return state
 
 
+def kinds(state):
+    """How many events of each kind there are."""
+    return dict(collections.Counter(event.kind for event in state.events))
+
+
 def told(state):
     """How often each processor or connection told what, with which detail."""
     return collections.Counter((event.kind, event.component, event.detail) for event in state.events)

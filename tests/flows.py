@@ -11,7 +11,7 @@ import random
 import time
 
 import store_format
-from flow_texts import flow, generator, let_go, put, queue, source, state_of, told
+from flow_texts import flow, generator, kinds, let_go, put, queue, source, state_of, told
 from store_format import CLONE, CREATE, DROP, EXPIRED, RECEIVE, SEND, Expire, Writer
 from support import (BLOCKED, DAMAGED, DONE, LIMIT, REFUSED, SOURCE, THE_TEXT, USAGE, Report, find_program,
                      in_memory, names, need, need_status, new_folder, none_aside, options, parse_seeded, photo,
@@ -59,8 +59,8 @@ class Cases:
     def folder(self, text=THE_TEXT):
         return work_folder(self.parent, text)
 
-    def run(self, folder, status=DONE):
-        ended = run(self.program, folder)
+    def run(self, folder, status=DONE, *more):
+        ended = run(self.program, folder, ("run", *more))
         need_status(ended, status)
         need(ended.said == b"", f"it printed {ended.said!r}")
         none_aside(folder)
@@ -356,6 +356,33 @@ class Cases:
             need(read_files(folder / "out") == {"a": b"new"}, f"out holds {names(folder / 'out')}")
             return f"log {state_of(folder).log} is current"
 
+    def few_sessions(self):
+        """A run of five sessions at most ends with 11 where more would come; the next one goes on."""
+        words = (("--threads", "1", "--max-commits", "5"), ("--max-commits=5", "--threads=16"))
+        for said in words:
+            with self.folder() as folder:
+                files = {f"a{n}": b"hi" for n in range(10)}
+                write_files(folder / "in", files)
+                self.run(folder, LIMIT, *said)
+                state = state_of(folder)
+                need(state.queued() == [("a2", b"hi")], f"{state.queued()} wait")
+                need(names(folder / "in") == [f"a{n}" for n in range(3, 10)], f"in holds {names(folder / 'in')}")
+                need(kinds(state) == {RECEIVE: 3, SEND: 2, DROP: 2}, f"the events tell {kinds(state)}")
+                self.run(folder)
+                need(kinds(state_of(folder)) == {RECEIVE: 10, SEND: 10, DROP: 10}, "other events were told")
+                need(read_files(folder / "out") == files, f"out holds {names(folder / 'out')}")
+
+    def short_logs(self):
+        """A log of as many entries as the words say is followed by a new one."""
+        text = flow([generator("gen", 45, "x"), let_go("put", "replace")], [queue("made", "gen", "put")])
+        for most in (1, 20, 90, 91, 1_000_000):
+            with self.folder(text) as folder:
+                self.run(folder, DONE, f"--checkpoint={most}")
+                state = state_of(folder)
+                made, rest = divmod(90, most)
+                need((state.log, len(state.entries)) == (made + 1, rest),
+                     f"log {state.log} has {len(state.entries)} entries with --checkpoint={most}")
+
     # What isn't run.
 
     def other_text(self):
@@ -542,6 +569,8 @@ def main():
             ("a ring that is full: 10, again and again, nothing lost", cases.blocks),
             ("a ring whose file expires goes on", cases.unblocks),
             ("a ring past a threshold of swapping: 10, nothing lost", cases.past_swap),
+            ("a run of five sessions at most: 11, and the next one goes on", cases.few_sessions),
+            ("logs of as many entries as the words say", cases.short_logs),
             ("a changed text, or a store of the fixed flow of before: 3, nothing written", cases.other_text),
             ("no flow.json: 8, nothing touched", cases.no_text),
             ("texts that break a rule: 3, nothing touched", cases.refused_texts),

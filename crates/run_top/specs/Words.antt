@@ -1,8 +1,15 @@
--- The words that a run is given.
-use Rattle.std.specs.Prelude.{Bool, false, List, [], ◌∷◌, String, string_bytes, codes, bytes_eq}
+-- The words that run a flow.
+use Rattle.std.specs.Prelude.{◌≡◌, List, Some, String}
 use Rattle.std.specs.declared.alloc.Global.{Global}
+use Rattle.flow_words.specs.Arguments.{texts}
+use Rattle.flow_words.specs.Words.{words_of}
+use Rattle.flow_words.specs.declared.command.Command.TheVariants.{Run}
+use Rattle.flow_words.specs.declared.command.RunOptions.{RunOptions}
 
--- the one word `run`
-abbrev pub is_run : List (String Global) → Bool
-is_run (word ∷ []) = bytes_eq (string_bytes word) (codes "run")
-is_run words = false
+-- the words ask to run the flow with these options
+abbrev pub AskToRun : List (String Global) → RunOptions → Type 0
+AskToRun words options = words_of (texts words) ≡ Some (Run options)
+
+-- the words ask for something else, or for nothing
+abbrev pub AskForNoRun : List (String Global) → Type 0
+AskForNoRun words = (options : RunOptions) → AskToRun words options → ⊥

@@ -6,7 +6,7 @@ mod opening;
 mod status;
 mod text;
 
-pub use command::{CHECKPOINT_ENTRIES, MAX_COMMITS, are_run, limits_of_a_run, run};
+pub use command::{options_to_run, run};
 pub use status::{
     BLOCKED, DAMAGED, DISK_FAULT, DONE, FLOW_REFUSED, INBOX_FAULT, LIMIT, OUT_OF_MEMORY,
     OUTBOX_FAULT, RunError, SOURCE_FAULT, USAGE,

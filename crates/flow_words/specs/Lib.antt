@@ -1,0 +1,4 @@
+pub mod Arguments
+pub mod Given
+pub mod Numbers
+pub mod Words

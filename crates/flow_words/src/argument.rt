@@ -1,0 +1,127 @@
+//! Options with their values, and words that are none.
+ghost use Rattle.std.specs.Prelude.{◌≡◌, map};
+ghost use Rattle.std.specs.List.{list_all};
+ghost use Rattle.std.specs.Option.{option_copied, option_map};
+ghost use Rattle.flow_words.specs.Arguments.{arguments_of, texts};
+ghost use Rattle.flow_words.specs.Given.{named_texts, seen};
+ghost use Rattle.flow_words.specs.Words.{Reads, is_among, positional_in, positional_of, value_named, value_of_option};
+
+use crate::error::WordsError;
+use std::alloc::Global;
+
+/// An option with its value, or a word that is no option.
+#[derive(Clone, Copy, Debug, PartialEq, Eq)]
+pub(crate) enum Argument<'a> {
+    Named { name: &'a str, value: &'a str },
+    Positional(&'a str),
+}
+
+/// A word that is a whole argument, or the name of an option whose value is the next word.
+#[derive(Clone, Copy)]
+enum Word<'a> {
+    Whole(Argument<'a>),
+    Option(&'a str),
+}
+
+impl<'a> Argument<'a> {
+    /// The value, if this is the option.
+    fn value_named(self, name: &str) -> Option<&'a str>
+        ensures { option_copied result ≡ value_named name.now (seen self) }
+    {
+        match self {
+            Argument::Named { name: other, value } if other == name => Some(value),
+            _ => None,
+        }
+    }
+
+    fn positional(self) -> Option<&'a str>
+        ensures { option_copied result ≡ positional_in (seen self) }
+    {
+        match self {
+            Argument::Named { .. } => None,
+            Argument::Positional(word) => Some(word),
+        }
+    }
+
+    /// Whether this is none but one of these options.
+    fn is_among(self, names: &[&str]) -> bool
+        ensures { result ≡ is_among (named_texts names.now) (seen self) }
+    {
+        match self {
+            Argument::Named { name, .. } => names.iter().any(|other| *other == name),
+            Argument::Positional(_) => true,
+        }
+    }
+}
+
+/// The arguments that the words behind a command are.
+pub(crate) fn read_arguments(alloc: Global, words: &[String]) -> Result<Vec<Argument<'_>>, WordsError>
+    ensures { Reads (λ arguments. map seen arguments.items) result (arguments_of (texts words.now)) }
+{
+    let mut arguments = Vec::new(alloc);
+    let mut option = None;
+    for word in words {
+        match (option, read_word(word)) {
+            (Some(name), _) => {
+                arguments.push(Argument::Named { name, value: word })?;
+                option = None;
+            }
+            (None, Word::Option(name)) => option = Some(name),
+            (None, Word::Whole(argument)) => arguments.push(argument)?,
+        }
+    }
+    match option {
+        Some(_) => Err(WordsError::Usage),
+        None => Ok(arguments),
+    }
+}
+
+/// What a word is that no option takes as its value.
+fn read_word(word: &str) -> Word<'_> {
+    match word.strip_prefix("--") {
+        None => Word::Whole(Argument::Positional(word)),
+        Some(option) => match option.split_once('=') {
+            Some((name, value)) => Word::Whole(Argument::Named { name, value }),
+            None => Word::Option(option),
+        },
+    }
+}
+
+/// The value of an option, if it is given; `None` where it is given twice.
+pub(crate) fn value_of_option<'a>(name: &str, arguments: &[Argument<'a>]) -> Option<Option<&'a str>>
+    ensures { option_map option_copied result ≡ value_of_option name.now (map seen arguments.now) }
+{
+    let mut value = None;
+    for argument in arguments {
+        if let Some(text) = argument.value_named(name) {
+            if value.is_some() {
+                return None;
+            }
+            value = Some(text);
+        }
+    }
+    Some(value)
+}
+
+/// The word that is no option, if there is one; `None` where there are two.
+pub(crate) fn positional_of<'a>(arguments: &[Argument<'a>]) -> Option<Option<&'a str>>
+    ensures { option_map option_copied result ≡ positional_of (map seen arguments.now) }
+{
+    let mut positional = None;
+    for argument in arguments {
+        if let Some(word) = argument.positional() {
+            if positional.is_some() {
+                return None;
+            }
+            positional = Some(word);
+        }
+    }
+    Some(positional)
+}
+
+/// Whether each option is one of these.
+pub(crate) fn are_among(arguments: &[Argument<'_>], names: &[&str]) -> bool
+    ensures { result ≡ list_all (is_among (named_texts names.now)) (map seen arguments.now) }
+{
+    arguments.iter().all(|argument| argument.is_among(names))
+}

@@ -1,0 +1,53 @@
+//! What the words may ask for, and the ranges and defaults of the numbers in it.
+use uuid::Uuid;
+
+/// What the words ask for.
+#[derive(Clone, Copy, Debug, PartialEq, Eq)]
+pub enum Command {
+    /// Runs the flow.
+    Run(RunOptions),
+    /// Runs a flow of so many files in memory.
+    Trial { count: u64, threads: u8 },
+    /// Prints where the file came from and what came of it.
+    Lineage(Uuid),
+    /// Writes the content of the file.
+    Content(Uuid),
+    /// Prints the files in each queue.
+    Queues,
+    /// Prints the events.
+    Events,
+    /// Tests the store.
+    Check,
+}
+
+/// How the flow is run.
+#[derive(Clone, Copy, Debug, PartialEq, Eq)]
+pub struct RunOptions {
+    /// How many workers there are.
+    pub threads: u8,
+    /// How many entries the journal of a run has at most.
+    pub max_commits: u64,
+    /// With how many entries a log is followed by a new one.
+    pub checkpoint: u64,
+}
+
+/// The number of workers where it isn't given.
+pub const THREADS: u64 = 4;
+
+/// The greatest number of workers.
+pub const THREADS_MAX: u64 = 16;
+
+/// The limit of a journal's entries where it isn't given.
+pub const COMMITS: u64 = 1_048_576;
+
+/// The greatest limit of a journal's entries.
+pub const COMMITS_MAX: u64 = 4_194_304;
+
+/// With how many entries a new log begins where that isn't given.
+pub const CHECKPOINT: u64 = 4_096;
+
+/// The greatest number of entries with which a new log begins.
+pub const CHECKPOINT_MAX: u64 = 1_000_000;
+
+/// The greatest number of files of a trial.
+pub const TRIAL_MAX: u64 = 10_000;
