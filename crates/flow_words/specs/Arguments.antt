@@ -1,5 +1,5 @@
 -- Which arguments the words behind a command are.
-use Rattle.std.specs.Prelude.{ℕ, nat_eq, ◌==◌, ◌&&◌, Bool, not, List, [], ◌∷◌, drop, map, Option, Some, None, String, string_bytes, option_map, if◌then◌else◌, codes, bytes_eq}
+use Rattle.std.specs.Prelude.{ℕ, nat_eq, ◌==◌, ◌&&◌, Bool, not, List, [], ◌∷◌, drop, map, Option, Some, None, String, string_bytes, option_map, if◌then◌else◌, codes}
 use Rattle.std.specs.List.{after_first, before_first, list_any, starts_with}
 use Rattle.std.specs.declared.alloc.Global.{Global}
 
@@ -14,18 +14,25 @@ pub data Argument : Type 0 where
 abbrev pub is_option : Text → Bool
 is_option word = starts_with nat_eq word (codes "--")
 
+-- what stands behind the two hyphens
+abbrev pub without_hyphens : Text → Text
+without_hyphens word = drop 2 word
+
 -- 61 is '='
 abbrev pub is_equals : ℕ → Bool
 is_equals byte = byte == 61
 
 -- `--NAME`, whose value is the next word
 abbrev pub takes_next : Text → Bool
-takes_next word = is_option word && not (list_any is_equals word)
+takes_next word = is_option word && not (list_any is_equals (without_hyphens word))
+
+-- `--NAME=VALUE`
+abbrev pub with_value : Text → Argument
+with_value text = Named (before_first is_equals text) (after_first is_equals text)
 
 -- `--NAME=VALUE`, or a word that is no option
 abbrev pub whole : Text → Argument
-whole word = if is_option word
-    then Named (drop 2 (before_first is_equals word)) (after_first is_equals word) else Positional word
+whole word = if is_option word then with_value (without_hyphens word) else Positional word
 
 abbrev pub joined : Argument → Option (List Argument) → Option (List Argument)
 joined argument = option_map (λ rest. argument ∷ rest)
@@ -34,7 +41,7 @@ joined argument = option_map (λ rest. argument ∷ rest)
 abbrev pub arguments_of : List Text → Option (List Argument)
 arguments_of [] = Some []
 arguments_of (word ∷ []) = if takes_next word then None else Some (whole word ∷ [])
-arguments_of (word ∷ next ∷ rest) = if takes_next word then joined (Named (drop 2 word) next) (arguments_of rest)
+arguments_of (word ∷ next ∷ rest) = if takes_next word then joined (Named (without_hyphens word) next) (arguments_of rest)
     else joined (whole word) (arguments_of (next ∷ rest))
 
 abbrev pub texts : List (String Global) → List Text

@@ -1,4 +1,4 @@
 pub mod Arguments
-pub mod Given
 pub mod Numbers
+pub mod Seen
 pub mod Words

@@ -1,11 +1,11 @@
 -- Which command the words behind the program's name are.
-use Rattle.std.specs.Prelude.{◌≡◌, ℕ, Bool, true, List, [], ◌∷◌, Option, Some, None, Result, Ok, Err, option_map, option_and_then, if◌then◌else◌, codes, bytes_eq}
+use Rattle.std.specs.Prelude.{◌≡◌, ℕ, ◌≤◌, Bool, true, List, [], ◌∷◌, Option, Some, None, Result, Ok, Err, option_map, option_and_then, if◌then◌else◌, codes, bytes_eq}
 use Rattle.std.specs.List.{filter_map, list_all, list_any}
 use Rattle.uuid.specs.Text.{parsed}
 use Rattle.flow_words.specs.declared.command.Command.{Command}
 use Rattle.flow_words.specs.declared.command.Command.TheVariants.{Run, Trial, Lineage, Content, Queues, Events, Check}
 use Rattle.flow_words.specs.declared.command.RunOptions.{RunOptions}
-use Rattle.flow_words.specs.declared.command.TheConstants.{THREADS, THREADS_MAX, COMMITS, COMMITS_MAX, CHECKPOINT, CHECKPOINT_MAX, TRIAL_MAX}
+use Rattle.flow_words.specs.declared.command.TheConstants.{DEFAULT_THREADS, THREADS_MAX, DEFAULT_COMMITS, COMMITS_MAX, DEFAULT_CHECKPOINT, CHECKPOINT_MAX, TRIAL_MAX}
 use Rattle.flow_words.specs.declared.error.WordsError.{WordsError}
 use Rattle.flow_words.specs.declared.error.WordsError.TheVariants.{Usage, Memory}
 use Rattle.flow_words.specs.Arguments.{Argument, Named, Positional, Text, arguments_of}
@@ -45,13 +45,13 @@ abbrev pub setting : Text → ℕ → ℕ → List Argument → Option ℕ
 setting name default most arguments = value_of_option name arguments >>= number_or default most
 
 abbrev pub threads_of : List Argument → Option ℕ
-threads_of = setting (codes "threads") THREADS THREADS_MAX
+threads_of = setting (codes "threads") DEFAULT_THREADS THREADS_MAX
 
 abbrev pub max_commits_of : List Argument → Option ℕ
-max_commits_of = setting (codes "max-commits") COMMITS COMMITS_MAX
+max_commits_of = setting (codes "max-commits") DEFAULT_COMMITS COMMITS_MAX
 
 abbrev pub checkpoint_of : List Argument → Option ℕ
-checkpoint_of = setting (codes "checkpoint") CHECKPOINT CHECKPOINT_MAX
+checkpoint_of = setting (codes "checkpoint") DEFAULT_CHECKPOINT CHECKPOINT_MAX
 
 -- what is read of the one positional, and of none
 abbrev pub of_one : {A : Type 0} → (Text → Option A) → Option Text → Option A
@@ -108,6 +108,16 @@ command_of name arguments =
 abbrev pub words_of : List Text → Option Command
 words_of [] = None
 words_of (name ∷ rest) = arguments_of rest >>= command_of name
+
+-- the numbers with which a flow is run stand in their ranges
+pub record AreInRange (options : RunOptions) : Type 0 where
+  pub threads : (1 ≤ options.threads) × (options.threads ≤ THREADS_MAX)
+  pub max_commits : (1 ≤ options.max_commits) × (options.max_commits ≤ COMMITS_MAX)
+  pub checkpoint : (1 ≤ options.checkpoint) × (options.checkpoint ≤ CHECKPOINT_MAX)
+
+abbrev pub IsInRange : Command → Type 0
+IsInRange (Run options) = AreInRange options
+IsInRange command = Unit {0}
 
 -- what is read is what the words are, and what is refused is nothing, unless memory ran out
 abbrev pub Reads : {X Y : Type 0} → (X → Y) → Result X WordsError → Option Y → Type 0

@@ -3,7 +3,7 @@ ghost use Rattle.std.specs.Prelude.{◌≡◌, map};
 ghost use Rattle.std.specs.List.{list_all};
 ghost use Rattle.std.specs.Option.{option_copied, option_map};
 ghost use Rattle.flow_words.specs.Arguments.{arguments_of, texts};
-ghost use Rattle.flow_words.specs.Given.{named_texts, seen};
+ghost use Rattle.flow_words.specs.Seen.{IsWord, named_texts, seen};
 ghost use Rattle.flow_words.specs.Words.{Reads, is_among, positional_in, positional_of, value_named, value_of_option};
 
 use crate::error::WordsError;
@@ -20,13 +20,13 @@ pub(crate) enum Argument<'a> {
 #[derive(Clone, Copy)]
 enum Word<'a> {
     Whole(Argument<'a>),
-    Option(&'a str),
+    Name(&'a str),
 }
 
 impl<'a> Argument<'a> {
     /// The value, if this is the option.
     fn value_named(self, name: &str) -> Option<&'a str>
-        ensures { option_copied result ≡ value_named name.now (seen self) }
+        ensures { option_copied result ≡ value_named name.now (seen self.entry) }
     {
         match self {
             Argument::Named { name: other, value } if other == name => Some(value),
@@ -35,7 +35,7 @@ impl<'a> Argument<'a> {
     }
 
     fn positional(self) -> Option<&'a str>
-        ensures { option_copied result ≡ positional_in (seen self) }
+        ensures { option_copied result ≡ positional_in (seen self.entry) }
     {
         match self {
             Argument::Named { .. } => None,
@@ -45,7 +45,7 @@ impl<'a> Argument<'a> {
 
     /// Whether this is none but one of these options.
     fn is_among(self, names: &[&str]) -> bool
-        ensures { result ≡ is_among (named_texts names.now) (seen self) }
+        ensures { result ≡ is_among (named_texts names.now) (seen self.entry) }
     {
         match self {
             Argument::Named { name, .. } => names.iter().any(|other| *other == name),
@@ -55,7 +55,10 @@ impl<'a> Argument<'a> {
 }
 
 /// The arguments that the words behind a command are.
-pub(crate) fn read_arguments(alloc: Global, words: &[String]) -> Result<Vec<Argument<'_>>, WordsError>
+pub(crate) fn read_arguments(
+    alloc: Global,
+    words: &[String],
+) -> Result<Vec<Argument<'_>>, WordsError>
     ensures { Reads (λ arguments. map seen arguments.items) result (arguments_of (texts words.now)) }
 {
     let mut arguments = Vec::new(alloc);
@@ -66,7 +69,7 @@ pub(crate) fn read_arguments(alloc: Global, words: &[String]) -> Result<Vec<Argu
                 arguments.push(Argument::Named { name, value: word })?;
                 option = None;
             }
-            (None, Word::Option(name)) => option = Some(name),
+            (None, Word::Name(name)) => option = Some(name),
             (None, Word::Whole(argument)) => arguments.push(argument)?,
         }
     }
@@ -77,12 +80,14 @@ pub(crate) fn read_arguments(alloc: Global, words: &[String]) -> Result<Vec<Argu
 }
 
 /// What a word is that no option takes as its value.
-fn read_word(word: &str) -> Word<'_> {
+fn read_word(word: &str) -> Word<'_>
+    ensures { IsWord word.now result }
+{
     match word.strip_prefix("--") {
         None => Word::Whole(Argument::Positional(word)),
         Some(option) => match option.split_once('=') {
             Some((name, value)) => Word::Whole(Argument::Named { name, value }),
-            None => Word::Option(option),
+            None => Word::Name(option),
         },
     }
 }

@@ -1,13 +1,14 @@
 //! Commands from words.
-ghost use Rattle.std.specs.Prelude.{◌≡◌, ◌≤◌, IfSome, codes, map};
+ghost use Rattle.std.specs.Prelude.{◌≡◌, ◌≤◌, IfOk, IfSome, codes, map};
+ghost use Rattle.uuid.specs.Text.{parsed};
 ghost use Rattle.flow_words.specs.Arguments.{texts};
-ghost use Rattle.flow_words.specs.Given.{seen};
-ghost use Rattle.flow_words.specs.Words.{Reads, alone, command_of, options_of, run_of, setting, threads_of, trial_of, uuid_of, words_of};
+ghost use Rattle.flow_words.specs.Seen.{seen};
+ghost use Rattle.flow_words.specs.Words.{AreInRange, IsInRange, Reads, alone, command_of, options_of, run_of, setting, threads_of, trial_of, uuid_of, words_of};
 
 use crate::argument::{Argument, are_among, positional_of, read_arguments, value_of_option};
 use crate::command::{
-    CHECKPOINT, CHECKPOINT_MAX, COMMITS, COMMITS_MAX, Command, RunOptions, THREADS, THREADS_MAX,
-    TRIAL_MAX,
+    CHECKPOINT_MAX, COMMITS_MAX, Command, DEFAULT_CHECKPOINT, DEFAULT_COMMITS, DEFAULT_THREADS,
+    RunOptions, THREADS_MAX, TRIAL_MAX,
 };
 use crate::error::WordsError;
 use crate::number::number_in;
@@ -16,7 +17,8 @@ use uuid::Uuid;
 
 /// The command that the words behind the program's name are.
 pub fn read_words(alloc: Global, words: &[String]) -> Result<Command, WordsError>
-    ensures { Reads (λ command. command) result (words_of (texts words.now)) }
+    ensures command { Reads (λ command. command) result (words_of (texts words.now)) }
+    ensures range { IfOk result IsInRange }
 {
     let (name, rest) = words.split_first().ok_or(WordsError::Usage)?;
     let arguments = read_arguments(alloc, rest)?;
@@ -24,7 +26,8 @@ pub fn read_words(alloc: Global, words: &[String]) -> Result<Command, WordsError
 }
 
 fn command_of(name: &str, arguments: &[Argument<'_>]) -> Option<Command>
-    ensures { result ≡ command_of name.now (map seen arguments.now) }
+    ensures command { result ≡ command_of name.now (map seen arguments.now) }
+    ensures range { IfSome result IsInRange }
 {
     match name {
         "run" => run_of(arguments),
@@ -39,7 +42,8 @@ fn command_of(name: &str, arguments: &[Argument<'_>]) -> Option<Command>
 }
 
 fn run_of(arguments: &[Argument<'_>]) -> Option<Command>
-    ensures { result ≡ run_of (map seen arguments.now) }
+    ensures command { result ≡ run_of (map seen arguments.now) }
+    ensures range { IfSome result IsInRange }
 {
     if !are_among(arguments, &["threads", "max-commits", "checkpoint"]) {
         return None;
@@ -52,12 +56,13 @@ fn run_of(arguments: &[Argument<'_>]) -> Option<Command>
 }
 
 fn options_of(arguments: &[Argument<'_>]) -> Option<RunOptions>
-    ensures { result ≡ options_of (map seen arguments.now) }
+    ensures options { result ≡ options_of (map seen arguments.now) }
+    ensures range { IfSome result AreInRange }
 {
     Some(RunOptions {
         threads: threads_of(arguments)?,
-        max_commits: setting("max-commits", COMMITS, COMMITS_MAX, arguments)?,
-        checkpoint: setting("checkpoint", CHECKPOINT, CHECKPOINT_MAX, arguments)?,
+        max_commits: setting("max-commits", DEFAULT_COMMITS, COMMITS_MAX, arguments)?,
+        checkpoint: setting("checkpoint", DEFAULT_CHECKPOINT, CHECKPOINT_MAX, arguments)?,
     })
 }
 
@@ -79,7 +84,13 @@ fn uuid_of(arguments: &[Argument<'_>]) -> Option<Uuid>
     if !are_among(arguments, &[]) {
         return None;
     }
-    Uuid::parse_str(positional_of(arguments)??).ok()
+    uuid_in(positional_of(arguments)??)
+}
+
+fn uuid_in(text: &str) -> Option<Uuid>
+    ensures { result ≡ parsed text.now }
+{
+    Uuid::parse_str(text).ok()
 }
 
 /// A command that takes no argument.
@@ -96,16 +107,24 @@ fn alone(command: Command, arguments: &[Argument<'_>]) -> Option<Command>
 }
 
 fn threads_of(arguments: &[Argument<'_>]) -> Option<u8>
-    ensures { result ≡ threads_of (map seen arguments.now) }
+    ensures threads { result ≡ threads_of (map seen arguments.now) }
+    ensures range { IfSome result (λ number. (1 ≤ number) × (number ≤ THREADS_MAX)) }
 {
-    let threads = setting("threads", THREADS, THREADS_MAX, arguments)?;
+    let threads = setting(
+        "threads",
+        u64::from(DEFAULT_THREADS),
+        u64::from(THREADS_MAX),
+        arguments,
+    )?;
     Some(threads as u8)
 }
 
 /// The number of an option, from 1 on, or its default where it isn't given.
 fn setting(name: &str, default: u64, most: u64, arguments: &[Argument<'_>]) -> Option<u64>
-    requires { default ≤ most }
+    requires least { 1 ≤ default }
+    requires most { default ≤ most }
     ensures number { result ≡ setting name.now default most (map seen arguments.now) }
+    ensures least { IfSome result (λ number. 1 ≤ number) }
     ensures most { IfSome result (λ number. number ≤ most) }
 {
     match value_of_option(name, arguments)? {

@@ -1,4 +1,5 @@
 pub mod Anew
+pub mod Asked
 pub mod Broken
 pub mod Built
 pub mod Opened
