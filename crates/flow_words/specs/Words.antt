@@ -24,7 +24,7 @@ abbrev pub positional_in : Argument → Option Text
 positional_in (Named name value) = None
 positional_in (Positional word) = Some word
 
--- none or one; nothing where there are more
+-- none or one; no answer where there are more
 abbrev pub at_most_one : List Text → Option (Option Text)
 at_most_one [] = Some None
 at_most_one (text ∷ []) = Some (Some text)
@@ -105,7 +105,7 @@ command_of name arguments =
     else None
 
 -- the first word is the command
-abbrev pub words_of : List Text → Option Command
+unfoldable pub words_of : List Text → Option Command
 words_of [] = None
 words_of (name ∷ rest) = arguments_of rest >>= command_of name
 

@@ -16,6 +16,7 @@ use std::alloc::Global;
 use uuid::Uuid;
 
 /// The command that the words behind the program's name are.
+#[tactic(auto, unfolding(crate::specs::Words::words_of))]
 pub fn read_words(alloc: Global, words: &[String]) -> Result<Command, WordsError>
     ensures command { Reads (λ command. command) result (words_of (texts words.now)) }
     ensures range { IfOk result IsInRange }
