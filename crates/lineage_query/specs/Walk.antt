@@ -16,7 +16,8 @@ Leads Down events from to = NamesParent events to from
 -- some steps lead to a file
 pub data Reaches (way : Way) (events : List Event) (file : ℕ) : ℕ → Type 0 where
   first : (other : ℕ) → Leads way events file other → Reaches way events file other
-  further : (member other : ℕ) → Reaches way events file member → Leads way events member other → Reaches way events file other
+  further : (member other : ℕ) → Reaches way events file member → Leads way events member other →
+      Reaches way events file other
 
 -- what an event of this kind names on the far side, where it names the file on the near one
 abbrev pub far_of : EventKind → ℕ → (near far : List ℕ) → List ℕ

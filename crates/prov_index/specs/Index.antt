@@ -10,7 +10,8 @@ number_of event = event.number
 -- whether an event names a file: as that which it is of, as a parent or as a child
 abbrev pub names : ℕ → Event → Bool
 names file event =
-    event.file == file || list_any (λ parent. parent == file) event.parents || list_any (λ child. child == file) event.children
+    event.file == file || list_any (λ parent. parent == file) event.parents
+    || list_any (λ child. child == file) event.children
 
 -- the numbers of the events that name a file, in the order of the events
 abbrev pub numbers_naming : List Event → ℕ → List ℕ
