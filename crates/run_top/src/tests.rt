@@ -11,7 +11,7 @@ use crate::text::read;
 use disk_trait::{Disk, MemoryDisk, Pick};
 use flow_definition::Builder;
 use flow_run::Ended;
-use flow_words::{CHECKPOINT, COMMITS};
+use flow_words::{DEFAULT_CHECKPOINT, DEFAULT_COMMITS};
 use flowfile_record::{Event, EventKind};
 use machine_model::Flow;
 use prov_store::Events;
@@ -279,7 +279,7 @@ fn runs_on(alloc: Global, disk: &mut MemoryDisk, run: LoggedRun, gone: u64) -> R
     let flow = beat(alloc, run.files)?;
     log_behind(alloc, disk, &flow, gone, gone)?;
     let left = run.files.saturating_sub(gone);
-    if goes_on(alloc, disk, &flow, COMMITS, run.entries)? != (Ended::Quiet, left) {
+    if goes_on(alloc, disk, &flow, DEFAULT_COMMITS, run.entries)? != (Ended::Quiet, left) {
         return Err("a run that doesn't deliver the rest")?;
     }
     if log_behind(alloc, disk, &flow, run.files, run.files)? != (run.last_log, 0) {
@@ -298,12 +298,12 @@ fn ends_at_its_limit(alloc: Global) -> Result<(), Fail> {
         number: 5,
         wanted: 6,
     };
-    let ended = goes_on(alloc, &mut disk, &flow, 5, CHECKPOINT)?;
+    let ended = goes_on(alloc, &mut disk, &flow, 5, DEFAULT_CHECKPOINT)?;
     if ended != (Ended::Limit(limit), 2) {
         return Err("a run that isn't ended by the limit of its journal")?;
     }
     log_behind(alloc, &mut disk, &flow, 3, 2)?;
-    let ended = goes_on(alloc, &mut disk, &flow, COMMITS, CHECKPOINT)?;
+    let ended = goes_on(alloc, &mut disk, &flow, DEFAULT_COMMITS, DEFAULT_CHECKPOINT)?;
     if ended != (Ended::Quiet, 2) {
         return Err("a run that doesn't deliver what a limit left")?;
     }
