@@ -7,6 +7,8 @@ mod answer;
 mod found;
 mod kin;
 mod query;
+#[cfg(test)]
+mod tests;
 mod told;
 mod walk;
 
