@@ -11,13 +11,15 @@ where it is gone, or something else stands in its place.
 import contextlib
 import os
 import re
+import shutil
 import signal
+import stat
 import subprocess
 import time
 
 import store_format
-from support import (DONE, INBOX, OUTBOX, THE_TEXT, Report, Wrong, find_program, names, need, new_folder, none_aside,
-                     options, read_files, run, work_folder, write_files)
+from support import (DONE, INBOX, MARK, MARKER, OUTBOX, THE_TEXT, Report, Wrong, find_program, names, need, new_folder,
+                     none_aside, options, read_files, run, work_folder, write_files)
 
 CONTENT_MAX = 16_777_216
 
@@ -31,11 +33,13 @@ ASIDE = ".flow-aside-0"
 
 
 def stopped_in(program, folder, path, call, when, change, then=signal.SIGCONT):
-    """Runs the program, makes a change in the folder behind one of its calls of this name on a path, and lets it go on
-    or kills it. Gives its status, and the names of the calls on that path: of this name, and those that open it."""
+    """Runs the program, makes a change in the folder behind one of its calls of this name on a path, or on any for None,
+    and lets it go on or kills it. Gives its status, and the names of the calls there: of this name, and those that open
+    it."""
     with new_folder() as aside:
         trace = aside / "trace"
-        child = subprocess.Popen(["strace", "-f", "-q", "-y", "-P", path, "-e", f"trace={call},openat",
+        on_path = [] if path is None else ["-P", path]
+        child = subprocess.Popen(["strace", "-f", "-q", "-y", *on_path, "-e", f"trace={call},openat",
                                   "-e", f"inject={call}:signal=SIGSTOP:when={when}", "-o", trace, program, "run"],
                                  cwd=folder, stdin=subprocess.DEVNULL, stderr=subprocess.DEVNULL)
         process = wait_for_stop(child, trace)
@@ -195,7 +199,7 @@ class Cases:
         """Makes a change in a folder behind the first of two puts. The run has to end with this status."""
         def stays(folder):
             need(names(folder / "out") == [ASIDE, "a"], f"behind a put out holds {names(folder / 'out')}")
-            need(names(folder / "out" / ASIDE) == [], f"aside there is {names(folder / 'out' / ASIDE)}")
+            need(names(folder / "out" / ASIDE) == [MARKER], f"aside there is {names(folder / 'out' / ASIDE)}")
             change(folder / "out" / ASIDE)
 
         with work_folder(self.parent) as folder:
@@ -210,46 +214,68 @@ class Cases:
             self.holds(folder, FILES)
 
     def aside_removed(self):
-        with self.behind_a_put(os.rmdir, DONE) as folder:
+        with self.behind_a_put(shutil.rmtree, DONE) as folder:
             self.holds(folder, FILES)
 
     def aside_filled(self):
-        """What somebody puts into the folder aside stays there, until the next run."""
-        others = {"other": b"x", "part": b"y", "part-0": b"z"}
+        """What somebody puts into the folder aside stays there, and so does the folder, until that is gone."""
+        others = {"other": b"x", "part": b"y"}
         with self.behind_a_put(lambda aside: write_files(aside, others), DONE) as folder:
-            need(names(folder / "out") == [ASIDE, *FILES], f"out holds {names(folder / 'out')}")
-            need(read_files(folder / "out" / ASIDE) == others, f"aside there is {names(folder / 'out' / ASIDE)}")
-            need(run(self.program, folder).status == DONE, "the next run doesn't end with 0")
+            for _ in range(2):
+                need(names(folder / "out") == [ASIDE, *FILES], f"out holds {names(folder / 'out')}")
+                need(read_files(folder / "out" / ASIDE) == {**others, MARKER: MARK},
+                     f"aside there is {names(folder / 'out' / ASIDE)}")
+                need(run(self.program, folder).status == DONE, "the next run doesn't end with 0")
+            for name in others:
+                os.unlink(folder / "out" / ASIDE / name)
+            need(run(self.program, folder).status == DONE, "the last run doesn't end with 0")
             self.holds(folder, FILES)
 
     def aside_replaced(self):
-        """Whatever takes its place stays, and another folder is made. No link is followed."""
-        for make in (lambda aside: aside.write_bytes(b"mine"), lambda aside: os.symlink(".", aside), os.mkfifo):
+        """Whatever takes its place stays as it is, and another folder is made. No link is followed."""
+        def put_folder_there(aside):
+            aside.mkdir()
+            write_files(aside, {"mine": b"mine"})
+
+        for make in (lambda aside: aside.write_bytes(b"mine"), lambda aside: os.symlink(".", aside), os.mkfifo,
+                     os.mkdir, put_folder_there):
             def replace_it(aside, make=make):
-                os.rmdir(aside)
+                shutil.rmtree(aside)
                 make(aside)
+                self.before = os.lstat(aside), names(aside) if stat.S_ISDIR(os.lstat(aside).st_mode) else None
 
             with self.behind_a_put(replace_it, DONE) as folder:
                 need(names(folder / "out") == [ASIDE, *FILES], f"out holds {names(folder / 'out')}")
-                os.unlink(folder / "out" / ASIDE)
+                aside = folder / "out" / ASIDE
+                now = os.lstat(aside), names(aside) if stat.S_ISDIR(os.lstat(aside).st_mode) else None
+                need(now == self.before, "what took its place changed")
+                shutil.rmtree(aside) if now[1] is not None else os.unlink(aside)
                 self.holds(folder, FILES)
 
     def outbox_moved_within_a_put(self):
-        """The outbox is moved away within the second put, and one takes its place in which a stop left a part."""
-        def move(folder):
-            os.rename(folder / "out", folder / "old")
-            (folder / "out" / ASIDE).mkdir(parents=True)
-            write_files(folder / "out" / ASIDE, {"part": b"half", "part-0": b"half"})
+        """The outbox is moved away within the second put, and one takes its place in which a folder stands that is
+        somebody's, or one that a stop left."""
+        for marked in (False, True):
+            parts = {"part": b"half", "part-0": b"half"} if not marked else {"part-0": b"half", MARKER: MARK}
 
-        with work_folder(self.parent) as folder:
-            write_files(folder / "in", FILES)
-            (folder / "out").mkdir()
-            status, _ = stopped_in(self.program, folder, "out", "statx", 3, move)
-            need(status == OUTBOX, f"status {status}")
-            need(names(folder / "old") == [ASIDE, "a"], f"old holds {names(folder / 'old')}")
-            need(len(names(folder / "old" / ASIDE)) == 1, f"aside there is {names(folder / 'old' / ASIDE)}")
-            need(run(self.program, folder).status == DONE, "the next run doesn't end with 0")
-            self.holds(folder, {"b": FILES["b"]})
+            def move(folder, parts=parts):
+                os.rename(folder / "out", folder / "old")
+                (folder / "out" / ASIDE).mkdir(parents=True)
+                write_files(folder / "out" / ASIDE, parts)
+
+            with work_folder(self.parent) as folder:
+                write_files(folder / "in", FILES)
+                (folder / "out").mkdir()
+                status, _ = stopped_in(self.program, folder, "out", "statx", 3, move)
+                need(status == OUTBOX, f"status {status}")
+                need(names(folder / "old") == [ASIDE, "a"], f"old holds {names(folder / 'old')}")
+                need(len(names(folder / "old" / ASIDE)) == 2, f"aside there is {names(folder / 'old' / ASIDE)}")
+                need(read_files(folder / "out" / ASIDE) == parts, "the other folder changed")
+                need(run(self.program, folder).status == DONE, "the next run doesn't end with 0")
+                if not marked:
+                    need(read_files(folder / "out" / ASIDE) == parts, "the other folder changed")
+                    shutil.rmtree(folder / "out" / ASIDE)
+                self.holds(folder, {"b": FILES["b"]})
 
     def killed_behind(self, path, call, when, left):
         """Kills a run behind this call. In the outbox stand these files and one empty folder, which the next run
@@ -260,9 +286,31 @@ class Cases:
             status, _ = stopped_in(self.program, folder, path, call, when, lambda folder: None, signal.SIGKILL)
             need(status == -signal.SIGKILL, f"status {status}")
             need(names(folder / "out") == [ASIDE, *left], f"out holds {names(folder / 'out')}")
-            need(names(folder / "out" / ASIDE) == [], f"aside there is {names(folder / 'out' / ASIDE)}")
+            need(names(folder / "out" / ASIDE) == [MARKER], f"aside there is {names(folder / 'out' / ASIDE)}")
             need(run(self.program, folder).status == DONE, "the next run doesn't end with 0")
             self.holds(folder, FILES)
+
+    def killed_before_the_marker(self):
+        """A stop behind the making of the folder and before its marker is whole leaves a folder that isn't known as
+        one aside: it stays, and the next run makes another."""
+        # The first lock is the store's.
+        for path, call, when, marker in ((f"out/{ASIDE}", "mkdir", 1, None), (None, "flock", 2, b"")):
+            with work_folder(self.parent) as folder:
+                write_files(folder / "in", FILES)
+                (folder / "out").mkdir()
+                status, _ = stopped_in(self.program, folder, path, call, when, lambda folder: None, signal.SIGKILL)
+                need(status == -signal.SIGKILL, f"status {status}")
+                left = {} if marker is None else {MARKER: marker}
+                for _ in range(2):
+                    need(names(folder / "out")[:1] == [ASIDE], f"out holds {names(folder / 'out')}")
+                    need(read_files(folder / "out" / ASIDE) == left, f"aside there is {names(folder / 'out' / ASIDE)}")
+                    need(run(self.program, folder).status == DONE, "the next run doesn't end with 0")
+                need(names(folder / "out") == [ASIDE, *FILES], f"out holds {names(folder / 'out')}")
+
+    def killed_behind_the_marker(self):
+        """From when the marker is whole on what a stop leaves goes with the next run."""
+        # The syncs before it: main's folders, three of a new store's folder, and one behind its first claim.
+        self.killed_behind(None, "fsync", 8, [])
 
     def killed_behind_a_put(self):
         self.killed_behind("out", "fsync", 1, ["a"])
@@ -279,11 +327,13 @@ class Cases:
             looks = self.looks_at(path, "trace=statx", DONE)
             need(looks, f"there is no look at {path}")
             for number in range(1, looks + 1):
-                self.looks_at(path, f"inject=statx:error=EIO:when={number}", wanted)
+                # The last look at the folder aside is the end's, which leaves it where it can't look.
+                left = path == f"out/{ASIDE}" and number == looks
+                self.looks_at(path, f"inject=statx:error=EIO:when={number}", DONE if left else wanted, left)
             tried += looks
         return f"{tried} looks"
 
-    def looks_at(self, path, asked, wanted):
+    def looks_at(self, path, asked, wanted, left=False):
         """How many looks at a path a run makes, which has to end with this status. The next one delivers."""
         with work_folder(self.parent) as folder, new_folder() as aside:
             write_files(folder / "in", FILES)
@@ -292,7 +342,8 @@ class Cases:
                                     "-o", aside / "trace", self.program, "run"], cwd=folder, check=False,
                                    stdin=subprocess.DEVNULL, stderr=subprocess.DEVNULL)
             need(ended.returncode == wanted, f"{asked} on {path}: status {ended.returncode}")
-            none_aside(folder)
+            if not left:
+                none_aside(folder)
             need(run(self.program, folder).status == DONE, f"{asked} on {path}: the next run doesn't end with 0")
             need(names(folder / "in") == [] and read_files(folder / "out") == FILES, f"{asked} on {path}: a file is lost")
             none_aside(folder)
@@ -347,12 +398,15 @@ def main():
             ("the outbox is moved away between two puts: 7, and later delivered", cases.no_outbox),
             ("each look at a file of the inbox, the outbox or its folder aside is refused alone", cases.refused_looks),
             ("puts share a folder aside, and one whose name is that folder's has another made", cases.aside_made),
-            ("behind a put the folder aside is empty, and at the end it is gone", cases.aside_stays),
+            ("behind a put the folder aside has its marker alone, and at the end it is gone", cases.aside_stays),
             ("the folder aside is removed between two puts: it is made anew", cases.aside_removed),
-            ("something is put into the folder aside between two puts: it goes with the next run", cases.aside_filled),
-            ("a file, a link or a pipe takes that folder's place: it stays, and another is made", cases.aside_replaced),
+            ("something is put into the folder aside between two puts: it stays", cases.aside_filled),
+            ("something takes that folder's place: it stays, and another one is made", cases.aside_replaced),
             ("the outbox is moved away within a put: 7, and later delivered", cases.outbox_moved_within_a_put),
-            ("killed behind a put: an empty folder is left, and the next run removes it", cases.killed_behind_a_put),
+            ("killed before the marker is whole: the folder stays, and the next run makes another",
+             cases.killed_before_the_marker),
+            ("killed behind the marker: the next run removes the folder", cases.killed_behind_the_marker),
+            ("killed behind a put: the folder is left, and the next run removes it", cases.killed_behind_a_put),
             ("killed once all is done: so it is, though the next run puts nothing", cases.killed_behind_all)):
         report.case(text, body)
     report.end()

@@ -1,6 +1,7 @@
 #!/usr/bin/env python3
 """Tries the built program over real folders: what it delivers, what it leaves, and how it refuses."""
 
+import fcntl
 import os
 import pathlib
 import random
@@ -10,9 +11,9 @@ import subprocess
 import time
 
 import store_format
-from support import (DISK, DONE, INBOX, MEMORY, OUTBOX, THE_TEXT, USAGE, Report, find_program, names, need, need_status,
-                     new_folder, none_aside, options, parse_seeded, photo, put_flow, read_files, run, start, wait_for,
-                     work_folder, write_files)
+from support import (DISK, DONE, INBOX, MARK, MARKER, MEMORY, OUTBOX, SOURCE, THE_TEXT, USAGE, Report, find_program,
+                     names, need, need_status, new_folder, none_aside, options, parse_seeded, photo, put_flow,
+                     read_files, run, run_for, start, wait_for, work_folder, write_files)
 
 CONTENT_MAX = 16_777_216
 
@@ -240,7 +241,8 @@ class Cases:
             self.delivers(folder, THREE)
 
     def other_words(self):
-        words = ((), ("runs",), ("run", "run"), ("RUN",), ("",), ("run", ""), ("--help",), (" run",))
+        words = ((), ("runs",), ("run", "run"), ("RUN",), ("",), ("run", ""), ("--help",), (" run",), (b"\xff",),
+                 (b"run", b"\xff"), (b"\xffrun",))
         with self.folder() as folder:
             write_files(folder / "in", THREE)
             for part in ("store", "out"):
@@ -250,6 +252,24 @@ class Cases:
                 need_status(run(self.program, folder, said), USAGE)
             need(photo(folder) == before, "something in the folder changed")
             self.delivers(folder, THREE)
+
+    def text_is_no_file(self):
+        """A flow's text is a regular file, or a link to one: nothing else is read, nor waited for."""
+        makers = (os.mkfifo, os.mkdir, lambda path: os.symlink("/dev/zero", path), lambda path: os.symlink("nowhere", path),
+                  lambda path: os.symlink("pipe", path))
+        for make in makers:
+            with new_folder(self.parent) as folder:
+                write_files(folder / "in", THREE)
+                os.mkfifo(folder / "pipe")
+                make(folder / "flow.json")
+                before = photo(folder / "in")
+                need(run_for(self.program, folder, 20) == SOURCE, "the run doesn't end with 8")
+                need(photo(folder / "in") == before, "in changed")
+                need(names(folder / "store") == [] and names(folder / "out") == [], "store or out isn't empty")
+                (folder / "flow.json").rmdir() if (folder / "flow.json").is_dir() else (folder / "flow.json").unlink()
+                write_files(folder, {"text": THE_TEXT})
+                (folder / "flow.json").symlink_to("text")
+                self.delivers(folder, THREE)
 
     def other_words_make_nothing(self):
         with new_folder(self.parent) as folder:
@@ -338,6 +358,84 @@ class Cases:
 
     # What an earlier stop left.
 
+    def others_aside(self):
+        """Whatever has the name of a folder aside and isn't one stays as it is, whoever made it."""
+        def a_folder(path):
+            path.mkdir()
+
+        def with_files(path):
+            path.mkdir()
+            write_files(path, {"mine": b"1", "part-1": b"2"})
+            (path / "link").symlink_to("mine")
+            (path / "folder").mkdir()
+            write_files(path / "folder", {"inner": b"3"})
+
+        def with_another_marker(path):
+            path.mkdir()
+            write_files(path, {MARKER: MARK + b"!", "part-1": b"4"})
+
+        def with_an_empty_marker(path):
+            path.mkdir()
+            write_files(path, {MARKER: b""})
+
+        def with_a_link(path):
+            path.mkdir()
+            write_files(path, {"whole": MARK, "part-1": b"5"})
+            (path / MARKER).symlink_to("whole")
+
+        def with_a_pipe(path):
+            path.mkdir()
+            os.mkfifo(path / MARKER)
+
+        def with_a_folder(path):
+            (path / MARKER).mkdir(parents=True)
+
+        makers = (a_folder, with_files, with_another_marker, with_an_empty_marker, with_a_link, with_a_pipe,
+                  with_a_folder, lambda path: path.write_bytes(MARK), lambda path: path.symlink_to(".flow-aside-1"),
+                  lambda path: path.symlink_to("nowhere"), os.mkfifo)
+        with self.folder() as folder:
+            (folder / "out").mkdir()
+            paths = [folder / "out" / f".flow-aside-{number}" for number in range(len(makers))]
+            for path, make in zip(paths, makers):
+                make(path)
+            before = photo(*paths)
+            for round_ in range(2):
+                write_files(folder / "in", THREE)
+                need_status(self.run(folder), DONE)
+                need(photo(*paths) == before, f"run {round_ + 1} changed what isn't its own")
+                need(names(folder / "out") == sorted([*THREE, *(path.name for path in paths)]),
+                     f"out holds {names(folder / 'out')}")
+
+    def aside_in_use(self):
+        """A folder aside of a process that goes on stays, and goes once the process has ended."""
+        with self.folder() as folder:
+            write_files(folder / "in", THREE)
+            leave_aside(folder)
+            kept = folder / "out" / ".flow-aside-5"
+            with open(kept / MARKER, "rb") as marker:
+                fcntl.flock(marker, fcntl.LOCK_EX)
+                before = photo(kept)
+                need_status(self.run(folder), DONE)
+                need(photo(kept) == before, "the folder of another process changed")
+                need(names(folder / "out") == sorted([*THREE, kept.name]), f"out holds {names(folder / 'out')}")
+            self.delivers(folder, THREE)
+
+    def others_in_aside(self):
+        """What somebody put into a folder aside stays, and the folder with it, until it is gone."""
+        with self.folder() as folder:
+            write_files(folder / "in", THREE)
+            leave_aside(folder)
+            aside = folder / "out" / ".flow-aside-0"
+            write_files(aside, {"mine": b"mine", "part": b"mine too", "part-01": b"and this"})
+            for _ in range(2):
+                need_status(self.run(folder), DONE)
+                need(aside.is_dir(), "the folder is gone")
+                need(names(aside) == sorted(["mine", "part", "part-01", MARKER]), f"aside there is {names(aside)}")
+                need(names(folder / "out") == sorted([*THREE, aside.name]), f"out holds {names(folder / 'out')}")
+            for name in ("mine", "part", "part-01"):
+                (aside / name).unlink()
+            self.delivers(folder, THREE)
+
     def aside_is_swept(self):
         with self.folder() as folder:
             write_files(folder / "in", THREE)
@@ -372,7 +470,7 @@ def leave_aside(folder):
     """Leaves aside in the outbox what a stop may leave."""
     for number in (0, 5):
         (folder / "out" / f".flow-aside-{number}").mkdir(parents=True)
-        write_files(folder / "out" / f".flow-aside-{number}", {"part": b"half"})
+        write_files(folder / "out" / f".flow-aside-{number}", {MARKER: MARK, "part-77": b"half"})
 
 
 def state_of(folder):
@@ -420,6 +518,7 @@ def main():
             ("a folder stands under the name of a file of the store: 5, in untouched", cases.log_is_a_folder),
             ("in is a file: 6", cases.in_is_a_file),
             ("a name in in isn't UTF-8: 6, in untouched", cases.name_is_no_text),
+            ("flow.json is a pipe, a folder or a device: 8, and not waited for", cases.text_is_no_file),
             ("other words than run: 2, nothing touched", cases.other_words),
             ("other words than run in a new folder: nothing is made", cases.other_words_make_nothing),
             ("a second process gets 5 and touches nothing, and the first ends with 0", cases.second_process),
@@ -428,6 +527,9 @@ def main():
             ("memory that the system refuses: 12, nothing lost", cases.memory_is_refused),
             ("the standard streams are closed", cases.streams_are_closed),
             ("what a stop left aside in out is swept", cases.aside_is_swept),
+            ("a folder aside of another process stays as long as that goes on", cases.aside_in_use),
+            ("folders, files and links of such names that aren't ours are untouched", cases.others_aside),
+            ("what somebody put into a folder aside stays", cases.others_in_aside),
             ("it is swept at the end of a run that puts nothing, with 0 alone", cases.aside_is_swept_at_the_end),
             ("a file that comes back to in is delivered again", cases.taken_twice)):
         report.case(text, body)

@@ -4,7 +4,8 @@
 After each kill the store's files stand for a state, and each file is in the inbox, whole in `out`, or in the store
 with its bytes; besides, `out` has one folder aside at most. At the end every file's bytes have to be in `out` and
 nothing else, `in` and the store have to be empty, no claim may be left, and no start may end with a status but 0: the
-store opens every time. That is done in new folders until there were so many kills. A kill ends the process and not the
+store opens every time. That is done in new folders until there were so many kills. Two flows that put into one outbox
+are killed so too, each of them alone or both at once: none may end with a status but 0. A kill ends the process and not the
 machine, so this tries the order of the program's steps, and not what a power cut leaves of pending writes.
 """
 
@@ -13,8 +14,8 @@ import statistics
 import time
 
 import store_format
-from support import (DONE, Report, find_program, names, need, options, parse_seeded, read_files, run_for, work_folder,
-                     write_files)
+from support import (DONE, MARKER, Report, find_program, names, need, options, parse_seeded, read_files, run_for, start,
+                     unmarked_aside, work_folder, write_files)
 
 LARGEST = 200_000
 
@@ -42,9 +43,11 @@ def none_is_lost(folder, files):
     put = set(names(folder / "out")) if (folder / "out").exists() else set()
     missing = set(files) - left - put - set(waits)
     need(not missing, f"lost after a stop: {sorted(missing)[:5]}")
-    aside = sorted(put - set(files))
-    need(aside in ([], [".flow-aside-0"]), f"besides files out holds {aside}")
-    parts = names(folder / "out" / aside[0]) if aside else []
+    unmarked = unmarked_aside(folder / "out")
+    need(all(names(folder / "out" / name) in ([], [MARKER]) for name in unmarked), "there is an unmarked folder in use")
+    aside = sorted(put - set(files) - set(unmarked))
+    need(len(aside) <= 1, f"besides files out holds {aside}")
+    parts = [part for part in names(folder / "out" / aside[0]) if part != MARKER] if aside else []
     need(not parts or len(parts) == 1 and parts[0].startswith("part-"), f"aside there is {parts}")
 
 
@@ -80,7 +83,8 @@ class Rounds:
             write_files(folder / "in", files)
             self.drive(folder, files)
             need(names(folder / "in") == [], f"in holds {names(folder / 'in')[:5]}")
-            need(names(folder / "out") == sorted(files), "out holds other names than were sent, or leftovers")
+            need(names(folder / "out") == sorted([*files, *unmarked_aside(folder / "out")]),
+                 "out holds other names than were sent, or leftovers")
             need(read_files(folder / "out") == files, "a file of out has other bytes than were sent")
             need(names(folder / "store") == ["events-0", "lock", "log-1", "snapshot-1"],
                  f"store holds {names(folder / 'store')}")
@@ -100,8 +104,47 @@ class Rounds:
                 f"{statistics.median(self.had) * 1000:.0f} ms (median), all in {time.monotonic() - start:.0f} s")
 
 
+class Pairs:
+    """Two flows with stores of their own and one outbox, run at once."""
+
+    def __init__(self, program, parent, count, files):
+        self.program, self.parent, self.count, self.files = program, parent, count, files
+        self.kills = 0
+
+    def one(self, kills):
+        with work_folder(self.parent) as first, work_folder(self.parent) as second:
+            (first / "out").mkdir()
+            (second / "out").symlink_to(first / "out")
+            files = {}
+            for folder, letter in ((first, "a"), (second, "b")):
+                own = {f"{letter}-{n:04}": random.randbytes(random.randint(0, 5000)) for n in range(self.files)}
+                write_files(folder / "in", own)
+                files |= own
+            waits = [first, second]
+            while waits:
+                children = [(folder, start(self.program, folder)) for folder in waits]
+                for _, child in random.sample(children, len(children)) if kills else ():
+                    time.sleep(random.uniform(0, 0.05))
+                    child.kill()
+                ended = [(folder, child.wait()) for folder, child in children]
+                need(all(status in (DONE, -9) for _, status in ended), f"the flows ended with {ended}")
+                self.kills += sum(status != DONE for _, status in ended)
+                kills = kills - 1 if kills else 0
+                waits = [folder for folder, status in ended if status != DONE]
+            need(names(first / "in") == [] and names(second / "in") == [], "a file is left")
+            need(names(first / "out") == sorted([*files, *unmarked_aside(first / "out")]),
+                 f"out holds {sorted(set(names(first / 'out')) - set(files))} besides")
+            need(read_files(first / "out") == files, "a file of out has other bytes than were sent, or is missing")
+
+    def all(self):
+        for number in range(self.count):
+            self.one(0 if number % 2 else random.randint(1, 6))
+        return f"{self.count} pairs, {self.kills} kills"
+
+
 def main():
     parser = options(__doc__)
+    parser.add_argument("--pairs", type=int, default=50, help="how many pairs of flows into one outbox (default 50)")
     parser.add_argument("--count", type=int, default=1000, help="how many kills, at least (default 1000)")
     parser.add_argument("--files", type=int, default=200, help="how many files in each folder (default 200)")
     parser.add_argument("--pause", type=float, default=0.05,
@@ -112,6 +155,8 @@ def main():
     report = Report()
     rounds = Rounds(find_program(given.program), given.folder, given.count, given.files, given.pause)
     report.case("killed at random moments, every file arrives, and the store opens every time", rounds.all)
+    pairs = Pairs(find_program(given.program), given.folder, given.pairs, given.files)
+    report.case("two flows put into one outbox at once, and are killed: every file arrives", pairs.all)
     report.end()
 
 

@@ -188,6 +188,19 @@ def names(folder):
     return sorted(os.listdir(folder))
 
 
+# The file by which a folder aside in `out` is known as a run's, and all that it holds.
+MARKER = "flow-marker"
+MARK = b"A flow keeps a file here until it is whole.\n"
+
+
+def unmarked_aside(out):
+    """The folders in an outbox that have the name of a folder aside and no whole marker: a stop leaves one where it comes
+    before the marker is written, and no run touches it."""
+    found = [path for path in out.glob(".flow-aside-*") if path.is_dir()] if out.is_dir() else []
+    return [path.name for path in found
+            if not (path / MARKER).is_file() or (path / MARKER).read_bytes() != MARK]
+
+
 def none_aside(folder):
     """No folder aside is left in `out` by a run that ended by itself, whatever its status."""
     out = folder / "out"

@@ -12,7 +12,7 @@ import re
 import subprocess
 
 import store_format
-from support import (DAMAGED, DISK, DONE, INBOX, OUTBOX, REFUSED, Report, find_program, names, need, need_status,
+from support import (DAMAGED, DISK, DONE, INBOX, MARKER, OUTBOX, REFUSED, Report, find_program, names, need, need_status,
                      new_folder, none_aside, options, photo, read_files, run, work_folder, write_files)
 
 FILES = {"a": b"first", "b": b"", "c": bytes(range(256)) * 9}
@@ -37,6 +37,8 @@ PART = re.compile(r"\bpart-\d+$")
 
 # A file is taken by an entry, with its content at the first of its syncs; it is put; an entry lets it go.
 PUT = [("fsync", "out/.flow-aside-0/part"), ("fsync", "out")]
+# The first put of a run makes the folder aside, of which the marker is synced.
+MARKED = ("fsync", f"out/.flow-aside-0/{MARKER}")
 FILE = [LOG, CLAIM, EVENTS, LOG, *PUT, *ENTRY]
 # The first content of a claim makes it, as the first event its file, which the store's folder has to keep; an empty
 # content has no bytes.
@@ -49,8 +51,16 @@ CLOSING = [STORE]
 # After so many files, two entries each, the claims go too; the next content makes one anew.
 RECLAIMED = 128
 
+
+
+def with_marker(syncs):
+    """A run's syncs, with that of the marker in front of its first put."""
+    first = syncs.index(PUT[0]) if PUT[0] in syncs else len(syncs)
+    return [*syncs[:first], *([MARKED] if first < len(syncs) else []), *syncs[first:]]
+
+
 # What FILES asks for, by name.
-ALL = [*FILE_FIRST, *FILE_EMPTY, *FILE, *CLOSING]
+ALL = with_marker([*FILE_FIRST, *FILE_EMPTY, *FILE, *CLOSING])
 
 # A marked store's files are written anew under this name.
 COPY = ("fsync", "store/.flow-aside")
@@ -148,7 +158,7 @@ class Cases:
             need(status == DONE, f"status {status}")
             each = [sync for number in range(count) for sync in (FILE if number % RECLAIMED else FILE_FIRST)]
             wanted = [*opening, *each, *(CLOSING if count else [])]
-            need(in_any_order(syncs) == in_any_order(wanted),
+            need(in_any_order(syncs) == in_any_order(with_marker(wanted)),
                  f"{count} files: {syncs if count < 9 else f'{len(syncs)} syncs, and not {len(wanted)}'}")
 
     def of_a_store(self):
@@ -171,7 +181,7 @@ class Cases:
             status, syncs = traced(self.program, folder)
             need(status == DONE, f"status {status}")
             wanted = [*FOLDERS, LOG, SNAPSHOT, CLAIM, EVENTS, STORE, *[*PUT, *ENTRY] * len(FILES), *CLOSING]
-            need(in_any_order(syncs) == in_any_order(wanted), f"{syncs}")
+            need(in_any_order(syncs) == in_any_order(with_marker(wanted)), f"{syncs}")
 
     def of_a_mended_store(self):
         """The log is cut behind its last gate, then the gate is closed; a greater log is cut to a byte; then what
@@ -187,7 +197,7 @@ class Cases:
             standing = [("fdatasync", f"store/{name}") for name in files]
             wanted = [*FOLDERS, *standing, STORE, LOG, LOG, ("fdatasync", "store/log-3"), *PUT, LOG, CLAIM, EVENTS,
                       STORE, LOG, *CLOSING]
-            need(in_any_order(syncs) == in_any_order(wanted), f"{syncs}")
+            need(in_any_order(syncs) == in_any_order(with_marker(wanted)), f"{syncs}")
 
     def of_what_is_not_opened(self):
         """Damage and another flow's store: the opening's first sync, and none behind it."""

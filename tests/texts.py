@@ -12,7 +12,10 @@ from flow_texts import flow, generator, let_go, processor, queue, source, told
 from processors import kinds, through
 from store_format import (ATTRIBUTES_MODIFIED, CLONE, CONTENT_MODIFIED, CREATE, DROP, FORK, JOIN, RECEIVE, ROUTE,
                           SEND)
-from support import Report, find_program, in_memory, need, options, parse_seeded
+from support import (Report, find_program, in_memory, names, need, options, parse_seeded, read_files, work_folder,
+                     write_files)
+
+CONTENT_MAX = 16_777_216
 
 # What MergeContent and SplitText let go beside what they make.
 REST = ["original", "failure"]
@@ -86,6 +89,35 @@ class Cases(processors.Cases):
                                      "Replacement Value": "$1"}, ["failure"]))
         state = self.ends(literal, {"a": b"aaa.aa", "b": b"b"}, {"a": b"$1a.$1", "b": b"b"})
         need(kinds(state)[CONTENT_MODIFIED] == 2, f"the events tell {kinds(state)}")
+
+    def replaced_by_more(self):
+        """What would be made is longer than a content may be: the file goes to failure as it was, and no memory is taken
+        for what isn't made. Up to the limit it is made."""
+        for search, value, content in (
+                (".", "x" * 60_000, b"a" * 60_000), ("(?s).*", "$0" * 30_000, b"a" * 60_000),
+                ("(a)(b)?", "$2$1$1$2" * 10_000, b"ab" * 30_000), ("(?P<all>(?s:.+))", "${all}$$" * 300, b"a" * 60_000),
+                ("", "y" * 300, b"a" * 60_000), ("a|(b)|$", "${1}" * 20 + "x" * 280, b"a" * 60_000)):
+            self.goes_to_failure(search, value, content)
+        most = CONTENT_MAX // 16
+        for search, value, content, out in (
+                ("a", "0123456789abcdef", b"a" * most, b"0123456789abcdef" * most),
+                ("(a)|b", "$1$1$9$nobody$$$", b"a" * 9_000 + b"b" * 9_000, b"aa$$" * 9_000 + b"$$" * 9_000),
+                ("(?s).+", "$0" * 16, b"a" * most, b"a" * CONTENT_MAX)):
+            self.ends(through(processor("swap", "ReplaceText", {"Search Value": search, "Replacement Value": value},
+                                        ["failure"])), {"a": content}, {"a": out})
+        self.goes_to_failure("a", "0123456789abcdef", b"a" * most + b"b")
+        self.goes_to_failure("(?s).+", "$0" * 16 + "b", b"a" * most)
+
+    def goes_to_failure(self, search, value, content):
+        text = flow([source("get"), processor("swap", "ReplaceText",
+                                              {"Search Value": search, "Replacement Value": value}, ["success"]),
+                     let_go("put", "replace")],
+                    [queue("new", "get", "swap"), queue("failed", "swap", "put", "failure")])
+        with work_folder(self.parent, text) as folder:
+            write_files(folder / "in", {"a": content})
+            ended = self.run(folder)
+            need(read_files(folder / "out") == {"a": content}, f"{search}: out holds {names(folder / 'out')}")
+            need(ended.peak < 4 * CONTENT_MAX, f"{search}: the run takes {ended.peak:,} bytes")
 
     def extracts(self):
         """Groups of the first match become attributes, by which the file is named here."""
@@ -203,6 +235,7 @@ def main():
             ("a part that is the whole, and none", cases.one_part),
             ("as many parts as may be, and one more", cases.too_many_parts),
             ("replaced by a pattern and by a text", cases.replaces),
+            ("replaced by more than a content may be, and by as much", cases.replaced_by_more),
             ("extracted groups", cases.extracts),
             ("segments, and a bin", cases.segments),
             ("16 MiB in parts, and whole again", cases.large),

@@ -1,5 +1,5 @@
 -- A new store of a flow with one connection and no processors agrees with itself.
-use Rattle.std.proofs.Common.{◌≡◌, ℕ, ◌+◌, ◌<◌, List, [], ◌∷◌, length, All, ap, ◌∙◌, arith, length-append}
+use Rattle.std.proofs.Common.{◌≡◌, ℕ, ◌+◌, ◌<◌, List, [], ◌∷◌, length, All, refl, ap, ◌∙◌, arith, length-append}
 use Rattle.std.proofs.Math.Nat.{mod-lt}
 use Rattle.std.proofs.lemmas.List.Concat.{flat_map-cons}
 use Rattle.std.proofs.lemmas.List.Elements.{All-nil, All-cons}
@@ -24,10 +24,12 @@ module _ (digest name : List ℕ) (lot : ℕ) (is_digest : IsDigest digest) (is_
     store = mod-lt lot (omega arith);
     flow = is_digest;
     connections = (omega arith, All-cons IsText name [] is_text (All-nil IsText));
+    processors = refl;
     counts = (omega arith, All-nil IsNumber);
     next_number = omega arith;
     next_arrival = omega arith;
     last_event = omega arith;
+    line = refl;
     next_batch = omega arith;
   }
 

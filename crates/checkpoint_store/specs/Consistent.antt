@@ -43,6 +43,7 @@ pub record HasCounters (k : Kept) : Type 0 where
   pub next_arrival : 1 ≤ k.next_arrival
   pub next_batch : 1 ≤ k.next_batch
 
+-- What is kept agrees with itself and has a snapshot: so there are no ids of processors, and the line is 0.
 pub record IsConsistent (k : Kept) : Type 0 where
   pub encoded : IsHead (head_in k)
   pub head_size : length (head (head_in k)) ≤ PAYLOAD_MAX

@@ -24,10 +24,12 @@ head_in k = record {
   store = k.store;
   flow = k.flow;
   connections = k.connections;
+  processors = k.processors;
   counts = k.counts;
   next_number = k.next_number;
   next_arrival = k.next_arrival;
   last_event = k.last_event;
+  line = k.line;
   next_batch = k.next_batch;
 }
 

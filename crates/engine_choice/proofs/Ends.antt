@@ -12,7 +12,7 @@ use Rattle.machine_model.specs.declared.pattern.Pattern.{Pattern}
 use Rattle.machine_model.specs.Acting.{passes}
 use Rattle.machine_model.specs.Due.{at_place, due_expiry, expired_numbers, some_numbers}
 use Rattle.machine_model.specs.Files.{queues_of}
-use Rattle.machine_model.specs.Quiet.{gives_a_pick, has_source, holds_back, holds_back_any, is_held_back, is_nothing_due_in, nothing_due, quiet, blocked, wanting, wants}
+use Rattle.machine_model.specs.Quiet.{gives_a_pick, has_source, holds_back, holds_back_any, is_held_back, is_nothing_due_in, nothing_due, quiet_but_for_swaps, blocked_but_for_swaps, wanting, wants}
 use Rattle.machine_model.specs.Kinds.{is_source, take_rule_of}
 use Rattle.machine_model.specs.Order.{eligible_files}
 use Rattle.machine_model.specs.State.{State, World}
@@ -310,7 +310,7 @@ module _ (given : PicksAreGiven) (quiet_law : QuietIsSeen) (blocked_law : Blocke
   wanting-is = λ i. filter (λ p. sym (wants-takes flow queues state world moment given p) i) (enumerate_from 0 flow.processors)
 
   blocked-at : (p : ℕ × Processor) (ps : List (ℕ × Processor)) (c : ℕ × Connection) → takers flow queues state.counts (coming_of world) moment ≡ p ∷ ps
-      → find (holds_back_any queues (p ∷ ps)) (enumerate_from 0 flow.connections) ≡ Some c → blocked flow state world moment ≡ Some c.0
+      → find (holds_back_any queues (p ∷ ps)) (enumerate_from 0 flow.connections) ≡ Some c → blocked_but_for_swaps flow state world moment ≡ Some c.0
   blocked-at p ps c are is =
       let wanting = wanting-is ∙ are in
       let held_all : list_all (is_held_back flow queues) (p ∷ ps) ≡ true = ap (list_all (is_held_back flow queues)) (sym are) ∙ held in
@@ -323,7 +323,7 @@ module _ (given : PicksAreGiven) (quiet_law : QuietIsSeen) (blocked_law : Blocke
       ∙ (λ i. cond (true && nonempty i && held_all i) answer None)
       ∙ ap (option_map (λ c. c.0)) is
 
-  quiet-at : takers flow queues state.counts (coming_of world) moment ≡ [] → quiet flow state world moment ≡ true
+  quiet-at : takers flow queues state.counts (coming_of world) moment ≡ [] → quiet_but_for_swaps flow state world moment ≡ true
   quiet-at none =
       quiet_law flow queues state world moment same
       ∙ ap (λ b. b && not (list_any (wants_by flow queues state world moment) (enumerate_from 0 flow.processors))) due
@@ -375,16 +375,16 @@ blocked-if true false held connection found is = cc
 blocked-if false some held connection found is = cc
 
 module _ (flow : Flow) (state : State) (world : World) (moment : ℕ) where
-  none-wants : quiet flow state world moment ≡ true → wanting flow state world moment ≡ []
+  none-wants : quiet_but_for_swaps flow state world moment ≡ true → wanting flow state world moment ≡ []
   none-wants is =
       let all = enumerate_from 0 flow.processors in
       let test = wants flow state world moment in
       keeps-none test all (not-true (list_any test all) (and-right (nothing_due flow (queues_of state) moment) (not (list_any test all)) is))
 
-  some-wants : (connection : ℕ) → blocked flow state world moment ≡ Some connection → nat_lt 0 (length (wanting flow state world moment)) ≡ true
+  some-wants : (connection : ℕ) → blocked_but_for_swaps flow state world moment ≡ Some connection → nat_lt 0 (length (wanting flow state world moment)) ≡ true
   some-wants connection is = (blocked-if _ (nat_lt 0 (length (wanting flow state world moment))) _ connection _ is).1
 
-  not-both : (connection : ℕ) → quiet flow state world moment ≡ true → blocked flow state world moment ≡ Some connection → ⊥
+  not-both : (connection : ℕ) → quiet_but_for_swaps flow state world moment ≡ true → blocked_but_for_swaps flow state world moment ≡ Some connection → ⊥
   not-both connection quiets blocks =
       true≢false (sym (some-wants connection blocks) ∙ ap (λ (ps : List (ℕ × Processor)). nat_lt 0 (length ps)) (none-wants quiets))
 

@@ -6,7 +6,7 @@ use Rattle.machine_model.specs.declared.given.Given.{Given}
 use Rattle.machine_model.specs.Due.{due_expiry}
 use Rattle.machine_model.specs.Files.{queues_of}
 use Rattle.machine_model.specs.Kinds.{take_rule_of}
-use Rattle.machine_model.specs.Quiet.{blocked, quiet}
+use Rattle.machine_model.specs.Quiet.{blocked_but_for_swaps, quiet_but_for_swaps}
 use Rattle.machine_model.specs.State.{QueuedFile, State, World}
 use Rattle.machine_model.specs.Stepping.{given_in, is_there, taken_files}
 use Rattle.machine_model.specs.Valid.{IsValid}
@@ -65,18 +65,18 @@ ChoicesAreSeen =
 
 -- ---- the end
 
--- the machine is blocked at this connection, or it is quiet; a rest is no end
+-- but for swaps, the machine is blocked at this connection, or it is quiet; a rest is no end
 abbrev pub IsEndAt : Flow → State → World → (moment : ℕ) → Ending → Type 0
 IsEndAt flow state world moment (Rest until) = ⊥
-IsEndAt flow state world moment (Blocked connection) = blocked flow state world moment ≡ Some connection
-IsEndAt flow state world moment Quiet = quiet flow state world moment ≡ true
+IsEndAt flow state world moment (Blocked connection) = blocked_but_for_swaps flow state world moment ≡ Some connection
+IsEndAt flow state world moment Quiet = quiet_but_for_swaps flow state world moment ≡ true
 
--- It is quiet exactly where the machine is, and blocked at a connection exactly where the machine is. So it rests exactly
--- where the machine is neither.
+-- It is quiet exactly where the machine is but for swaps, and blocked at a connection exactly where the machine is so. So
+-- it rests exactly where the machine is neither.
 pub record IsMachineEnd (flow : Flow) (state : State) (world : World) (moment : ℕ) (ending : Ending) : Type 0 where
-  pub is_quiet : (ending ≡ Quiet) ↔ (quiet flow state world moment ≡ true)
+  pub is_quiet : (ending ≡ Quiet) ↔ (quiet_but_for_swaps flow state world moment ≡ true)
   pub is_blocked : (connection : ℕ)
-      → (ending ≡ Blocked connection) ↔ (blocked flow state world moment ≡ Some connection)
+      → (ending ≡ Blocked connection) ↔ (blocked_but_for_swaps flow state world moment ≡ Some connection)
 
 -- where no file has expired and no session comes, by views that see the same as the queues of a state
 abbrev pub EndsAreMachineEnds : Type 0

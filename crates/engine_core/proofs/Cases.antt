@@ -141,11 +141,11 @@ pub handed_over : (c : Case) → IsSettled c → (processor : Processor) → sli
     → IsHanded c.flow (counters_of c.k) c.ended processor contents (state_with contents events c.k)
 handed_over c is processor at contents read events up_to = record {
   found = at;
-  valid = is.valid c.flow contents events c.k is.consistent is.batches up_to.1 (connections_same c is) (counts_same c is);
+  valid = is.valid c.flow contents events c.k is.consistent is.batches up_to.1 up_to.0 (connections_same c is) (counts_same c is);
   store = refl;
   next_number = refl;
   next_arrival = refl;
-  last_event = up_to.0;
+  last_event = refl;
   read = read;
   there =
       let state = state_with contents events c.k in

@@ -128,5 +128,5 @@ module _ (valid : KeptIsValid) (queued : LiveFilesAreQueued) (live : QueuedFiles
       let machine : Machine = record { state = state_with contents events k; world = world } in
       let goes : IsSome (step flow machine (Expire place numbers moment)) =
       subst (λ (o : Option (ℕ × List ℕ)). IfSome o (λ found. IsSome (step flow machine (Expire found.0 found.1 moment)))) due
-      (due_steps flow machine moment (valid flow contents events k was none up_to.1 (connections_same flow k same) (counts_same flow k same))) in
+      (due_steps flow machine moment (valid flow contents events k was none up_to.1 up_to.0 (connections_same flow k same) (counts_same flow k same))) in
       step_found flow world contents events k place numbers moment seen (in_order flow (queues_of machine.state) moment place numbers due) (slice_get flow.connections place) refl goes

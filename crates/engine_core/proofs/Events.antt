@@ -1,7 +1,6 @@
 -- The events of a settled session: which they are, how they are numbered, how many there are, and that each has a block.
-use Rattle.std.proofs.Common.{◌≡◌, ◌+◌, ◌^◌, ◌<◌, ◌≤◌, List, length, map, sym, ap, subst, ◌∙◌, arith}
+use Rattle.std.proofs.Common.{◌≡◌, ◌+◌, ◌^◌, ◌<◌, ◌≤◌, List, length, sym, ap, subst, ◌∙◌, arith}
 use Rattle.std.specs.Prelude.{All, None}
-use Rattle.std.specs.List.{range_with_len}
 use Rattle.std.proofs.lemmas.List.{append_cancel_left, length-map}
 use Rattle.flowfile_record.specs.Outcome.{AreInTurn}
 use Rattle.flowfile_record.specs.declared.TheConstants.{CONTENT_MAX}
@@ -16,7 +15,7 @@ use Rattle.machine_model.specs.Events.{drafts, numbered_from}
 use Rattle.machine_model.specs.Placing.{EndedSession, count_made, settled_files, settlement_clones}
 use Rattle.machine_model.specs.Settling.{settle}
 use Rattle.machine_model.specs.State.{QueuedFile, State}
-use Rattle.machine_model.proofs.Drafted.{numbers_in_row, session-drafts}
+use Rattle.machine_model.proofs.Drafted.{length-numbered, numbers_in_row, session-drafts}
 use Rattle.prov_store.specs.State.{AreNumberedFrom, HasBlock}
 use Rattle.settlement.specs.Handed.{sizes_of}
 use Rattle.engine_core.specs.Committing.{HasTexts}
@@ -26,9 +25,9 @@ use Rattle.engine_core.proofs.Each.{all_from_each, each_from_all, each_made, eac
 use Rattle.engine_core.proofs.Encoded.{numbers_below}
 use Rattle.engine_core.proofs.Ended.{IsKnown, clones_known, each_fits, each_leads, few_files, read_small}
 use Rattle.engine_core.proofs.FanOut.{fan_out}
-use Rattle.engine_core.proofs.Fits.{have_blocks, length-numbered}
+use Rattle.engine_core.proofs.Fits.{have_blocks}
 use Rattle.engine_core.proofs.Names.{id_short, relationship_short}
-use Rattle.engine_core.proofs.Past.{past, past_is}
+use Rattle.engine_core.proofs.Past.{past}
 use Rattle.engine_core.proofs.Recorded.{taken_kept, the_processor}
 use Rattle.engine_core.proofs.Told.{IsFitSession, all_fit}
 
@@ -42,7 +41,7 @@ leaves c is =
     let processor = the_processor c is in
     is.settles processor.0 is.may.bytes (state_of c is.may.bytes) (handed c is processor.0 processor.1 is.may.bytes is.may.read)
 
-told : (c : Case) (is : IsSettled c) → c.settled.events ≡ numbered_from (length (past c.k.last_event) + 1) (drafts (session c is) c.ended.outcome)
+told : (c : Case) (is : IsSettled c) → c.settled.events ≡ numbered_from (c.k.last_event + 1) (drafts (session c is) c.ended.outcome)
 told c is = append_cancel_left (past c.k.last_event) c.settled.events _ (ap (λ (s : State). s.events) (leaves c is))
 
 next_is : (c : Case) (is : IsSettled c) → c.settled.next_number ≡ c.k.next_number + count_made c.ended.outcome.files + length (settlement_clones (session c is) c.ended.outcome.files)
@@ -86,7 +85,7 @@ fit_session c is =
 -- ---- how many, and which numbers
 
 count : (c : Case) (is : IsSettled c) → length c.settled.events ≡ length (drafts (session c is) c.ended.outcome)
-count c is = ap length (told c is) ∙ length-numbered (length (past c.k.last_event) + 1) (drafts (session c is) c.ended.outcome)
+count c is = ap length (told c is) ∙ length-numbered (c.k.last_event + 1) (drafts (session c is) c.ended.outcome)
 
 pub event_count : (c : Case) → IsSettled c → length c.settled.events < 2 ^ 32
 event_count c is =
@@ -97,16 +96,11 @@ event_count c is =
       draft_count (session c is) c.ended.outcome (few_files (session c is) c.ended.outcome.files about) (each_leads (session c is) c.ended.outcome.files about),
     )
 
-first_is : (c : Case) → length (past c.k.last_event) + 1 ≡ c.k.last_event + 1
-first_is c = ap (λ n. n + 1) (past_is c.k.last_event).0
-
 pub events_numbered : (c : Case) → IsSettled c → AreNumberedFrom (c.k.last_event + 1) c.settled.events
 events_numbered c is =
-    let first = length (past c.k.last_event) + 1 in
     let all = drafts (session c is) c.ended.outcome in
     subst (λ (events : List Event). AreNumberedFrom (c.k.last_event + 1) events) (sym (told c is))
-    (subst (λ n. map (λ (e : Event). e.number) (numbered_from first all) ≡ range_with_len n (length (numbered_from first all))) (first_is c)
-    (numbers_in_row first all (session-drafts (session c is) c.ended.outcome)))
+    (numbers_in_row (c.k.last_event + 1) all (session-drafts (session c is) c.ended.outcome))
 
 -- ---- each has a block
 
@@ -117,7 +111,7 @@ events_have_blocks c is none =
     let event_below = below.event in
     let about = known c is in
     let next = next_is c is in
-    let first = length (past c.k.last_event) + 1 in
+    let first = c.k.last_event + 1 in
     let all = drafts (session c is) c.ended.outcome in
     let files = settled_files (session c is) c.ended.outcome.files in
     let fit = each_fits (session c is) c.ended.outcome.files about (omega (arith, next, number_below)) in
@@ -125,6 +119,6 @@ events_have_blocks c is none =
     let texts = each_from_all HasTexts (numbered_from first all) (subst (λ (events : List Event). All HasTexts events) (told c is) is.texts) in
     subst (λ (events : List Event). All HasBlock events) (sym (told c is))
     (all_from_each HasBlock (numbered_from first all)
-    (have_blocks first all (omega arith) (omega (arith, event_below, count c is, first_is c)) (session-drafts (session c is) c.ended.outcome)
+    (have_blocks first all (omega arith) (omega (arith, event_below, count c is)) (session-drafts (session c is) c.ended.outcome)
     (all_fit (session c is) (fit_session c is) files fit (few_files (session c is) c.ended.outcome.files about) c.ended.outcome.sent is.sent
     (settlement_clones (session c is) c.ended.outcome.files) clones) texts))

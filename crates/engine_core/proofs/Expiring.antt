@@ -37,7 +37,7 @@ use Rattle.machine_model.specs.Stepping.{expire_step, expired, expiry_of, files_
 use Rattle.machine_model.specs.Valid.{IsValid}
 use Rattle.machine_model.specs.View.{is_expired}
 use Rattle.machine_model.proofs.Among.{Among, all_among, among_contained, contains_among, keeps, makes}
-use Rattle.machine_model.proofs.Drafted.{IsDraft, numbers_in_row}
+use Rattle.machine_model.proofs.Drafted.{IsDraft, draft-of-plain, length-numbered, numbers_in_row}
 use Rattle.machine_model.proofs.KinSets.{kin_joined}
 use Rattle.machine_model.proofs.Numbered.{find-some, found-itself, own-numbers}
 use Rattle.machine_model.proofs.Tally.{Each, each-map}
@@ -51,9 +51,9 @@ use Rattle.store_core.specs.Store.{kept_by}
 use Rattle.store_core.specs.Valid.{KeptIsValid, LiveFilesAreQueued, QueuedFilesAreLive}
 use Rattle.store_core.proofs.Sound.{IsSoundIn, each_sound}
 use Rattle.engine_core.specs.Committing.{AreEventsUpTo, HasTexts, identity_of}
-use Rattle.engine_core.specs.Expiring.{AscendingStay, ExpiriesAreSteps, HaveContents, HeldContentsAreRead, IsContentOf, LeavesExpired, MayExpireIn, expiring_files, expiry_event, expiry_events}
+use Rattle.engine_core.specs.Expiring.{AscendingStay, ExpiriesAreSteps, HaveContents, HeldContentsAreRead, IsContentOf, LeavesExpired, MayExpireIn, expiring_files, expiry_draft, expiry_event, expiry_events}
 use Rattle.engine_core.proofs.Each.{all_from_each, each_from_all, each_made}
-use Rattle.engine_core.proofs.Fits.{AreFew, FitsAsAny, have_blocks, length-numbered}
+use Rattle.engine_core.proofs.Fits.{AreFew, FitsAsAny, have_blocks}
 
 -- ---- numbers in their order
 
@@ -260,43 +260,45 @@ content_of : (contents : ContentRef → List ℕ) (k : Kept) (a : ActiveFile) �
 content_of contents k a have there = all_among (IsContentOf contents) a.file.content (live_contents k) have (makes (λ (b : ActiveFile). b.file.content) k.files a there)
 
 same_draft : (contents : ContentRef → List ℕ) (connection : Connection) (moment : ℕ) (a : ActiveFile) → IsContentOf contents a.file.content
-    → expiry_of connection moment (queued contents a) ≡ expiry_event connection.id moment a
+    → expiry_of connection moment (queued contents a) ≡ expiry_draft connection.id moment a
 same_draft contents connection moment a is =
-    let draft : ℕ → List ℕ → Draft = λ size digest. λ number. record {
-      number = number;
-      kind = kind.Expire;
-      moment = moment;
-      component = connection.id;
-      file = a.file.number;
-      parents = [];
-      children = [];
-      detail = [];
-      size = size;
-      digest = digest;
+    let draft : ℕ → List ℕ → Draft = λ size digest. record {
+      event = λ number. record {
+        number = number;
+        kind = kind.Expire;
+        moment = moment;
+        component = connection.id;
+        file = a.file.number;
+        parents = [];
+        children = [];
+        detail = [];
+        size = size;
+        digest = digest;
+      };
+      kin = [];
     } in
     ap (λ n. draft n (sha256 (contents a.file.content))) is.size ∙ ap (draft a.file.content.size) is.digest
 
 drafts_are : (contents : ContentRef → List ℕ) (connection : Connection) (moment : ℕ) (all : List ActiveFile) → Each (λ a. IsContentOf contents a.file.content) all
-    → map (expiry_of connection moment) (map (queued contents) all) ≡ map (expiry_event connection.id moment) all
+    → map (expiry_of connection moment) (map (queued contents) all) ≡ map (expiry_draft connection.id moment) all
 drafts_are contents connection moment [] each = refl
 drafts_are contents connection moment (a ∷ all) each =
     ap (λ (d : Draft). d ∷ map (expiry_of connection moment) (map (queued contents) all)) (same_draft contents connection moment a each.0)
-    ∙ ap (λ (ds : List Draft). expiry_event connection.id moment a ∷ ds) (drafts_are contents connection moment all each.1)
+    ∙ ap (λ (ds : List Draft). expiry_draft connection.id moment a ∷ ds) (drafts_are contents connection moment all each.1)
 
 -- the machine's events are these
 events_are : (contents : ContentRef → List ℕ) (events : List Event) (k : Kept) → Seen contents events k → (place : ℕ) (connection : Connection) (numbers : List ℕ) (moment : ℕ)
-    → HaveContents contents k → length events ≡ k.last_event → are_active_in k.files place numbers ≡ true → ascending numbers ≡ numbers
-    → numbered_from (length events + 1) (map (expiry_of connection moment) (files_of (queue_at (state_with contents events k) place) (ascending numbers)))
+    → HaveContents contents k → are_active_in k.files place numbers ≡ true → ascending numbers ≡ numbers
+    → numbered_from (k.last_event + 1) (map (expiry_of connection moment) (files_of (queue_at (state_with contents events k) place) (ascending numbers)))
     ≡ expiry_events connection.id moment k k.last_event numbers
-events_are contents events k seen place connection numbers moment have last are in_order =
+events_are contents events k seen place connection numbers moment have are in_order =
     let queue = queue_at (state_with contents events k) place in
-    ap (λ n. numbered_from (n + 1) (map (expiry_of connection moment) (files_of queue (ascending numbers)))) last
-    ∙ ap (λ (ns : List ℕ). numbered_from (k.last_event + 1) (map (expiry_of connection moment) (files_of queue ns))) in_order
+    ap (λ (ns : List ℕ). numbered_from (k.last_event + 1) (map (expiry_of connection moment) (files_of queue ns))) in_order
     ∙ ap (λ (all : List QueuedFile). numbered_from (k.last_event + 1) (map (expiry_of connection moment) all)) (files_are contents events k seen place numbers are)
     ∙ ap (numbered_from (k.last_event + 1))
     (drafts_are contents connection moment (expiring_files k numbers) (each_expiring k place (λ a. IsContentOf contents a.file.content) (λ n is. content_of contents k is.active have is.there) numbers are))
 
-no_kin : (component : List ℕ) (moment first : ℕ) (all : List ActiveFile) → kin_of_all (numbered_from first (map (expiry_event component moment) all)) ≡ []
+no_kin : (component : List ℕ) (moment first : ℕ) (all : List ActiveFile) → kin_of_all (numbered_from first (map (expiry_draft component moment) all)) ≡ []
 no_kin component moment first [] = refl
 no_kin component moment first (a ∷ all) = no_kin component moment (first + 1) all
 
@@ -309,30 +311,36 @@ queues_after contents k moment numbers told from (queue ∷ queues) =
     ap (λ (rest : List (List QueuedFile)). without_files queue numbers ∷ rest) (queues_after contents k moment numbers told (from + 1) queues)
 
 pub leaves_expired : (contents : ContentRef → List ℕ) (events : List Event) (k : Kept) → Seen contents events k → (place : ℕ) (connection : Connection) (numbers : List ℕ) (moment : ℕ)
-    → HaveContents contents k → length events ≡ k.last_event → are_active_in k.files place numbers ≡ true → ascending numbers ≡ numbers
+    → HaveContents contents k → are_active_in k.files place numbers ≡ true → ascending numbers ≡ numbers
     → state_after contents (state_with contents events k) (settled_of_expiry k moment numbers (expiry_events connection.id moment k k.last_event numbers))
     ≡ expired (state_with contents events k) place connection numbers moment
-leaves_expired contents events k seen place connection numbers moment have last are in_order =
+leaves_expired contents events k seen place connection numbers moment have are in_order =
     let state = state_with contents events k in
     let told = expiry_events connection.id moment k k.last_event numbers in
-    let made : List (List QueuedFile) → List Event → Kin → State = λ queues all kin. record {
+    let made : List (List QueuedFile) → List Event → Kin → ℕ → State = λ queues all kin last. record {
       store = k.store;
+      line = state.line;
       queues = queues;
       events = all;
       kin = kin;
       next_number = k.next_number;
       next_arrival = k.next_arrival;
       next_batch = k.next_batch;
+      last_event = last;
       counts = k.counts;
     } in
     let queues = queues_after contents k moment numbers told 0 state.queues ∙ queues_are contents events k seen place numbers are in
     let kin : ◌≡◌ {A = Kin} (union (from_list (kin_of_all events)) (from_list (kin_of_all told))) (from_list (kin_of_all events)) =
     kin_joined (kin_of_all events) (kin_of_all told)
-    ∙ ap {B = Kin} from_list (ap (λ (more : List (ℕ × ℕ)). kin_of_all events ++ more) (no_kin connection.id moment (k.last_event + 1) (expiring_files k numbers)) ∙ append-nil (kin_of_all events)) in
+    ∙ ap {B = Kin} from_list (ap (λ (more : List (ℕ × ℕ × ℕ)). kin_of_all events ++ more) (no_kin connection.id moment (k.last_event + 1) (expiring_files k numbers)) ∙ append-nil (kin_of_all events)) in
     let after = slice_set state.queues place (without_files (queue_at state place) numbers) in
-    ap (λ (qs : List (List QueuedFile)). made qs (events ++ told) (union (from_list (kin_of_all events)) (from_list (kin_of_all told)))) queues
-    ∙ ap (λ (kin : Kin). made after (events ++ told) kin) kin
-    ∙ ap (λ (es : List Event). made after (events ++ es) (from_list (kin_of_all events))) (sym (events_are contents events k seen place connection numbers moment have last are in_order))
+    let drafts = map (expiry_of connection moment) (files_of (queue_at state place) (ascending numbers)) in
+    let same = events_are contents events k seen place connection numbers moment have are in_order in
+    let many : length told ≡ length drafts = ap length (sym same) ∙ length-numbered (k.last_event + 1) drafts in
+    ap (λ (qs : List (List QueuedFile)). made qs (events ++ told) (union (from_list (kin_of_all events)) (from_list (kin_of_all told))) (k.last_event + length told)) queues
+    ∙ ap (λ (kin : Kin). made after (events ++ told) kin (k.last_event + length told)) kin
+    ∙ ap (λ (es : List Event). made after (events ++ es) (from_list (kin_of_all events)) (k.last_event + length told)) (sym same)
+    ∙ ap (λ n. made after (events ++ numbered_from (k.last_event + 1) drafts) (from_list (kin_of_all events)) (k.last_event + n)) many
 
 -- ---- what the machine sees
 
@@ -346,7 +354,7 @@ pub seen_by : KeptIsValid → LiveFilesAreQueued → QueuedFilesAreLive → (flo
     → AreEventsUpTo k.last_event events → Seen contents events k
 seen_by valid queued live flow contents events k was none same up_to = record {
   flow = flow;
-  valid = valid flow contents events k was none up_to.1 (connections_same flow k same) (counts_same flow k same);
+  valid = valid flow contents events k was none up_to.1 up_to.0 (connections_same flow k same) (counts_same flow k same);
   consistent = was;
   queued = queued;
   live = live;
@@ -371,9 +379,9 @@ expiry_steps valid queued live flow world contents events k place connection num
 -- ---- the change
 
 abbrev drafts_of : (component : List ℕ) → (moment : ℕ) → Kept → List ℕ → List Draft
-drafts_of component moment k numbers = map (expiry_event component moment) (expiring_files k numbers)
+drafts_of component moment k numbers = map (expiry_draft component moment) (expiring_files k numbers)
 
-fits_any : (k : Kept) (component : List ℕ) (moment : ℕ) (a : ActiveFile) → moment < 2 ^ 64 → length component ≤ ID_MAX → IsFileIn k a → FitsAsAny (expiry_event component moment a)
+fits_any : (k : Kept) (component : List ℕ) (moment : ℕ) (a : ActiveFile) → moment < 2 ^ 64 → length component ≤ ID_MAX → IsFileIn k a → FitsAsAny (expiry_draft component moment a)
 fits_any k component moment a short id is n =
     let none : AreFew [] = record { each = tt; few = omega arith } in
     let size = is.encoded.file.content.size in
@@ -392,7 +400,7 @@ fits_any k component moment a short id is n =
 told_count : (component : List ℕ) (moment : ℕ) (k : Kept) (place : ℕ) (numbers : List ℕ) → are_active_in k.files place numbers ≡ true
     → (length (drafts_of component moment k numbers) ≡ length numbers) × (length (expiry_events component moment k k.last_event numbers) ≡ length numbers)
 told_count component moment k place numbers are =
-    let all : length (drafts_of component moment k numbers) ≡ length numbers = length-map (expiring_files k numbers) (expiry_event component moment) ∙ count_expiring k place numbers are in
+    let all : length (drafts_of component moment k numbers) ≡ length numbers = length-map (expiring_files k numbers) (expiry_draft component moment) ∙ count_expiring k place numbers are in
     (all, length-numbered (k.last_event + 1) (drafts_of component moment k numbers) ∙ all)
 
 pub may_expire : (flow : Flow) (k : Kept) (place : ℕ) (component : List ℕ) (numbers : List ℕ) (moment : ℕ) → IsConsistent k → MayExpireIn flow k place numbers → moment < 2 ^ 64 → length component ≤ ID_MAX
@@ -402,7 +410,7 @@ may_expire flow k place component numbers moment was may short id texts =
     let told = expiry_events component moment k k.last_event numbers in
     let drafts = drafts_of component moment k numbers in
     let count = told_count component moment k place numbers may.active in
-    let honest = each-map IsDraft (expiry_event component moment) (expiring_files k numbers) (λ a. record { number = λ n. refl; kin = λ n. refl }) in
+    let honest = each-map IsDraft (expiry_draft component moment) (expiring_files k numbers) (λ a. draft-of-plain (expiry_draft component moment a) (record { number = λ n. refl; named = λ n. refl; kin = refl })) in
     record {
       expires = record {
         as_session = refl;
@@ -416,7 +424,7 @@ may_expire flow k place component numbers moment was may short id texts =
           let last = last_event_below (session_applied k (session_entry k (settled_of_expiry k moment numbers told))) none in
           all_from_each HasBlock told
           (have_blocks (k.last_event + 1) drafts (omega arith) (omega (arith, last, count.0, count.1)) honest
-          (each_made (IsFileIn k) FitsAsAny (expiry_event component moment) (λ a is. fits_any k component moment a short id is) (expiring_files k numbers)
+          (each_made (IsFileIn k) FitsAsAny (expiry_draft component moment) (λ a is. fits_any k component moment a short id is) (expiring_files k numbers)
           (each_expiring k place (IsFileIn k) (λ n is. all_among (IsFileIn k) is.active k.files was.files is.there) numbers may.active))
           (each_from_all HasTexts told texts));
     }
@@ -444,7 +452,7 @@ pub behind : KeptIsValid → LiveFilesAreQueued → QueuedFilesAreLive → (flow
 behind valid queued live flow k place component numbers moment was none same may id connection at contents have events up_to =
     let state = state_with contents events k in
     ap (λ (c : List ℕ). state_after contents state (settled_of_expiry k moment numbers (expiry_events c moment k k.last_event numbers))) (id connection at)
-    ∙ leaves_expired contents events k (seen_by valid queued live flow contents events k was none same up_to) place connection numbers moment have up_to.0 may.active may.in_order
+    ∙ leaves_expired contents events k (seen_by valid queued live flow contents events k was none same up_to) place connection numbers moment have may.active may.in_order
 
 -- ---- events one after the other
 
@@ -473,7 +481,7 @@ told_next component moment k numbers done last number told a is next found =
       active = (and_parts (is_some (active_of number k.files)) (moves.are_active k.files (drop (done + 1) numbers)) (ap (moves.are_active k.files) (sym next) ∙ is.active)).1;
       whole =
           append_assoc told (expiry_event component moment a (last + 1) ∷ []) rest
-          ∙ sym (ap (λ (o : Option ActiveFile). told ++ numbered_from (last + 1) (map (expiry_event component moment) (cons_option o (expiring_files k (drop (done + 1) numbers))))) found)
+          ∙ sym (ap (λ (o : Option ActiveFile). told ++ numbered_from (last + 1) (map (expiry_draft component moment) (cons_option o (expiring_files k (drop (done + 1) numbers))))) found)
           ∙ sym (ap (λ (ns : List ℕ). told ++ expiry_events component moment k last ns) next)
           ∙ is.whole;
     }

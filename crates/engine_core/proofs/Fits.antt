@@ -1,5 +1,5 @@
 -- Events that have a block, but for their numbers, and where their texts are UTF-8.
-use Rattle.std.proofs.Common.{◌≡◌, ℕ, suc, ◌+◌, ◌^◌, ◌<◌, ◌≤◌, List, [], ◌∷◌, length, refl, ap, arith}
+use Rattle.std.proofs.Common.{ℕ, ◌+◌, ◌^◌, ◌<◌, ◌≤◌, List, [], ◌∷◌, length, arith}
 use Rattle.flowfile_record.specs.Encoding.{AreNumbers, IsDigest, IsNumber}
 use Rattle.flowfile_record.specs.declared.event.Event.{Event}
 use Rattle.flowfile_record.specs.declared.limits.TheConstants.{FILES_MAX, NUMBER_LIMIT}
@@ -32,7 +32,7 @@ pub record Fits (e : Event) : Type 0 where
 
 -- under each number
 abbrev pub FitsAsAny : Draft → Type 0
-FitsAsAny draft = (n : ℕ) → Fits (draft n)
+FitsAsAny draft = (n : ℕ) → Fits (draft.event n)
 
 are_numbers : (numbers : List ℕ) → AreFew numbers → AreNumbers numbers
 are_numbers numbers few = let count = few.few in (omega (arith, count), all_from_each IsNumber numbers few.each)
@@ -69,10 +69,6 @@ pub have_blocks : (first : ℕ) (drafts : List Draft) → 1 ≤ first → first 
 have_blocks first [] low high are fit texts = tt
 have_blocks first (draft ∷ drafts) low high are fit texts =
     let number = are.0.number first in (
-      has_block (draft first) (fit.0 first) texts.0 (omega (arith, number)) (omega (arith, number)),
+      has_block (draft.event first) (fit.0 first) texts.0 (omega (arith, number)) (omega (arith, number)),
       have_blocks (first + 1) drafts (omega arith) (omega arith) are.1 fit.1 texts.1,
     )
-
-pub length-numbered : (first : ℕ) (drafts : List Draft) → length (numbered_from first drafts) ≡ length drafts
-length-numbered first [] = refl
-length-numbered first (draft ∷ drafts) = ap suc (length-numbered (first + 1) drafts)

@@ -15,13 +15,13 @@ use Rattle.flowfile_record.specs.declared.worked.Origin.{Origin}
 use Rattle.flowfile_record.specs.declared.worked.Origin.TheVariants as origin
 use Rattle.flowfile_record.specs.declared.worked.Sent.{Sent}
 use Rattle.machine_model.specs.declared.limits.TheConstants.{ID_MAX}
-use Rattle.machine_model.specs.Events.{Draft, ascending, attributes_modified, clone_event, clonings, copies, created, dropped, fork_of, forked_children, forks, is_cloned_from, is_forked_from, is_removed, joined, modified, number_at, of_file, put_ascending, received, routed, sent}
+use Rattle.machine_model.specs.Events.{Draft, alone, ascending, attributes_modified, clone_event, clonings, copies, created, dropped, fork_of, forked_children, forks, is_cloned_from, is_forked_from, is_removed, joined, modified, number_at, of_file, put_ascending, received, routed, sent}
 use Rattle.machine_model.specs.Placing.{Destination, Drops, EndedSession, Leaves, Queues, Returns, SettledFile, SettlementClone, relationship_at}
 use Rattle.machine_model.specs.State.{QueuedFile}
 use Rattle.machine_model.proofs.Drafted.{attributes_part, clones_part, dropped_part, first_part, joined_part, modified_part, routed_part}
 use Rattle.machine_model.proofs.Tally.{Each, each-append}
 use Rattle.engine_core.proofs.Each.{each_filtered, each_joined, each_made, each_option, each_placed, each_so, length-filtered}
-use Rattle.engine_core.proofs.Fits.{AreFew, FitsAsAny}
+use Rattle.engine_core.proofs.Fits.{AreFew, Fits, FitsAsAny}
 
 -- ---- what is asked of files and of their session
 
@@ -108,7 +108,7 @@ are_few_children files each few place =
 
 module _ (session : EndedSession) (fit : IsFitSession session) where
   fits : (what : EventKind) (file : SettledFile) (parents children detail : List ℕ) → IsFit file → AreFew parents → AreFew children → length detail ≤ NAME_MAX
-      → FitsAsAny (of_file session what file parents children detail)
+      → (n : ℕ) → Fits (of_file session what file parents children detail n)
   fits what file parents children detail is these those short =
       λ n. record {
         moment = fit.moment;
@@ -150,7 +150,7 @@ module _ (session : EndedSession) (fit : IsFitSession session) where
   modified_fits : (file : SettledFile) (from : Origin) → IsFit file → Each FitsAsAny (modified session file from)
   modified_fits file (origin.Taken place) is = by (is_removed file.worked.end) file.worked.written
     where
-      by : (gone written : Bool) → Each FitsAsAny (cond gone [] (cond written (of_file session kind.ContentModified file [] [] [] ∷ []) []))
+      by : (gone written : Bool) → Each FitsAsAny (cond gone [] (cond written (alone session kind.ContentModified file [] ∷ []) []))
       by true written = tt
       by false true = (fits kind.ContentModified file [] [] [] is none none (omega arith), tt)
       by false false = tt
@@ -159,11 +159,11 @@ module _ (session : EndedSession) (fit : IsFitSession session) where
   attributes_fits : (file : SettledFile) (from : Origin) → IsFit file → Each FitsAsAny (attributes_modified session file from)
   attributes_fits file (origin.Taken place) is = by (is_removed file.worked.end || file.worked.written)
     where
-      changed : (same : Bool) → Each FitsAsAny (cond same [] (of_file session kind.AttributesModified file [] [] [] ∷ []))
+      changed : (same : Bool) → Each FitsAsAny (cond same [] (alone session kind.AttributesModified file [] ∷ []))
       changed true = tt
       changed false = (fits kind.AttributesModified file [] [] [] is none none (omega arith), tt)
 
-      by : (b : Bool) → Each FitsAsAny (cond b [] (option_map_or (λ (taken : QueuedFile). cond (same_attributes taken.attributes file.attributes) [] (of_file session kind.AttributesModified file [] [] [] ∷ [])) (slice_get session.taken place) []))
+      by : (b : Bool) → Each FitsAsAny (cond b [] (option_map_or (λ (taken : QueuedFile). cond (same_attributes taken.attributes file.attributes) [] (alone session kind.AttributesModified file [] ∷ [])) (slice_get session.taken place) []))
       by true = tt
       by false = each_option (λ taken. Unit {0}) FitsAsAny _ (λ taken _. changed (same_attributes taken.attributes file.attributes)) session.taken (each_so (λ taken. Unit {0}) (λ taken. tt) session.taken) place
   attributes_fits file _ is = tt
@@ -174,7 +174,7 @@ module _ (session : EndedSession) (fit : IsFitSession session) where
 
   sent_fits : (files : List SettledFile) → Each IsFit files → (put : Option Sent) → IsShortlySent put → Each FitsAsAny (sent session files put)
   sent_fits files each (Some put) short =
-      each_option IsFit FitsAsAny (λ file. of_file session kind.Send file [] [] put.name ∷ []) (λ file is. (fits kind.Send file [] [] put.name is none none short, tt)) files each put.place
+      each_option IsFit FitsAsAny (λ file. alone session kind.Send file put.name ∷ []) (λ file is. (fits kind.Send file [] [] put.name is none none short, tt)) files each put.place
   sent_fits files each None short = tt
 
   dropped_fits : (file : SettledFile) (goes : Destination) → IsFit file → HasShortName goes → Each FitsAsAny (dropped session file goes)

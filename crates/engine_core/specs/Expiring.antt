@@ -43,8 +43,8 @@ abbrev pub expiring_files : Kept → List ℕ → List ActiveFile
 expiring_files k numbers = filter_map (λ number. active_of number k.files) numbers
 
 -- it tells that a file expired in the connection of this id
-abbrev pub expiry_event : (component : List ℕ) → (moment : ℕ) → ActiveFile → Draft
-expiry_event component moment a = λ number. record {
+abbrev pub expiry_event : (component : List ℕ) → (moment : ℕ) → ActiveFile → (number : ℕ) → Event
+expiry_event component moment a number = record {
   number = number;
   kind = kind.Expire;
   moment = moment;
@@ -57,10 +57,13 @@ expiry_event component moment a = λ number. record {
   digest = a.file.content.digest;
 }
 
+abbrev pub expiry_draft : (component : List ℕ) → (moment : ℕ) → ActiveFile → Draft
+expiry_draft component moment a = record { event = expiry_event component moment a; kin = [] }
+
 -- one for each of these files, numbered behind the last event
 abbrev pub expiry_events : (component : List ℕ) → (moment : ℕ) → Kept → (last : ℕ) → List ℕ → List Event
 expiry_events component moment k last numbers =
-    numbered_from (last + 1) (map (expiry_event component moment) (expiring_files k numbers))
+    numbered_from (last + 1) (map (expiry_draft component moment) (expiring_files k numbers))
 
 -- ---- the state behind it
 

@@ -15,7 +15,7 @@ use Rattle.machine_model.specs.State.{State, World}
 use Rattle.machine_model.specs.Due.{due_expiry, due_swap_out, due_swap_in}
 use Rattle.machine_model.specs.Files.{queues_of}
 use Rattle.machine_model.specs.Order.{eligible_files}
-use Rattle.machine_model.specs.Quiet.{blocked, gives_a_pick, has_source, holds_back_any, is_full, is_held_back, nothing_due, quiet}
+use Rattle.machine_model.specs.Quiet.{blocked_but_for_swaps, gives_a_pick, has_source, holds_back_any, is_full, is_held_back, nothing_due, quiet_but_for_swaps}
 use Rattle.machine_model.specs.View.{QueueView}
 use Rattle.flow_queue.specs.Queue.{QueueState}
 use Rattle.store_core.specs.State.{state_with}
@@ -85,15 +85,15 @@ blocked_by flow queues state world moment =
     then option_map (λ c. c.0) (find (holds_back_any queues processors) (enumerate_from 0 flow.connections))
     else None
 
--- by views that see the same as the queues of a state, a flow is as quiet, and as blocked
+-- by views that see the same as the queues of a state, a flow is as quiet, and as blocked, but for swaps
 abbrev pub QuietIsSeen : Type 0
 QuietIsSeen =
     (flow : Flow) (queues : ℕ → QueueView) (state : State) (world : World) (moment : ℕ)
     → SeesTheSame flow queues (queues_of state)
-    → quiet flow state world moment ≡ is_quiet_by flow queues state world moment
+    → quiet_but_for_swaps flow state world moment ≡ is_quiet_by flow queues state world moment
 
 abbrev pub BlockedIsSeen : Type 0
 BlockedIsSeen =
     (flow : Flow) (queues : ℕ → QueueView) (state : State) (world : World) (moment : ℕ)
     → SeesTheSame flow queues (queues_of state)
-    → blocked flow state world moment ≡ blocked_by flow queues state world moment
+    → blocked_but_for_swaps flow state world moment ≡ blocked_by flow queues state world moment

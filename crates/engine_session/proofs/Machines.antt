@@ -160,7 +160,7 @@ machines-files-are-live kept_valid live flow k bytes events place rule numbers m
     let counts : length k.counts ≡ length flow.processors = ap (λ (f : store.Flow). f.processors) identity in
     are_live k bytes events (record {
       flow = flow;
-      valid = kept_valid flow bytes events k consistent batches row.1 connections counts;
+      valid = kept_valid flow bytes events k consistent batches row.1 row.0 connections counts;
       consistent = consistent;
       live = live;
     }) flow place rule numbers moment files taken

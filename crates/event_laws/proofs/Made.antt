@@ -47,7 +47,10 @@ received_told session files file there is =
 
 joined_told : (session : EndedSession) (files : List SettledFile) (file : SettledFile) (parents : List ℕ) → Among file files → file.worked.origin ≡ origin.Joined parents → TellComing file.number (joined_part session files)
 joined_told session files file parents there is =
-    let draft = of_file session kind.Join file (ascending (map (number_at files) parents)) (file.number ∷ []) [] in
+    let draft : Draft = record {
+      event = of_file session kind.Join file (ascending (map (number_at files) parents)) (file.number ∷ []) [];
+      kin = map (λ place. (file.number, number_at files place)) parents;
+    } in
     let here : Among draft (joined session files file file.worked.origin) = subst (λ o. Among draft (joined session files file o)) (sym is) (inl refl) in
     record {
       draft = draft;
@@ -58,7 +61,10 @@ joined_told session files file parents there is =
 fork_of_children : (session : EndedSession) (parent : SettledFile) (children : List ℕ) (child : ℕ) → Among child children → TellComing child (fork_of session parent children)
 fork_of_children session parent [] child h = absurd h
 fork_of_children session parent (first ∷ children) child h = record {
-  draft = of_file session kind.Fork parent (parent.number ∷ []) (first ∷ children) [];
+  draft = record {
+    event = of_file session kind.Fork parent (parent.number ∷ []) (first ∷ children) [];
+    kin = map (λ child. (child, parent.number)) (first ∷ children);
+  };
   there = inl refl;
   tells = λ number. contains_among child (first ∷ children) h;
 }

@@ -1,16 +1,16 @@
 -- What the queues' own steps tell: an expiry of the files that go, the others of none, since none comes or goes.
-use Rattle.std.proofs.Common.{◌≡◌, ◌⊎◌, inl, inr, ℕ, ◌+◌, Bool, true, false, cond, List, [], ◌∷◌, map, length, refl, sym, ap, subst, ◌∙◌}
+use Rattle.std.proofs.Common.{◌≡◌, ◌⊎◌, inl, inr, ℕ, ◌+◌, Bool, true, false, cond, List, [], ◌∷◌, map, refl, sym, ap, subst, ◌∙◌, arith}
 use Rattle.std.specs.Prelude.{◌==◌, not, Option, Some, None, IfSome, is_some, find, slice_set}
 use Rattle.std.specs.List.{cons_option}
 use Rattle.std.proofs.lemmas.Bool.{eqb-true, eq-eqb}
-use Rattle.std.proofs.lemmas.List.{append-nil}
 use Rattle.machine_model.specs.declared.flow.Connection.{Connection}
 use Rattle.machine_model.specs.declared.flow.Flow.{Flow}
-use Rattle.machine_model.specs.Events.{ascending}
+use Rattle.machine_model.specs.Events.{ascending, numbered_from}
 use Rattle.machine_model.specs.Files.{queue_at, is_number_among, is_in_batch, file_numbered}
 use Rattle.machine_model.specs.State.{QueuedFile, State}
-use Rattle.machine_model.specs.Stepping.{expired, expiry_of, expire_step, files_of, without_files, swap_out_step, swapped_out, swap_in_step, swapped_in}
+use Rattle.machine_model.specs.Stepping.{age_step, aged, expired, expiry_of, expire_step, files_of, without_files, swap_out_step, swapped_out, swap_in_step, swapped_in}
 use Rattle.machine_model.proofs.Among.{Among, is_made, makes, kept_by, keeps, ascending-has}
+use Rattle.machine_model.proofs.EventRows.{IsAdding, adding-none, adding-on, adds-aged, adds-nothing, adds-told, expiry-drafts, may_age}
 use Rattle.machine_model.proofs.Numbered.{number_of}
 use Rattle.machine_model.proofs.Options.{if_when}
 use Rattle.machine_model.proofs.Tally.{find-passes}
@@ -69,10 +69,12 @@ pub expiry-tells : (flow : Flow) (state : State) (place : ℕ) (numbers : List �
 expiry-tells flow state place numbers moment connection =
     let queue = queue_at state place in
     let rest = without_files queue numbers in
-    let drafts = map (expiry_of connection moment) (files_of queue (ascending numbers)) in
+    let files = files_of queue (ascending numbers) in
+    let drafts = map (expiry_of connection moment) files in
     let after = expired state place connection numbers moment in
+    let adds = adds-told state after drafts (expiry-drafts connection moment files) refl refl refl in
     if_when _ after (IsTelling flow state) (λ _. record {
-      adds = (_, refl);
+      adds = adding-on state state after (numbered_from (state.last_event + 1) drafts) (adding-none state) adds (λ raised. absurd (omega arith));
       comes = λ number has. elim (set-was state.queues place rest has.source has.there) [
         | inl was ↦ inl (record { source = has.source; there = was; is = has.is })
         | inr new ↦ inl (record { source = has.source; there = at-all state.queues place has.source (kept_by _ queue has.source new).0; is = has.is })
@@ -81,7 +83,7 @@ expiry-tells flow state place numbers moment connection =
         | inl kept ↦ inl (record { source = has.source; there = kept; is = has.is })
         | inr old ↦ elim (stays_or_expires state connection queue numbers moment has.source old) [
           | inl stays ↦ inl (record { source = has.source; there = set-has state.queues place rest has.source has.source old stays; is = has.is })
-          | inr told ↦ inr (added-told state after (length state.events + 1) drafts (λ event. TellsOfGoing event number) refl
+          | inr told ↦ inr (added-told state after (state.last_event + 1) drafts (λ event. TellsOfGoing event number) adds
               (subst (λ n. Tell (λ event. TellsOfGoing event n) drafts) has.is told))
         ]
       ];
@@ -90,10 +92,10 @@ expiry-tells flow state place numbers moment connection =
 -- ---- batches
 
 -- changed files in a queue's place keep their numbers
-requeued-tells : (flow : Flow) (before after : State) (place : ℕ) (change : QueuedFile → QueuedFile) → ((file : QueuedFile) → (change file).number ≡ file.number) → after.events ≡ before.events
+requeued-tells : (flow : Flow) (before after : State) (place : ℕ) (change : QueuedFile → QueuedFile) → ((file : QueuedFile) → (change file).number ≡ file.number) → IsAdding before after
     → after.queues ≡ slice_set before.queues place (map change (queue_at before place)) → IsTelling flow before after
-requeued-tells flow before after place change same events queues = record {
-  adds = ([], events ∙ sym (append-nil before.events));
+requeued-tells flow before after place change same adds queues = record {
+  adds = adds;
   comes = λ number has. inl (was number (subst (λ queues. Has (all queues) number) queues has));
   goes = λ valid number has. inl (subst (λ queues. Has (all queues) number) (sym queues) (stays number has));
 }
@@ -123,10 +125,25 @@ either_number : (b : Bool) (one other : QueuedFile) → one.number ≡ other.num
 either_number true one other same = same
 either_number false one other same = refl
 
+unchanged : (state after : State) → after.line ≡ state.line → after.last_event ≡ state.last_event → after.events ≡ state.events → IsAdding state after
+unchanged state after line last events = adding-on state state after [] (adding-none state) (adds-nothing state after line last events) (λ raised. absurd (omega (arith, line)))
+
 pub swap_out-tells : (flow : Flow) (state : State) (place : ℕ) (numbers : List ℕ) (batch : ℕ) (connection : Connection) → IfSome (swap_out_step state place numbers batch connection) (IsTelling flow state)
 swap_out-tells flow state place numbers batch connection =
-    if_when _ _ (IsTelling flow state) (λ _. requeued-tells flow state _ place (swapped_out numbers batch) (λ file. either_number (is_number_among numbers file.number) _ file refl) refl refl)
+    if_when _ _ (IsTelling flow state) (λ _. requeued-tells flow state _ place (swapped_out numbers batch) (λ file. either_number (is_number_among numbers file.number) _ file refl) (unchanged state _ refl refl refl) refl)
 
 pub swap_in-tells : (flow : Flow) (state : State) (place batch : ℕ) (connection : Connection) → IfSome (swap_in_step state place batch connection) (IsTelling flow state)
 swap_in-tells flow state place batch connection =
-    if_when _ _ (IsTelling flow state) (λ _. requeued-tells flow state _ place (swapped_in batch) (λ file. either_number (is_in_batch batch file) _ file refl) refl refl)
+    if_when _ _ (IsTelling flow state) (λ _. requeued-tells flow state _ place (swapped_in batch) (λ file. either_number (is_in_batch batch file) _ file refl) (unchanged state _ refl refl refl) refl)
+
+-- ---- an aging, which moves no file
+
+pub age-tells : (flow : Flow) (state : State) (line : ℕ) → IfSome (age_step state line) (IsTelling flow state)
+age-tells flow state line =
+    if_when _ (aged state line) (IsTelling flow state) (λ passes.
+    let may = may_age state line passes in
+    record {
+      adds = adding-on state state (aged state line) [] (adding-none state) (adds-aged state line may) (λ _. may.told);
+      comes = λ number has. inl has;
+      goes = λ valid number has. inl has;
+    })

@@ -1,5 +1,5 @@
 -- What steps and replays tell.
-use Rattle.std.proofs.Common.{◌≡◌, inl, inr, ℕ, ◌+◌, List, [], ◌∷◌, map, length, refl, subst}
+use Rattle.std.proofs.Common.{◌≡◌, inl, inr, ℕ, ◌+◌, List, [], ◌∷◌, map, length, refl, subst, arith}
 use Rattle.std.specs.Prelude.{Option, Some, None, IfSome, option_and_then, slice_get}
 use Rattle.std.proofs.lemmas.List.{length-map}
 use Rattle.flowfile_record.specs.declared.worked.Outcome.{Outcome}
@@ -7,10 +7,10 @@ use Rattle.machine_model.specs.declared.flow.Flow.{Flow}
 use Rattle.machine_model.specs.declared.flow.Processor.{Processor}
 use Rattle.machine_model.specs.declared.given.Given.{Given}
 use Rattle.machine_model.specs.declared.journal.Step.{Step}
-use Rattle.machine_model.specs.declared.journal.Step.TheVariants.{Expire, SwapOut, SwapIn}
+use Rattle.machine_model.specs.declared.journal.Step.TheVariants.{Expire, SwapOut, SwapIn, Age}
 use Rattle.machine_model.specs.declared.journal.Step.TheVariants as entry
 use Rattle.machine_model.specs.Acting.{act}
-use Rattle.machine_model.specs.Events.{drafts}
+use Rattle.machine_model.specs.Events.{drafts, numbered_from}
 use Rattle.machine_model.specs.Kinds.{take_rule_of}
 use Rattle.machine_model.specs.Laws.{HasTaken, EndsAllInTurn}
 use Rattle.machine_model.specs.Placing.{EndedSession}
@@ -19,28 +19,36 @@ use Rattle.machine_model.specs.State.{QueuedFile, State, Machine}
 use Rattle.machine_model.specs.Stepping.{step, replay, session_step, session_of, session_after, after_session, taken_files, given_at, given_in, as_taken, expire_step, swap_out_step, swap_in_step, same_world}
 use Rattle.machine_model.specs.Valid.{IsValid}
 use Rattle.machine_model.proofs.Acted.{act-ends}
+use Rattle.machine_model.proofs.Drafted.{session-drafts}
+use Rattle.machine_model.proofs.EventRows.{adding-none, adding-on, adds-told}
 use Rattle.machine_model.proofs.Options.{if_and_then, if_map, if_at, if_weaker}
 use Rattle.machine_model.proofs.Took.{Took, taken-took}
 use Rattle.machine_model.proofs.Validity.{step-valid}
 use Rattle.event_laws.specs.Told.{TellsOfComing, TellsOfGoing, StepsTellOfComings, StepsTellOfGoings, ReplaysTellOfComings, ReplaysTellOfGoings}
 use Rattle.event_laws.proofs.Gone.{goes-told}
-use Rattle.event_laws.proofs.Queues.{expiry-tells, swap_out-tells, swap_in-tells}
+use Rattle.event_laws.proofs.Queues.{age-tells, expiry-tells, swap_out-tells, swap_in-tells}
 use Rattle.event_laws.proofs.Settled.{comes-told}
 use Rattle.event_laws.proofs.Told.{IsTelling, added-told, none-told, both-tell, comings-told, goings-told}
 
 -- a session tells of what comes and goes in its own flow
 settling-tells : (session : EndedSession) (outcome : Outcome) → HasTaken session → EndsAllInTurn (length session.taken) outcome → IsTelling session.flow session.state (settle session outcome)
-settling-tells session outcome taken ends = record {
-  adds = (_, refl);
-  comes = λ number has. elim (comes-told session outcome number taken ends has) [
-    | inl was ↦ inl was
-    | inr told ↦ inr (added-told session.state (settle session outcome) (length session.state.events + 1) (drafts session outcome) (λ event. TellsOfComing event number) refl told)
-  ];
-  goes = λ valid number has. elim (goes-told session outcome number ends valid.queues has) [
-    | inl is ↦ inl is
-    | inr told ↦ inr (added-told session.state (settle session outcome) (length session.state.events + 1) (drafts session outcome) (λ event. TellsOfGoing event number) refl told)
-  ];
-}
+settling-tells session outcome taken ends =
+    let state = session.state in
+    let after = settle session outcome in
+    let told = drafts session outcome in
+    let first = state.last_event + 1 in
+    let adds = adds-told state after told (session-drafts session outcome) refl refl refl in
+    record {
+      adds = adding-on state state after (numbered_from first told) (adding-none state) adds (λ raised. absurd (omega arith));
+      comes = λ number has. elim (comes-told session outcome number taken ends has) [
+        | inl was ↦ inl was
+        | inr told_of ↦ inr (added-told state after first told (λ event. TellsOfComing event number) adds told_of)
+      ];
+      goes = λ valid number has. elim (goes-told session outcome number ends valid.queues has) [
+        | inl is ↦ inl is
+        | inr told_of ↦ inr (added-told state after first told (λ event. TellsOfGoing event number) adds told_of)
+      ];
+    }
 
 session-tells : (flow : Flow) (machine : Machine) (place : ℕ) (numbers : List ℕ) (moment : ℕ) (given : Given) (processor : Processor)
     → IfSome (session_step flow machine place numbers moment given processor) (λ after. IsTelling flow machine.state after.state)
@@ -75,6 +83,7 @@ step-tells flow machine (SwapOut place numbers batch) =
 step-tells flow machine (SwapIn place batch) =
     let P = IsTelling flow machine.state in
     in_same_world P machine _ (if_and_then (swap_in_step machine.state place batch) (slice_get flow.connections place) P (λ found is. swap_in-tells flow machine.state place batch found))
+step-tells flow machine (Age line) = in_same_world (IsTelling flow machine.state) machine _ (age-tells flow machine.state line)
 
 replay-tells : (flow : Flow) (machine : Machine) (steps : List Step) → IfSome (replay flow machine steps) (λ after. IsTelling flow machine.state after.state)
 replay-tells flow machine [] = none-told flow machine.state

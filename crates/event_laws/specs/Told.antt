@@ -1,10 +1,11 @@
 -- No file comes or goes without an event that names it.
-use Rattle.std.specs.Prelude.{◌≡◌, ℕ, List, map, ◌++◌, Contains, IfSome}
+use Rattle.std.specs.Prelude.{◌≡◌, ℕ, List, map, Contains, IfSome}
 use Rattle.flowfile_record.specs.declared.event.Event.{Event}
 use Rattle.flowfile_record.specs.declared.event.EventKind.{EventKind}
 use Rattle.flowfile_record.specs.declared.event.EventKind.TheVariants.{Create, Receive, Fork, Join, Clone, Drop, Expire}
 use Rattle.machine_model.specs.declared.flow.Flow.{Flow}
 use Rattle.machine_model.specs.declared.journal.Step.{Step}
+use Rattle.machine_model.specs.Laws.{AddsEvents}
 use Rattle.machine_model.specs.State.{State, Machine}
 use Rattle.machine_model.specs.Stepping.{step, replay}
 use Rattle.machine_model.specs.Valid.{files_of_all, IsValid}
@@ -39,9 +40,9 @@ TellsOfGoing event number = IsGoing event.kind event.file number
 
 -- ---- what is told between two states
 
--- the event stands behind all that there were before, which are as they were
+-- the event is one of those that were added, behind all that there were before; it is left where it is past the line
 abbrev pub IsNewEvent : (before after : State) → Event → Type 0
-IsNewEvent before after event = (more : List Event) × (after.events ≡ before.events ++ more) × Contains more event
+IsNewEvent before after event = (more : List Event) × AddsEvents before after more × Contains more event
 
 -- some new event tells this
 abbrev pub IsTold : (before after : State) → (Event → Type 0) → Type 0

@@ -7,7 +7,7 @@ ghost use Rattle.event_laws.specs.Told.{StepsTellOfComings, StepsTellOfGoings, R
 
 /// Between the states before and behind a step, or a replay, no file comes into the queues and none goes out of them
 /// but with a new event that names it: a CREATE, RECEIVE, FORK, JOIN or CLONE that tells of its coming, a DROP or
-/// EXPIRE that tells of its going.
+/// EXPIRE that tells of its going. An event that is new is left unless the line was raised past it meanwhile.
 pub fn no_file_comes_or_goes_untold()
     ensures step_comes { StepsTellOfComings }
     ensures step_goes { StepsTellOfGoings }

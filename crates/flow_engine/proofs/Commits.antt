@@ -15,7 +15,8 @@ use Rattle.record_codec.specs.declared.entry.LogEntry.{LogEntry}
 use Rattle.record_codec.specs.declared.entry.LogEntry.TheVariants.{Begin, Session, Expire, SwapOut, SwapIn}
 use Rattle.content_repo.specs.Claims.{content_in, HasSizes}
 use Rattle.flowfile_wal.specs.Calls.{InEach}
-use Rattle.kept_state.specs.Applied.{applied, with_count}
+use Rattle.kept_state.specs.Applied.{applied}
+use Rattle.flowfile_record.specs.Counts.{with_count}
 use Rattle.kept_state.specs.Changes.{entry_of, no_files}
 use Rattle.kept_state.specs.Fits.{are_active_in}
 use Rattle.kept_state.specs.declared.limit.Limit.{Limit}

@@ -9,7 +9,7 @@ use Rattle.kept_state.specs.declared.limit.Limit.{Limit}
 use Rattle.machine_model.specs.declared.flow.Flow.{Flow}
 use Rattle.machine_model.specs.declared.journal.Entry.{Entry}
 use Rattle.machine_model.specs.declared.journal.Step.{Step}
-use Rattle.machine_model.specs.declared.journal.Step.TheVariants.{Expire, Session, SwapIn, SwapOut}
+use Rattle.machine_model.specs.declared.journal.Step.TheVariants.{Age, Expire, Session, SwapIn, SwapOut}
 use Rattle.machine_model.specs.Acknowledged.{steps}
 use Rattle.machine_model.specs.State.{Machine, World}
 use Rattle.engine_choice.specs.Choice.{coming_of}
@@ -35,6 +35,7 @@ queues_leave_the_worker last (Session processor numbers moment given) queue = ab
 queues_leave_the_worker last (Expire connection numbers moment) queue = refl
 queues_leave_the_worker last (SwapOut connection numbers batch) queue = refl
 queues_leave_the_worker last (SwapIn connection batch) queue = refl
+queues_leave_the_worker last (Age line) queue = refl
 
 module _ {D : Type 0} (tells : Bool) (held : D → Files) (moment : D → ℕ) (images : D → ℕ → Files → Type 0) where
   -- nothing was called

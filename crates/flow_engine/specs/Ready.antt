@@ -1,10 +1,9 @@
 -- What is due of an engine, and what holds of it between two calls on any devices.
-use Rattle.std.specs.Prelude.{◌≡◌, ℕ, ◌-◌, ◌^◌, ◌<◌, ◌≤◌, ◌&&◌, nat_lt, nat_le, Bool, true, false, IsTrue, List, Option, None, Some, length, is_some}
+use Rattle.std.specs.Prelude.{◌≡◌, ℕ, ◌-◌, ◌^◌, ◌<◌, ◌≤◌, ◌&&◌, nat_lt, Bool, true, false, IsTrue, List, Option, None, Some, length, is_some}
 use Rattle.std.specs.Option.{option_map_or}
 use Rattle.disk_trait.specs.Files.{Files}
 use Rattle.flowfile_record.specs.NamedFile.{NamedFile}
-use Rattle.machine_model.specs.declared.journal.TheConstants.{RECLAIM_ENTRIES}
-use Rattle.machine_model.specs.Due.{due_expiry, is_checkpoint_due}
+use Rattle.machine_model.specs.Due.{due_expiry, is_checkpoint_due, is_reclaim_due}
 use Rattle.machine_model.specs.Sound.{IsSound}
 use Rattle.store_core.specs.Store.{StoreState, kept_by}
 use Rattle.engine_choice.specs.Listing.{AreDistinct}
@@ -38,7 +37,7 @@ first_of false false false = None
 abbrev pub due_in : EngineState → (moment : ℕ) → Option Due
 due_in e moment =
     first_of (is_some (due_expiry e.flow (queue_seen e.queues) moment)) (is_log_due e.checkpoint e.store)
-    (nat_le RECLAIM_ENTRIES e.since_reclaim)
+    (is_reclaim_due e.since_reclaim)
 
 -- what was due where this was done
 abbrev pub due_behind : Tended → Option Due

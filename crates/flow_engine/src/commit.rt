@@ -73,7 +73,7 @@ impl Engine<'_> {
         ensures run { IsTrue D.tells → IsTrue I.tells → IsTrue O.tells
             → CommitsRun result D.tells D.held D.moment D.images done.given.moment self.old self.new disk.old disk.new
             (I.left inbox.old) (I.left inbox.new) (O.standing outbox.old) (O.standing outbox.new) }
-        // On any devices.
+        // Whatever inbox and outbox tell.
         ensures usable { IsUsableWith D.tells D.held D.moment D.images I.tells (I.left inbox.new) self.new disk.new }
         ensures alone { CommitsAlone D.moment D.images self.old self.new disk.old disk.new }
         ensures refusal { RefusesToCommit result D.tells D.held D.moment D.images D.faults I.faults O.faults

@@ -59,7 +59,7 @@ impl Engine<'_> {
             (I.left inbox.new) (O.standing outbox.new) }
         ensures no_rest { IfOk result (λ ending. (until : ℕ) → ending ≡ Ending.Rest until → ⊥) }
         ensures short { OnOk result (IsShortOn D.moment D.images self.new.checkpoint disk.new) }
-        // On any devices.
+        // Whatever inbox and outbox tell.
         ensures work { OnOk result (IsAtWork self.old.flow D.tells D.held D.moment D.images self.new.store disk.new) }
         ensures later { C.time clock.old ≤ C.time clock.new }
         ensures failed { self.new.failed ≡ true → IsErrOf result EngineError.Disk ⊎ IsErrOf result EngineError.Outbox }

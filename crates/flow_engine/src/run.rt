@@ -48,7 +48,7 @@ pub fn run_flow<D: Disk, I: Inbox, O: Outbox, C: Clock>(
         → (journal : List TheEntry) × HasRun flow.now result start (C.time clock.new) D.tells D.held D.moment D.images
         store.lot (machine_at state (I.left inbox.old) (O.standing outbox.old)) first disk.new (I.left inbox.new)
         (O.standing outbox.new) journal }
-    // On any devices.
+    // Whatever inbox and outbox tell.
     ensures checkpointed { EndsShort D.moment D.images checkpoint result disk.new }
     ensures alone { WritesLog D.moment D.images store.log.number disk.old disk.new }
     ensures why { EndsForCause result flow.now D.tells D.held D.moment D.images D.faults store.lot most

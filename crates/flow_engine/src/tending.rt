@@ -72,7 +72,7 @@ impl Engine<'_> {
         // The run goes on, at the time that it had where nothing expired, or it is stopped.
         ensures run { IsTrue D.tells
             → TendsRun result D.tells D.held D.moment D.images moment self.old self.new disk.old disk.new }
-        // On any devices.
+        // Whatever inbox and outbox tell.
         ensures usable { IsUsable D.tells D.held D.moment D.images self.new disk.new }
         ensures alone { TendsAlone result D.moment D.images self.old self.new disk.old disk.new }
         ensures refusal { RefusesToTend result D.tells D.held D.moment D.images D.faults self.old self.new

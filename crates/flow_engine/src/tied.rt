@@ -2,13 +2,13 @@
 ghost use Rattle.std.specs.Prelude.{◌≡◌, ℕ, List, [], IsTrue};
 ghost use Rattle.checkpoint_store.specs.Consistent.{IsConsistent};
 ghost use Rattle.content_repo.specs.Claims.{content_in};
+ghost use Rattle.engine_core.specs.Committing.{AreEventsUpTo};
 ghost use Rattle.flowfile_record.specs.declared.content.ContentRef.{ContentRef as TheRef};
 ghost use Rattle.flowfile_record.specs.declared.event.Event.{Event as TheEvent};
 ghost use Rattle.flowfile_wal.specs.Calls.{InEach};
 ghost use Rattle.machine_model.specs.State.{Machine};
 ghost use Rattle.machine_model.specs.Valid.{IsValid};
 ghost use Rattle.machine_model.specs.declared.flow.Flow.{Flow as TheFlow};
-ghost use Rattle.prov_store.specs.State.{AreNumberedFrom};
 ghost use Rattle.store_core.specs.State.{state_with};
 ghost use Rattle.store_core.specs.Store.{Holds, kept_by};
 ghost use Rattle.flow_run.specs.Run.{IsStateOf, StandsFor};
@@ -30,7 +30,7 @@ pub fn holds_its_state<D: Disk>(store: &Store, disk: &D)
         → IsStateOf m (content_in (D.held disk.now)) (kept_by store.now) }
     ensures kept { IsConsistent (kept_by store.now) × ((kept_by store.now).batches ≡ []) }
     ensures valid { (flow : TheFlow) → IsAtWork flow D.tells D.held D.moment D.images store.now disk.now
-        → (contents : TheRef → List ℕ) (events : List TheEvent) → AreNumberedFrom 1 events
+        → (contents : TheRef → List ℕ) (events : List TheEvent) → AreEventsUpTo (kept_by store.now).last_event events
         → IsValid flow (state_with contents events (kept_by store.now)) }
 {
     what_is_kept_is_a_state();

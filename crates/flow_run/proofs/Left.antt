@@ -115,6 +115,7 @@ takes_cases flow (entry.Session processor numbers moment given) = found_cases (s
 takes_cases flow (entry.Expire connection numbers moment) = inl refl
 takes_cases flow (entry.SwapOut connection numbers batch) = inl refl
 takes_cases flow (entry.SwapIn connection batch) = inl refl
+takes_cases flow (entry.Age line) = inl refl
 
 pub takes_one : (flow : Flow) (one : Step) (name : List ℕ) → names_of_step flow one ≡ name ∷ [] → Takes flow one name
 takes_one flow one name is = subst (λ (l : List (List ℕ)). Contains l name) (sym is) (0, omega arith, refl)

@@ -29,6 +29,7 @@ queue_steps flow before after (entry.Session processor numbers moment given) goe
 queue_steps flow before after (entry.Expire connection numbers moment) goes of = world_of before.world _ after goes
 queue_steps flow before after (entry.SwapOut connection numbers batch) goes of = world_of before.world _ after goes
 queue_steps flow before after (entry.SwapIn connection batch) goes of = world_of before.world _ after goes
+queue_steps flow before after (entry.Age line) goes of = world_of before.world _ after goes
 
 -- ---- sessions
 

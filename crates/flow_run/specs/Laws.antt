@@ -16,7 +16,7 @@ use Rattle.machine_model.specs.Acknowledged.{steps}
 use Rattle.machine_model.specs.Acting.{act, name_in}
 use Rattle.machine_model.specs.Laws.{names_of_step, received_name}
 use Rattle.machine_model.specs.Placing.{EndedSession, SettledFile, settled_files}
-use Rattle.machine_model.specs.Quiet.{quiet, blocked}
+use Rattle.machine_model.specs.Quiet.{quiet_but_for_swaps, blocked_but_for_swaps}
 use Rattle.machine_model.specs.State.{Machine, QueuedFile, State}
 use Rattle.machine_model.specs.Stepping.{as_taken, session_after, step}
 use Rattle.machine_model.specs.Valid.{IsValid}
@@ -144,17 +144,17 @@ InboxFaultsEnd {D} tells held moment images = (flow : Flow) (start time later lo
 
 -- ---- a run ends: its store was closed
 
--- nothing was left to do
+-- nothing was left to do, but for swaps
 abbrev pub QuietRunsEnd : {D : Type 0} → (tells : Bool) → (D → Files) → (D → ℕ) → (D → ℕ → Files → Type 0) → Type 0
 QuietRunsEnd {D} tells held moment images = (flow : Flow) (start time later lot : ℕ) (opened reached : Machine)
     (first old new : D) (journal : List Entry) (left : List NamedFile) (standing : List ℕ → Option (List ℕ))
     → IsRunningAt flow start time moment images lot opened first old journal reached left standing
     → time ≤ later → IsSpared flow moment images lot reached old new
     → images new (moment new) (held new) → IsTidied flow lot (held new)
-    → quiet flow reached.state reached.world later ≡ true
+    → quiet_but_for_swaps flow reached.state reached.world later ≡ true
     → HasRun flow ending.Quiet start later tells held moment images lot opened first new left standing journal
 
--- all that there was to do was held back
+-- all that there was to do, but for swaps, was held back
 abbrev pub BlockedRunsEnd : {D : Type 0} → (tells : Bool) → (D → Files) → (D → ℕ) → (D → ℕ → Files → Type 0)
     → Type 0
 BlockedRunsEnd {D} tells held moment images = (flow : Flow) (start time later lot place : ℕ)
@@ -163,7 +163,7 @@ BlockedRunsEnd {D} tells held moment images = (flow : Flow) (start time later lo
     → IsRunningAt flow start time moment images lot opened first old journal reached left standing
     → time ≤ later → IsSpared flow moment images lot reached old new
     → images new (moment new) (held new) → IsTidied flow lot (held new)
-    → blocked flow reached.state reached.world later ≡ Some place
+    → blocked_but_for_swaps flow reached.state reached.world later ≡ Some place
     → HasRun flow (ending.Blocked place) start later tells held moment images lot opened first new left standing journal
 
 -- a limit was met
@@ -212,7 +212,7 @@ OtherStepsLoseNone = (flow : Flow) (before after : Machine) (one : Step)
     → step flow before one ≡ Some after → names_of_step flow one ≡ []
     → files_left after.world ≡ files_left before.world
 
--- a step of a queue alone
+-- a step of a queue alone, or an aging
 abbrev pub IsOfQueue : Step → Type 0
 IsOfQueue (Session processor numbers moment given) = ⊥
 IsOfQueue _ = ⊤

@@ -22,7 +22,7 @@ use Rattle.machine_model.specs.Acknowledged.{steps, acknowledged, IsInOrder}
 use Rattle.machine_model.specs.Acting.{name_in}
 use Rattle.machine_model.specs.Changing.{state_after}
 use Rattle.machine_model.specs.Kinds.{take_rule_of}
-use Rattle.machine_model.specs.Quiet.{quiet, blocked}
+use Rattle.machine_model.specs.Quiet.{quiet_but_for_swaps, blocked_but_for_swaps}
 use Rattle.machine_model.specs.State.{Machine, QueuedFile, State}
 use Rattle.machine_model.specs.Stepping.{step, replay, taken_files}
 use Rattle.store_core.specs.Change.{IsLimitOf}
@@ -176,15 +176,16 @@ pub record IsClosed (flow : Flow) (lot : ℕ) (reached : Machine) (held : Files)
   pub disk : StandsFor flow lot reached held
   pub tidied : IsTidied flow lot held
 
--- At this time of the clock nothing was left to do.
+-- At this time of the clock nothing was left to do, but for swaps.
 pub record IsDone (flow : Flow) (time lot : ℕ) (reached : Machine) (held : Files) : Type 0 where
   pub closed : IsClosed flow lot reached held
-  pub is_quiet : quiet flow reached.state reached.world time ≡ true
+  pub is_quiet : quiet_but_for_swaps flow reached.state reached.world time ≡ true
 
--- At this time of the clock whatever there was to do was held back, first by the connection at this place.
+-- At this time of the clock whatever there was to do, but for swaps, was held back, first by the connection at this
+-- place.
 pub record IsHeldBack (flow : Flow) (time place lot : ℕ) (reached : Machine) (held : Files) : Type 0 where
   pub closed : IsClosed flow lot reached held
-  pub is_blocked : blocked flow reached.state reached.world time ≡ Some place
+  pub is_blocked : blocked_but_for_swaps flow reached.state reached.world time ≡ Some place
 
 -- A limit was met, and from then on whatever a stop may leave stands for the state after the whole journal.
 pub record IsStoppedByLimit {D : Type 0} (flow : Flow) (start time : ℕ) (tells : Bool) (held : D → Files)

@@ -14,7 +14,7 @@ use Rattle.engine_choice.specs.Laws.{given_for, numbers_in}
 
 -- ---- of one step
 
--- the moment at which a session begins or files expire; batches go and come at none
+-- the moment at which a session begins or files expire; batches go and come, and events age, at none
 abbrev pub moment_of : Step → ℕ
 moment_of (Session place numbers moment given) = moment
 moment_of (Expire connection numbers moment) = moment

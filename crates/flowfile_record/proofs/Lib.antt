@@ -1,9 +1,11 @@
+pub mod ByNumber
 pub mod Crosses
 pub mod Entries
 pub mod FieldLaws
 pub mod Held
 pub mod Identifiers
 pub mod Items
+pub mod Joined
 pub mod Numbers
 pub mod Wholes
 pub mod Same

@@ -1,5 +1,5 @@
 -- Slots by their numbers: what they hold, and what a put, a taking and a sweep leave.
-use Rattle.std.proofs.Common.{◌≡◌, ◌≢◌, ℕ, suc, ◌+◌, ◌<◌, ◌≤◌, ◌==◌, nat_lt, Bool, true, false, cond, not, ◌&&◌, List, [], ◌∷◌, length, map, get_or, Less, Equal, Greater, Option, Some, None, is_some, refl, sym, ◌∙◌, ap, subst, arith}
+use Rattle.std.proofs.Common.{◌≡◌, ◌≢◌, ℕ, suc, ◌+◌, ◌<◌, ◌≤◌, ◌==◌, nat_lt, Bool, true, false, cond, not, ◌&&◌, List, [], ◌∷◌, ◌++◌, length, map, get_or, Less, Equal, Greater, Option, Some, None, is_some, refl, sym, ◌∙◌, ap, subst, arith}
 use lib.Dec.{T}
 use Rattle.std.specs.Prelude.{IfSome}
 use Rattle.std.specs.Ordering.{nat_cmp, is_lt, MatchOrdering}
@@ -8,12 +8,16 @@ use Rattle.std.specs.List.{All, filter, filter_map, cons_option}
 use Rattle.std.specs.FinMap.{nat_cmp-IsAntisymmetric, is_sorted, put}
 use Rattle.std.specs.FinMap.Entries.{below_all, by_order, find, is_sorted-put}
 use Rattle.std.proofs.lemmas.Bool.{lt-ltb, le-ltb, eq-eqb, eqb-true}
-use Rattle.std.proofs.lemmas.List.Elements.{All-nil, All-cons, All-head, All-tail}
-use Rattle.flowfile_record.specs.NumberedItems.{item_of, with_item, without_item, AscendsByNumber}
-use Rattle.flowfile_record.specs.Slots.{number_and_item, items_of, AreSlots}
+use Rattle.std.proofs.lemmas.List.Elements.{All-nil, All-cons, All-head, All-tail, All-map}
+use Rattle.std.specs.List.Sorted.{IsPermutation, IsSortedByKey}
+use Rattle.std.specs.Option.{option_map}
+use Rattle.flowfile_record.specs.NumberedItems.{item_of, with_item, with_items, with_replaced, without_item, AreNew, AscendsByNumber}
+use Rattle.flowfile_record.specs.Slots.{number_and_item, slot_of, items_of, AreSlots}
 use Rattle.flowfile_record.specs.declared.numbered_list.Slot.{Slot}
-use Rattle.std.proofs.lemmas.List.{get_or-map}
+use Rattle.std.proofs.lemmas.List.{get_or-map, length-map}
 use Rattle.flowfile_record.specs.Places.{IsAt, IsGap}
+use Rattle.flowfile_record.proofs.ByNumber.{ascends-with_items, length-with, length-with_items}
+use Rattle.flowfile_record.proofs.Joined.{sorted_joins}
 use Rattle.flowfile_record.proofs.Entries.{T-from, T-to, All-put, find_at, find_in_gap}
 use Rattle.flowfile_record.proofs.Search.{in_slots}
 
@@ -149,11 +153,37 @@ module _ {A : Type 0} (number : A → ℕ) where
         | Greater ↦ λ lt. ap (λ l. item ∷ l) (held-put new es up.1 own.1 apart.1) ∙ ap (λ b. cond b (item ∷ with_item number new (held es)) (new ∷ item ∷ held es)) (sym (lt-ltb (number item) (number new) (omega arith)))
       ] (ranks (number new) m)
 
-  length-with_item : (new : A) (items : List A) → length (with_item number new items) ≡ length items + 1
-  length-with_item new [] = refl
-  length-with_item new (item ∷ items) =
-      let rest = length-with_item new items in
-      elim (nat_lt (number item) (number new)) as (λ b. length (cond b (item ∷ with_item number new items) (new ∷ item ∷ items)) ≡ suc (length items) + 1) [ true ↦ omega arith | false ↦ omega arith ]
+  -- ---- a replacement
+
+  replaced_none : (new : A) (es : List (ℕ × Option A)) → Above (number new) es → Owns es → with_replaced number new (held es) ≡ held es
+  replaced_none new [] up own = refl
+  replaced_none new ((m, None) ∷ es) up own = replaced_none new es up.1 own.1
+  replaced_none new ((m, Some item) ∷ es) up own =
+      let is : number item ≡ m = own.0 in
+      let lt : number new < m = up.0 in
+      ap (λ b. cond b new item ∷ with_replaced number new (held es)) (differs (number item) (number new) (omega arith)) ∙ ap (λ l. item ∷ l) (replaced_none new es up.1 own.1)
+
+  held-replace : (new : A) (es : List (ℕ × Option A)) → Rises es → Owns es → is_some (item_of number (number new) (held es)) ≡ true → held (put nat_cmp (number new) (Some new) es) ≡ with_replaced number new (held es)
+  held-replace new [] up own some = absurd cc
+  held-replace new ((m, None) ∷ es) up own some =
+      elim (nat_cmp (number new) m) as (λ r. MatchOrdering r (number new < m) (number new ≡ m) (m < number new) → held (by_order r ((number new, Some new) ∷ (m, None) ∷ es) ((m, Some new) ∷ es) ((m, None) ∷ put nat_cmp (number new) (Some new) es)) ≡ with_replaced number new (held es)) [
+        | Less ↦ λ lt. absurd (let none = none_above (number new) es (Above-more (number new) m es lt up.0) own.1 in let no = sym (ap is_some none) ∙ some in cc)
+        | Equal ↦ λ same. absurd (let none = none_above (number new) es (subst (λ (k : ℕ). Above k es) (sym same) up.0) own.1 in let no = sym (ap is_some none) ∙ some in cc)
+        | Greater ↦ λ lt. held-replace new es up.1 own.1 some
+      ] (ranks (number new) m)
+  held-replace new ((m, Some item) ∷ es) up own some =
+      let is : number item ≡ m = own.0 in
+      let rest = held es in
+      elim (nat_cmp (number new) m) as (λ r. MatchOrdering r (number new < m) (number new ≡ m) (m < number new) → held (by_order r ((number new, Some new) ∷ (m, Some item) ∷ es) ((m, Some new) ∷ es) ((m, Some item) ∷ put nat_cmp (number new) (Some new) es)) ≡ with_replaced number new (item ∷ held es)) [
+        | Less ↦ λ lt. absurd (let none = none_above (number new) ((m, Some item) ∷ es) (lt, Above-more (number new) m es lt up.0) own in let no = sym (ap is_some none) ∙ some in cc)
+        | Equal ↦ λ same.
+            ap (λ l. new ∷ l) (sym (replaced_none new es (subst (λ (k : ℕ). Above k es) (sym same) up.0) own.1))
+            ∙ ap (λ b. cond b new item ∷ with_replaced number new rest) (sym (eq-eqb (number item) (number new) (omega arith)))
+        | Greater ↦ λ lt.
+            let no = differs (number item) (number new) (omega arith) in
+            let later = sym (ap (λ b. is_some (cond b (Some item) (item_of number (number new) rest))) no) ∙ some in
+            ap (λ l. item ∷ l) (held-replace new es up.1 own.1 later) ∙ ap (λ b. cond b new item ∷ with_replaced number new rest) (sym no)
+      ] (ranks (number new) m)
 
   -- ---- a taking
 
@@ -187,6 +217,13 @@ module _ {A : Type 0} (number : A → ℕ) where
   without_none n (item ∷ items) none =
       let apart = not_there n item (item_of number n items) none in
       ap (λ b. cond (not b) (item ∷ without_item number n items) (without_item number n items)) (differs (number item) n apart.0) ∙ ap (λ l. item ∷ l) (without_none n items apart.1)
+
+  -- and nothing is replaced
+  pub replaced_absent : (new : A) (items : List A) → item_of number (number new) items ≡ None → with_replaced number new items ≡ items
+  replaced_absent new [] none = refl
+  replaced_absent new (item ∷ items) none =
+      let apart = not_there (number new) item (item_of number (number new) items) none in
+      ap (λ b. cond b new item ∷ with_replaced number new items) (differs (number item) (number new) apart.0) ∙ ap (λ l. item ∷ l) (replaced_absent new items apart.1)
 
   -- ---- the elements ascend
 
@@ -275,7 +312,20 @@ module _ {A : Type 0} (number : A → ℕ) where
       slots-put = record {
         ascending = T-to _ (subst (λ l. T (is_sorted nat_cmp l)) (sym made) (is_sorted-put nat_cmp nat_cmp_total (number new) (Some new) es (T-from _ are.ascending)));
         own = subst (All (λ e. IfSome e.1 (λ item. number item ≡ e.0))) (sym made) (All-put nat_cmp_total nat_cmp-IsAntisymmetric (λ e. IfSome e.1 (λ item. number item ≡ e.0)) (number new) (Some new) es refl are.own);
-        count = let was = are.count in let long = ap length items-put ∙ length-with_item new (items_of slots) in omega arith;
+        count = let was = are.count in let long = ap length items-put ∙ length-with number new (items_of slots) in omega arith;
+      }
+
+    module _ (news : List (Slot A)) (new : A) (put_so : map number_and_item news ≡ put nat_cmp (number new) (Some new) es) (some : is_some (item_of number (number new) (items_of slots)) ≡ true) where
+      pub items-replace : items_of news ≡ with_replaced number new (items_of slots)
+      items-replace =
+          items-held news ∙ ap held put_so ∙ held-replace new es rises owns (ap (λ l. is_some (item_of number (number new) l)) (sym (items-held slots)) ∙ some)
+          ∙ ap (with_replaced number new) (sym (items-held slots))
+
+      pub slots-replace : AreSlots number news count
+      slots-replace = record {
+        ascending = T-to _ (subst (λ l. T (is_sorted nat_cmp l)) (sym put_so) (is_sorted-put nat_cmp nat_cmp_total (number new) (Some new) es (T-from _ are.ascending)));
+        own = subst (All (λ e. IfSome e.1 (λ item. number item ≡ e.0))) (sym put_so) (All-put nat_cmp_total nat_cmp-IsAntisymmetric (λ e. IfSome e.1 (λ item. number item ≡ e.0)) (number new) (Some new) es refl are.own);
+        count = are.count ∙ sym (ap length items-replace ∙ length-map (items_of slots) (λ item. cond (number item == number new) new item));
       }
 
     module _ (news : List (Slot A)) (n : ℕ) (made : map number_and_item news ≡ put nat_cmp n None es) where
@@ -315,6 +365,15 @@ module _ {A : Type 0} (number : A → ℕ) where
         | Some item ↦ λ e. ap (λ o. cons_option o (items_of (filter (λ slot. is_some slot.item) slots))) e ∙ ap (λ l. item ∷ l) rest
       ] refl
 
+  pub length-swept : (slots : List (Slot A)) → length (filter (λ slot. is_some slot.item) slots) ≡ length (items_of slots)
+  length-swept [] = refl
+  length-swept (slot ∷ slots) =
+      let rest = length-swept slots in
+      elim slot.item as (λ o. length (cond (is_some o) (slot ∷ filter (λ slot. is_some slot.item) slots) (filter (λ slot. is_some slot.item) slots)) ≡ length (cons_option o (items_of slots))) [
+        | None ↦ rest
+        | Some item ↦ omega (arith, rest)
+      ]
+
   Above-swept : (n : ℕ) (slots : List (Slot A)) → Above n (map number_and_item slots) → Above n (map number_and_item (filter (λ slot. is_some slot.item) slots))
   Above-swept n [] up = tt
   Above-swept n (slot ∷ slots) up =
@@ -346,3 +405,90 @@ module _ {A : Type 0} (number : A → ℕ) where
     own = owned-swept slots are.own;
     count = are.count ∙ ap length (sym (swept slots));
   })
+
+  -- ---- many are put
+
+  swept_full : (slots : List (Slot A)) → Owns (map number_and_item slots) → filter (λ slot. is_some slot.item) slots ≡ map (slot_of number) (items_of slots)
+  swept_full [] own = refl
+  swept_full (slot ∷ slots) own =
+      let rest = swept_full slots own.1 in
+      elim slot.item as (λ o. slot.item ≡ o → IfSome o (λ item. number item ≡ slot.number) → cond (is_some o) (slot ∷ filter (λ slot. is_some slot.item) slots) (filter (λ slot. is_some slot.item) slots) ≡ map (slot_of number) (cons_option o (items_of slots))) [
+        | None ↦ λ _ _. rest
+        | Some item ↦ λ e is.
+            let own_number : slot.number ≡ number item = sym is in
+            let same : slot ≡ slot_of number item = λ i. record { number = own_number i; item = e i } in
+            λ i. same i ∷ rest i
+      ] refl own.0
+
+  pub items-full : (items : List A) → items_of (map (slot_of number) items) ≡ items
+  items-full [] = refl
+  items-full (item ∷ items) = ap (λ l. item ∷ l) (items-full items)
+
+  full_above : (n : ℕ) (items : List A) → All (λ later. n < number later) items → Above n (map number_and_item (map (slot_of number) items))
+  full_above n [] above = tt
+  full_above n (item ∷ items) above = (All-head (λ later. n < number later) item items above, full_above n items (All-tail (λ later. n < number later) item items above))
+
+  full_rises : (items : List A) → AscendsByNumber number items → Rises (map number_and_item (map (slot_of number) items))
+  full_rises [] up = tt
+  full_rises (item ∷ items) up = (full_above (number item) items up.0, full_rises items up.1)
+
+  full_own : (items : List A) → All (λ e. IfSome e.1 (λ item. number item ≡ e.0)) (map number_and_item (map (slot_of number) items))
+  full_own [] = All-nil (λ (e : ℕ × Option A). IfSome e.1 (λ item. number item ≡ e.0))
+  full_own (item ∷ items) = All-cons (λ (e : ℕ × Option A). IfSome e.1 (λ item. number item ≡ e.0)) (number item, Some item) _ refl (full_own items)
+
+  abbrev by_slot : Slot A → ℕ
+  by_slot slot = slot.number
+
+  item_of-full : (n : ℕ) (items : List A) → item_of by_slot n (map (slot_of number) items) ≡ option_map (slot_of number) (item_of number n items)
+  item_of-full n [] = refl
+  item_of-full n (item ∷ items) =
+      elim (number item == n) as (λ b. cond b (Some (slot_of number item)) (item_of by_slot n (map (slot_of number) items)) ≡ option_map (slot_of number) (cond b (Some item) (item_of number n items))) [
+        | true ↦ refl
+        | false ↦ item_of-full n items
+      ]
+
+  with-full : (new : A) (items : List A) → with_item by_slot (slot_of number new) (map (slot_of number) items) ≡ map (slot_of number) (with_item number new items)
+  with-full new [] = refl
+  with-full new (item ∷ items) =
+      elim (nat_lt (number item) (number new)) as (λ b. cond b (slot_of number item ∷ with_item by_slot (slot_of number new) (map (slot_of number) items)) (slot_of number new ∷ slot_of number item ∷ map (slot_of number) items) ≡ map (slot_of number) (cond b (item ∷ with_item number new items) (new ∷ item ∷ items))) [
+        | true ↦ ap (λ l. slot_of number item ∷ l) (with-full new items)
+        | false ↦ refl
+      ]
+
+  with_all-full : (news items : List A) → with_items by_slot (map (slot_of number) news) (map (slot_of number) items) ≡ map (slot_of number) (with_items number news items)
+  with_all-full [] items = refl
+  with_all-full (new ∷ news) items = ap (with_items by_slot (map (slot_of number) news)) (with-full new items) ∙ with_all-full news (with_item number new items)
+
+  new-full : (news items : List A) → AreNew number news items → AreNew by_slot (map (slot_of number) news) (map (slot_of number) items)
+  new-full [] items new = tt
+  new-full (a ∷ news) items new = (
+    item_of-full (number a) items ∙ ap (option_map (slot_of number)) new.0,
+    subst (AreNew by_slot (map (slot_of number) news)) (sym (with-full a items)) (new-full news (with_item number a items) new.1),
+  )
+
+  ascends-full : (items : List A) → AscendsByNumber number items → AscendsByNumber by_slot (map (slot_of number) items)
+  ascends-full [] up = tt
+  ascends-full (item ∷ items) up = (All-map (λ (later : Slot A). number item < later.number) (slot_of number) items up.0, ascends-full items up.1)
+
+  module _ (slots sorted : List (Slot A)) (count : ℕ) (news : List A) (are : AreSlots number slots count) (new : AreNew number news (items_of slots))
+      (moved : IsPermutation (filter (λ slot. is_some slot.item) slots ++ map (slot_of number) news) sorted) (is_sorted : IsSortedByKey (λ slot. slot.number) nat_cmp sorted) where
+    full : sorted ≡ map (slot_of number) (with_items number news (items_of slots))
+    full =
+        let items = items_of slots in
+        let swept_so = swept_full slots (owns slots count are) in
+        sorted_joins by_slot (map (slot_of number) news) (map (slot_of number) items) sorted (ascends-full items (slots_ascend slots count are)) (new-full news items new)
+        (subst (λ (l : List (Slot A)). IsPermutation (l ++ map (slot_of number) news) sorted) swept_so moved) is_sorted
+        ∙ with_all-full news items
+
+    pub items-joined : items_of sorted ≡ with_items number news (items_of slots)
+    items-joined = ap items_of full ∙ items-full (with_items number news (items_of slots))
+
+    pub slots-joined : AreSlots number sorted (count + length news)
+    slots-joined =
+        let joined = with_items number news (items_of slots) in
+        let up = ascends-with_items number news (items_of slots) new (slots_ascend slots count are) in
+        subst (λ (l : List (Slot A)). AreSlots number l (count + length news)) (sym full) (record {
+          ascending = T-to _ (Rises-to _ (full_rises joined up));
+          own = full_own joined;
+          count = let was = are.count in let long = length-with_items number news (items_of slots) in let same = ap length (items-full joined) in omega arith;
+        })

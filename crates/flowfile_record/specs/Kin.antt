@@ -10,15 +10,19 @@ abbrev pub pairs_of : (parents children : List ℕ) → List (ℕ × ℕ)
 pairs_of parents children = flat_map (λ child. map (λ parent. (child, parent)) parents) children
 
 -- what an event of this kind names: a FORK, a JOIN and a CLONE name children and parents, other kinds none
-abbrev pub kin_by_kind : EventKind → (parents children : List ℕ) → List (ℕ × ℕ)
-kin_by_kind Fork parents children = pairs_of parents children
-kin_by_kind Join parents children = pairs_of parents children
-kin_by_kind Clone parents children = pairs_of parents children
-kin_by_kind _ parents children = []
+abbrev pub pairs_by_kind : EventKind → (parents children : List ℕ) → List (ℕ × ℕ)
+pairs_by_kind Fork parents children = pairs_of parents children
+pairs_by_kind Join parents children = pairs_of parents children
+pairs_by_kind Clone parents children = pairs_of parents children
+pairs_by_kind _ parents children = []
 
 -- the pairs (child, parent) that an event names
-abbrev pub kin_of : Event → List (ℕ × ℕ)
-kin_of event = kin_by_kind event.kind event.parents event.children
+abbrev pub pairs_named : Event → List (ℕ × ℕ)
+pairs_named event = pairs_by_kind event.kind event.parents event.children
 
-abbrev pub kin_of_all : List Event → List (ℕ × ℕ)
+-- these with the number of the event that names them: the triples (child, parent, event)
+abbrev pub kin_of : Event → List (ℕ × ℕ × ℕ)
+kin_of event = map (λ pair. (pair.0, pair.1, event.number)) (pairs_named event)
+
+abbrev pub kin_of_all : List Event → List (ℕ × ℕ × ℕ)
 kin_of_all events = flat_map kin_of events

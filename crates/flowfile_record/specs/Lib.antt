@@ -1,4 +1,5 @@
 pub mod Attributes
+pub mod Counts
 pub mod Events
 pub mod Field
 pub mod HeldPairs

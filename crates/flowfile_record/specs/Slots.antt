@@ -1,5 +1,5 @@
 -- How slots hold elements by their numbers.
-use Rattle.std.specs.Prelude.{◌≡◌, ℕ, List, length, map, IsTrue, Option, All, IfSome}
+use Rattle.std.specs.Prelude.{◌≡◌, ℕ, List, length, map, IsTrue, Option, Some, All, IfSome}
 use Rattle.std.specs.List.{filter_map}
 use Rattle.std.specs.Ordering.{nat_cmp}
 use Rattle.std.specs.FinMap.{is_sorted}
@@ -7,6 +7,10 @@ use Rattle.flowfile_record.specs.declared.numbered_list.Slot.{Slot}
 
 abbrev pub number_and_item : {A : Type 0} → Slot A → ℕ × Option A
 number_and_item slot = (slot.number, slot.item)
+
+-- the slot of an element
+abbrev pub slot_of : {A : Type 0} → (A → ℕ) → A → Slot A
+slot_of number item = record { number = number item; item = Some item }
 
 abbrev pub items_of : {A : Type 0} → List (Slot A) → List A
 items_of slots = filter_map (λ slot. slot.item) slots

@@ -44,37 +44,40 @@ batch_code =
     (λ t. record { connection = t.0; batch = t.1.0; files = t.1.1.0; bytes = t.1.1.1.0; encoded = t.1.1.1.1 })
     (λ _. refl)
 
+abbrev pub counters_code : Coded (ℕ × (ℕ × (ℕ × (ℕ × ℕ))))
+counters_code = coded× coded_ℕ (coded× coded_ℕ (coded× coded_ℕ (coded× coded_ℕ coded_ℕ)))
+
+abbrev pub lists_code : Coded (List (List ℕ) × (List (List ℕ) × List ℕ))
+lists_code = coded× (coded_list (coded_list coded_ℕ)) (coded× (coded_list (coded_list coded_ℕ)) (coded_list coded_ℕ))
+
 abbrev pub kept_code : Coded Kept
 kept_code =
-    code_by (ℕ × (List ℕ × (List (List ℕ) × (List ℕ × (ℕ × (ℕ × (ℕ × (ℕ × (List ActiveFile × List SwapBatch)))))))))
-    (coded× coded_ℕ (coded× (coded_list coded_ℕ)
-    (coded× (coded_list (coded_list coded_ℕ))
-    (coded× (coded_list coded_ℕ)
-    (coded× coded_ℕ (coded× coded_ℕ
-    (coded× coded_ℕ (coded× coded_ℕ (coded× (coded_list active_code) (coded_list batch_code))))))))))
+    code_by (ℕ × (List ℕ × ((List (List ℕ) × (List (List ℕ) × List ℕ))
+    × ((ℕ × (ℕ × (ℕ × (ℕ × ℕ)))) × (List ActiveFile × List SwapBatch)))))
+    (coded× coded_ℕ (coded× (coded_list coded_ℕ) (coded× lists_code
+    (coded× counters_code (coded× (coded_list active_code) (coded_list batch_code))))))
     (λ k. (
       k.store,
       (
         k.flow,
         (
-          k.connections,
-          (
-            k.counts,
-            (k.next_number, (k.next_arrival, (k.last_event, (k.next_batch, (k.files, k.batches))))),
-          ),
+          (k.connections, (k.processors, k.counts)),
+          ((k.next_number, (k.next_arrival, (k.last_event, (k.line, k.next_batch)))), (k.files, k.batches)),
         ),
       ),
     ))
     (λ t. record {
       store = t.0;
       flow = t.1.0;
-      connections = t.1.1.0;
-      counts = t.1.1.1.0;
-      next_number = t.1.1.1.1.0;
-      next_arrival = t.1.1.1.1.1.0;
-      last_event = t.1.1.1.1.1.1.0;
-      next_batch = t.1.1.1.1.1.1.1.0;
-      files = t.1.1.1.1.1.1.1.1.0;
-      batches = t.1.1.1.1.1.1.1.1.1;
+      connections = t.1.1.0.0;
+      processors = t.1.1.0.1.0;
+      counts = t.1.1.0.1.1;
+      next_number = t.1.1.1.0.0;
+      next_arrival = t.1.1.1.0.1.0;
+      last_event = t.1.1.1.0.1.1.0;
+      line = t.1.1.1.0.1.1.1.0;
+      next_batch = t.1.1.1.0.1.1.1.1;
+      files = t.1.1.1.1.0;
+      batches = t.1.1.1.1.1;
     })
     (λ _. refl)

@@ -30,10 +30,10 @@ pub use error::CodecError;
 pub use event::{Event, EventCounts, EventKind};
 pub use flow_file::FlowFile;
 pub use identifier::uuid_of;
-pub use law::{limits_of_a_file, limits_of_a_session, limits_of_a_state};
+pub use law::{kin_is_numbered_pairs, limits_of_a_file, limits_of_a_session, limits_of_a_state};
 pub use limits::{
-    DIGEST_SIZE, FILENAME_SIZE, FILES_MAX, LIVE_BYTES_MAX, LIVE_FILES_MAX, NUMBER_LIMIT,
-    SESSION_ATTRIBUTES_MAX, STORE_LIMIT, TAKEN_MAX, WRITTEN_MAX,
+    DIGEST_SIZE, EVENTS_PER_FILE, FILENAME_SIZE, FILES_MAX, LIVE_BYTES_MAX, LIVE_FILES_MAX,
+    NUMBER_LIMIT, SESSION_ATTRIBUTES_MAX, STORE_LIMIT, TAKEN_MAX, WRITTEN_MAX,
 };
 pub use name::{NAME_MAX, Name, NameError};
 pub use numbered::Numbered;

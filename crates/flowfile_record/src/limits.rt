@@ -30,3 +30,6 @@ pub const LIVE_FILES_MAX: u64 = 1_048_576;
 
 /// The greatest size of the encoded records of all files that live together, in bytes: 1 GiB.
 pub const LIVE_BYTES_MAX: u64 = 1_073_741_824;
+
+/// How many events a file of events has, at most. Events are forgotten by whole files.
+pub const EVENTS_PER_FILE: u64 = 10_000;

@@ -3,18 +3,20 @@ use crate::{
     Bytes, DIGEST_SIZE, Event, FlowFile, Numbered, NumberedList, Numbers, Sequence, TextList,
 };
 
-/// What a store keeps: its id, the digest of its flow's text, the flow's connections, how many files each processor
-/// has generated, the numbers that come next (0 for the last event means none yet), the active flow files and the
-/// batches that are swapped out.
+/// What a store keeps: its id, the digest of its flow's text, the flow's connections and the ids of its processors, how
+/// many files each processor has generated, the numbers that come next (0 for the last event means none yet), the line
+/// up to which events have aged out (0 where none has), the active flow files and the batches that are swapped out.
 #[derive(Debug, Drop)]
 pub struct Stored {
     pub store: u64,
     pub flow: [u8; DIGEST_SIZE],
     pub connections: TextList,
+    pub processors: TextList,
     pub counts: Numbers,
     pub next_number: u64,
     pub next_arrival: u64,
     pub last_event: u64,
+    pub line: u64,
     pub next_batch: u64,
     pub files: ActiveList,
     pub batches: BatchList,

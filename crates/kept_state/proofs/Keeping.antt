@@ -22,7 +22,8 @@ use Rattle.flowfile_record.proofs.Sizes.{numbers_size}
 use Rattle.record_codec.proofs.Sizes.{head_size}
 use Rattle.checkpoint_store.specs.Consistent.{AreDistinctBy, HasCounters, IsFileIn, IsBatchIn, IsConsistent, record_size}
 use Rattle.checkpoint_store.specs.Snapshot.{head_in}
-use Rattle.kept_state.specs.Applied.{number_of, is_among, left_after, with_files, with_count, session_applied, applied}
+use Rattle.kept_state.specs.Applied.{number_of, is_among, left_after, with_files, session_applied, applied}
+use Rattle.flowfile_record.specs.Counts.{with_count}
 use Rattle.kept_state.specs.Arrivals.{arrival_of}
 use Rattle.kept_state.specs.Changes.{no_files}
 use Rattle.kept_state.specs.Fits.{are_distinct, are_active_in, are_active_in_one, placed_are_new, are_new, has_place, has_count, keeps_counters, session_suits, expire_fits, fits, live}
@@ -245,6 +246,7 @@ session_keeps k s was none is fit =
         store = was.encoded.store;
         flow = was.encoded.flow;
         connections = was.encoded.connections;
+        processors = was.encoded.processors;
         counts = (
           subst (λ n. n < 2 ^ 32) (sym (length-with_count s.generator k.counts)) was.encoded.counts.0,
           numbers-with_count s.generator k.counts is.generator was.encoded.counts.1,
@@ -252,6 +254,7 @@ session_keeps k s was none is fit =
         next_number = is.next_number;
         next_arrival = is.next_arrival;
         last_event = is.last_event;
+        line = was.encoded.line;
         next_batch = was.encoded.next_batch;
       };
       head_size =
@@ -290,10 +293,12 @@ expire_keeps k e was is =
         store = was.encoded.store;
         flow = was.encoded.flow;
         connections = was.encoded.connections;
+        processors = was.encoded.processors;
         counts = was.encoded.counts;
         next_number = was.encoded.next_number;
         next_arrival = was.encoded.next_arrival;
         last_event = is.last_event;
+        line = was.encoded.line;
         next_batch = was.encoded.next_batch;
       };
       head_size = omega (arith, was.head_size, head_size (head_in k) was.encoded.flow, head_size (head_in (applied no_files k (Expire e))) was.encoded.flow);

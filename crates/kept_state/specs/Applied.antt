@@ -1,11 +1,11 @@
 -- What the entries of a log do to what is kept. Which files a batch has is told by `files`.
-use Rattle.std.specs.Prelude.{ℕ, ◌+◌, ◌==◌, Bool, not, List, [], ◌∷◌, ◌++◌, length, map, filter, slice_set, Option, None, Some}
+use Rattle.std.specs.Prelude.{ℕ, ◌+◌, ◌==◌, Bool, not, List, [], ◌∷◌, ◌++◌, length, map, filter}
 use Rattle.std.specs.List.{sum, list_any, flat_map}
+use Rattle.flowfile_record.specs.Counts.{with_count}
 use Rattle.flowfile_record.specs.NumberedItems.{with_item, without_item}
 use Rattle.flowfile_record.specs.Stored.{Kept}
 use Rattle.flowfile_record.specs.declared.flow_file.FlowFile.{FlowFile}
 use Rattle.flowfile_record.specs.declared.stored.ActiveFile.{ActiveFile}
-use Rattle.flowfile_record.specs.declared.stored.Counted.{Counted}
 use Rattle.flowfile_record.specs.declared.stored.SwapBatch.{SwapBatch}
 use Rattle.record_codec.specs.ActiveFile.{active}
 use Rattle.record_codec.specs.declared.entry.SessionEntry.{SessionEntry}
@@ -33,11 +33,6 @@ named_in numbers files = filter (is_among numbers) files
 abbrev pub with_files : List ActiveFile → List ActiveFile → List ActiveFile
 with_files [] files = files
 with_files (a ∷ placed) files = with_files placed (with_item number_of a files)
-
--- the counts, that of a generator being set
-abbrev pub with_count : Option Counted → List ℕ → List ℕ
-with_count None counts = counts
-with_count (Some g) counts = slice_set counts g.processor g.count
 
 -- the batch of these files
 abbrev pub batch_of : SwapOutEntry → List ActiveFile → SwapBatch

@@ -8,7 +8,8 @@ ghost use Rattle.flowfile_record.specs.declared.limits.TheConstants.{LIVE_FILES_
 ghost use Rattle.record_codec.specs.EntryEncoding.{IsEntry, IsSession, IsExpire};
 ghost use Rattle.record_codec.specs.declared.entry.LogEntry.TheVariants as entries;
 ghost use Rattle.checkpoint_store.specs.Consistent.{IsConsistent, record_size};
-ghost use Rattle.kept_state.specs.Applied.{left_after, session_applied, applied, swapped_out, with_count};
+ghost use Rattle.kept_state.specs.Applied.{left_after, session_applied, applied, swapped_out};
+ghost use Rattle.flowfile_record.specs.Counts.{with_count};
 ghost use Rattle.kept_state.specs.Changes.{session_of, entry_of, expiry_entry, placed_in, no_files, MaySettle, MayExpireAs};
 ghost use Rattle.kept_state.specs.Fits.{are_distinct, fits, has_count};
 ghost use Rattle.kept_state.specs.Limits.{passed, live_limit, numbers_limit};
@@ -67,10 +68,12 @@ impl KeptState {
             store,
             flow,
             connections,
+            processors: TextList::new(alloc),
             counts: Numbers::from(counts),
             next_number: 1,
             next_arrival: 1,
             last_event: 0,
+            line: 0,
             next_batch: 1,
             files: ActiveList::new(alloc),
             batches: BatchList::new(alloc),

@@ -1,12 +1,13 @@
 -- Who came from whom in the events of a try.
 use Rattle.std.proofs.Common.{◌≡◌, ◌⊎◌, inl, inr, ℕ, ◌<◌, List, refl, ap, subst, arith}
-use Rattle.flowfile_record.specs.Kin.{kin_of_all}
+use Rattle.std.specs.List.{flat_map}
+use Rattle.flowfile_record.specs.Kin.{pairs_named}
 use Rattle.machine_model.specs.Lineage.{NamesParent, IsAncestor, IsDescendant}
 use Rattle.machine_examples.specs.Families.{events, stranger, IsNoAncestorOf, IsNoDescendantOf, TellsNot}
 use Rattle.machine_model.proofs.Among.{Among, contains_among, among_contained}
 
 abbrev kin : List (ℕ × ℕ)
-kin = kin_of_all events
+kin = flat_map pairs_named events
 
 pub clone-names : NamesParent events 2 1
 clone-names = contains_among (2, 1) kin (inl refl)

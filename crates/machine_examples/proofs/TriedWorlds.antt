@@ -1,4 +1,4 @@
--- What no pair adds to a set of kin, and what stands in an outbox behind two puts under one name.
+-- What nothing adds to a set of kin, and what stands in an outbox behind two puts under one name.
 use Rattle.std.proofs.Common.{◌≡◌, ℕ, Bool, true, false, List, [], refl, ap, ◌∙◌}
 use Rattle.std.specs.Prelude.{◌||◌, Option, Some, bytes_eq, cond}
 use Rattle.std.specs.FinSet.{contains, from_list, union, contains-union, contains-from_list, same_set}

@@ -80,7 +80,8 @@ five_files =
           clone_of 1 2000 (codes "dup") 1 2 hi ∷ clone_of 2 2000 (codes "dup") 1 3 hi
           ∷ clone_of 3 2000 (codes "dup") 1 4 hi
           ∷ clone_of 4 2000 (codes "dup") 1 5 hi ∷ [];
-      kin = kin_of ((2, 1) ∷ (3, 1) ∷ (4, 1) ∷ (5, 1) ∷ []);
+      kin = kin_of ((2, 1, 1) ∷ (3, 1, 2) ∷ (4, 1, 3) ∷ (5, 1, 4) ∷ []);
+      last_event = 4;
     }
 
 abbrev pub FourClonesFollow : Type 0
@@ -106,7 +107,8 @@ ClonesArePenalisedToo =
     settle penalising (record { files = passed_on 0 (received_attributes a_txt) true 0 ∷ []; sent = None })
     ≡ record (state_of ([] ∷ (until_32 1 2 ∷ []) ∷ (until_32 2 3 ∷ []) ∷ []) 3 4 (0 ∷ 0 ∷ 0 ∷ [])) {
       events = clone_of 1 2000 (codes "dup") 1 2 hi ∷ [];
-      kin = kin_of ((2, 1) ∷ []);
+      kin = kin_of ((2, 1, 1) ∷ []);
+      last_event = 1;
     }
 
 -- ---- two files that were taken and one that was made of the first, each to two connections: clones behind all of them
@@ -129,7 +131,8 @@ TwoFanOut =
           clone_of 1 2000 (codes "dup") 1 3 hi ∷ clone_of 2 2000 (codes "dup") 1 4 hi
           ∷ clone_of 3 2000 (codes "dup") 2 5 hi
           ∷ clone_of 4 2000 (codes "dup") 3 6 hi ∷ [];
-      kin = kin_of ((3, 1) ∷ (4, 1) ∷ (5, 2) ∷ (6, 3) ∷ []);
+      kin = kin_of ((3, 1, 1) ∷ (4, 1, 2) ∷ (5, 2, 3) ∷ (6, 3, 4) ∷ []);
+      last_event = 4;
     }
 
 -- a copy of the second before one of the first: each is told by its original's place
@@ -160,7 +163,8 @@ BesideADrop =
     (record { files = passed_on 0 (received_attributes a_txt) false 1 ∷ passed 1 ∷ []; sent = None })
     ≡ record (state_of ([] ∷ (a_file 2 3 ∷ []) ∷ (a_file 3 4 ∷ []) ∷ []) 4 5 (0 ∷ 0 ∷ 0 ∷ [])) {
       events = clone_of 1 2000 (codes "upd") 2 3 hi ∷ told 2 2000 kind.Drop (codes "upd") 1 (codes "failure") hi ∷ [];
-      kin = kin_of ((3, 2) ∷ []);
+      kin = kin_of ((3, 2, 1) ∷ []);
+      last_event = 2;
     }
 
 -- ---- two relationships that lead apart
@@ -206,7 +210,8 @@ three_files text =
       events =
           told 1 1000 kind.Create (codes "gen") 1 [] (content text) ∷ clone_of 2 1000 (codes "gen") 1 2 (content text)
           ∷ clone_of 3 1000 (codes "gen") 1 3 (content text) ∷ [];
-      kin = kin_of ((2, 1) ∷ (3, 1) ∷ []);
+      kin = kin_of ((2, 1, 2) ∷ (3, 1, 3) ∷ []);
+      last_event = 3;
     }
 
 abbrev pub EachConnectionGetsOne : Type 0

@@ -53,7 +53,10 @@ both_wait = chained (a_file 1 1 ∷ []) (a_file 2 2 ∷ [])
 abbrev pub SecondExpires : Type 0
 SecondExpires =
     Leaves both_wait (Expire 1 (2 ∷ []) 2000)
-    (record (chained (a_file 1 1 ∷ []) []) { events = told 1 2000 kind.Expire (codes "c2") 2 [] hi ∷ [] })
+    (record (chained (a_file 1 1 ∷ []) []) {
+      events = told 1 2000 kind.Expire (codes "c2") 2 [] hi ∷ [];
+      last_event = 1;
+    })
 
 abbrev pub NotOfTheFirst : Type 0
 NotOfTheFirst = IsNoStep both_wait (Expire 0 (2 ∷ []) 2000)

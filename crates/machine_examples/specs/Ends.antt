@@ -10,7 +10,7 @@ use Rattle.machine_model.specs.declared.kind.Kind.TheVariants.{GetFile, Generate
 use Rattle.machine_model.specs.declared.kind.MergeStrategy.TheVariants.{BinPacking}
 use Rattle.machine_model.specs.declared.pattern.Pattern.{Pattern}
 use Rattle.machine_model.specs.State.{QueuedFile, State, World}
-use Rattle.machine_model.specs.Quiet.{quiet, blocked}
+use Rattle.machine_model.specs.Quiet.{quiet, blocked, quiet_but_for_swaps, blocked_but_for_swaps}
 use Rattle.machine_model.specs.Stepping.{step}
 use Rattle.machine_examples.specs.Small.{hi, both, processor, connection, wide, get_to_put, a_txt, a_file, machine, state_of, at_moment, session, nothing, inbox_of}
 
@@ -91,7 +91,7 @@ FilteredIsLeft = (pattern : Pattern) → Finds pattern false →
 abbrev pub FoundIsWanted : Type 0
 FoundIsWanted = (pattern : Pattern) → Finds pattern true → quiet (filtering pattern) nothing_queued left_a 1000 ≡ false
 
--- ---- a batch that may be swapped out keeps no flow from being quiet or blocked
+-- ---- a batch that has to be swapped out or in keeps a flow from being quiet and from being blocked
 
 -- three files before a MergeContent that waits for five, swapped past so many
 abbrev pub binning : (swap : ℕ) → Flow
@@ -106,6 +106,10 @@ binning swap = record (get_to_put Replace wide) {
 abbrev pub SwappingIsQuiet : (swap : ℕ) → List QueuedFile → Bool → Type 0
 SwappingIsQuiet swap files answer = quiet (binning swap) (state_of (files ∷ []) 9 9 (0 ∷ 0 ∷ [])) nothing 1000 ≡ answer
 
+abbrev pub ButForSwapsIsQuiet : (swap : ℕ) → List QueuedFile → Bool → Type 0
+ButForSwapsIsQuiet swap files answer =
+    quiet_but_for_swaps (binning swap) (state_of (files ∷ []) 9 9 (0 ∷ 0 ∷ [])) nothing 1000 ≡ answer
+
 -- the ring whose queues are full with three files, and swapped past two
 abbrev pub swapping_ring : Expr → Flow
 swapping_ring text =
@@ -117,3 +121,6 @@ swapping_ring text =
 
 abbrev pub SwappingBlocks : State → Option ℕ → Type 0
 SwappingBlocks state answer = (text : Expr) → blocked (swapping_ring text) state nothing 1000 ≡ answer
+
+abbrev pub ButForSwapsBlocks : State → Option ℕ → Type 0
+ButForSwapsBlocks state answer = (text : Expr) → blocked_but_for_swaps (swapping_ring text) state nothing 1000 ≡ answer

@@ -35,7 +35,7 @@ flow = get_to_put Replace (limits 1 20_000)
 abbrev pub OneExpires : Type 0
 OneExpires =
     step flow (machine (queued (a_file 1 1 ∷ [])) nothing) (Expire 0 (1 ∷ []) 2000)
-    ≡ Some (machine (record (queued []) { events = expiry 1 2000 1 ∷ [] }) nothing)
+    ≡ Some (machine (record (queued []) { events = expiry 1 2000 1 ∷ []; last_event = 1 }) nothing)
 
 abbrev pub NoneExpiresAtOnce : Type 0
 NoneExpiresAtOnce = step flow (machine (queued (a_file 1 1 ∷ [])) nothing) (Expire 0 (1 ∷ []) 1000) ≡ None
@@ -44,7 +44,10 @@ NoneExpiresAtOnce = step flow (machine (queued (a_file 1 1 ∷ [])) nothing) (Ex
 abbrev pub TwoExpire : Type 0
 TwoExpire =
     step flow (machine (queued (a_file 1 1 ∷ a_file 2 2 ∷ a_file 3 3 ∷ [])) nothing) (Expire 0 (3 ∷ 1 ∷ []) 2000)
-    ≡ Some (machine (record (queued (a_file 2 2 ∷ [])) { events = expiry 1 2000 1 ∷ expiry 2 2000 3 ∷ [] }) nothing)
+    ≡ Some (machine (record (queued (a_file 2 2 ∷ [])) {
+      events = expiry 1 2000 1 ∷ expiry 2 2000 3 ∷ [];
+      last_event = 2;
+    }) nothing)
 
 -- ---- swaps: past 2 active files, in batches of one
 
@@ -64,10 +67,12 @@ abbrev pub two_active : State
 two_active = record (queued (a_file 1 1 ∷ a_file 2 2 ∷ late_in_batch ∷ [])) { next_batch = 2 }
 
 abbrev pub one_active : State
-one_active = record (queued (a_file 2 2 ∷ late_in_batch ∷ [])) { next_batch = 2; events = expiry 1 2000 1 ∷ [] }
+one_active =
+    record (queued (a_file 2 2 ∷ late_in_batch ∷ [])) { next_batch = 2; events = expiry 1 2000 1 ∷ []; last_event = 1 }
 
 abbrev pub back_again : State
-back_again = record (queued (a_file 2 2 ∷ late ∷ [])) { next_batch = 2; events = expiry 1 2000 1 ∷ [] }
+back_again =
+    record (queued (a_file 2 2 ∷ late ∷ [])) { next_batch = 2; events = expiry 1 2000 1 ∷ []; last_event = 1 }
 
 abbrev pub BatchGoes : Type 0
 BatchGoes = step swapping (machine all_active nothing) (SwapOut 0 (3 ∷ []) 1) ≡ Some (machine two_active nothing)

@@ -1,4 +1,5 @@
 pub mod Acks
+pub mod Agings
 pub mod Batches
 pub mod Clones
 pub mod Cuts

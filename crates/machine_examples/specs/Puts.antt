@@ -1,5 +1,5 @@
 -- Tried: what a PutFile makes of a file.
-use Rattle.std.specs.Prelude.{◌≡◌, ℕ, Bool, true, false, List, [], ◌∷◌, Some, codes}
+use Rattle.std.specs.Prelude.{◌≡◌, ℕ, Bool, true, false, List, [], ◌∷◌, Some, codes, length}
 use Rattle.std.specs.FinMap.{empty}
 use Rattle.flowfile_record.specs.Attributes.{AttributeMap}
 use Rattle.flowfile_record.specs.declared.event.Event.{Event}
@@ -56,7 +56,7 @@ abbrev pub drop_event : (number : ℕ) → List ℕ → Event
 drop_event number relationship = told number 2000 kind.Drop (codes "put") 1 relationship hi
 
 abbrev pub emptied : List Event → State
-emptied events = record (state_of ([] ∷ []) 2 2 (0 ∷ 0 ∷ [])) { events = events }
+emptied events = record (state_of ([] ∷ []) 2 2 (0 ∷ 0 ∷ [])) { events = events; last_event = length events }
 
 abbrev pub PutsOver : Conflict → List Event → World → Type 0
 PutsOver conflict events world =

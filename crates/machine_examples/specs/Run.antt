@@ -44,14 +44,15 @@ send_and_drop bytes =
 abbrev pub between : List ℕ → State
 between bytes =
     record (state_of ((waiting 1 1 (received_attributes a_txt) bytes ∷ []) ∷ []) 2 2
-    (0 ∷ 0 ∷ [])) { events = receive bytes ∷ [] }
+    (0 ∷ 0 ∷ [])) { events = receive bytes ∷ []; last_event = 1 }
 
 abbrev pub world_between : List ℕ → World
 world_between bytes = record (world_before bytes) { left = [] }
 
 -- the queue is empty, and the outbox has the file
 abbrev pub after : List ℕ → State
-after bytes = record (state_of ([] ∷ []) 2 2 (0 ∷ 0 ∷ [])) { events = receive bytes ∷ send_and_drop bytes }
+after bytes =
+    record (state_of ([] ∷ []) 2 2 (0 ∷ 0 ∷ [])) { events = receive bytes ∷ send_and_drop bytes; last_event = 3 }
 
 abbrev pub world_after : List ℕ → World
 world_after bytes = record (world_between bytes) { outbox = with_file no_file a_txt bytes }

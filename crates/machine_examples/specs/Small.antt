@@ -68,24 +68,26 @@ a_txt = codes "a.txt"
 abbrev pub a_file : (number arrival : ℕ) → QueuedFile
 a_file number arrival = waiting number arrival (received_attributes a_txt) hi
 
--- no file came from another, and so many did
+-- no file came from another, and these did, each by an event of this number
 abbrev pub no_kin : Kin
 no_kin = empty
 
-abbrev pub kin_of : List (ℕ × ℕ) → Kin
-kin_of pairs = union no_kin (from_list pairs)
+abbrev pub kin_of : List (ℕ × ℕ × ℕ) → Kin
+kin_of all = union no_kin (from_list all)
 
 -- a state in which nothing has happened, with these queues and the numbers that come next
 abbrev pub state_of : List (List QueuedFile) → (next_number next_arrival : ℕ) → (counts : List ℕ) → State
 state_of queues next_number next_arrival counts =
     record {
       store = 0x123456789abcde;
+      line = 0;
       queues = queues;
       events = [];
       kin = no_kin;
       next_number = next_number;
       next_arrival = next_arrival;
       next_batch = 1;
+      last_event = 0;
       counts = counts;
     }
 

@@ -67,7 +67,8 @@ after_split =
     (0 ∷ 0 ∷ 0 ∷ [])) {
       events = record (told 1 2000 kind.Fork (codes "split") 1 [] hi) { parents = 1 ∷ []; children = 2 ∷ 3 ∷ [] }
           ∷ told 2 2000 kind.Drop (codes "split") 1 (codes "original") hi ∷ [];
-      kin = kin_of ((2, 1) ∷ (3, 1) ∷ []);
+      kin = kin_of ((2, 1, 1) ∷ (3, 1, 1) ∷ []);
+      last_event = 2;
     }
 
 abbrev pub SplitTells : Type 0
@@ -104,7 +105,8 @@ after_join =
       }
           ∷ told 2 2000 kind.Drop (codes "merge") 5 (codes "original") hi
           ∷ told 3 2000 kind.Drop (codes "merge") 3 (codes "original") hi ∷ [];
-      kin = kin_of ((6, 5) ∷ (6, 3) ∷ []);
+      kin = kin_of ((6, 5, 1) ∷ (6, 3, 1) ∷ []);
+      last_event = 3;
     }
 
 abbrev pub JoinTells : Type 0

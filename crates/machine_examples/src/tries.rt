@@ -7,13 +7,14 @@ ghost use Rattle.machine_model.specs.declared.kind.TakeRule.TheVariants.{Source,
 ghost use Rattle.machine_model.specs.Sound.{IsSound};
 ghost use Rattle.machine_examples.specs.Small.{hi, nothing, with_a, a_file, get_to_put, wide};
 ghost use Rattle.machine_examples.specs.Acks.{AcknowledgedIs};
+ghost use Rattle.machine_examples.specs.Agings.{AgeGives, AgingIs, IsChildBy, NumbersGoOn, around, behind};
 ghost use Rattle.machine_examples.specs.Batches.{LastOf, OddGoes, six, nth, StepGives, queued, two_gone, two_batches, lower_back, BatchesAre, batch, FullWith, EligibleOf, ExpiredOf, GoesOf, ComesOf, FullOf, flying, still, waiting_penalised};
 ghost use Rattle.machine_examples.specs.Cuts.{SegmentsAre, OneSegmentIsAClone, LinesAre, NothingHasNoLine, NothingHasNoSegment, TooManyAreGivenUp, Leaves, TwoAreJoined, NoFragmentIsGivenUp, WholeIsJoined, TurnedIsGivenUp, MissingIsGivenUp, DoubledIsGivenUp};
 ghost use Rattle.machine_examples.specs.Elsewhere.{WantsIs, HeldBackIs, SecondExpires, NotOfTheFirst, SecondSwapsOut, SecondSwapsIn, FirstsBatchIsNotSeconds, TakesOf, ExpiryIs, SwapOutIs, SwapInIs, CheckpointIs, ReclaimIs, chained, fresh, both_wait, both_swapped, three as first_three, three_more, in_batch, last_log};
 ghost use Rattle.machine_model.specs.Files.{view_of};
 ghost use Rattle.machine_model.specs.declared.journal.Step.TheVariants.{SwapOut, SwapIn};
 ghost use Rattle.machine_examples.specs.Clones.{EachGoesItsWay, ReceivedSays, GeneratedSays, TwoFanOut, CopiesGoByOriginals, BesideADrop, NoValueIsEmpty, FourClonesFollow, ClonesArePenalisedToo, duplicating, EachConnectionGetsOne, MadeIsNamed, NamedKeepsItsName, TakenStaysNameless};
-ghost use Rattle.machine_examples.specs.Ends.{NarrowIs, FilteredIsLeft, FoundIsWanted, SwappingIsQuiet, SwappingBlocks, QuietIs, left_a, taken_a, penalised, BlockedIs, RingIsQuiet, ringed};
+ghost use Rattle.machine_examples.specs.Ends.{NarrowIs, FilteredIsLeft, FoundIsWanted, SwappingIsQuiet, SwappingBlocks, ButForSwapsIsQuiet, ButForSwapsBlocks, QuietIs, left_a, taken_a, penalised, BlockedIs, RingIsQuiet, ringed};
 ghost use Rattle.machine_examples.specs.Expiries.{ExpiredIs, OneExpires, NoneExpiresAtOnce, TwoExpire, BatchGoes, BatchMustWait, BatchComesBack, GoesAndComesBack, SwapsDueAre, late, late_in_batch};
 ghost use Rattle.machine_examples.specs.Families.{IsAncestorOf, IsNoAncestorOf, IsDescendantOf, IsNoDescendantOf, Tells, TellsNot, cloned, joined, stranger};
 ghost use Rattle.machine_examples.specs.Flows.{GeneratingIsSound, RingIsSound, IsUnsound, MarkedIsSound, ContainedIsNot, ListIs, AloneIsNotJoined, UnmarkedIsUnsound, ExactIsMarked, unconnected, terminated, into_source, doubled, tight, turned, blank, nowhere};
@@ -208,7 +209,7 @@ pub fn picks_are_told()
 {}
 
 /// A flow is quiet where no name is left and nothing is queued, expired or penalised. A ring is blocked where each
-/// processor that wants to work has a full queue behind it. That a batch may be swapped out changes neither.
+/// processor that wants to work has a full queue behind it. Where a batch has to be swapped, it is neither.
 pub fn ends_are_told()
     ensures empty { QuietIs [] taken_a 1000 true }
     ensures left { QuietIs [] left_a 1000 false }
@@ -226,8 +227,34 @@ pub fn ends_are_told()
     ensures ring_all_full { NarrowIs (ringed (a_file 3 1 ∷ []) (a_file 1 2 ∷ []) (a_file 2 3 ∷ []) 2) (Some 0) }
     ensures filtered { FilteredIsLeft }
     ensures found { FoundIsWanted }
-    ensures batch_may_go { SwappingIsQuiet 2 (a_file 1 1 ∷ a_file 2 2 ∷ a_file 3 3 ∷ []) true }
-    ensures batches_in_ring { SwappingBlocks (ringed [] first_three three_more 3) (Some 1) }
+    ensures batch_stays { SwappingIsQuiet 4 (a_file 1 1 ∷ a_file 2 2 ∷ a_file 3 3 ∷ []) true }
+    ensures batch_goes { SwappingIsQuiet 2 (a_file 1 1 ∷ a_file 2 2 ∷ a_file 3 3 ∷ []) false }
+    ensures batch_comes { SwappingIsQuiet 2 (in_batch 1 (a_file 3 3) ∷ []) false }
+    ensures but_for_its_going { ButForSwapsIsQuiet 2 (a_file 1 1 ∷ a_file 2 2 ∷ a_file 3 3 ∷ []) true }
+    ensures but_for_its_coming { ButForSwapsIsQuiet 2 (in_batch 1 (a_file 3 3) ∷ []) true }
+    ensures batches_in_ring { SwappingBlocks (ringed [] first_three three_more 3) None }
+    ensures but_for_these { ButForSwapsBlocks (ringed [] first_three three_more 3) (Some 1) }
+{}
+
+/// The line is raised by whole files of events, past where it was and up to the last event; what is told up to it is
+/// forgotten. An aging is due where a file of events more may go. Behind a line events are numbered on from the last
+/// one, and a clone is a child by the event that tells of it, and by no other.
+pub fn agings_are_told()
+    ensures forgets { AgeGives (around 10_001) 10_000 (Some (behind 10_001)) }
+    ensures at_the_last { AgeGives (around 10_000) 10_000 (Some (behind 10_000)) }
+    ensures within_a_file { AgeGives (around 10_001) 10_001 None }
+    ensures past_the_last { AgeGives (around 9_999) 10_000 None }
+    ensures again { AgeGives (behind 10_001) 10_000 None }
+    ensures below { AgeGives (behind 10_001) 0 None }
+    ensures due_not_yet { AgingIs 5_000 0 14_999 None }
+    ensures due { AgingIs 5_000 0 15_000 (Some 10_000) }
+    ensures due_last_file { AgingIs 5_000 0 25_000 (Some 20_000) }
+    ensures due_no_more { AgingIs 5_000 20_000 29_999 None }
+    ensures due_few { AgingIs 30_000 0 25_000 None }
+    ensures numbers { NumbersGoOn }
+    ensures child { IsChildBy 3 10_005 true }
+    ensures other_event { IsChildBy 3 10_004 false }
+    ensures counted_from_one { IsChildBy 3 2 false }
 {}
 
 /// Which files are eligible, and in which order. A queue is full at a limit on its files or on its bytes, with

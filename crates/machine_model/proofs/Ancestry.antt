@@ -1,4 +1,4 @@
--- That the events of a session tell of the kin of its files, and of no other.
+-- That the drafts of a session have the kin of its files, and no other, and that their events tell of it.
 use Rattle.std.proofs.Common.{◌≡◌, ◌⊎◌, inl, inr, ℕ, ◌+◌, ◌<◌, true, List, [], ◌∷◌, ◌++◌, map, length, refl, sym, ap, subst, ◌∙◌}
 use Rattle.std.specs.Prelude.{◌↔◌}
 use Rattle.std.specs.FinSet.{from_list, union}
@@ -6,20 +6,20 @@ use Rattle.std.specs.List.{flat_map}
 use Rattle.std.proofs.lemmas.Bool.{eq-eqb}
 use Rattle.std.proofs.lemmas.List.Concat.{flat_map-append}
 use Rattle.flowfile_record.specs.Outcome.{parents_of}
-use Rattle.flowfile_record.specs.Kin.{kin_of, kin_of_all}
+use Rattle.flowfile_record.specs.Kin.{kin_of, kin_of_all, pairs_named}
 use Rattle.flowfile_record.specs.declared.event.Event.{Event}
 use Rattle.flowfile_record.specs.declared.worked.Origin.{Origin}
 use Rattle.flowfile_record.specs.declared.worked.Origin.TheVariants as origin
 use Rattle.flowfile_record.specs.declared.worked.Outcome.{Outcome}
 use Rattle.flowfile_record.specs.declared.event.EventKind.TheVariants as kind
-use Rattle.machine_model.specs.Events.{Draft, of_file, number_at, is_forked_from, forks, joined, clone_event, is_cloned_from, clonings, sent, drafts, numbered_from, ascending}
+use Rattle.machine_model.specs.Events.{Draft, of_file, number_at, is_forked_from, forks, joined, clone_event, is_cloned_from, clonings, sent, drafts, numbered_from, kin_from, ascending}
 use Rattle.machine_model.specs.Placing.{EndedSession, SettledFile, SettlementClone, settled_files, settlement_clones}
 use Rattle.machine_model.specs.State.{Kin}
 use Rattle.machine_model.specs.Settling.{kin_of_files}
-use Rattle.machine_model.proofs.Among.{Among, each_among, among_left, among_right, among_either, comes_from, goes_to, is_made, makes, ascending-has}
+use Rattle.machine_model.proofs.Among.{Among, each_among, among_left, among_right, among_either, comes_from, goes_to, is_made, makes}
 use Rattle.machine_model.proofs.Drafted.{IsDraft, IsPlain, first_part, joined_part, modified_part, attributes_part, routed_part, clones_part, dropped_part, plain_first_part, plain_modified_part, plain_attributes_part, plain_routed_part, plain_sent, plain_dropped_part}
-use Rattle.machine_model.proofs.KinSets.{same_kin, kin_joined}
-use Rattle.machine_model.proofs.Kinships.{Tell, kinship, HasChild, HasClone, only, pair_of, fork_told, clone_told, forks_tell, joins_tell, clones_tell, settlement_tells}
+use Rattle.machine_model.proofs.KinSets.{SameKin, same_kin, kin_joined}
+use Rattle.machine_model.proofs.Kinships.{Tell, kinship, HasChild, HasClone, only, fork_told, clone_told, forks_tell, joins_tell, clones_tell, settlement_tells}
 use Rattle.machine_model.proofs.Tally.{Each}
 
 -- ---- the kin of files and clones
@@ -78,12 +78,12 @@ in_fourth x a b c d e f g h i j m =
     (among_left x (a ++ b ++ c ++ d ++ e ++ f) g
     (among_left x (a ++ b ++ c ++ d ++ e) f (among_left x (a ++ b ++ c ++ d) e m)))))
 
-plain_tells : (ds : List Draft) (draft : Draft) (child parent : ℕ) (P : Type 0) → Each IsPlain ds → Among (child, parent) (kin_of (draft 0)) → Among draft ds → P
+plain_tells : (ds : List Draft) (draft : Draft) (child parent : ℕ) (P : Type 0) → Each IsPlain ds → Among (child, parent) draft.kin → Among draft ds → P
 plain_tells ds draft child parent P plain k h =
-    let none : kin_of (draft 0) ≡ [] = (each_among IsPlain draft ds plain h).kin 0 in
+    let none : draft.kin ≡ [] = (each_among IsPlain draft ds plain h).kin in
     absurd (rw none at k)
 
--- ---- what the events tell is kin
+-- ---- what the drafts have is kin
 
 abbrev HasKin : EndedSession → Outcome → (child parent : ℕ) → Type 0
 HasKin session outcome child parent = HasChild (settled_files session outcome.files) child parent ⊎ HasClone (settlement_clones session outcome.files) child parent
@@ -92,7 +92,7 @@ pub drafts-tell : (session : EndedSession) (outcome : Outcome) (child parent : �
 drafts-tell session outcome child parent h =
     let files = settled_files session outcome.files in
     let clones = settlement_clones session outcome.files in
-    let from = comes_from (λ draft. kin_of (draft 0)) (drafts session outcome) (child, parent) h in
+    let from = comes_from (λ (draft : Draft). draft.kin) (drafts session outcome) (child, parent) h in
     let draft = from.source in
     let Q : Type 0 = HasKin session outcome child parent in
     from_part Q draft (first_part session files) (forks session files) (joined_part session files) (clonings session files) (modified_part session files)
@@ -109,15 +109,15 @@ drafts-tell session outcome child parent h =
     (plain_tells (dropped_part session files) draft child parent Q (plain_dropped_part session files) from.made)
     from.there
 
--- ---- all kin is told of
+-- ---- the drafts have all kin
 
 tell_in : (ds all : List Draft) (child parent : ℕ) → ((draft : Draft) → Among draft ds → Among draft all) → Tell ds child parent → Tell all child parent
 tell_in ds all child parent into h =
-    let from = comes_from (λ draft. kin_of (draft 0)) ds (child, parent) h in
-    goes_to (λ draft. kin_of (draft 0)) all from.source (child, parent) (into from.source from.there) from.made
+    let from = comes_from (λ (draft : Draft). draft.kin) ds (child, parent) h in
+    goes_to (λ (draft : Draft). draft.kin) all from.source (child, parent) (into from.source from.there) from.made
 
-tell_one : (ds : List Draft) (draft : Draft) (child parent : ℕ) → Among draft ds → Among (child, parent) (kin_of (draft 0)) → Tell ds child parent
-tell_one ds draft child parent h k = goes_to (λ draft. kin_of (draft 0)) ds draft (child, parent) h k
+tell_one : (ds : List Draft) (draft : Draft) (child parent : ℕ) → Among draft ds → Among (child, parent) draft.kin → Tell ds child parent
+tell_one ds draft child parent h k = goes_to (λ (draft : Draft). draft.kin) ds draft (child, parent) h k
 
 -- the parts that tell of made files: forks, joins and clones
 abbrev telling : EndedSession → List SettledFile → List Draft
@@ -151,13 +151,15 @@ told_of session files file (origin.Cloned of) place there is named l =
     let cloned : is_cloned_from place file.worked.origin ≡ true = ap (is_cloned_from place) is ∙ eq-eqb of place (only place of named) in
     clone_in session files file.number (number_at files place) (clone_told session files file place there cloned l)
 told_of session files file (origin.Joined parents) place there is named l =
-    let draft = of_file session kind.Join file (ascending (map (number_at files) parents)) (file.number ∷ []) [] in
+    let draft : Draft = record {
+      event = of_file session kind.Join file (ascending (map (number_at files) parents)) (file.number ∷ []) [];
+      kin = map (λ place. kinship file.number (number_at files place)) parents;
+    } in
     let here : Among draft (joined session files file (origin.Joined parents)) = inl refl in
     join_in session files file.number (number_at files place)
     (tell_one (joined_part session files) draft file.number (number_at files place)
     (goes_to (λ file. joined session files file file.worked.origin) files file draft there (subst (λ o. Among draft (joined session files file o)) (sym is) here))
-    (pair_of (ascending (map (number_at files) parents)) (file.number ∷ []) file.number (number_at files place) (inl refl)
-    (ascending-has (number_at files place) (map (number_at files) parents) (makes (number_at files) parents place named))))
+    (makes (λ place. kinship file.number (number_at files place)) parents place named))
 told_of session files file (origin.Taken of) place there is named l = absurd named
 told_of session files file origin.Created place there is named l = absurd named
 told_of session files file origin.Received place there is named l = absurd named
@@ -184,22 +186,71 @@ kin-told session outcome sound child parent (inr has) =
     let told : Tell (drafts session outcome) clone.number clone.original.number
     = tell_one (drafts session outcome) draft clone.number clone.original.number
     (among_left draft _ (dropped_part session files) (among_right draft _ (clones_part session clones) here))
-    (pair_of (clone.original.number ∷ []) (clone.number ∷ []) clone.number clone.original.number (inl refl) (inl refl)) in
+    (inl refl) in
     subst (λ (p : ℕ × ℕ). Tell (drafts session outcome) p.0 p.1) (λ i. (has.is_child i, has.is_parent i)) told
 
 -- ---- events and kin go on together
 
-kin_of_numbered : (k : ℕ) (ds : List Draft) → Each IsDraft ds → kin_of_all (numbered_from k ds) ≡ flat_map (λ draft. kin_of (draft 0)) ds
-kin_of_numbered k [] h = refl
-kin_of_numbered k (d ∷ ds) h = λ i. h.0.kin k i ++ kin_of_numbered (k + 1) ds h.1 i
+-- the kin of drafts without the numbers of their events
+pub kin-numbered : (k : ℕ) (ds : List Draft) (child parent : ℕ) → ((event : ℕ) × Among (child, parent, event) (kin_from k ds)) ↔ Tell ds child parent
+kin-numbered k [] child parent = (λ h. absurd h.1, λ h. absurd h)
+kin-numbered k (d ∷ ds) child parent =
+    let pair = kinship child parent in
+    let under : ℕ × ℕ → ℕ × ℕ × ℕ = λ pair. (pair.0, pair.1, k) in
+    let here : List (ℕ × ℕ × ℕ) = map under d.kin in
+    let later : List (ℕ × ℕ × ℕ) = kin_from (k + 1) ds in
+    let others : List (ℕ × ℕ) = flat_map (λ (draft : Draft). draft.kin) ds in
+    let rest = kin-numbered (k + 1) ds child parent in (
+      λ h.
+          let kin : ℕ × ℕ × ℕ = (child, parent, h.0) in
+          elim (among_either kin here later h.1) as (λ _. Among pair (d.kin ++ others)) [
+            | inl there ↦
+                let made = is_made under d.kin kin there in
+                among_left pair d.kin others (subst (λ (pair : ℕ × ℕ). Among pair d.kin) (λ i. ((made.is i).0, (made.is i).1)) made.there)
+            | inr there ↦ among_right pair d.kin others (rest.0 (h.0, there))
+          ],
+      λ h. elim (among_either pair d.kin others h) as (λ _. (event : ℕ) × Among (child, parent, event) (here ++ later)) [
+        | inl there ↦ (k, among_left (under pair) here later (makes under d.kin pair there))
+        | inr there ↦ let at = rest.1 there in let kin : ℕ × ℕ × ℕ = (child, parent, at.0) in (at.0, among_right kin here later at.1)
+      ],
+    )
 
-pub kin_of_joined : (events : List Event) (k : ℕ) (ds : List Draft) → Each IsDraft ds → kin_of_all (events ++ numbered_from k ds) ≡ kin_of_all events ++ flat_map (λ draft. kin_of (draft 0)) ds
-kin_of_joined events k ds honest = flat_map-append kin_of events (numbered_from k ds) ∙ ap (λ xs. kin_of_all events ++ xs) (kin_of_numbered k ds honest)
+-- what one event tells is the kin of its draft under its number
+draft_tells : (k : ℕ) (d : Draft) → IsDraft d → (kin : ℕ × ℕ × ℕ) → Among kin (map (λ (pair : ℕ × ℕ). (pair.0, pair.1, k)) d.kin) ↔ Among kin (kin_of (d.event k))
+draft_tells k d is kin =
+    let under : ℕ → ℕ × ℕ → ℕ × ℕ × ℕ = λ n pair. (pair.0, pair.1, n) in
+    let same : map (under (d.event k).number) (pairs_named (d.event k)) ≡ map (under k) (pairs_named (d.event k)) = ap (λ n. map (under n) (pairs_named (d.event k))) (is.number k) in (
+      λ h.
+          let made = is_made (under k) d.kin kin h in
+          subst (Among kin) (sym same) (subst (λ x. Among x (map (under k) (pairs_named (d.event k)))) made.is (makes (under k) (pairs_named (d.event k)) made.source ((is.kin k made.source).1 made.there))),
+      λ h.
+          let made = is_made (under k) (pairs_named (d.event k)) kin (subst (Among kin) same h) in
+          subst (λ x. Among x (map (under k) d.kin)) made.is (makes (under k) d.kin made.source ((is.kin k made.source).0 made.there)),
+    )
 
--- drafts that tell of just some kin add it to what the events tell of
-pub kin_goes_on : (events : List Event) (k : ℕ) (ds : List Draft) (kin : Kin) (more : List (ℕ × ℕ)) → Each IsDraft ds → kin ≡ from_list (kin_of_all events)
-    → ((child parent : ℕ) → Tell ds child parent ↔ Among (kinship child parent) more) → union kin (from_list more) ≡ from_list (kin_of_all (events ++ numbered_from k ds))
-kin_goes_on events k ds kin more honest before new =
-    let told = flat_map (λ draft. kin_of (draft 0)) ds in
-    let same : from_list more ≡ from_list told = same_kin more told (λ pair. ((new pair.0 pair.1).1, (new pair.0 pair.1).0)) in
-    (λ i. union (before i) (same i)) ∙ kin_joined (kin_of_all events) told ∙ ap from_list (sym (kin_of_joined events k ds honest))
+kin_told : (k : ℕ) (ds : List Draft) → Each IsDraft ds → SameKin (kin_from k ds) (kin_of_all (numbered_from k ds))
+kin_told k [] h kin = (λ m. m, λ m. m)
+kin_told k (d ∷ ds) h kin =
+    let here : List (ℕ × ℕ × ℕ) = map (λ (pair : ℕ × ℕ). (pair.0, pair.1, k)) d.kin in
+    let later : List (ℕ × ℕ × ℕ) = kin_from (k + 1) ds in
+    let told : List (ℕ × ℕ × ℕ) = kin_of (d.event k) in
+    let others : List (ℕ × ℕ × ℕ) = kin_of_all (numbered_from (k + 1) ds) in
+    let one = draft_tells k d h.0 kin in
+    let rest = kin_told (k + 1) ds h.1 kin in (
+      λ m. elim (among_either kin here later m) as (λ _. Among kin (told ++ others)) [
+        | inl there ↦ among_left kin told others (one.0 there)
+        | inr there ↦ among_right kin told others (rest.0 there)
+      ],
+      λ m. elim (among_either kin told others m) as (λ _. Among kin (here ++ later)) [
+        | inl there ↦ among_left kin here later (one.1 there)
+        | inr there ↦ among_right kin here later (rest.1 there)
+      ],
+    )
+
+-- events that are added add the kin of their drafts
+pub kin_goes_on : (events : List Event) (k : ℕ) (ds : List Draft) (kin : Kin) → Each IsDraft ds → kin ≡ from_list (kin_of_all events)
+    → union kin (from_list (kin_from k ds)) ≡ from_list (kin_of_all (events ++ numbered_from k ds))
+kin_goes_on events k ds kin honest before =
+    let told = kin_of_all (numbered_from k ds) in
+    (λ i. union (before i) (same_kin (kin_from k ds) told (kin_told k ds honest) i))
+    ∙ kin_joined (kin_of_all events) told ∙ ap from_list (sym (flat_map-append kin_of events (numbered_from k ds)))

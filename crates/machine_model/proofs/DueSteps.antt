@@ -1,5 +1,5 @@
 -- That what is due has a step.
-use Rattle.std.proofs.Common.{◌≡◌, inl, inr, ℕ, zero, suc, ◌+◌, ◌-◌, ◌≤◌, Bool, true, false, cond, not, List, [], ◌∷◌, map, length, drop, refl, sym, ap, subst, ◌∙◌, arith}
+use Rattle.std.proofs.Common.{◌≡◌, inl, inr, ℕ, zero, suc, ◌+◌, ◌-◌, ◌*◌, ◌/◌, ◌%◌, ◌≤◌, Bool, true, false, cond, not, List, [], ◌∷◌, map, length, drop, refl, sym, ap, subst, ◌∙◌, arith}
 use Rattle.std.specs.Prelude.{◌==◌, nat_lt, nat_le, Option, Some, None, IfSome, IsSome, filter, option_map, option_and_then, slice_get}
 use Rattle.std.specs.List.{cons_option, filter_map, enumerate_from}
 use Rattle.std.specs.Option.{option_map_or}
@@ -7,17 +7,18 @@ use Rattle.std.proofs.lemmas.Bool.{and_from, cases_lt, lt-ltb, le-leb, leb-true,
 use Rattle.std.proofs.lemmas.List.{length-map, length-drop}
 use Rattle.std.proofs.lemmas.List.Sorted.{IsPermutation-sym, Contains-permutation, length_permutation}
 use Rattle.prioritizer.specs.declared.prioritizer.Prioritizer.{Prioritizer}
+use Rattle.flowfile_record.specs.declared.limits.TheConstants.{EVENTS_PER_FILE}
 use Rattle.machine_model.specs.declared.flow.Connection.{Connection}
 use Rattle.machine_model.specs.declared.flow.Flow.{Flow}
 use Rattle.machine_model.specs.declared.flow.QueueLimits.{QueueLimits}
-use Rattle.machine_model.specs.declared.journal.Step.TheVariants.{Expire, SwapOut, SwapIn}
+use Rattle.machine_model.specs.declared.journal.Step.TheVariants.{Expire, SwapOut, SwapIn, Age}
 use Rattle.machine_model.specs.Due.{numbers_of, expired_numbers, some_numbers, batch_size, last_batch, lowest_batch, at_place, first_due}
 use Rattle.machine_model.specs.Events.{ascending}
 use Rattle.machine_model.specs.Files.{is_active, active_files, active_views, queue_at, queues_of, view_of, queue_view}
-use Rattle.machine_model.specs.Laws.{DueExpiriesHaveSteps, DueSwapOutsHaveSteps, DueSwapInsHaveSteps}
+use Rattle.machine_model.specs.Laws.{DueExpiriesHaveSteps, DueSwapOutsHaveSteps, DueSwapInsHaveSteps, DueAgingsHaveSteps}
 use Rattle.machine_model.specs.Order.{in_order}
 use Rattle.machine_model.specs.State.{QueuedFile, State, World}
-use Rattle.machine_model.specs.Stepping.{step, same_world, expire_step, swap_out_step, swap_in_step, swapped_in, with_queue}
+use Rattle.machine_model.specs.Stepping.{step, same_world, aged, expire_step, swap_out_step, swap_in_step, swapped_in, with_queue}
 use Rattle.machine_model.specs.View.{FileView, QueueView, is_expired, at_rest}
 use Rattle.machine_model.proofs.Among.{Among, is_made, kept_by, ascending-had, contains_among, among_contained}
 use Rattle.machine_model.proofs.Numbered.{HaveOwnNumbers, HasActive, all-active, all-pass, once-distinct, ascending-weighs, order-weighs, drop-weighs, own-numbers}
@@ -193,3 +194,14 @@ swap_in-has-step flow machine =
     (λ batch h. subst (λ o. IsSome (same_world machine.world (option_and_then (swap_in_step machine.state place batch) o))) (sym is) h)
     (lowest-is connection.limits queue (lowest_batch connection.limits queue) machine.world
     (λ batch. with_queue machine.state place (map (swapped_in batch) (queue_at machine.state place))) refl))
+
+-- ---- an aging
+
+pub aging-has-step : DueAgingsHaveSteps
+aging-has-step flow machine kept =
+    let state = machine.state in
+    let due = (state.last_event - kept) / EVENTS_PER_FILE * EVENTS_PER_FILE in
+    let whole : due % EVENTS_PER_FILE ≡ 0 = omega arith in
+    let told : due ≤ state.last_event = omega arith in
+    if_when (nat_lt state.line due) due (λ line. IsSome (step flow machine (Age line))) (λ raised.
+    passed _ (aged state due) machine.world (and_from _ _ (and_from _ _ (eq-eqb (due % EVENTS_PER_FILE) 0 whole) raised) (le-leb due state.last_event told)))

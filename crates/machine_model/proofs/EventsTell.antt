@@ -1,27 +1,31 @@
 -- That the events of each state tell of its kin.
-use Rattle.std.proofs.Common.{◌≡◌, inl, inr, ℕ, suc, ◌+◌, ◌<◌, List, [], ◌∷◌, ◌++◌, map, length, refl, sym, ap, subst, ◌∙◌, arith}
-use Rattle.std.specs.Prelude.{zip, fold}
-use Rattle.std.specs.FinSet.{from_list}
-use Rattle.std.specs.List.{flat_map}
+use Rattle.std.proofs.Common.{◌≡◌, ◌⊎◌, inl, inr, ℕ, suc, ◌+◌, ◌<◌, Bool, true, false, cond, List, [], ◌∷◌, ◌++◌, map, length, refl, sym, ap, subst, ◌∙◌, arith}
+use Rattle.std.specs.Prelude.{◌||◌, nat_lt, filter, zip, fold}
+use Rattle.std.specs.FinSet.{contains, from_list, retain, union, contains-from_list, contains-union}
+use Rattle.std.proofs.lemmas.Bool.{true≢false}
 use Rattle.std.proofs.lemmas.List.{append-nil, length-append, length-map}
+use Rattle.std.proofs.lemmas.List.Concat.{flat_map-append}
+use Rattle.std.proofs.lemmas.List.Elements.{filter-append}
 use Rattle.flowfile_record.specs.Outcome.{parents_of, AreInTurn}
-use Rattle.flowfile_record.specs.Kin.{kin_of, kin_of_all}
+use Rattle.flowfile_record.specs.Kin.{kin_of, kin_of_all, pairs_named}
 use Rattle.flowfile_record.specs.declared.event.Event.{Event}
 use Rattle.flowfile_record.specs.declared.worked.Worked.{Worked}
 use Rattle.machine_model.specs.State.{QueuedFile, Kin}
-use Rattle.machine_model.specs.Events.{Draft, ascending, drafts, numbered_from}
+use Rattle.machine_model.specs.Events.{ascending, drafts, kin_from, numbered_from}
 use Rattle.machine_model.specs.Files.{queue_at}
-use Rattle.machine_model.specs.Laws.{SettlingTellsKin, StepsTellKin, ReplaysTellKin}
+use Rattle.machine_model.specs.Laws.{SettlingAddsKin, SettlingTellsKin, StepsTellKin, ReplaysTellKin}
 use Rattle.machine_model.specs.Valid.{EventsTellKin}
 use Rattle.machine_model.specs.Placing.{EndedSession, SettledFile, settled_file, settled_files, settlement_clones, numbers_from, next_behind, entered_by, entered_in}
 use Rattle.machine_model.specs.Settling.{kin_of_files}
-use Rattle.machine_model.specs.Stepping.{expired, expiry_of, files_of}
-use Rattle.machine_model.proofs.Among.{Among, all_among, is_made}
-use Rattle.machine_model.proofs.Ancestry.{NameFiles, kin-has, kin-had, drafts-tell, kin-told, kin_of_joined, kin_goes_on}
-use Rattle.machine_model.proofs.Drafted.{IsDraft, session-drafts}
+use Rattle.machine_model.specs.Stepping.{aged, expired, expiry_of, files_of, past}
+use Rattle.machine_model.specs.declared.flow.Connection.{Connection}
+use Rattle.machine_model.proofs.Among.{Among, all_among, among_contained, contains_among, is_made}
+use Rattle.machine_model.proofs.Ancestry.{NameFiles, kin-has, kin-had, drafts-tell, kin-told, kin-numbered, kin_goes_on}
+use Rattle.machine_model.proofs.Drafted.{session-drafts}
+use Rattle.machine_model.proofs.KinSets.{among-holds, holds, holds-among, kin_cmp-total, kin_retained}
+use Rattle.machine_model.proofs.Kinships.{kinship}
 use Rattle.machine_model.proofs.Options.{if_when}
 use Rattle.machine_model.proofs.Preserved.{IsKept, step-kept, replay-kept}
-use Rattle.machine_model.proofs.Tally.{Each, each-map}
 
 -- ---- origins name files of the outcome
 
@@ -64,38 +68,102 @@ name-files session files is_outcome file there parent named =
     let outer : length (zip numbers (zip entered files)) ≡ length (zip entered files) = length-zip numbers (zip entered files) (length-numbers session.state.next_number _ files ∙ sym inner) in
     omega (arith, length-map (zip numbers (zip entered files)) (λ f. settled_file session (f.0, f.1.0, f.1.1)))
 
+-- ---- a session adds the kin of its files
+
+either : (a b : Bool) → (a || b) ≡ true → (a ≡ true) ⊎ (b ≡ true)
+either true b h = inl refl
+either false b h = inr h
+
+left_holds : (a b : Bool) → a ≡ true → (a || b) ≡ true
+left_holds true b h = refl
+left_holds false b h = absurd (true≢false (sym h))
+
+right_holds : (a b : Bool) → b ≡ true → (a || b) ≡ true
+right_holds true b h = refl
+right_holds false b h = h
+
+pub settle-adds : SettlingAddsKin
+settle-adds session outcome ends child parent =
+    let files = settled_files session outcome.files in
+    let clones = settlement_clones session outcome.files in
+    let told = drafts session outcome in
+    let first = session.state.last_event + 1 in
+    let new = kin_from first told in
+    let kin = session.state.kin in
+    let numbered = kin-numbered first told child parent in
+    let split : (event : ℕ) → contains (union kin (from_list new)) (child, parent, event) ≡ (contains kin (child, parent, event) || holds (child, parent, event) new) =
+    λ event. contains-union kin_cmp-total kin (from_list new) (child, parent, event)
+    ∙ ap (λ b. contains kin (child, parent, event) || b) (contains-from_list kin_cmp-total new (child, parent, event)) in (
+      λ h. elim (either (contains kin (child, parent, h.0)) (holds (child, parent, h.0) new) (sym (split h.0) ∙ h.1)) [
+        | inl was ↦ inl (h.0, was)
+        | inr comes ↦ inr (contains_among (kinship child parent) (kin_of_files files clones)
+            (kin-has files clones child parent (drafts-tell session outcome child parent (numbered.0 (h.0, holds-among (child, parent, h.0) new comes)))))
+      ],
+      λ h. elim h [
+        | inl was ↦ (was.0, split was.0 ∙ left_holds _ _ was.1)
+        | inr made ↦
+            let tells = kin-told session outcome (name-files session outcome.files ends) child parent (kin-had files clones child parent (among_contained (kinship child parent) (kin_of_files files clones) made)) in
+            let at = numbered.1 tells in
+            (at.0, split at.0 ∙ right_holds _ _ (among-holds (child, parent, at.0) new at.1))
+      ],
+    )
+
+-- ---- events past a line tell of the kin past it
+
+all_or_none : (b : Bool) (kin : ℕ × ℕ × ℕ) (rest : List (ℕ × ℕ × ℕ)) → cond b (kin ∷ cond b rest []) (cond b rest []) ≡ cond b (kin ∷ rest) []
+all_or_none true kin rest = refl
+all_or_none false kin rest = refl
+
+none_at_all : (b : Bool) → ◌≡◌ {A = List (ℕ × ℕ × ℕ)} [] (cond b [] [])
+none_at_all true = refl
+none_at_all false = refl
+
+kept_kin : (line n : ℕ) (pairs : List (ℕ × ℕ)) → filter (λ (kin : ℕ × ℕ × ℕ). nat_lt line kin.2) (map (λ (pair : ℕ × ℕ). (pair.0, pair.1, n)) pairs)
+    ≡ cond (nat_lt line n) (map (λ (pair : ℕ × ℕ). (pair.0, pair.1, n)) pairs) []
+kept_kin line n [] = none_at_all (nat_lt line n)
+kept_kin line n (pair ∷ pairs) =
+    let kin : ℕ × ℕ × ℕ = (pair.0, pair.1, n) in
+    let rest : List (ℕ × ℕ × ℕ) = map (λ (pair : ℕ × ℕ). (pair.0, pair.1, n)) pairs in
+    ap (λ (xs : List (ℕ × ℕ × ℕ)). cond (nat_lt line n) (kin ∷ xs) xs) (kept_kin line n pairs) ∙ all_or_none (nat_lt line n) kin rest
+
+past_kin : (line : ℕ) (events : List Event) → filter (λ (kin : ℕ × ℕ × ℕ). nat_lt line kin.2) (kin_of_all events) ≡ kin_of_all (past line events)
+past_kin line [] = refl
+past_kin line (event ∷ events) =
+    let own = kin_of event in
+    filter-append (λ (kin : ℕ × ℕ × ℕ). nat_lt line kin.2) own (kin_of_all events)
+    ∙ (λ i. kept_kin line event.number (pairs_named event) i ++ past_kin line events i)
+    ∙ elim (nat_lt line event.number) as (λ b. cond b own [] ++ kin_of_all (past line events) ≡ kin_of_all (cond b (event ∷ past line events) (past line events))) [ true ↦ refl | false ↦ refl ]
+
 -- ---- sessions, steps and replays
 
 pub settle-tells : SettlingTellsKin
-settle-tells session outcome is_outcome before =
-    let files = settled_files session outcome.files in
-    let clones = settlement_clones session outcome.files in
-    kin_goes_on session.state.events (length session.state.events + 1) (drafts session outcome) session.state.kin (kin_of_files files clones) (session-drafts session outcome) before
-    (λ child parent. (
-      λ told. kin-has files clones child parent (drafts-tell session outcome child parent told),
-      λ kin. kin-told session outcome (name-files session outcome.files is_outcome) child parent (kin-had files clones child parent kin),
-    ))
+settle-tells session outcome before =
+    kin_goes_on session.state.events (session.state.last_event + 1) (drafts session outcome) session.state.kin (session-drafts session outcome) before
 
 -- an expiry tells of no kin
-no_kin : {X : Type 0} (g : X → Draft) → ((x : X) → kin_of (g x 0) ≡ []) → (xs : List X) → flat_map (λ (draft : Draft). kin_of (draft 0)) (map g xs) ≡ []
-no_kin g none [] = refl
-no_kin g none (x ∷ xs) = rw (none x) (no_kin g none xs)
+no_kin : (connection : Connection) (moment : ℕ) (k : ℕ) (files : List QueuedFile) → kin_of_all (numbered_from k (map (expiry_of connection moment) files)) ≡ []
+no_kin connection moment k [] = refl
+no_kin connection moment k (file ∷ files) = no_kin connection moment (k + 1) files
 
-none_told : (events : List Event) (k : ℕ) (ds : List Draft) (kin : Kin) → Each IsDraft ds → flat_map (λ (draft : Draft). kin_of (draft 0)) ds ≡ [] → kin ≡ from_list (kin_of_all events)
-    → kin ≡ from_list (kin_of_all (events ++ numbered_from k ds))
-none_told events k ds kin honest none before =
-    before ∙ ap from_list (sym (kin_of_joined events k ds honest ∙ ap (λ xs. kin_of_all events ++ xs) none ∙ append-nil (kin_of_all events)))
+none_told : (events more : List Event) (kin : Kin) → kin_of_all more ≡ [] → kin ≡ from_list (kin_of_all events) → kin ≡ from_list (kin_of_all (events ++ more))
+none_told events more kin none before =
+    before ∙ ap from_list (sym (flat_map-append kin_of events more ∙ ap (λ xs. kin_of_all events ++ xs) none ∙ append-nil (kin_of_all events)))
 
 pub kin-kept : IsKept EventsTellKin
 kin-kept = record {
-  settling = λ session outcome taken next ends before. settle-tells session outcome ends before;
-  expiry = λ state place numbers moment connection before.
-      let files = files_of (queue_at state place) (ascending numbers) in
-      if_when _ (expired state place connection numbers moment) EventsTellKin (λ _.
-      none_told state.events (length state.events + 1) (map (expiry_of connection moment) files) state.kin
-      (each-map IsDraft (expiry_of connection moment) files (λ file. record { number = λ n. refl; kin = λ n. refl })) (no_kin (expiry_of connection moment) (λ file. refl) files) before);
-  swap_out = λ state place numbers batch connection before. if_when _ _ EventsTellKin (λ _. before);
-  swap_in = λ state place batch connection before. if_when _ _ EventsTellKin (λ _. before);
+  others = record {
+    settling = λ session outcome taken next ends before. settle-tells session outcome before;
+    expiry = λ state place numbers moment connection before.
+        let files = files_of (queue_at state place) (ascending numbers) in
+        if_when _ (expired state place connection numbers moment) EventsTellKin (λ _.
+        none_told state.events (numbered_from (state.last_event + 1) (map (expiry_of connection moment) files)) state.kin (no_kin connection moment (state.last_event + 1) files) before);
+    swap_out = λ state place numbers batch connection before. if_when _ _ EventsTellKin (λ _. before);
+    swap_in = λ state place batch connection before. if_when _ _ EventsTellKin (λ _. before);
+  };
+  aging = λ state line before. if_when _ (aged state line) EventsTellKin (λ _.
+      ap (λ (kin : Kin). retain kin (λ kin. nat_lt line kin.2)) before
+      ∙ kin_retained (λ kin. nat_lt line kin.2) (kin_of_all state.events)
+      ∙ ap from_list (past_kin line state.events));
 }
 
 pub step-tells : StepsTellKin

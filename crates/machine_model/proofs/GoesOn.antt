@@ -1,4 +1,4 @@
--- That no counter falls, that store and inbox stay, and which names are left.
+-- That neither the line nor a counter falls, that store and inbox stay, and which names are left.
 use Rattle.std.proofs.Common.{◌≡◌, ℕ, zero, suc, ◌≤◌, Bool, true, false, cond, not, List, [], ◌∷◌, ◌++◌, map, refl, sym, ap, ◌∙◌, arith}
 use Rattle.std.specs.Prelude.{◌==◌, ◌||◌, bytes_eq, Option, Some, None, IfSome, filter, option_and_then, slice_get, slice_index, slice_set}
 use Rattle.std.specs.Option.{option_map_or}
@@ -7,7 +7,7 @@ use Rattle.flowfile_record.specs.declared.worked.Outcome.{Outcome}
 use Rattle.machine_model.specs.declared.flow.Flow.{Flow}
 use Rattle.machine_model.specs.declared.flow.Processor.{Processor}
 use Rattle.machine_model.specs.declared.given.Given.{Given}
-use Rattle.machine_model.specs.declared.journal.Step.TheVariants.{Expire, SwapOut, SwapIn}
+use Rattle.machine_model.specs.declared.journal.Step.TheVariants.{Expire, SwapOut, SwapIn, Age}
 use Rattle.machine_model.specs.declared.journal.Step.TheVariants as entry
 use Rattle.machine_model.specs.declared.kind.Kind.{Kind}
 use Rattle.machine_model.specs.declared.kind.Kind.TheVariants.{GetFile, GenerateFlowFile}
@@ -17,12 +17,13 @@ use Rattle.machine_model.specs.Laws.{GoesOn, StepsGoOn, ReplaysGoOn, LosesNames,
 use Rattle.machine_model.specs.Placing.{EndedSession}
 use Rattle.machine_model.specs.Settling.{counts_after}
 use Rattle.machine_model.specs.State.{QueuedFile, State, World, Machine}
-use Rattle.machine_model.specs.Stepping.{step, replay, session_step, session_of, session_after, after_session, taken_files, given_at, given_in, as_taken, world_after, without_name, same_world, expired}
+use Rattle.machine_model.specs.Stepping.{step, replay, session_step, session_of, session_after, after_session, taken_files, given_at, given_in, as_taken, world_after, without_name, same_world, aged, expired}
+use Rattle.machine_model.proofs.EventRows.{may_age}
 use Rattle.machine_model.proofs.GivenIn.{IsNextIndex, given-file}
 use Rattle.machine_model.proofs.Options.{if_and_then, if_map, if_at, if_when, if_weaker}
 use Rattle.machine_model.proofs.Preserved.{IsKept, step-kept, replay-kept}
 
--- ---- counters
+-- ---- the line and counters
 
 raised : (counts : List ℕ) (at index place : ℕ) → slice_index counts at ≤ index → slice_index counts place ≤ slice_index (slice_set counts at index) place
 raised [] at index place le = omega arith
@@ -37,38 +38,57 @@ counts-go-on _ at index counts place is = omega arith
 
 goes-on-kept : (before : State) → IsKept (GoesOn before)
 goes-on-kept before = record {
-  settling = λ session outcome taken next ends h. record {
-    store = h.store;
-    next_number = omega (arith, h.next_number);
-    next_arrival = omega (arith, h.next_arrival);
-    next_batch = h.next_batch;
-    counts = λ place. omega (arith, h.counts place, counts-go-on session.processor.kind session.place session.given.index session.state.counts place next);
+  others = record {
+    settling = λ session outcome taken next ends h. record {
+      store = h.store;
+      line = h.line;
+      next_number = omega (arith, h.next_number);
+      next_arrival = omega (arith, h.next_arrival);
+      next_batch = h.next_batch;
+      last_event = omega (arith, h.last_event);
+      counts = λ place. omega (arith, h.counts place, counts-go-on session.processor.kind session.place session.given.index session.state.counts place next);
+    };
+    expiry = λ state place numbers moment connection h. if_when _ (expired state place connection numbers moment) (GoesOn before) (λ _. record {
+      store = h.store;
+      line = h.line;
+      next_number = h.next_number;
+      next_arrival = h.next_arrival;
+      next_batch = h.next_batch;
+      last_event = omega (arith, h.last_event);
+      counts = h.counts;
+    });
+    swap_out = λ state place numbers batch connection h. if_when _ _ (GoesOn before) (λ passes. record {
+      store = h.store;
+      line = h.line;
+      next_number = h.next_number;
+      next_arrival = h.next_arrival;
+      next_batch = omega (arith, h.next_batch, eqb-true batch state.next_batch (and_parts _ (batch == state.next_batch) passes).1);
+      last_event = h.last_event;
+      counts = h.counts;
+    });
+    swap_in = λ state place batch connection h. if_when _ _ (GoesOn before) (λ _. record {
+      store = h.store;
+      line = h.line;
+      next_number = h.next_number;
+      next_arrival = h.next_arrival;
+      next_batch = h.next_batch;
+      last_event = h.last_event;
+      counts = h.counts;
+    });
   };
-  expiry = λ state place numbers moment connection h. if_when _ (expired state place connection numbers moment) (GoesOn before) (λ _. record {
+  aging = λ state line h. if_when _ (aged state line) (GoesOn before) (λ passes. record {
     store = h.store;
+    line = omega (arith, h.line, (may_age state line passes).higher);
     next_number = h.next_number;
     next_arrival = h.next_arrival;
     next_batch = h.next_batch;
-    counts = h.counts;
-  });
-  swap_out = λ state place numbers batch connection h. if_when _ _ (GoesOn before) (λ passes. record {
-    store = h.store;
-    next_number = h.next_number;
-    next_arrival = h.next_arrival;
-    next_batch = omega (arith, h.next_batch, eqb-true batch state.next_batch (and_parts _ (batch == state.next_batch) passes).1);
-    counts = h.counts;
-  });
-  swap_in = λ state place batch connection h. if_when _ _ (GoesOn before) (λ _. record {
-    store = h.store;
-    next_number = h.next_number;
-    next_arrival = h.next_arrival;
-    next_batch = h.next_batch;
+    last_event = h.last_event;
     counts = h.counts;
   });
 }
 
 at-once : (state : State) → GoesOn state state
-at-once state = record { store = refl; next_number = omega arith; next_arrival = omega arith; next_batch = omega arith; counts = λ place. omega arith }
+at-once state = record { store = refl; line = omega arith; next_number = omega arith; next_arrival = omega arith; next_batch = omega arith; last_event = omega arith; counts = λ place. omega arith }
 
 pub step-goes-on : StepsGoOn
 step-goes-on flow machine one = step-kept (GoesOn machine.state) (goes-on-kept machine.state) flow machine one (at-once machine.state)
@@ -123,6 +143,7 @@ step-loses flow machine (entry.Session processor numbers moment given) = named f
 step-loses flow machine (Expire place numbers moment) = stays machine _
 step-loses flow machine (SwapOut place numbers batch) = stays machine _
 step-loses flow machine (SwapIn place batch) = stays machine _
+step-loses flow machine (Age line) = stays machine _
 
 -- ---- replays
 

@@ -52,4 +52,3 @@ pub mod TextParts
 pub mod Texts
 pub mod Took
 pub mod Validity
-pub mod WithoutPast

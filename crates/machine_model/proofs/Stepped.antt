@@ -8,7 +8,7 @@ use Rattle.machine_model.specs.State.{QueuedFile, State}
 use Rattle.machine_model.specs.Files.{queue_at, is_number_among, is_in_batch}
 use Rattle.machine_model.specs.Laws.{StepsKeepNumbers, ReplaysKeepNumbers}
 use Rattle.machine_model.specs.Valid.{AreNumbered, IsWellNumbered}
-use Rattle.machine_model.specs.Stepping.{expire_step, expired, without_files, swap_out_step, swapped_out, swap_in_step, swapped_in}
+use Rattle.machine_model.specs.Stepping.{aged, expire_step, expired, without_files, swap_out_step, swapped_out, swap_in_step, swapped_in}
 use Rattle.machine_model.proofs.Batches.{astray, astray_batch, rebatched, changed-le, either-le, next-within}
 use Rattle.machine_model.proofs.Keyed.{Counted, counted, numbered}
 use Rattle.machine_model.proofs.Options.{if_when}
@@ -95,10 +95,13 @@ swap_in-keeps state place batch connection before =
 
 pub well-numbered-kept : IsKept IsWellNumbered
 well-numbered-kept = record {
-  settling = λ session outcome taken next ends before. settle-keeps session outcome before taken ends;
-  expiry = expire-keeps;
-  swap_out = swap_out-keeps;
-  swap_in = swap_in-keeps;
+  others = record {
+    settling = λ session outcome taken next ends before. settle-keeps session outcome before taken ends;
+    expiry = expire-keeps;
+    swap_out = swap_out-keeps;
+    swap_in = swap_in-keeps;
+  };
+  aging = λ state line before. if_when _ (aged state line) IsWellNumbered (λ _. record { numbers = before.numbers; arrivals = before.arrivals; first_batch = before.first_batch; batches = before.batches });
 }
 
 pub step-keeps : StepsKeepNumbers

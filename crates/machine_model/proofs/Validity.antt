@@ -16,7 +16,7 @@ use Rattle.machine_model.specs.Laws.{EndsAllInTurn, HasTaken, NewStatesAreValid,
 use Rattle.machine_model.specs.Placing.{EndedSession, settled_files, settlement_clones}
 use Rattle.machine_model.specs.Settling.{settle, newcomers, counts_after}
 use Rattle.machine_model.specs.State.{QueuedFile, State}
-use Rattle.machine_model.specs.Stepping.{expire_step, expired, without_files, swap_out_step, swapped_out, swap_in_step, swapped_in}
+use Rattle.machine_model.specs.Stepping.{age_step, aged, expire_step, expired, without_files, swap_out_step, swapped_out, swap_in_step, swapped_in}
 use Rattle.machine_model.specs.Valid.{IsValid, IsWellNumbered, AreByArrival, AreNumbered, HasBatchBelow, AreEventsInRow, EventsTellKin}
 use Rattle.machine_model.proofs.BatchPlaces.{Has, at, has-among, among-has, after-has, set-has, filter-has, change-has, has-below}
 use Rattle.machine_model.proofs.EventRows.{row-kept}
@@ -96,13 +96,13 @@ settle-valid flow session outcome taken next ends valid =
     record {
       queues = length-map (enumerate_from 0 state.queues) _ ∙ length-enumerate_from 0 state.queues ∙ valid.queues;
       counts = length-counts session.processor.kind session.place session.given.index state.counts ∙ valid.counts;
-      numbered = well-numbered-kept.settling session outcome taken next ends valid.numbered;
+      numbered = well-numbered-kept.others.settling session outcome taken next ends valid.numbered;
       by_arrival = queues-rise files coming state.next_arrival state.queues steady (below flow state valid);
       batches = λ one other batch h k. valid.batches one other batch
           (among-has (at state.queues one) batch (after-has batch files coming state.next_arrival state.queues one steady (has-among _ batch h)))
           (among-has (at state.queues other) batch (after-has batch files coming state.next_arrival state.queues other steady (has-among _ batch k)));
-      events = row-kept.settling session outcome taken next ends valid.events;
-      kin = kin-kept.settling session outcome taken next ends valid.kin;
+      events = row-kept.others.settling session outcome taken next ends valid.events;
+      kin = kin-kept.others.settling session outcome taken next ends valid.kin;
     }
 
 -- what a queue has that stands in another's place
@@ -133,11 +133,11 @@ expire-valid flow state place numbers moment connection valid =
     if_when _ (expired state place connection numbers moment) (IsValid flow) (λ passes. record {
       queues = length-set state.queues place rest ∙ valid.queues;
       counts = valid.counts;
-      numbered = when_passes _ _ IsWellNumbered passes (well-numbered-kept.expiry state place numbers moment connection valid.numbered);
+      numbered = when_passes _ _ IsWellNumbered passes (well-numbered-kept.others.expiry state place numbers moment connection valid.numbered);
       by_arrival = all_set AreByArrival state.queues place rest valid.by_arrival (filter-by_arrival state.next_arrival _ queue (queue-below flow state place valid));
       batches = λ one other batch h k. requeued-valid flow state place rest valid (λ batch h. inl (filter-has batch _ queue h)) one other batch (has-among _ batch h) (has-among _ batch k);
-      events = when_passes _ _ AreEventsInRow passes (row-kept.expiry state place numbers moment connection valid.events);
-      kin = when_passes _ _ EventsTellKin passes (kin-kept.expiry state place numbers moment connection valid.kin);
+      events = when_passes _ _ AreEventsInRow passes (row-kept.others.expiry state place numbers moment connection valid.events);
+      kin = when_passes _ _ EventsTellKin passes (kin-kept.others.expiry state place numbers moment connection valid.kin);
     })
 
 some_same : (one other : ℕ) → ◌≡◌ {A = Option ℕ} (Some one) (Some other) → other ≡ one
@@ -167,14 +167,14 @@ swap_out-valid flow state place numbers batch connection valid =
     record {
       queues = length-set state.queues place out ∙ valid.queues;
       counts = valid.counts;
-      numbered = when_passes _ _ IsWellNumbered passes (well-numbered-kept.swap_out state place numbers batch connection valid.numbered);
+      numbered = when_passes _ _ IsWellNumbered passes (well-numbered-kept.others.swap_out state place numbers batch connection valid.numbered);
       by_arrival = all_set AreByArrival state.queues place out valid.by_arrival
           (change-by_arrival state.next_arrival (swapped_out numbers batch) (λ file. either_arrival (is_number_among numbers file.number) _ file refl) queue (queue-below flow state place valid));
       batches = λ one other new h k. requeued-valid flow state place out valid
           (λ new h. change-has new state.next_batch (swapped_out numbers batch)
           (λ file is. elim (out-each (is_number_among numbers file.number) batch new file is) [ inl old ↦ inl old | inr e ↦ inr (e ∙ is_next) ]) queue h)
           one other new (has-among _ new h) (has-among _ new k);
-      events = valid.events;
+      events = record { line = valid.events.line; numbers = valid.events.numbers; last_event = valid.events.last_event };
       kin = valid.kin;
     })
 
@@ -185,24 +185,39 @@ swap_in-valid flow state place batch connection valid =
     if_when _ _ (IsValid flow) (λ passes. record {
       queues = length-set state.queues place back ∙ valid.queues;
       counts = valid.counts;
-      numbered = when_passes _ _ IsWellNumbered passes (well-numbered-kept.swap_in state place batch connection valid.numbered);
+      numbered = when_passes _ _ IsWellNumbered passes (well-numbered-kept.others.swap_in state place batch connection valid.numbered);
       by_arrival = all_set AreByArrival state.queues place back valid.by_arrival
           (change-by_arrival state.next_arrival (swapped_in batch) (λ file. either_arrival (is_in_batch batch file) _ file refl) queue (queue-below flow state place valid));
       batches = λ one other new h k. requeued-valid flow state place back valid
           (λ new h. change-has new state.next_batch (swapped_in batch) (λ file is. in-each (is_in_batch batch file) state.next_batch new file is) queue h)
           one other new (has-among _ new h) (has-among _ new k);
-      events = valid.events;
+      events = record { line = valid.events.line; numbers = valid.events.numbers; last_event = valid.events.last_event };
       kin = valid.kin;
+    })
+
+age-valid : (flow : Flow) (state : State) (line : ℕ) → IsValid flow state → IfSome (age_step state line) (IsValid flow)
+age-valid flow state line valid =
+    if_when _ (aged state line) (IsValid flow) (λ passes. record {
+      queues = valid.queues;
+      counts = valid.counts;
+      numbered = when_passes _ _ IsWellNumbered passes (well-numbered-kept.aging state line valid.numbered);
+      by_arrival = valid.by_arrival;
+      batches = valid.batches;
+      events = when_passes _ _ AreEventsInRow passes (row-kept.aging state line valid.events);
+      kin = when_passes _ _ EventsTellKin passes (kin-kept.aging state line valid.kin);
     })
 
 -- ---- all steps
 
 valid-kept : (flow : Flow) → IsKept (IsValid flow)
 valid-kept flow = record {
-  settling = λ session outcome taken next ends valid. settle-valid flow session outcome taken next ends valid;
-  expiry = expire-valid flow;
-  swap_out = swap_out-valid flow;
-  swap_in = swap_in-valid flow;
+  others = record {
+    settling = λ session outcome taken next ends valid. settle-valid flow session outcome taken next ends valid;
+    expiry = expire-valid flow;
+    swap_out = swap_out-valid flow;
+    swap_in = swap_in-valid flow;
+  };
+  aging = age-valid flow;
 }
 
 pub step-valid : StepsStayValid
@@ -250,6 +265,6 @@ new-valid flow lot =
       };
       by_arrival = all-empty flow.connections;
       batches = λ one other batch h k. absurd (no-queue flow.connections one batch (has-among _ batch h));
-      events = refl;
+      events = record { line = refl; numbers = refl; last_event = refl };
       kin = refl;
     }

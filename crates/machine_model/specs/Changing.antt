@@ -1,19 +1,16 @@
--- What a settled session makes of a state, where references stand for these bytes; and a state without what it tells of
--- the past.
-use Rattle.std.specs.Prelude.{ℕ, ◌==◌, List, [], ◌++◌, map, filter, fold, unwrap_or, slice_set, Option, None, Some}
-use Rattle.std.specs.FinSet.{empty, union, from_list}
+-- What a settled session makes of a state, where references stand for these bytes.
+use Rattle.std.specs.Prelude.{ℕ, ◌+◌, ◌==◌, List, ◌++◌, length, map, filter, fold, unwrap_or, None}
+use Rattle.std.specs.FinSet.{union, from_list}
 use Rattle.std.specs.List.{enumerate_from}
+use Rattle.flowfile_record.specs.Counts.{with_count}
 use Rattle.flowfile_record.specs.Kin.{kin_of_all}
 use Rattle.flowfile_record.specs.NumberedItems.{with_item}
 use Rattle.flowfile_record.specs.declared.change.Settled.{Settled}
 use Rattle.flowfile_record.specs.declared.content.ContentRef.{ContentRef}
 use Rattle.flowfile_record.specs.declared.flow_file.FlowFile.{FlowFile}
-use Rattle.flowfile_record.specs.declared.stored.Counted.{Counted}
 use Rattle.flowfile_record.specs.declared.stored.Placed.{Placed}
-use Rattle.machine_model.specs.State.{QueuedFile, State, Machine}
+use Rattle.machine_model.specs.State.{QueuedFile, State}
 use Rattle.machine_model.specs.Stepping.{without_files}
-
--- ---- a settled session
 
 -- a flow file as one of a queue, with the bytes that its reference stands for
 abbrev pub queued_file : (contents : ContentRef → List ℕ) → FlowFile → QueuedFile
@@ -44,11 +41,6 @@ abbrev pub queue_after : (contents : ContentRef → List ℕ) → Settled → �
 queue_after contents s (connection, queue) =
     fold with_arrival (without_files queue s.gone) (placed_into contents connection s.placed)
 
--- the counts, that of a generator being set
-abbrev pub with_count : Option Counted → List ℕ → List ℕ
-with_count None counts = counts
-with_count (Some g) counts = slice_set counts g.processor g.count
-
 -- The state behind a settled session. The kin is what the events tell of.
 abbrev pub state_after : (contents : ContentRef → List ℕ) → State → Settled → State
 state_after contents state s = record state {
@@ -57,14 +49,6 @@ state_after contents state s = record state {
   kin = union state.kin (from_list (kin_of_all s.events));
   next_number = s.next_number;
   next_arrival = s.next_arrival;
+  last_event = state.last_event + length s.events;
   counts = with_count s.count state.counts;
 }
-
--- ---- without the past
-
--- the state as one in which nothing has happened yet
-abbrev pub without_events : State → State
-without_events state = record state { events = []; kin = empty }
-
-abbrev pub without_past : Machine → Machine
-without_past machine = record { state = without_events machine.state; world = machine.world }

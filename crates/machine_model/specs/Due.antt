@@ -1,8 +1,8 @@
 -- What the engine owes its queues before any session, and what it owes itself.
-use Rattle.std.specs.Prelude.{ℕ, ◌+◌, ◌-◌, ◌/◌, ◌==◌, ◌&&◌, nat_lt, nat_le, Bool, List, length, map, filter, drop, Option, Some, None, option_map, slice_get, if◌then◌else◌}
+use Rattle.std.specs.Prelude.{ℕ, ◌+◌, ◌-◌, ◌*◌, ◌/◌, ◌==◌, ◌&&◌, nat_lt, nat_le, Bool, List, length, map, filter, drop, Option, Some, None, option_map, slice_get, if◌then◌else◌}
 use Rattle.std.specs.List.{enumerate_from, filter_map}
 use Rattle.prioritizer.specs.declared.prioritizer.Prioritizer.{Prioritizer}
-use Rattle.flowfile_record.specs.declared.limits.TheConstants.{NUMBER_LIMIT}
+use Rattle.flowfile_record.specs.declared.limits.TheConstants.{EVENTS_PER_FILE, NUMBER_LIMIT}
 use Rattle.machine_model.specs.declared.journal.TheConstants.{RECLAIM_ENTRIES}
 use Rattle.machine_model.specs.declared.flow.Connection.{Connection}
 use Rattle.machine_model.specs.declared.flow.Flow.{Flow}
@@ -71,6 +71,13 @@ due_swap_in flow queues = first_due (λ connection queue. lowest_batch connectio
 -- the log of this number has so many entries behind its beginning, and another log can follow it
 abbrev pub is_checkpoint_due : (checkpoint entries number : ℕ) → Bool
 is_checkpoint_due checkpoint entries number = nat_le checkpoint entries && nat_lt number (NUMBER_LIMIT - 1)
+
+-- The line to which events are forgotten, where so many are kept at least: the end of the last file of events that all
+-- of these are behind, where that is past the line of now.
+abbrev pub due_aging : (kept line last_event : ℕ) → Option ℕ
+due_aging kept line last_event =
+    let due = (last_event - kept) / EVENTS_PER_FILE * EVENTS_PER_FILE in
+    if nat_lt line due then Some due else None
 
 -- so many entries were journaled since the last reclaim
 abbrev pub is_reclaim_due : (entries : ℕ) → Bool

@@ -15,12 +15,15 @@ use Rattle.flowfile_record.specs.declared.worked.Outcome.{Outcome}
 use Rattle.flowfile_record.specs.declared.worked.Sent.{Sent}
 use Rattle.machine_model.specs.Placing.{EndedSession, SettledFile, settled_files, settlement_clones, Destination, Drops, Leaves, relationship_at}
 
--- an event of a file, whose number isn't given yet
-abbrev pub Draft : Type 0
-Draft = ℕ → Event
+-- What a session tells by one event, whose number isn't given yet: the event, and for which pairs of a child and its
+-- parent it is told. The pairs are those of an origin or of a clone, whatever the event says.
+pub record Draft : Type 0 where
+  pub event : ℕ → Event
+  pub kin : List (ℕ × ℕ)
 
-abbrev pub of_file : EndedSession → EventKind → SettledFile → (parents children detail : List ℕ) → Draft
-of_file session kind file parents children detail = λ number. record {
+-- an event of a file under its number
+abbrev pub of_file : EndedSession → EventKind → SettledFile → (parents children detail : List ℕ) → (number : ℕ) → Event
+of_file session kind file parents children detail number = record {
   number = number;
   kind = kind;
   moment = session.given.moment;
@@ -35,7 +38,7 @@ of_file session kind file parents children detail = λ number. record {
 
 -- an event that names no other file
 abbrev pub alone : EndedSession → EventKind → SettledFile → (detail : List ℕ) → Draft
-alone session kind file detail = of_file session kind file [] [] detail
+alone session kind file detail = record { event = of_file session kind file [] [] detail; kin = [] }
 
 -- some numbers, ascending
 abbrev pub put_ascending : ℕ → List ℕ → List ℕ
@@ -71,18 +74,27 @@ forked_children files place = map (λ file. file.number) (filter (λ file. is_fo
 abbrev pub fork_of : EndedSession → SettledFile → List ℕ → List Draft
 fork_of session parent [] = []
 fork_of session parent (child ∷ children) =
-    of_file session kind.Fork parent (parent.number ∷ []) (child ∷ children) [] ∷ []
+    record {
+      event = of_file session kind.Fork parent (parent.number ∷ []) (child ∷ children) [];
+      kin = map (λ child. (child, parent.number)) (child ∷ children);
+    } ∷ []
 
 abbrev pub forks : EndedSession → List SettledFile → List Draft
 forks session files = flat_map (λ f. fork_of session f.1 (forked_children files f.0)) (enumerate_from 0 files)
 
 abbrev pub joined : EndedSession → List SettledFile → SettledFile → Origin → List Draft
 joined session files file (origin.Joined parents) =
-    of_file session kind.Join file (ascending (map (number_at files) parents)) (file.number ∷ []) [] ∷ []
+    record {
+      event = of_file session kind.Join file (ascending (map (number_at files) parents)) (file.number ∷ []) [];
+      kin = map (λ place. (file.number, number_at files place)) parents;
+    } ∷ []
 joined session files file _ = []
 
 abbrev pub clone_event : EndedSession → SettledFile → (clone : ℕ) → Draft
-clone_event session original clone = of_file session kind.Clone original (original.number ∷ []) (clone ∷ []) []
+clone_event session original clone = record {
+  event = of_file session kind.Clone original (original.number ∷ []) (clone ∷ []) [];
+  kin = (clone, original.number) ∷ [];
+}
 
 -- a copy of the file at a place
 abbrev pub is_cloned_from : ℕ → Origin → Bool
@@ -150,7 +162,9 @@ drafts session outcome =
     ++ map (λ clone. clone_event session clone.original clone.number) (settlement_clones session outcome.files)
     ++ flat_map (λ file. dropped session file file.goes) files
 
--- numbered from here on
+-- Drafts are numbered in turn from here on: their events, and their kin as triples (child, parent, event's number).
 abbrev pub numbered_from : ℕ → List Draft → List Event
-numbered_from number [] = []
-numbered_from number (draft ∷ drafts) = draft number ∷ numbered_from (number + 1) drafts
+numbered_from number drafts = map (λ d. d.1.event d.0) (enumerate_from number drafts)
+
+abbrev pub kin_from : ℕ → List Draft → List (ℕ × ℕ × ℕ)
+kin_from number drafts = flat_map (λ d. map (λ pair. (pair.0, pair.1, d.0)) d.1.kin) (enumerate_from number drafts)

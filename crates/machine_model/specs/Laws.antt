@@ -1,6 +1,7 @@
 -- What holds of the machine: of the order of queues, of outcomes, of numbers, of events and of replays.
-use Rattle.std.specs.Prelude.{map, ◌≡◌, ◌≢◌, ◌⊎◌, ℕ, ◌^◌, ◌<◌, ◌≤◌, true, false, List, [], ◌∷◌, ◌++◌, All, Contains, MatchOption, IfSome, IsSome, not, filter, option_and_then, option_map, slice_get, slice_index, length, Option, Some}
-use Rattle.std.specs.List.{AllPairs, enumerate_from, flat_map}
+use Rattle.std.specs.Prelude.{map, ◌≡◌, ◌≢◌, ◌⊎◌, ◌↔◌, ℕ, ◌+◌, ◌^◌, ◌<◌, ◌≤◌, nat_lt, Bool, true, false, List, [], ◌∷◌, ◌++◌, All, Contains, MatchOption, IfSome, IsSome, not, filter, if◌then◌else◌, option_and_then, slice_get, slice_index, length, Option, Some}
+use Rattle.std.specs.FinSet.{contains}
+use Rattle.std.specs.List.{AllPairs, enumerate_from, flat_map, list_all, range_with_len}
 use Rattle.std.specs.Str.{IsUtf8}
 use Rattle.std.specs.Option.{option_map_or}
 use Rattle.std.specs.List.Sorted.{IsPermutation}
@@ -17,9 +18,9 @@ use Rattle.machine_model.specs.declared.flow.Flow.{Flow}
 use Rattle.machine_model.specs.declared.flow.QueueLimits.{QueueLimits}
 use Rattle.machine_model.specs.declared.given.Given.{Given}
 use Rattle.machine_model.specs.declared.journal.Step.{Step}
-use Rattle.machine_model.specs.declared.journal.Step.TheVariants.{Expire, SwapOut, SwapIn}
+use Rattle.machine_model.specs.declared.journal.Step.TheVariants.{Expire, SwapOut, SwapIn, Age}
 use Rattle.machine_model.specs.declared.journal.Step.TheVariants as entry
-use Rattle.machine_model.specs.Due.{numbers_of, due_expiry, due_swap_out, due_swap_in}
+use Rattle.machine_model.specs.Due.{numbers_of, due_aging, due_expiry, due_swap_out, due_swap_in}
 use Rattle.machine_model.specs.Files.{active_views, content_bytes, queue_at, queue_view, queues_of, view_of}
 use Rattle.machine_model.specs.declared.kind.Kind.{Kind}
 use Rattle.machine_model.specs.declared.kind.Kind.TheVariants.{GetFile, UpdateAttribute, AttributesToJson, ExtractText}
@@ -28,16 +29,15 @@ use Rattle.machine_model.specs.declared.kind.TakeRule.TheVariants.{Source, One, 
 use Rattle.machine_model.specs.State.{QueuedFile, State, World, Machine}
 use Rattle.machine_model.specs.Acting.{act}
 use Rattle.machine_model.specs.Making.{TakenFile}
-use Rattle.machine_model.specs.Changing.{without_events, without_past}
 use Rattle.machine_model.specs.Kinds.{take_rule_of, relationships_of, is_among}
 use Rattle.machine_model.specs.Lineage.{Lineage, IsLineage}
 use Rattle.machine_model.specs.Order.{goes_before, in_order, is_eligible, eligible_files, best}
-use Rattle.machine_model.specs.Placing.{EndedSession}
+use Rattle.machine_model.specs.Placing.{EndedSession, settled_files, settlement_clones}
 use Rattle.machine_model.specs.Sound.{IsSoundKind}
-use Rattle.machine_model.specs.Settling.{settle}
+use Rattle.machine_model.specs.Settling.{kin_of_files, settle}
 use Rattle.machine_model.specs.View.{file_count, byte_count, FileView}
 use Rattle.machine_model.specs.Valid.{files_of_all, IsWellNumbered, AreEventsInRow, EventsTellKin, IsValid, new_state}
-use Rattle.machine_model.specs.Stepping.{has_all, source_of, taken_files, step, replay}
+use Rattle.machine_model.specs.Stepping.{has_all, past, source_of, taken_files, step, replay}
 use Rattle.machine_model.specs.Taking.{picks}
 
 -- ---- the order of a queue
@@ -107,23 +107,6 @@ ReplayOfOneMore = (flow : Flow) (machine : Machine) (steps : List Step) (last : 
 abbrev pub ReplayOfJoined : Type 0
 ReplayOfJoined = (flow : Flow) (machine : Machine) (front back : List Step) →
     replay flow machine (front ++ back) ≡ option_and_then (λ after. replay flow after back) (replay flow machine front)
-
--- ---- the past
-
--- what a session changes doesn't go by what has happened, nor does what a step changes
-abbrev pub SettlesWithoutPast : Type 0
-SettlesWithoutPast = (session : EndedSession) (outcome : Outcome) →
-    without_events (settle (record session { state = without_events session.state }) outcome)
-    ≡ without_events (settle session outcome)
-
-abbrev pub StepsWithoutPast : Type 0
-StepsWithoutPast = (flow : Flow) (machine : Machine) (one : Step) →
-    option_map without_past (step flow (without_past machine) one) ≡ option_map without_past (step flow machine one)
-
-abbrev pub ReplaysWithoutPast : Type 0
-ReplaysWithoutPast = (flow : Flow) (machine : Machine) (steps : List Step) →
-    option_map without_past (replay flow (without_past machine) steps)
-    ≡ option_map without_past (replay flow machine steps)
 
 -- ---- outcomes
 
@@ -201,19 +184,50 @@ abbrev pub ReplaysNumberEvents : Type 0
 ReplaysNumberEvents = (flow : Flow) (machine : Machine) (steps : List Step) → AreEventsInRow machine.state →
     IfSome (replay flow machine steps) (λ after. AreEventsInRow after.state)
 
--- events are added behind those that there are, and none is changed
-abbrev pub AddsEvents : (before after : State) → Type 0
-AddsEvents before after = (more : List Event) × (after.events ≡ before.events ++ more)
+-- the events that are left where the line is raised from one number to another, and all where it stays
+abbrev pub left_past : (from to : ℕ) → List Event → List Event
+left_past from to events = if nat_lt from to then past to events else events
+
+-- These events are added behind those that there are, numbered on from the last one. None is changed, and those are
+-- left that are past the line.
+pub record AddsEvents (before after : State) (more : List Event) : Type 0 where
+  pub line : before.line ≤ after.line
+  pub numbers : map (λ event. event.number) more ≡ range_with_len (before.last_event + 1) (length more)
+  pub last_event : after.last_event ≡ before.last_event + length more
+  pub events : after.events ≡ left_past before.line after.line (before.events ++ more)
 
 abbrev pub ReplaysAddEvents : Type 0
 ReplaysAddEvents = (flow : Flow) (machine : Machine) (steps : List Step) →
-    IfSome (replay flow machine steps) (λ after. AddsEvents machine.state after.state)
+    IfSome (replay flow machine steps) (λ after. (more : List Event) × AddsEvents machine.state after.state more)
+
+abbrev pub is_aging : Step → Bool
+is_aging (Age line) = true
+is_aging _ = false
+
+-- no other step moves the line
+abbrev pub ReplaysKeepLine : Type 0
+ReplaysKeepLine = (flow : Flow) (machine : Machine) (steps : List Step) →
+    list_all (λ one. not (is_aging one)) steps ≡ true
+    → IfSome (replay flow machine steps) (λ after. after.state.line ≡ machine.state.line)
 
 -- ---- kin
 
+-- by some event one file came from another
+abbrev pub IsChildOf : State → (child parent : ℕ) → Type 0
+IsChildOf state child parent = (event : ℕ) × (contains state.kin (child, parent, event) ≡ true)
+
+-- a session adds the kin of its files
+abbrev pub SettlingAddsKin : Type 0
+SettlingAddsKin = (session : EndedSession) (outcome : Outcome) → EndsAllInTurn (length session.taken) outcome →
+    (child parent : ℕ)
+    → IsChildOf (settle session outcome) child parent
+    ↔ (IsChildOf session.state child parent
+    ⊎ Contains (kin_of_files (settled_files session outcome.files) (settlement_clones session outcome.files))
+    (child, parent))
+
 abbrev pub SettlingTellsKin : Type 0
-SettlingTellsKin = (session : EndedSession) (outcome : Outcome) → EndsAllInTurn (length session.taken) outcome →
-    EventsTellKin session.state → EventsTellKin (settle session outcome)
+SettlingTellsKin = (session : EndedSession) (outcome : Outcome) → EventsTellKin session.state →
+    EventsTellKin (settle session outcome)
 
 abbrev pub StepsTellKin : Type 0
 StepsTellKin = (flow : Flow) (machine : Machine) (one : Step) → EventsTellKin machine.state →
@@ -238,12 +252,14 @@ ReplaysStayValid = (flow : Flow) (machine : Machine) (steps : List Step) → IsV
 
 -- ---- what goes on, and what stays
 
--- no counter is lower, and the store is the same
+-- neither the line nor a counter is lower, and the store is the same
 pub record GoesOn (before after : State) : Type 0 where
   pub store : after.store ≡ before.store
+  pub line : before.line ≤ after.line
   pub next_number : before.next_number ≤ after.next_number
   pub next_arrival : before.next_arrival ≤ after.next_arrival
   pub next_batch : before.next_batch ≤ after.next_batch
+  pub last_event : before.last_event ≤ after.last_event
   pub counts : (place : ℕ) → slice_index before.counts place ≤ slice_index after.counts place
 
 abbrev pub StepsGoOn : Type 0
@@ -323,6 +339,10 @@ DueSwapOutsHaveSteps = (flow : Flow) (machine : Machine) → IsValid flow machin
 abbrev pub DueSwapInsHaveSteps : Type 0
 DueSwapInsHaveSteps = (flow : Flow) (machine : Machine) →
     IfSome (due_swap_in flow (queues_of machine.state)) (λ due. IsSome (step flow machine (SwapIn due.0 due.1)))
+
+abbrev pub DueAgingsHaveSteps : Type 0
+DueAgingsHaveSteps = (flow : Flow) (machine : Machine) (kept : ℕ) →
+    IfSome (due_aging kept machine.state.line machine.state.last_event) (λ line. IsSome (step flow machine (Age line)))
 
 -- ---- lineages
 

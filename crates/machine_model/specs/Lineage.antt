@@ -1,13 +1,13 @@
 -- Which files a file came from, which came from it, and which events tell of them.
 use Rattle.std.specs.Prelude.{◌≡◌, ◌⊎◌, ◌↔◌, ℕ, ◌<◌, ◌==◌, ◌||◌, Bool, List, Contains}
-use Rattle.std.specs.List.{list_any, AllPairs}
-use Rattle.flowfile_record.specs.Kin.{kin_of_all}
+use Rattle.std.specs.List.{list_any, flat_map, AllPairs}
+use Rattle.flowfile_record.specs.Kin.{pairs_named}
 use Rattle.flowfile_record.specs.declared.event.Event.{Event}
 use Rattle.machine_model.specs.Files.{is_number_among}
 
 -- events name one file as the child of another
 abbrev pub NamesParent : List Event → (child parent : ℕ) → Type 0
-NamesParent events child parent = Contains (kin_of_all events) (child, parent)
+NamesParent events child parent = Contains (flat_map pairs_named events) (child, parent)
 
 -- the least set that has the parents of the file and of its members
 pub data IsAncestor (events : List Event) (file : ℕ) : ℕ → Type 0 where

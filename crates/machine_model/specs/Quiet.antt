@@ -1,5 +1,5 @@
 -- When a flow has nothing left to do, and when it can't go on. Both speak of a state in which no session runs.
-use Rattle.std.specs.Prelude.{ℕ, ◌==◌, ◌&&◌, ◌||◌, not, nat_lt, nat_le, Bool, false, List, length, filter, Option, None, is_some, option_map, slice_index, if◌then◌else◌}
+use Rattle.std.specs.Prelude.{ℕ, ◌==◌, ◌&&◌, ◌||◌, not, nat_lt, nat_le, Bool, false, List, length, filter, Option, None, is_none, is_some, option_map, slice_index, if◌then◌else◌}
 use Rattle.std.specs.List.{list_all, list_any, enumerate_from, find}
 use Rattle.machine_model.specs.declared.flow.Connection.{Connection}
 use Rattle.machine_model.specs.declared.flow.Flow.{Flow}
@@ -8,7 +8,7 @@ use Rattle.machine_model.specs.declared.flow.QueueLimits.{QueueLimits}
 use Rattle.machine_model.specs.declared.kind.Kind.{Kind}
 use Rattle.machine_model.specs.declared.kind.Kind.TheVariants.{GetFile, GenerateFlowFile}
 use Rattle.machine_model.specs.State.{State, World}
-use Rattle.machine_model.specs.Due.{expired_numbers}
+use Rattle.machine_model.specs.Due.{due_swap_in, due_swap_out, expired_numbers}
 use Rattle.machine_model.specs.Files.{queues_of}
 use Rattle.machine_model.specs.Kinds.{take_rule_of}
 use Rattle.machine_model.specs.Order.{eligible_files}
@@ -50,11 +50,18 @@ is_nothing_due_in queues moment (place, connection) =
 abbrev pub nothing_due : Flow → (ℕ → QueueView) → ℕ → Bool
 nothing_due flow queues moment = list_all (is_nothing_due_in queues moment) (enumerate_from 0 flow.connections)
 
+-- no batch has to be swapped out or in
+abbrev pub no_swap_due : Flow → (ℕ → QueueView) → Bool
+no_swap_due flow queues = is_none (due_swap_out flow queues) && is_none (due_swap_in flow queues)
+
 -- nothing waits, and no processor wants to work
-abbrev pub quiet : Flow → State → World → ℕ → Bool
-quiet flow state world moment =
+abbrev pub quiet_but_for_swaps : Flow → State → World → ℕ → Bool
+quiet_but_for_swaps flow state world moment =
     nothing_due flow (queues_of state) moment
     && not (list_any (wants flow state world moment) (enumerate_from 0 flow.processors))
+
+abbrev pub quiet : Flow → State → World → ℕ → Bool
+quiet flow state world moment = no_swap_due flow (queues_of state) && quiet_but_for_swaps flow state world moment
 
 -- a full connection that leaves a processor
 abbrev pub holds_back : (ℕ → QueueView) → ℕ → ℕ × Connection → Bool
@@ -73,10 +80,14 @@ holds_back_any queues processors connection =
 
 -- Nothing waits, some processor wants to work, and each that does is held back by a full connection. This is the place
 -- of the first connection that holds one back.
-abbrev pub blocked : Flow → State → World → ℕ → Option ℕ
-blocked flow state world moment =
+abbrev pub blocked_but_for_swaps : Flow → State → World → ℕ → Option ℕ
+blocked_but_for_swaps flow state world moment =
     let processors = wanting flow state world moment in
     if nothing_due flow (queues_of state) moment && nat_lt 0 (length processors)
     && list_all (is_held_back flow (queues_of state)) processors
     then option_map (λ c. c.0) (find (holds_back_any (queues_of state) processors) (enumerate_from 0 flow.connections))
     else None
+
+abbrev pub blocked : Flow → State → World → ℕ → Option ℕ
+blocked flow state world moment =
+    if no_swap_due flow (queues_of state) then blocked_but_for_swaps flow state world moment else None

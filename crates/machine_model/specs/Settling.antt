@@ -7,7 +7,7 @@ use Rattle.machine_model.specs.declared.kind.Kind.TheVariants.{GenerateFlowFile}
 use Rattle.flowfile_record.specs.Outcome.{parents_of}
 use Rattle.flowfile_record.specs.declared.worked.Outcome.{Outcome}
 use Rattle.machine_model.specs.State.{QueuedFile, State}
-use Rattle.machine_model.specs.Events.{drafts, numbered_from, number_at}
+use Rattle.machine_model.specs.Events.{drafts, numbered_from, kin_from, number_at}
 use Rattle.machine_model.specs.Placing.{EndedSession, SettledFile, SettlementClone, settled_files, settlement_clones, Destination, Queues, Returns, count_made}
 
 -- a file in a queue, with this arrival
@@ -54,7 +54,8 @@ staying_as queued (Some file) = returned file.goes
 abbrev pub staying : List SettledFile → List QueuedFile → List QueuedFile
 staying files queue = flat_map (λ queued. staying_as queued (find (λ file. file.number == queued.number) files)) queue
 
--- each made file with each parent that its origin names, and each clone with its original
+-- which file of a session came from which, as pairs (child, parent): each made file with each parent that its origin
+-- names, and each clone with its original
 abbrev pub kin_of_files : List SettledFile → List SettlementClone → List (ℕ × ℕ)
 kin_of_files files clones =
     flat_map (λ file. map (λ place. (file.number, number_at files place)) (parents_of file.worked.origin)) files
@@ -71,13 +72,15 @@ settle session outcome =
     let clones = settlement_clones session outcome.files in
     let arriving_files = newcomers files clones in
     let state = session.state in
+    let told = drafts session outcome in
     record state {
       queues =
           map (λ queue. staying files queue.1 ++ arriving state.next_arrival queue.0 arriving_files)
           (enumerate_from 0 state.queues);
-      events = state.events ++ numbered_from (length state.events + 1) (drafts session outcome);
-      kin = union state.kin (from_list (kin_of_files files clones));
+      events = state.events ++ numbered_from (state.last_event + 1) told;
+      kin = union state.kin (from_list (kin_from (state.last_event + 1) told));
       next_number = state.next_number + count_made outcome.files + length clones;
       next_arrival = state.next_arrival + length arriving_files;
+      last_event = state.last_event + length told;
       counts = counts_after session.processor.kind session.place session.given.index state.counts;
     }

@@ -1,8 +1,5 @@
 -- What a flow is at a moment, and the world around it.
 use Rattle.std.specs.Prelude.{ℕ, List, Option}
-use Rattle.std.specs.Coded.{Coded, coded×, coded_ℕ, coded_list}
-use Rattle.std.specs.FinMap as map
-use Rattle.std.specs.FinSet as set
 use Rattle.std.specs.FinSet.{FinSet}
 use Rattle.std.specs.declared.cmp.Ordering.{Ordering}
 use Rattle.std.specs.Ordering.{nat_cmp, on, then_cmp}
@@ -20,23 +17,28 @@ pub record QueuedFile : Type 0 where
   pub arrival : ℕ
   pub batch : Option ℕ
 
--- that one file came from another is a pair (child, parent); pairs stand by their children, then by their parents
-abbrev pub kin_cmp : ℕ × ℕ → ℕ × ℕ → Ordering
-kin_cmp = then_cmp (on (λ p. p.0) nat_cmp) (on (λ p. p.1) nat_cmp)
+-- That one file came from another is a triple (child, parent, number of the event that names them). Triples stand by
+-- their children, then by their parents, then by their events.
+abbrev pub kin_cmp : ℕ × ℕ × ℕ → ℕ × ℕ × ℕ → Ordering
+kin_cmp = then_cmp (on (λ k. k.0) nat_cmp) (then_cmp (on (λ k. k.1) nat_cmp) (on (λ k. k.2) nat_cmp))
 
 abbrev pub Kin : Type 0
 Kin = FinSet kin_cmp
 
--- The id of the store; for each connection the files of its queue, by arrival; what has happened; which file came from
--- which; the numbers that come next; and for each processor how many files it has generated.
+-- The id of the store; the line, which is the number up to which events are forgotten; for each connection the files of
+-- its queue, by arrival; what has happened past the line; which file came from which, as events past the line tell; the
+-- numbers that come next; the number of the last event, 0 before the first; and for each processor how many files it
+-- has generated.
 pub record State : Type 0 where
   pub store : ℕ
+  pub line : ℕ
   pub queues : List (List QueuedFile)
   pub events : List Event
   pub kin : Kin
   pub next_number : ℕ
   pub next_arrival : ℕ
   pub next_batch : ℕ
+  pub last_event : ℕ
   pub counts : List ℕ
 
 -- the files that the inbox had when the run began, the names of those that are left of it, and what stands in the
@@ -49,11 +51,3 @@ pub record World : Type 0 where
 pub record Machine : Type 0 where
   pub state : State
   pub world : World
-
--- The codes of what a state has and Rattle finds none for, by which a type whose `Value` has it can be coded. A world
--- has none, since functions have none.
-abbrev pub kin_code : Coded Kin
-kin_code = set.code (coded× coded_ℕ coded_ℕ)
-
-abbrev pub attributes_code : Coded AttributeMap
-attributes_code = map.code (coded_list coded_ℕ) (coded_list coded_ℕ)

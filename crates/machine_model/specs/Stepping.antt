@@ -1,10 +1,12 @@
 -- A step of the machine, and the replay of a journal.
-use Rattle.std.specs.Prelude.{ℕ, ◌+◌, ◌==◌, ◌&&◌, not, nat_lt, nat_le, Bool, true, false, List, [], ◌∷◌, ◌++◌, length, map, filter, find, Option, Some, None, is_none, is_some, option_map, option_and_then, slice_get, slice_index, slice_set, bytes_eq, if◌then◌else◌}
+use Rattle.std.specs.Prelude.{ℕ, ◌+◌, ◌%◌, ◌==◌, ◌&&◌, not, nat_lt, nat_le, Bool, true, false, List, [], ◌∷◌, ◌++◌, length, map, filter, find, Option, Some, None, is_none, is_some, option_map, option_and_then, slice_get, slice_index, slice_set, bytes_eq, if◌then◌else◌}
+use Rattle.std.specs.FinSet.{retain}
 use Rattle.std.specs.Option.{option_map_or}
 use Rattle.std.specs.List.{list_all, enumerate_from, filter_map}
 use Rattle.sha2.specs.Sha256.{sha256}
 use Rattle.flowfile_record.specs.declared.TheConstants.{CONTENT_MAX}
-use Rattle.flowfile_record.specs.declared.limits.TheConstants.{TAKEN_MAX}
+use Rattle.flowfile_record.specs.declared.event.Event.{Event}
+use Rattle.flowfile_record.specs.declared.limits.TheConstants.{EVENTS_PER_FILE, TAKEN_MAX}
 use Rattle.flowfile_record.specs.declared.event.EventKind.TheVariants as kind
 use Rattle.prioritizer.specs.declared.prioritizer.Prioritizer.{Prioritizer}
 use Rattle.machine_model.specs.declared.pattern.Pattern.{Pattern}
@@ -15,7 +17,7 @@ use Rattle.machine_model.specs.declared.flow.Flow.{Flow}
 use Rattle.machine_model.specs.declared.flow.Processor.{Processor}
 use Rattle.machine_model.specs.declared.given.Given.{Given}
 use Rattle.machine_model.specs.declared.journal.Step.{Step}
-use Rattle.machine_model.specs.declared.journal.Step.TheVariants.{Expire, SwapOut, SwapIn}
+use Rattle.machine_model.specs.declared.journal.Step.TheVariants.{Expire, SwapOut, SwapIn, Age}
 use Rattle.machine_model.specs.declared.journal.Step.TheVariants as entry
 use Rattle.machine_model.specs.declared.kind.Kind.{Kind}
 use Rattle.machine_model.specs.declared.kind.Kind.TheVariants.{GetFile, GenerateFlowFile, PutFile}
@@ -177,17 +179,20 @@ with_queue state connection queue = record state { queues = slice_set state.queu
 
 -- an EXPIRE for each file
 abbrev pub expiry_of : Connection → ℕ → QueuedFile → Draft
-expiry_of connection moment file = λ number. record {
-  number = number;
-  kind = kind.Expire;
-  moment = moment;
-  component = connection.id;
-  file = file.number;
-  parents = [];
-  children = [];
-  detail = [];
-  size = length file.bytes;
-  digest = sha256 file.bytes;
+expiry_of connection moment file = record {
+  event = λ number. record {
+    number = number;
+    kind = kind.Expire;
+    moment = moment;
+    component = connection.id;
+    file = file.number;
+    parents = [];
+    children = [];
+    detail = [];
+    size = length file.bytes;
+    digest = sha256 file.bytes;
+  };
+  kin = [];
 }
 
 abbrev pub without_files : List QueuedFile → List ℕ → List QueuedFile
@@ -196,10 +201,10 @@ without_files queue numbers = filter (λ file. not (is_number_among numbers file
 abbrev pub expired : State → (place : ℕ) → Connection → List ℕ → ℕ → State
 expired state place connection numbers moment =
     let queue = queue_at state place in
+    let told = map (expiry_of connection moment) (files_of queue (ascending numbers)) in
     record (with_queue state place (without_files queue numbers)) {
-      events = state.events
-          ++ numbered_from (length state.events + 1)
-          (map (expiry_of connection moment) (files_of queue (ascending numbers)));
+      events = state.events ++ numbered_from (state.last_event + 1) told;
+      last_event = state.last_event + length told;
     }
 
 abbrev pub expire_step : State → (place : ℕ) → List ℕ → ℕ → Connection → Option State
@@ -231,6 +236,26 @@ swap_in_step state place batch connection =
     if option_map_or (λ lowest. lowest == batch) (lowest_batch connection.limits (queue_view queue)) false
     then Some (with_queue state place (map (swapped_in batch) queue)) else None
 
+-- ---- aging
+
+-- the events with numbers past a line
+abbrev pub past : (line : ℕ) → List Event → List Event
+past line events = filter (λ event. nat_lt line event.number) events
+
+-- a state whose line is raised: events and kin with numbers up to it are gone
+abbrev pub aged : State → (line : ℕ) → State
+aged state line = record state {
+  line = line;
+  events = past line state.events;
+  kin = retain state.kin (λ kin. nat_lt line kin.2);
+}
+
+-- the line stands between two files of events, is higher than before, and no event is forgotten that wasn't told yet
+abbrev pub age_step : State → (line : ℕ) → Option State
+age_step state line =
+    if (line % EVENTS_PER_FILE == 0) && nat_lt state.line line && nat_le line state.last_event
+    then Some (aged state line) else None
+
 -- ---- all steps
 
 abbrev pub same_world : World → Option State → Option Machine
@@ -248,6 +273,7 @@ step flow machine (SwapOut connection numbers batch) =
 step flow machine (SwapIn connection batch) =
     same_world machine.world
     (option_and_then (swap_in_step machine.state connection batch) (slice_get flow.connections connection))
+step flow machine (Age line) = same_world machine.world (age_step machine.state line)
 
 -- one step after the other
 abbrev pub replay : Flow → Machine → List Step → Option Machine

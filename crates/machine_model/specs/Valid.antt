@@ -1,9 +1,9 @@
 -- In which states a flow can be.
-use Rattle.std.specs.Prelude.{◌≡◌, ◌≢◌, ℕ, ◌%◌, ◌<◌, ◌≤◌, List, [], length, map, All, Contains, IfSome, Some}
+use Rattle.std.specs.Prelude.{◌≡◌, ◌≢◌, ℕ, ◌+◌, ◌%◌, ◌<◌, ◌≤◌, List, [], length, map, All, Contains, IfSome, Some}
 use Rattle.std.specs.FinSet.{empty, from_list}
 use Rattle.std.specs.List.{range_with_len, AllPairs, flat_map}
 use Rattle.flowfile_record.specs.Kin.{kin_of_all}
-use Rattle.flowfile_record.specs.declared.limits.TheConstants.{STORE_LIMIT}
+use Rattle.flowfile_record.specs.declared.limits.TheConstants.{EVENTS_PER_FILE, STORE_LIMIT}
 use Rattle.machine_model.specs.declared.flow.Flow.{Flow}
 use Rattle.machine_model.specs.Files.{queue_at}
 use Rattle.machine_model.specs.State.{QueuedFile, State}
@@ -45,11 +45,14 @@ StandBatchesInOne state = (one other batch : ℕ) → HasBatch (queue_at state o
 
 -- ---- events and kin
 
--- the events are numbered 1, 2, 3 and so on
-abbrev pub AreEventsInRow : State → Type 0
-AreEventsInRow state = map (λ event. event.number) state.events ≡ range_with_len 1 (length state.events)
+-- The line stands between two files of events. The events past it are numbered in a row from the next number on, up to
+-- the last one.
+pub record AreEventsInRow (state : State) : Type 0 where
+  pub line : state.line % EVENTS_PER_FILE ≡ 0
+  pub numbers : map (λ event. event.number) state.events ≡ range_with_len (state.line + 1) (length state.events)
+  pub last_event : state.last_event ≡ state.line + length state.events
 
--- the kin is the set of what the events name
+-- the kin is the set of what the events name, each with the number of its event
 abbrev pub EventsTellKin : State → Type 0
 EventsTellKin state = state.kin ≡ from_list (kin_of_all state.events)
 
@@ -69,11 +72,13 @@ pub record IsValid (flow : Flow) (state : State) : Type 0 where
 abbrev pub new_state : Flow → (lot : ℕ) → State
 new_state flow lot = record {
   store = lot % STORE_LIMIT;
+  line = 0;
   queues = map (λ connection. []) flow.connections;
   events = [];
   kin = empty;
   next_number = 1;
   next_arrival = 1;
   next_batch = 1;
+  last_event = 0;
   counts = map (λ processor. 0) flow.processors;
 }

@@ -42,4 +42,8 @@ pub enum Step {
         connection: u16,
         batch: u64,
     },
+    /// The events with numbers up to this line are forgotten.
+    Age {
+        line: u64,
+    },
 }

@@ -1,6 +1,6 @@
 //! What holds of the machine's definitions, each law as the contract of a function that does nothing.
 ghost use Rattle.std.specs.Prelude.{◌≡◌, ◌*◌, ◌^◌};
-ghost use Rattle.machine_model.specs.Laws.{ViewsCountAll, NoneGoesBeforeItself, GoingBeforeChains, ArrivalsTell, OrderKeepsFiles, OrderHolds, OrderIsOnly, BestIsBest, BestIsOnly, ReplayOfOneMore, ReplayOfJoined, ActsEndAllInTurn, ActsGiveOutcomes, SettlingKeepsNumbers, StepsKeepNumbers, ReplaysKeepNumbers, SettlingNumbersEvents, StepsNumberEvents, ReplaysNumberEvents, ReplaysAddEvents, SettlesWithoutPast, StepsWithoutPast, ReplaysWithoutPast, SettlingTellsKin, StepsTellKin, ReplaysTellKin, NewStatesAreValid, StepsStayValid, ReplaysStayValid, StepsGoOn, ReplaysGoOn, StepsLoseNames, ReplaysLoseNames, OneConnectionHas, PicksMayBeTaken, DueExpiriesHaveSteps, DueSwapOutsHaveSteps, DueSwapInsHaveSteps, LineageIsOnly};
+ghost use Rattle.machine_model.specs.Laws.{ViewsCountAll, NoneGoesBeforeItself, GoingBeforeChains, ArrivalsTell, OrderKeepsFiles, OrderHolds, OrderIsOnly, BestIsBest, BestIsOnly, ReplayOfOneMore, ReplayOfJoined, ActsEndAllInTurn, ActsGiveOutcomes, SettlingKeepsNumbers, StepsKeepNumbers, ReplaysKeepNumbers, SettlingNumbersEvents, StepsNumberEvents, ReplaysNumberEvents, ReplaysAddEvents, ReplaysKeepLine, SettlingAddsKin, SettlingTellsKin, StepsTellKin, ReplaysTellKin, NewStatesAreValid, StepsStayValid, ReplaysStayValid, StepsGoOn, ReplaysGoOn, StepsLoseNames, ReplaysLoseNames, OneConnectionHas, PicksMayBeTaken, DueExpiriesHaveSteps, DueSwapOutsHaveSteps, DueSwapInsHaveSteps, DueAgingsHaveSteps, LineageIsOnly};
 
 use crate::{
     CONNECTIONS_MAX, COPIES_MAX, EXTRACTED_MAX, FAN_OUT_MAX, GENERATED_MAX, ID_MAX, LINES_MAX,
@@ -65,14 +65,6 @@ pub fn replay_goes_on()
     ensures joined { ReplayOfJoined }
 {}
 
-/// Neither a session nor a step nor a replay goes by what has happened before: but for events and kin, it gives the
-/// same of a state without them.
-pub fn the_past_is_not_asked()
-    ensures session { SettlesWithoutPast }
-    ensures step { StepsWithoutPast }
-    ensures replay { ReplaysWithoutPast }
-{}
-
 /// A processor ends all files that it took, each once and in turn, and then files whose parents stand before them. A
 /// sound one that is handed what is within the limits of flow files makes an outcome of its relationships.
 pub fn acts_give_outcomes()
@@ -92,16 +84,20 @@ pub fn replays_keep_numbers()
     ensures replay { ReplaysKeepNumbers }
 {}
 
-/// Events are numbered 1, 2, 3 and so on; new ones stand behind those that there are, of which none changes.
+/// Events are numbered in a row from the line on; new ones stand behind those that there are, of which none changes,
+/// and those up to the line are gone. Only an aging moves the line.
 pub fn replays_number_events()
     ensures settling { SettlingNumbersEvents }
     ensures one_step { StepsNumberEvents }
     ensures replay { ReplaysNumberEvents }
     ensures adds { ReplaysAddEvents }
+    ensures line { ReplaysKeepLine }
 {}
 
-/// The ancestry that events tell of is that which sessions made.
+/// A session makes of its files what their origins and its clones say, and the ancestry that sessions made is that
+/// which events tell of, each child with its parent under the number of the event that names them.
 pub fn replays_tell_kin()
+    ensures adds { SettlingAddsKin }
     ensures settling { SettlingTellsKin }
     ensures one_step { StepsTellKin }
     ensures replay { ReplaysTellKin }
@@ -114,7 +110,7 @@ pub fn states_stay_valid()
     ensures replay { ReplaysStayValid }
 {}
 
-/// No counter ever falls, and the store's id stays.
+/// Neither the line nor a counter ever falls, and the store's id stays.
 pub fn counters_never_fall()
     ensures one_step { StepsGoOn }
     ensures replay { ReplaysGoOn }
@@ -131,11 +127,12 @@ pub fn one_connection_has_files()
     ensures { OneConnectionHas }
 {}
 
-/// What a queue of a valid state owes can be done: there is a step for it.
+/// What a queue of a valid state owes can be done, and what is owed to the line in any: there is a step for it.
 pub fn due_has_a_step()
     ensures expiry { DueExpiriesHaveSteps }
     ensures swap_out { DueSwapOutsHaveSteps }
     ensures swap_in { DueSwapInsHaveSteps }
+    ensures aging { DueAgingsHaveSteps }
 {}
 
 /// What a rule picks of a queue in a valid state may be taken: it passes the rules of a session's step.

@@ -28,7 +28,7 @@ pub use laws::{
     limits_of_a_flow, lineage_is_only, names_are_lost_by_taking, one_connection_has_files,
     order_is_total, order_sorts, picks_may_be_taken, replay_goes_on, replays_keep_numbers,
     replays_number_events, replays_tell_kin, settling_keeps_numbers, states_stay_valid,
-    the_past_is_not_asked, views_count_all,
+    views_count_all,
 };
 pub use limits::{
     CONNECTIONS_MAX, COPIES_MAX, EXTRACTED_MAX, FAN_OUT_MAX, GENERATED_MAX, ID_MAX, LINES_MAX,

@@ -2,7 +2,9 @@ pub mod Began
 pub mod Cutting
 pub mod Extracts
 pub mod ExtractsSet
+pub mod Growing
 pub mod Lines
+pub mod Matched
 pub mod Modifying
 pub mod PartList
 pub mod PartsEnd

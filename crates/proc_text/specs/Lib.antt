@@ -3,3 +3,4 @@ pub mod Finding
 pub mod Kinds
 pub mod Parting
 pub mod Pieces
+pub mod Shapes

@@ -2,6 +2,7 @@
 #![tactic(auto)]
 
 mod extract_text;
+mod growth;
 mod modify_bytes;
 mod parting;
 mod passing;
@@ -10,6 +11,7 @@ mod replace_text;
 mod route_on_content;
 mod segment_content;
 mod split_text;
+mod template;
 
 pub use extract_text::ExtractText;
 pub use modify_bytes::ModifyBytes;

@@ -10,6 +10,7 @@ ghost use Rattle.machine_model.specs.Sound.{is_replacement_sound};
 ghost use Rattle.proc_text.specs.Kinds.{is_replace_text};
 
 use crate::FAILURE;
+use crate::growth::fits;
 use crate::passing::replace;
 use flowfile_record::CONTENT_MAX;
 use machine_model::{Kind, Pattern, Replacement};
@@ -98,13 +99,38 @@ fn text_replaced(
 {
     match replacement {
         Replacement::Regex { search, template } => {
-            let replaced = with_matches_replaced(alloc, text, search, template.as_str())?;
-            Ok(fitting(replaced))
+            with_matches_within(alloc, text, search, template.as_str())
         }
         Replacement::Literal { search, value } => {
             with_text_replaced(alloc, text, search.as_str(), value.as_str())
         }
     }
+}
+
+/// A text with what a template stands for in the place of each match, if it isn't too long for a content. That is known
+/// before it is made, since it could grow past all memory.
+fn with_matches_within(
+    alloc: Global,
+    text: &str,
+    search: &Pattern,
+    template: &str,
+) -> Result<Option<String>, AllocError>
+    ensures { IfOk result (λ replaced. option_map string_bytes replaced
+        ≡ as_content (replaced_by (template_at search.now template.now text.now) text.now 0
+        (find_all_str (regex_pattern search.now.regex.value) text.now))) }
+{
+    if is_growing(text, template) && !fits(alloc, text, &search.regex, template)? {
+        return Ok(None);
+    }
+    let replaced = with_matches_replaced(alloc, text, search, template)?;
+    Ok(fitting(replaced))
+}
+
+/// Whether what is made of a text may be longer than a content, however often and long its matches are. It is known at
+/// once, where the length itself takes a search of its own.
+fn is_growing(text: &str, template: &str) -> bool {
+    let matches = text.len().saturating_add(1).saturating_mul(2);
+    matches.saturating_mul(template.len().saturating_add(1)) as u64 > CONTENT_MAX
 }
 
 /// A text, if it isn't too long for a content.

@@ -1,6 +1,6 @@
 //! Which flow files come from which by one event.
 ghost use Rattle.std.specs.Prelude.{◌≡◌, ◌+◌, ◌≤◌, ◌++◌, map, length, vec_len, vec_capacity, IsOk, OnOk, OnErr};
-ghost use Rattle.flowfile_record.specs.Kin.{kin_of, pairs_of};
+ghost use Rattle.flowfile_record.specs.Kin.{pairs_named, pairs_of};
 
 use flowfile_record::{Event, EventKind};
 use std::alloc::AllocError;
@@ -9,9 +9,9 @@ use std::alloc::AllocError;
 /// is a FORK, a JOIN or a CLONE, and none where it is of another kind. It fails only where there is less room than the
 /// pairs need, and then the list stays.
 pub fn kin(event: &Event, list: &mut Vec<(u64, u64)>) -> Result<(), AllocError>
-    ensures ok { OnOk result (list.new.items ≡ list.old.items ++ kin_of event.now) }
+    ensures ok { OnOk result (list.new.items ≡ list.old.items ++ pairs_named event.now) }
     ensures err { OnErr result (list.new.items ≡ list.old.items) }
-    ensures room { vec_len list.old + length (kin_of event.now) ≤ vec_capacity list.old → IsOk result }
+    ensures room { vec_len list.old + length (pairs_named event.now) ≤ vec_capacity list.old → IsOk result }
     ensures capacity { vec_capacity list.old ≤ vec_capacity list.new }
 {
     match event.kind {

@@ -18,7 +18,7 @@ use Rattle.prov_event.specs.declared.TheConstants.{EVENT_KIND}
 use Rattle.prov_event.proofs.EventLaws.{event_is}
 use Rattle.prov_store.specs.Events.{◌>>=◌, events_file, first_in, count_in, events_from, events_of_files, events_in, blocks_size}
 use Rattle.prov_store.specs.State.{HasBlock, event_block, AreNumberedFrom}
-use Rattle.prov_store.specs.declared.TheConstants.{EVENTS_PER_FILE}
+use Rattle.flowfile_record.specs.declared.limits.TheConstants.{EVENTS_PER_FILE}
 use Rattle.prov_store.proofs.InFile.{IsRead, first_of, with_first, size_of_first}
 use Rattle.prov_store.proofs.InFiles.{first_file, in_files}
 use Rattle.record_codec.specs.Block.{reading_of}

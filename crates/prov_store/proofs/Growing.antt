@@ -14,7 +14,7 @@ use Rattle.prov_store.specs.Blocks.{blocks_of, next_offset}
 use Rattle.prov_store.specs.Events.{◌>>=◌, events_file, count_in, first_in, events_from, events_of_file, events_of_files, events_in, blocks_size, covered_size, covered}
 use Rattle.prov_store.specs.Growing.{Stands}
 use Rattle.prov_store.specs.State.{EventsState, HasBlock, AreNumberedFrom, IsTrimmed, GrowsBehind}
-use Rattle.prov_store.specs.declared.TheConstants.{EVENTS_PER_FILE}
+use Rattle.flowfile_record.specs.declared.limits.TheConstants.{EVENTS_PER_FILE}
 use Rattle.prov_store.proofs.Encoded.{events_read_back}
 use Rattle.prov_store.proofs.InFile.{events_same, events_behind, sizes_behind}
 use Rattle.prov_store.proofs.InFiles.{covered_alike, in_files, file_of_events, covered_fits, no_bytes, no_size, split_files, files_same, files_behind, with_files, all_files, first_file}

@@ -9,7 +9,7 @@ use Rattle.disk_trait.specs.Files.{Files}
 use Rattle.disk_trait.specs.declared.damage.Damage.{Damage}
 use Rattle.flowfile_record.specs.declared.event.Event.{Event}
 use Rattle.prov_store.specs.Events.{◌>>=◌, events_file, count_in, first_in, events_from, events_of_file, events_of_files, events_in, blocks_size, covered_size, covered}
-use Rattle.prov_store.specs.declared.TheConstants.{EVENTS_PER_FILE}
+use Rattle.flowfile_record.specs.declared.limits.TheConstants.{EVENTS_PER_FILE}
 use Rattle.prov_store.proofs.InFile.{bind_ok, blocks_fit, events_same, fewer_events, events_numbered}
 
 -- ---- one file

@@ -7,7 +7,7 @@ use Rattle.disk_trait.specs.Files.{Files}
 use Rattle.disk_trait.proofs.FileLists.{contains_here, contains_there, contains_cases}
 use Rattle.prov_store.specs.Events.{events_file, covered, covered_size}
 use Rattle.prov_store.specs.State.{EventsState, HasEvents, IsReady, SameEvents, KeepsEvents, GrowsBehind, CutsStale}
-use Rattle.prov_store.specs.declared.TheConstants.{EVENTS_PER_FILE}
+use Rattle.flowfile_record.specs.declared.limits.TheConstants.{EVENTS_PER_FILE}
 use Rattle.prov_store.specs.declared.events.Stale.{Stale}
 use Rattle.prov_store.proofs.InFiles.{events_stay, next_size_stays, front_stays, covered_as, no_bytes}
 

@@ -7,7 +7,7 @@ use Rattle.disk_trait.specs.declared.damage.Damage.{Damage}
 use Rattle.prov_store.specs.Events.{events_file, events_of_files, events_in, covered, covered_size}
 use Rattle.prov_store.specs.Loading.{IsLoaded}
 use Rattle.prov_store.specs.State.{EventsState, HasEvents, HasStale}
-use Rattle.prov_store.specs.declared.TheConstants.{EVENTS_PER_FILE}
+use Rattle.flowfile_record.specs.declared.limits.TheConstants.{EVENTS_PER_FILE}
 use Rattle.prov_store.specs.declared.events.Stale.{Stale}
 use Rattle.prov_store.specs.declared.load.Loading.{Loading}
 use Rattle.prov_store.proofs.Counting.{none_counted, count_most}

@@ -17,7 +17,7 @@ use Rattle.prov_store.specs.State.{AreCounted}
 use Rattle.prov_store.specs.declared.events.Stale.{Stale}
 use Rattle.prov_store.specs.declared.load.Loading.{Loading}
 use Rattle.prov_store.specs.declared.read.Cursor.{Cursor}
-use Rattle.prov_store.specs.declared.TheConstants.{EVENTS_PER_FILE}
+use Rattle.flowfile_record.specs.declared.limits.TheConstants.{EVENTS_PER_FILE}
 use Rattle.prov_store.proofs.InFile.{read_of, with_first, events_behind, sizes_behind, size_of_first}
 use Rattle.prov_store.proofs.InFiles.{files_behind, no_size, range_both}
 use Rattle.prov_store.proofs.Counting.{counts_are}

@@ -11,7 +11,7 @@ use Rattle.std.proofs.lemmas.List.FromFn.{length-range_with_len}
 use Rattle.flowfile_record.specs.declared.event.Event.{Event}
 use Rattle.prov_store.specs.Blocks.{blocks_of, IsPart, AreParts}
 use Rattle.prov_store.specs.State.{AreNumberedFrom, files_for}
-use Rattle.prov_store.specs.declared.TheConstants.{EVENTS_PER_FILE}
+use Rattle.flowfile_record.specs.declared.limits.TheConstants.{EVENTS_PER_FILE}
 use Rattle.prov_store.specs.declared.blocks.Part.{Part}
 use Rattle.prov_store.proofs.InFiles.{range_both}
 

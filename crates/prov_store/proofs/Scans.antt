@@ -14,7 +14,7 @@ use Rattle.prov_store.specs.Loading.{bytes_there}
 use Rattle.prov_store.specs.Reading.{event_there}
 use Rattle.prov_store.specs.Scanning.{is_within, HasSkipped, numbers_between}
 use Rattle.prov_store.specs.State.{AreNumberedFrom}
-use Rattle.prov_store.specs.declared.TheConstants.{EVENTS_PER_FILE}
+use Rattle.flowfile_record.specs.declared.limits.TheConstants.{EVENTS_PER_FILE}
 use Rattle.prov_store.proofs.InFile.{bind_ok, events_behind, fewer_events, events_numbered}
 use Rattle.prov_store.specs.declared.read.Cursor.{Cursor}
 use Rattle.prov_store.proofs.InFiles.{in_files, split_files, first_file, files_numbered, range_both}

@@ -11,7 +11,7 @@ use Rattle.prov_store.specs.Blocks.{blocks_of, AreParts, AreEncoded, next_offset
 use Rattle.prov_store.specs.Events.{events_file}
 use Rattle.prov_store.specs.Growing.{Stands}
 use Rattle.prov_store.specs.State.{HasBlock, AreNumberedFrom}
-use Rattle.prov_store.specs.declared.TheConstants.{EVENTS_PER_FILE}
+use Rattle.flowfile_record.specs.declared.limits.TheConstants.{EVENTS_PER_FILE}
 use Rattle.prov_store.specs.declared.blocks.Part.{Part}
 use Rattle.prov_store.proofs.Growing.{grown}
 use Rattle.prov_store.proofs.Parting.{numbered_part, part_is, part_of}

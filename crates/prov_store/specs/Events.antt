@@ -9,7 +9,7 @@ use Rattle.flowfile_record.specs.Reading.{whole}
 use Rattle.flowfile_record.specs.declared.event.Event.{Event}
 use Rattle.prov_event.specs.EventReading.{event_at}
 use Rattle.prov_event.specs.declared.TheConstants.{EVENT_KIND}
-use Rattle.prov_store.specs.declared.TheConstants.{EVENTS_PER_FILE}
+use Rattle.flowfile_record.specs.declared.limits.TheConstants.{EVENTS_PER_FILE}
 use Rattle.record_codec.specs.Block.{Reading, Whole, Cut, Long, Differs, reading_of}
 use Rattle.record_codec.specs.declared.block.TheConstants.{BLOCK_OVERHEAD}
 

@@ -5,7 +5,7 @@ use Rattle.disk_trait.specs.Files.{Files}
 use Rattle.flowfile_record.specs.declared.event.Event.{Event}
 use Rattle.prov_store.specs.Events.{events_file, events_from, events_of_files, blocks_size, covered, covered_size}
 use Rattle.prov_store.specs.State.{counts_of, AreCounted, AreLonger}
-use Rattle.prov_store.specs.declared.TheConstants.{EVENTS_PER_FILE}
+use Rattle.flowfile_record.specs.declared.limits.TheConstants.{EVENTS_PER_FILE}
 use Rattle.prov_store.specs.declared.events.Stale.{Stale}
 use Rattle.prov_store.specs.declared.load.Loading.{Loading}
 use Rattle.prov_store.specs.declared.read.Cursor.{Cursor}

@@ -10,7 +10,7 @@ use Rattle.flowfile_record.specs.declared.event.Event.{Event}
 use Rattle.prov_event.specs.Encoding.{event, IsEvent}
 use Rattle.prov_event.specs.declared.TheConstants.{EVENT_KIND}
 use Rattle.prov_store.specs.Events.{events_file, events_in, covered, covered_size}
-use Rattle.prov_store.specs.declared.TheConstants.{EVENTS_PER_FILE}
+use Rattle.flowfile_record.specs.declared.limits.TheConstants.{EVENTS_PER_FILE}
 use Rattle.prov_store.specs.declared.events.Stale.{Stale}
 use Rattle.record_codec.specs.Block.{block}
 use Rattle.record_codec.specs.declared.block.TheConstants.{PAYLOAD_MAX}

@@ -12,8 +12,9 @@ ghost use Rattle.prov_store.specs.State.{IsReady, GrowsBehind, ChangesBy, HasApp
 use crate::blocks::Part;
 use crate::counts::count_all;
 use crate::events::file_named;
-use crate::{EVENTS_PER_FILE, EventBlocks, Events};
+use crate::{EventBlocks, Events};
 use disk_trait::{Disk, Failed};
+use flowfile_record::EVENTS_PER_FILE;
 
 // The number of the last event, and where the next one goes in its file.
 #[derive(Clone, Copy)]

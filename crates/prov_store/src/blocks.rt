@@ -3,8 +3,7 @@ ghost use Rattle.std.specs.Prelude.{◌≡◌, ◌≤◌, ◌<◌, ◌+◌, ◌-
 ghost use Rattle.prov_store.specs.Blocks.{blocks_of};
 ghost use Rattle.prov_store.specs.State.{HasBlock, AreNumberedFrom};
 
-use crate::EVENTS_PER_FILE;
-use flowfile_record::Event;
+use flowfile_record::{EVENTS_PER_FILE, Event};
 use prov_event::{EVENT_KIND, event_size, write_event};
 use record_codec::{append_block, block_size};
 use std::alloc::{AllocError, Global};

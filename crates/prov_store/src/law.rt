@@ -1,18 +1,11 @@
 //! What follows for the events of files, by what changed of the files.
-ghost use Rattle.std.specs.Prelude.{◌≡◌, ℕ, ◌≤◌, ◌^◌, List, [], take, length, All, Ok};
+ghost use Rattle.std.specs.Prelude.{◌≡◌, ℕ, ◌≤◌, List, [], take, length, All, Ok};
 ghost use Rattle.disk_trait.specs.Files.{Files};
 ghost use Rattle.flowfile_record.specs.Field.{IsBytes};
 ghost use Rattle.flowfile_record.specs.declared.event.Event.{Event};
 ghost use Rattle.prov_event.specs.Encoding.{IsEvent};
 ghost use Rattle.prov_store.specs.Events.{events_file, events_in, covered_size};
 ghost use Rattle.prov_store.specs.State.{EventsState, AreNumberedFrom, HasEvents, IsReady, SameEvents, KeepsEvents, GrowsBehind, CutsStale};
-
-use crate::EVENTS_PER_FILE;
-
-/// How many events a file has, as a number.
-pub fn limit_of_a_file()
-    ensures { EVENTS_PER_FILE ≡ 10 ^ 4 }
-{}
 
 /// Files that have the same bytes of the events up to a last one have the same events, and what calls leave has.
 pub fn covered_events_stay()

@@ -20,8 +20,4 @@ pub use error::EventsError;
 pub use events::{Events, Stale};
 pub use law::{
     covered_events_stay, events_are_kept_step_by_step, events_up_to_the_last_are_in_a_row,
-    limit_of_a_file,
 };
-
-/// How many events a file has, at most.
-pub const EVENTS_PER_FILE: u64 = 10_000;

@@ -13,9 +13,9 @@ ghost use Rattle.prov_store.specs.State.{AreLonger, IsFoundOn};
 use crate::counts::count;
 use crate::events::file_named;
 use crate::read::{Cursor, read_event_at};
-use crate::{EVENTS_PER_FILE, Events, EventsError, Stale};
+use crate::{Events, EventsError, Stale};
 use disk_trait::{Disk, FileKind};
-use flowfile_record::EventCounts;
+use flowfile_record::{EVENTS_PER_FILE, EventCounts};
 use std::alloc::{AllocError, Global};
 
 // What is known of the files up to some file.

@@ -12,9 +12,9 @@ ghost use Rattle.prov_store.specs.State.{HasEvents};
 
 use crate::events::file_named;
 use crate::read::{Cursor, read_event_at, skip_event_at};
-use crate::{EVENTS_PER_FILE, Events, EventsError};
+use crate::{Events, EventsError};
 use disk_trait::Disk;
-use flowfile_record::Event;
+use flowfile_record::{EVENTS_PER_FILE, Event};
 use std::alloc::Global;
 
 // The events of a store up to a last one that are found between two numbers.

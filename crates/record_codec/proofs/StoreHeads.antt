@@ -1,5 +1,5 @@
 -- What is read of a head is encoded so, and what is encoded so is read again.
-use Rattle.std.proofs.Common.{◌≡◌, ℕ, ◌^◌, ◌<◌, nat_lt, List, ◌++◌, IsTrue, refl, sym, ap, ◌∙◌, append_assoc, arith}
+use Rattle.std.proofs.Common.{◌≡◌, ℕ, ◌^◌, ◌<◌, nat_lt, List, [], ◌++◌, IsTrue, refl, sym, ap, ◌∙◌, append_assoc, arith}
 use Rattle.std.specs.Int.{w64, to_be_bytes}
 use Rattle.std.proofs.lemmas.Bool.{ltb-true, lt-ltb, eqb-true}
 use Rattle.flowfile_record.specs.Field.{IsField}
@@ -32,10 +32,12 @@ head_of h = record {
   store = h.1.0;
   flow = h.1.1.0;
   connections = h.1.1.1.0;
+  processors = [];
   counts = h.1.1.1.1.0;
   next_number = h.1.1.1.1.1.0;
   next_arrival = h.1.1.1.1.1.1.0;
   last_event = h.1.1.1.1.1.1.1.0;
+  line = 0;
   next_batch = h.1.1.1.1.1.1.1.1;
 }
 
@@ -70,6 +72,24 @@ fields_are =
     pair_is _ _ _ _ _ _ version_is (pair_is _ _ _ _ _ _ store_is (pair_is _ _ _ _ _ _ digest_is (pair_is _ _ _ _ _ _ texts_is (pair_is _ _ _ _ _ _ numbers_is
     (pair_is _ _ _ _ _ _ number_is (pair_is _ _ _ _ _ _ number_is (pair_is _ _ _ _ _ _ number_is number_is)))))))
 
+-- a head that has what its fields say, no processors and the line 0
+plain : (h : Head) → h.processors ≡ [] → h.line ≡ 0 → head_of (FORMAT_VERSION, (h.store, (h.flow, (h.connections, (h.counts, (h.next_number, (h.next_arrival, (h.last_event, h.next_batch)))))))) ≡ h
+plain h processors line =
+    let none : [] ≡ h.processors = sym processors in
+    let zero : 0 ≡ h.line = sym line in
+    λ i. record {
+      store = h.store;
+      flow = h.flow;
+      connections = h.connections;
+      processors = none i;
+      counts = h.counts;
+      next_number = h.next_number;
+      next_arrival = h.next_arrival;
+      last_event = h.last_event;
+      line = zero i;
+      next_batch = h.next_batch;
+    }
+
 pub head_is : IsField head_at head IsHead
 unfolding head_at
 head_is = made_from head_of fields_at encoded head AreFields IsHead fields_are
@@ -79,17 +99,19 @@ head_is = made_from head_of fields_at encoded head AreFields IsHead fields_are
         store = has.1.0;
         flow = has.1.1.0;
         connections = has.1.1.1.0;
+        processors = refl;
         counts = has.1.1.1.1.0;
         next_number = has.1.1.1.1.1.0;
         next_arrival = has.1.1.1.1.1.1.0;
         last_event = has.1.1.1.1.1.1.1.0;
+        line = refl;
         next_batch = has.1.1.1.1.1.1.1.1;
       },
     ))
     (λ b has. (
       (FORMAT_VERSION, (b.store, (b.flow, (b.connections, (b.counts, (b.next_number, (b.next_arrival, (b.last_event, b.next_batch)))))))),
       ((omega arith, refl), (has.store, (has.flow, (has.connections, (has.counts, (has.next_number, (has.next_arrival, (has.last_event, has.next_batch)))))))),
-      refl,
+      plain b has.processors has.line,
     ))
 
 -- a head that was written in two parts

@@ -20,20 +20,23 @@ use flowfile_record::fields::{
 use flowfile_record::{CodecError, DIGEST_SIZE, Numbers, STORE_LIMIT, Stored, Text, TextList};
 use std::alloc::{AllocError, Global};
 
-/// What a store keeps beside its flow files: its id, the digest of its flow's text, the flow's connections, how many
-/// files each processor has generated, and the numbers that come next (0 for the last event means none yet).
+/// What a store keeps beside its flow files: its id, the digest of its flow's text, the flow's connections and the ids
+/// of its processors, how many files each processor has generated, the numbers that come next (0 for the last event
+/// means none yet), and the line up to which events have aged out.
 ///
-/// It has an encoding where the store is below `STORE_LIMIT`, the counts and numbers are below 2^62, a connection has
-/// fewer than 65,536 bytes, and each list has fewer than 2^32 items.
+/// It has an encoding where it has no processors and the line 0, the store is below `STORE_LIMIT`, the counts and
+/// numbers are below 2^62, a connection has fewer than 65,536 bytes, and each list has fewer than 2^32 items.
 #[derive(Debug, Drop)]
 pub struct Head {
     pub store: u64,
     pub flow: [u8; DIGEST_SIZE],
     pub connections: TextList,
+    pub processors: TextList,
     pub counts: Numbers,
     pub next_number: u64,
     pub next_arrival: u64,
     pub last_event: u64,
+    pub line: u64,
     pub next_batch: u64,
 }
 
@@ -168,10 +171,12 @@ fn read_fields(alloc: Global, bytes: &[u8]) -> Result<(Head, &[u8]), FieldError>
         store,
         flow,
         connections,
+        processors: TextList::new(alloc),
         counts,
         next_number,
         next_arrival,
         last_event,
+        line: 0,
         next_batch,
     };
     Ok((head, rest))

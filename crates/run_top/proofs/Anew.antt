@@ -128,10 +128,12 @@ module _ (flow : Flow) (lot : ℕ) (sound : IsSound flow) (digest : IsDigest flo
         store = mod-lt lot (omega arith);
         flow = digest;
         connections = (omega (arith, few, named), are_texts flow flow.connections sound.connections);
+        processors = refl;
         counts = (omega (arith, some, counted), All-replicate IsNumber (length flow.processors) 0 (omega arith));
         next_number = omega arith;
         next_arrival = omega arith;
         last_event = omega arith;
+        line = refl;
         next_batch = omega arith;
       }
 

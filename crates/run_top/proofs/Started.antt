@@ -54,7 +54,7 @@ module _ {D : Type 0} (moment : D → ℕ) (images : D → ℕ → Files → Typ
       let told : events_in (held new) (kept_by s).last_event ≡ Ok events = ap (events_in (held new)) last ∙ holds.events.says in
       let kept : state ≡ state_with (content_in (held new)) events (kept_by s) = state_is_kept law flow s lot (held new) state events work.flow_is is told holds (same.state ∙ stands) in
       let row = rows (held new) (kept_by s).last_event events told in
-      let sound : IsValid flow (state_with (content_in (held new)) events (kept_by s)) = valid flow (content_in (held new)) events (kept_by s) consistent none row.0
+      let sound : IsValid flow (state_with (content_in (held new)) events (kept_by s)) = valid flow (content_in (held new)) events (kept_by s) consistent none row.0 row.1
       (ap (λ (f : store.Flow). length f.connections) work.flow_is ∙ length-map flow.connections (λ (connection : Connection). connection.id)) (ap (λ (f : store.Flow). f.processors) work.flow_is)
       in
       subst (λ (l : ℕ). IsRunningAt flow start time moment images l (machine_at state left standing) old new [] (machine_at state left standing) left standing) (sym is)

@@ -97,7 +97,7 @@ pub record IsToldShut {D I O : Type 0} (flow : store.Flow) (status : ℕ) (tells
   pub inbox : inbox_new ≡ inbox_old
   pub outbox : outbox_new ≡ outbox_old
 
--- ---- behind the opening, on any disk
+-- ---- behind the opening, whatever inbox and outbox tell
 
 -- What a run writes: files of claims and of events, the log that is current at the start, later logs and their
 -- snapshots. Where none is current, the first log and its snapshot, which are made, and what is later.

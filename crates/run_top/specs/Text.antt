@@ -9,7 +9,7 @@ use Rattle.flow_definition.specs.declared.rule.Rule.{Rule}
 use Rattle.flow_definition.specs.Reading.{IsFlowOf}
 use Rattle.flow_definition.specs.Verdict.{IsAnswer, object_in}
 
--- the flow is one of this text. All flows of a text have the same processors and connections
+-- the flow is one of this text
 pub record IsFlowIn (bytes : List ℕ) (flow : Flow) : Type 0 where
   pub top : Data
   pub object : object_in bytes ≡ Some top

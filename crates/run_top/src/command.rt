@@ -86,8 +86,8 @@ pub fn run<R, D: Disk, I: Inbox, O: Outbox, F: Source, P: Patterns, S: Sink, C: 
         → IsNotRead result (HasRisen (P.faults patterns.old) (P.faults patterns.new)) F.tells (F.rest flow.old)
         disk.old disk.new inbox.old inbox.new outbox.old outbox.new }
 
-    // On any disk only claims, events, the log, later logs with their snapshots, and a new store's snapshot are
-    // written, and with 0 and 10 the log is short; or the run didn't begin.
+    // Whatever inbox and outbox tell: only claims, events, the log, later logs with their snapshots, and a new store's
+    // snapshot are written, and with 0 and 10 the log is short; or the run didn't begin.
     ensures written { is_run words.now ≡ true
         → HasWritten result D.moment D.images (D.held disk.old) CHECKPOINT_ENTRIES disk.old disk.new
         ⊎ HasNotBegun result D.moment D.images (HasRisen (P.faults patterns.old) (P.faults patterns.new)) F.tells

@@ -29,7 +29,7 @@ counters_of state = record {
   store = state.store;
   next_number = state.next_number;
   next_arrival = state.next_arrival;
-  last_event = length state.events;
+  last_event = state.last_event;
 }
 
 -- a machine's file as the calls inside have it

@@ -10,9 +10,9 @@ use Rattle.flowfile_record.specs.declared.flow_file.FlowFile.{FlowFile}
 use Rattle.flowfile_record.specs.declared.worked.Origin.{Origin}
 use Rattle.flowfile_record.specs.declared.worked.Origin.TheVariants as origin
 use Rattle.flowfile_record.specs.declared.worked.Sent.{Sent}
-use Rattle.machine_model.specs.Events.{Draft, is_removed}
+use Rattle.machine_model.specs.Events.{is_removed}
 use Rattle.settlement.specs.Placing.{wanted}
-use Rattle.settlement.specs.Telling.{Told, alone, all_drafts, attributes_modified, children_of, clone_event, clone_events, created, dropped, fork_of, if_other, is_child, joined, modified, received, routed, row_at, row_of, sent}
+use Rattle.settlement.specs.Telling.{Told, Unnumbered, all_drafts, alone, attributes_modified, children_of, clone_event, clone_events, created, dropped, fork_of, if_other, is_child, joined, modified, received, routed, row_at, row_of, sent}
 use Rattle.settlement.specs.declared.file.EndedFile.{EndedFile}
 use Rattle.settlement.specs.declared.file.Goes.{Goes}
 use Rattle.settlement.specs.declared.file.Goes.TheVariants.{Queues, Returns, Drops, Leaves}
@@ -124,7 +124,7 @@ drafts-bound told put first clones few le =
     (row_count told row.ContentModified few) (row_count told row.AttributesModified few) (row_count told row.Routed few) (sent_bound told put)
     (omega (arith, length-clone_events told first (wanted told.files))) (row_count told row.Dropped few)
   where
-    sum : (a b c d e f g h s l o : List Draft) (clones : ℕ) → length a ≤ 100020000 → length b ≤ 100020000 → length c ≤ 100020000 → length d ≤ 100020000 → length e ≤ 100020000
+    sum : (a b c d e f g h s l o : List Unnumbered) (clones : ℕ) → length a ≤ 100020000 → length b ≤ 100020000 → length c ≤ 100020000 → length d ≤ 100020000 → length e ≤ 100020000
         → length f ≤ 100020000 → length g ≤ 100020000 → length h ≤ 100020000 → length s ≤ 1 → length l ≤ clones → length o ≤ 100020000
         → length ((a ++ b ++ c ++ d ++ e) ++ (f ++ g ++ h) ++ s ++ l ++ o) ≤ 1000000000 + clones
     sum a b c d e f g h s l o clones ha hb hc hd he hf hg hh hs hl ho = simp length-append (omega arith)

@@ -9,8 +9,7 @@ use Rattle.flowfile_record.specs.declared.event.Event.{Event}
 use Rattle.flowfile_record.specs.declared.event.EventKind.TheVariants as kind
 use Rattle.flowfile_record.specs.declared.flow_file.FlowFile.{FlowFile}
 use Rattle.flowfile_record.specs.declared.worked.Sent.{Sent}
-use Rattle.machine_model.specs.Events.{Draft}
-use Rattle.settlement.specs.Telling.{Adds, Told, alone, children_of, if_other, is_child, sent}
+use Rattle.settlement.specs.Telling.{Adds, Told, Unnumbered, alone, children_of, if_other, is_child, sent}
 use Rattle.settlement.specs.declared.file.EndedFile.{EndedFile}
 use Rattle.settlement.specs.declared.offspring.Kinship.{Kinship}
 use Rattle.settlement.proofs.AddedEvents.{adds-none}
@@ -34,7 +33,7 @@ some_at xs i x h is = within xs i x (ltb-true i (length xs) (sym h)) ∙ ap (λ 
 
 -- ---- nothing is told
 
-pub adds_nothing : (first : ℕ) (events : List Event) (drafts : List Draft) → drafts ≡ [] → Adds first events drafts events
+pub adds_nothing : (first : ℕ) (events : List Event) (drafts : List Unnumbered) → drafts ≡ [] → Adds first events drafts events
 adds_nothing first events drafts none = rw none (adds-none first events)
 
 pub sent_nowhere : (told : Told) (put : Sent) → slice_get told.files put.place ≡ None → sent told (Some put) ≡ []
@@ -71,7 +70,7 @@ pub no_child : (kinship : Kinship) (place : ℕ) (file : EndedFile) (old : List 
 no_child kinship place file old h = rw h (sym (append-nil old))
 
 -- other drafts that are the same
-pub on_ok_told : {E : Type 0} (result : Result (Unit {0}) E) (first : ℕ) (old new : List Event) (drafts others : List Draft) → drafts ≡ others → OnOk result (Adds first old drafts new) → OnOk result (Adds first old others new)
+pub on_ok_told : {E : Type 0} (result : Result (Unit {0}) E) (first : ℕ) (old new : List Event) (drafts others : List Unnumbered) → drafts ≡ others → OnOk result (Adds first old drafts new) → OnOk result (Adds first old others new)
 on_ok_told result first old new drafts others same told = subst (λ ds. OnOk result (Adds first old ds new)) same told
 
 pub got_is : {X : Type 0} (xs : List X) (i : ℕ) (x other : X) → i < length xs → x ≡ get_or xs i x → slice_get xs i ≡ Some other → other ≡ x

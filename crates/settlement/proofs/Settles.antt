@@ -6,13 +6,13 @@ use Rattle.std.specs.List.{flat_map, enumerate_from}
 use Rattle.std.proofs.lemmas.List.{length-map}
 use Rattle.std.proofs.lemmas.List.Concat.{flat_map-append}
 use Rattle.flowfile_record.specs.Kin.{kin_of_all, kin_of}
-use Rattle.flowfile_record.specs.Outcome.{AreInTurn}
 use Rattle.flowfile_record.specs.declared.change.Settled.{Settled}
 use Rattle.flowfile_record.specs.declared.flow_file.FlowFile.{FlowFile}
 use Rattle.machine_model.specs.declared.kind.Kind.{Kind}
 use Rattle.machine_model.specs.declared.kind.Kind.TheVariants.{GenerateFlowFile}
-use Rattle.machine_model.specs.Changing.{placed_into, queue_after, queued_file, state_after, with_arrival, with_count}
-use Rattle.machine_model.specs.Events.{drafts, numbered_from}
+use Rattle.machine_model.specs.Changing.{placed_into, queue_after, queued_file, state_after, with_arrival}
+use Rattle.flowfile_record.specs.Counts.{with_count}
+use Rattle.machine_model.specs.Events.{Draft, drafts, numbered_from}
 use Rattle.machine_model.specs.Files.{queue_at}
 use Rattle.machine_model.specs.Placing as placing
 use Rattle.machine_model.specs.Placing.{SettledFile, SettlementClone, Destination, settled_file, settled_files, settlement_clones, wanted_clones, numbers_from, entered_in, count_made}
@@ -20,6 +20,7 @@ use Rattle.machine_model.specs.Settling.{arriving, counts_after, newcomers, sett
 use Rattle.machine_model.specs.State.{Kin, QueuedFile}
 use Rattle.machine_model.specs.Stepping.{without_files}
 use Rattle.machine_model.proofs.Among.{Among}
+use Rattle.machine_model.proofs.Drafted.{length-numbered}
 use Rattle.machine_model.proofs.EventsTell.{settle-tells}
 use Rattle.machine_model.proofs.KinSets.{kin_joined}
 use Rattle.machine_model.proofs.Places.{place_of}
@@ -48,7 +49,7 @@ settled_over c files =
       moment = c.given.moment;
       gone = map (λ file. file.number) c.ended.taken;
       placed = returned at files ++ arrived at first_clone files;
-      events = numbered_wrapping (length c.state.events + 1) (all_drafts (told_of c.processor c.ended.taken c.given files) c.ended.outcome.sent first_clone);
+      events = numbered_wrapping (c.state.last_event + 1) (all_drafts (told_of c.processor c.ended.taken c.given files) c.ended.outcome.sent first_clone);
       next_number = first_clone + length (wanted files);
       next_arrival = c.state.next_arrival + (length (firsts files) + length (wanted files));
       count = count_of c.processor.kind c.ended.processor c.given.index;
@@ -171,22 +172,26 @@ newcomer_count c =
 
 -- the events aren't so many that their numbers wouldn't fit
 abbrev pub EventsFit : Case → Type 0
-EventsFit c = length c.state.events + 1 + length (all_drafts (told c (files_of c)) c.ended.outcome.sent (first_clone c)) ≤ 2 ^ 64
+EventsFit c = c.state.last_event + 1 + length (all_drafts (told c (files_of c)) c.ended.outcome.sent (first_clone c)) ≤ 2 ^ 64
 
-events_same : (c : Case) → EventsFit c → (settled_over c (ended_all c)).events ≡ numbered_from (length c.state.events + 1) (drafts (session c) c.ended.outcome)
+events_same : (c : Case) → EventsFit c → (settled_over c (ended_all c)).events ≡ numbered_from (c.state.last_event + 1) (drafts (session c) c.ended.outcome)
 events_same c fit =
-    numbers-fit (length c.state.events + 1) (all_drafts (told c (files_of c)) c.ended.outcome.sent (first_clone c)) fit
-    ∙ ap (numbered_from (length c.state.events + 1)) (drafts-same c c.ended.outcome)
+    let all = drafts (session c) c.ended.outcome in
+    let same = drafts-same c c.ended.outcome in
+    let many : length (all_drafts (told c (files_of c)) c.ended.outcome.sent (first_clone c)) ≡ length all = ap length same ∙ length-map all (λ (draft : Draft). draft.event) in
+    ap (numbered_wrapping (c.state.last_event + 1)) same ∙ numbers-fit (c.state.last_event + 1) all (omega (arith, fit, many))
+
+event_count : (c : Case) → EventsFit c → length (settled_over c (ended_all c)).events ≡ length (drafts (session c) c.ended.outcome)
+event_count c fit = ap length (events_same c fit) ∙ length-numbered (c.state.last_event + 1) (drafts (session c) c.ended.outcome)
 
 kin_same : (c : Case) → Stands c → EventsFit c → ◌≡◌ {A = Kin} (union c.state.kin (from_list (kin_of_all (settled_over c (ended_all c)).events))) (settle (session c) c.ended.outcome).kin
 kin_same c s fit =
     let more = (settled_over c (ended_all c)).events in
-    let turn : AreInTurn 0 (length (session c).taken) c.ended.outcome.files = rw (length-map c.ended.taken (queued_file c.bytes)) s.known.turn in
     ap (λ kin. union kin (from_list (kin_of_all more))) s.valid.kin
     ∙ kin_joined (kin_of_all c.state.events) (kin_of_all more)
     ∙ ap from_list (sym (flat_map-append kin_of c.state.events more))
     ∙ ap (λ events. from_list (kin_of_all (c.state.events ++ events))) (events_same c fit)
-    ∙ sym (settle-tells (session c) c.ended.outcome turn s.valid.kin)
+    ∙ sym (settle-tells (session c) c.ended.outcome s.valid.kin)
 
 -- ---- the state
 
@@ -197,5 +202,6 @@ over-settles c s fit = λ i. record c.state {
   kin = kin_same c s fit i;
   next_number = first_clone c + clone_count c i;
   next_arrival = c.state.next_arrival + newcomer_count c i;
+  last_event = c.state.last_event + event_count c fit i;
   counts = counts_same c.processor.kind c.ended.processor c.given.index c.state.counts i;
 }

@@ -5,11 +5,10 @@ use Rattle.std.specs.List.{flat_map, enumerate_from}
 use Rattle.std.proofs.lemmas.List.{drop_more, drop_all, length-map}
 use Rattle.flowfile_record.specs.declared.event.Event.{Event}
 use Rattle.flowfile_record.specs.declared.worked.Worked.{Worked}
-use Rattle.machine_model.specs.Events.{Draft}
 use Rattle.machine_model.specs.Placing.{next_behind, number_by, numbers_from}
 use Rattle.settlement.specs.Ending.{least_from, least_with}
 use Rattle.settlement.specs.Placing.{first_of, firsts, further, wanted}
-use Rattle.settlement.specs.Telling.{Adds, Told, clone_event, clone_events, numbered_wrapping}
+use Rattle.settlement.specs.Telling.{Adds, Told, Unnumbered, clone_event, clone_events, numbered_wrapping}
 use Rattle.settlement.specs.declared.file.EndedFile.{EndedFile}
 use Rattle.settlement.proofs.AddedEvents.{adds-on, clones-append}
 
@@ -17,7 +16,7 @@ use Rattle.settlement.proofs.AddedEvents.{adds-on, clones-append}
 pub left : {X : Type 0} (xs : List X) (i : ℕ) (x : X) → i < length xs → x ≡ get_or xs i x → drop i xs ≡ x ∷ drop (i + 1) xs
 left xs i x h is = drop_more xs i x h ∙ ap (λ y. y ∷ drop (i + 1) xs) (sym is)
 
-pub row_more : (first : ℕ) (old new whole : List Event) (r : ℕ × EndedFile → List Draft) (files : List EndedFile) (i : ℕ) (file : EndedFile) → i < length files → file ≡ get_or files i file
+pub row_more : (first : ℕ) (old new whole : List Event) (r : ℕ × EndedFile → List Unnumbered) (files : List EndedFile) (i : ℕ) (file : EndedFile) → i < length files → file ≡ get_or files i file
     → Adds first old (r (i, file)) new → old ++ numbered_wrapping (first + length old) (flat_map r (enumerate_from i (drop i files))) ≡ whole
     → new ++ numbered_wrapping (first + length new) (flat_map r (enumerate_from (i + 1) (drop (i + 1) files))) ≡ whole
 row_more first old new whole r files i file h is adds before =
@@ -25,19 +24,19 @@ row_more first old new whole r files i file h is adds before =
     ∙ ap (λ rest. old ++ numbered_wrapping (first + length old) (flat_map r (enumerate_from i rest))) (sym (left files i file h is))
     ∙ before
 
-pub row_all : (n : ℕ) (old whole : List Event) (r : ℕ × EndedFile → List Draft) (files : List EndedFile) (i : ℕ) → length files ≤ i
+pub row_all : (n : ℕ) (old whole : List Event) (r : ℕ × EndedFile → List Unnumbered) (files : List EndedFile) (i : ℕ) → length files ≤ i
     → old ++ numbered_wrapping n (flat_map r (enumerate_from i (drop i files))) ≡ whole → old ≡ whole
 row_all n old whole r files i h is =
     sym (append-nil old) ∙ ap (λ rest. old ++ numbered_wrapping n (flat_map r (enumerate_from i rest))) (sym (drop_all i files h)) ∙ is
 
-pub each_more : (first : ℕ) (old new whole : List Event) (g : ℕ → Draft) (xs : List ℕ) (i x : ℕ) → i < length xs → x ≡ get_or xs i x → Adds first old (g x ∷ []) new
+pub each_more : (first : ℕ) (old new whole : List Event) (g : ℕ → Unnumbered) (xs : List ℕ) (i x : ℕ) → i < length xs → x ≡ get_or xs i x → Adds first old (g x ∷ []) new
     → old ++ numbered_wrapping (first + length old) (map g (drop i xs)) ≡ whole → new ++ numbered_wrapping (first + length new) (map g (drop (i + 1) xs)) ≡ whole
 each_more first old new whole g xs i x h is adds before =
     adds-on first old new (g x ∷ []) (map g (drop (i + 1) xs)) adds
     ∙ ap (λ rest. old ++ numbered_wrapping (first + length old) (map g rest)) (sym (left xs i x h is))
     ∙ before
 
-pub each_all : (n : ℕ) (old whole : List Event) (g : ℕ → Draft) (xs : List ℕ) (i : ℕ) → length xs ≤ i → old ++ numbered_wrapping n (map g (drop i xs)) ≡ whole → old ≡ whole
+pub each_all : (n : ℕ) (old whole : List Event) (g : ℕ → Unnumbered) (xs : List ℕ) (i : ℕ) → length xs ≤ i → old ++ numbered_wrapping n (map g (drop i xs)) ≡ whole → old ≡ whole
 each_all n old whole g xs i h is = sym (append-nil old) ∙ ap (λ rest. old ++ numbered_wrapping n (map g rest)) (sym (drop_all i xs h)) ∙ is
 
 -- one more clone of a file

@@ -69,7 +69,7 @@ pub record IsHanded (flow : Flow) (counters : Counters) (ended : Ended) (process
   pub store : state.store ≡ counters.store
   pub next_number : state.next_number ≡ counters.next_number
   pub next_arrival : state.next_arrival ≡ counters.next_arrival
-  pub last_event : length state.events ≡ counters.last_event
+  pub last_event : state.last_event ≡ counters.last_event
   pub read : AreRead bytes ended.taken ended.sources
   pub there : All (Contains (queue_at state ended.connection)) (map (queued_file bytes) ended.taken)
   pub differ : AllPairs (λ one other. one.number ≢ other.number) ended.taken

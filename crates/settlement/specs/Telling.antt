@@ -11,7 +11,7 @@ use Rattle.flowfile_record.specs.declared.worked.Origin.{Origin}
 use Rattle.flowfile_record.specs.declared.worked.Origin.TheVariants as origin
 use Rattle.flowfile_record.specs.declared.worked.Sent.{Sent}
 use Rattle.machine_model.specs.declared.flow.Processor.{Processor}
-use Rattle.machine_model.specs.Events.{Draft, ascending, is_removed, is_forked_from, is_cloned_from}
+use Rattle.machine_model.specs.Events.{ascending, is_removed, is_forked_from, is_cloned_from}
 use Rattle.machine_model.specs.Placing.{relationship_at}
 use Rattle.settlement.specs.declared.file.EndedFile.{EndedFile}
 use Rattle.settlement.specs.declared.file.Goes.{Goes}
@@ -41,7 +41,11 @@ told_by teller = record {
   files = teller.files.now;
 }
 
-abbrev pub event_of : Told → EventKind → EndedFile → (parents children detail : List ℕ) → Draft
+-- an event whose number isn't given yet
+abbrev pub Unnumbered : Type 0
+Unnumbered = ℕ → Event
+
+abbrev pub event_of : Told → EventKind → EndedFile → (parents children detail : List ℕ) → Unnumbered
 event_of told kind file parents children detail = λ number. record {
   number = number;
   kind = kind;
@@ -56,16 +60,16 @@ event_of told kind file parents children detail = λ number. record {
 }
 
 -- an event that names no other file
-abbrev pub alone : Told → EventKind → EndedFile → (detail : List ℕ) → Draft
+abbrev pub alone : Told → EventKind → EndedFile → (detail : List ℕ) → Unnumbered
 alone told kind file detail = event_of told kind file [] [] detail
 
 -- numbered from here on, as far as 64 bits go
-abbrev pub numbered_wrapping : ℕ → List Draft → List Event
+abbrev pub numbered_wrapping : ℕ → List Unnumbered → List Event
 numbered_wrapping number [] = []
 numbered_wrapping number (draft ∷ drafts) = draft (number % 2 ^ 64) ∷ numbered_wrapping (number + 1) drafts
 
 -- more events, numbered on from those that there are, of which the first has this number
-abbrev pub Adds : (first : ℕ) (old : List Event) → List Draft → (new : List Event) → Type 0
+abbrev pub Adds : (first : ℕ) (old : List Event) → List Unnumbered → (new : List Event) → Type 0
 Adds first old drafts new = new ≡ old ++ numbered_wrapping (first + length old) drafts
 
 -- ---- children
@@ -101,28 +105,28 @@ all_children kinship files = map (children_of kinship files) (range_with_len 0 (
 abbrev pub number_at : List EndedFile → ℕ → ℕ
 number_at files place = slice_index (map (λ file. file.number) files) place
 
-abbrev pub created : Told → EndedFile → Origin → List Draft
+abbrev pub created : Told → EndedFile → Origin → List Unnumbered
 created told file origin.Created = alone told kind.Create file [] ∷ []
 created told file _ = []
 
-abbrev pub received : Told → EndedFile → Origin → List Draft
+abbrev pub received : Told → EndedFile → Origin → List Unnumbered
 received told file origin.Received = alone told kind.Receive file (unwrap_or told.received []) ∷ []
 received told file _ = []
 
-abbrev pub fork_of : Told → EndedFile → List ℕ → List Draft
+abbrev pub fork_of : Told → EndedFile → List ℕ → List Unnumbered
 fork_of told parent [] = []
 fork_of told parent (child ∷ children) =
     event_of told kind.Fork parent (parent.number ∷ []) (child ∷ children) [] ∷ []
 
-abbrev pub joined : Told → EndedFile → Origin → List Draft
+abbrev pub joined : Told → EndedFile → Origin → List Unnumbered
 joined told file (origin.Joined parents) =
     event_of told kind.Join file (ascending (map (number_at told.files) parents)) (file.number ∷ []) [] ∷ []
 joined told file _ = []
 
-abbrev pub clone_event : Told → EndedFile → (clone : ℕ) → Draft
+abbrev pub clone_event : Told → EndedFile → (clone : ℕ) → Unnumbered
 clone_event told original clone = event_of told kind.Clone original (original.number ∷ []) (clone ∷ []) []
 
-abbrev pub modified : Told → EndedFile → Origin → List Draft
+abbrev pub modified : Told → EndedFile → Origin → List Unnumbered
 modified told file (origin.Taken place) =
     if is_removed file.worked.«end» then []
     else if file.worked.written then alone told kind.ContentModified file [] ∷ []
@@ -130,30 +134,30 @@ modified told file (origin.Taken place) =
 modified told file _ = []
 
 -- where a file has other attributes than the one that was taken
-abbrev pub if_other : Told → EndedFile → Option FlowFile → List Draft
+abbrev pub if_other : Told → EndedFile → Option FlowFile → List Unnumbered
 if_other told file None = []
 if_other told file (Some taken) =
     if same_attributes taken.attributes file.worked.attributes then []
     else alone told kind.AttributesModified file [] ∷ []
 
-abbrev pub attributes_modified : Told → EndedFile → Origin → List Draft
+abbrev pub attributes_modified : Told → EndedFile → Origin → List Unnumbered
 attributes_modified told file (origin.Taken place) =
     if is_removed file.worked.«end» || file.worked.written then []
     else if_other told file (slice_get told.taken place)
 attributes_modified told file _ = []
 
-abbrev pub routed : Told → EndedFile → Option ℕ → List Draft
+abbrev pub routed : Told → EndedFile → Option ℕ → List Unnumbered
 routed told file (Some relationship) =
     alone told kind.Route file (relationship_at told.processor relationship) ∷ []
 routed told file None = []
 
-abbrev pub dropped : Told → EndedFile → Goes → List Draft
+abbrev pub dropped : Told → EndedFile → Goes → List Unnumbered
 dropped told file (Drops relationship) = alone told kind.Drop file relationship ∷ []
 dropped told file Leaves = alone told kind.Drop file [] ∷ []
 dropped told file _ = []
 
 -- what a row tells of the file at a place
-abbrev pub row_at : Told → Row → ℕ × EndedFile → List Draft
+abbrev pub row_at : Told → Row → ℕ × EndedFile → List Unnumbered
 row_at told row.Created (place, file) = created told file file.worked.origin
 row_at told row.Received (place, file) = received told file file.worked.origin
 row_at told row.Forked (place, file) = fork_of told file (children_of Forked told.files place)
@@ -164,24 +168,24 @@ row_at told row.AttributesModified (place, file) = attributes_modified told file
 row_at told row.Routed (place, file) = routed told file file.worked.routed
 row_at told row.Dropped (place, file) = dropped told file file.goes
 
-abbrev pub row_of : Told → Row → List Draft
+abbrev pub row_of : Told → Row → List Unnumbered
 row_of told row = flat_map (row_at told row) (enumerate_from 0 told.files)
 
-abbrev pub sent : Told → Option Sent → List Draft
+abbrev pub sent : Told → Option Sent → List Unnumbered
 sent told (Some put) = option_map_or (λ file. alone told kind.Send file put.name ∷ [])
     (slice_get told.files put.place) []
 sent told None = []
 
 -- ---- clones
 
-abbrev pub clone_events : Told → (number : ℕ) → List (EndedFile × ℕ) → List Draft
+abbrev pub clone_events : Told → (number : ℕ) → List (EndedFile × ℕ) → List Unnumbered
 clone_events told number [] = []
 clone_events told number (clone ∷ clones) = clone_event told clone.0 number ∷ clone_events told (number + 1) clones
 
 -- ---- all of them
 
 -- which files were made, and from which
-abbrev pub made_rows : Told → List Draft
+abbrev pub made_rows : Told → List Unnumbered
 made_rows told =
     row_of told row.Created
     ++ row_of told row.Received
@@ -190,10 +194,10 @@ made_rows told =
     ++ row_of told row.Cloned
 
 -- what changed of the taken files, and which files were routed
-abbrev pub changed_rows : Told → List Draft
+abbrev pub changed_rows : Told → List Unnumbered
 changed_rows told = row_of told row.ContentModified ++ row_of told row.AttributesModified ++ row_of told row.Routed
 
-abbrev pub all_drafts : Told → Option Sent → (first_clone : ℕ) → List Draft
+abbrev pub all_drafts : Told → Option Sent → (first_clone : ℕ) → List Unnumbered
 all_drafts told put first_clone =
     made_rows told
     ++ changed_rows told

@@ -29,7 +29,8 @@ use Rattle.flowfile_wal.specs.Steps.{Adds, IsFrame, frame}
 use Rattle.record_codec.specs.EntryEncoding.{entry as encoding, kind_of, IsEntry}
 use Rattle.record_codec.specs.declared.block.TheConstants.{PAYLOAD_MAX}
 use Rattle.record_codec.proofs.Sizes.{placeless_entry_size}
-use Rattle.kept_state.specs.Applied.{left_after, session_applied, applied, swapped_out, with_count}
+use Rattle.kept_state.specs.Applied.{left_after, session_applied, applied, swapped_out}
+use Rattle.flowfile_record.specs.Counts.{with_count}
 use Rattle.kept_state.specs.Changes.{session_of, expiry_entry, record_of, no_files, placed_in, MaySettle, MayExpireAs}
 use Rattle.kept_state.specs.Fits.{fits, session_suits}
 use Rattle.kept_state.specs.Limits.{live_limit}

@@ -7,7 +7,7 @@ use Rattle.flowfile_record.specs.declared.event.Event.{Event}
 use Rattle.prov_store.specs.Events.{events_file, count_in, first_in, events_from, events_of_file, events_of_files, ◌>>=◌, events_in, blocks_size, covered, covered_size}
 use Rattle.prov_store.specs.State.{EventsState, HasEvents, HasStale, IsTrimmed, CutsStale, SameEvents}
 use Rattle.prov_store.specs.declared.events.Stale.{Stale}
-use Rattle.prov_store.specs.declared.TheConstants.{EVENTS_PER_FILE}
+use Rattle.flowfile_record.specs.declared.limits.TheConstants.{EVENTS_PER_FILE}
 use Rattle.prov_store.proofs.InFiles.{events_stay}
 use Rattle.prov_store.proofs.Keeping.{still_has, cuts_keep}
 use Rattle.store_core.specs.Agreement.{SameEventFiles}

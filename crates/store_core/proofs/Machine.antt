@@ -1,6 +1,6 @@
 -- The machine's state that files stand for behind a session.
-use Rattle.std.proofs.Common.{◌≡◌, ℕ, ◌+◌, List, [], ◌∷◌, ◌++◌, map, refl, sym, ap, ◌∙◌}
-use Rattle.std.specs.Prelude.{fold, Option, None, Some}
+use Rattle.std.proofs.Common.{◌≡◌, ℕ, ◌+◌, List, [], ◌∷◌, ◌++◌, length, map, refl, sym, ap, ◌∙◌}
+use Rattle.std.specs.Prelude.{fold}
 use Rattle.std.specs.List.{AllZip, enumerate_from}
 use Rattle.std.specs.FinSet.{union, from_list}
 use Rattle.std.proofs.lemmas.Grind.{flat_map-append}
@@ -11,13 +11,13 @@ use Rattle.flowfile_record.specs.Stored.{Kept}
 use Rattle.flowfile_record.specs.declared.change.Settled.{Settled}
 use Rattle.flowfile_record.specs.declared.content.ContentRef.{ContentRef}
 use Rattle.flowfile_record.specs.declared.event.Event.{Event}
-use Rattle.flowfile_record.specs.declared.stored.Counted.{Counted}
 use Rattle.record_codec.specs.declared.entry.SessionEntry.{SessionEntry}
-use Rattle.kept_state.specs.Applied.{left_after, session_applied, with_count}
+use Rattle.kept_state.specs.Applied.{left_after, session_applied}
+use Rattle.flowfile_record.specs.Counts.{with_count}
 use Rattle.kept_state.proofs.Apart.{AreApart}
 use Rattle.machine_model.specs.State.{QueuedFile, State}
 use Rattle.machine_model.specs.Stepping.{without_files}
-use Rattle.machine_model.specs.Changing.{placed_into, with_arrival, queue_after, with_count as counts_after, state_after}
+use Rattle.machine_model.specs.Changing.{placed_into, with_arrival, queue_after, state_after}
 use Rattle.store_core.specs.State.{queue_of, state_with}
 use Rattle.store_core.proofs.Queues.{IsQueuedAs, queue_behind, line, arrival_of}
 
@@ -26,6 +26,7 @@ pub record IsSessionFor (new old : ContentRef → List ℕ) (k : Kept) (s : Sett
   pub gone : se.gone ≡ s.gone
   pub number : se.next_number ≡ s.next_number
   pub arrival : se.next_arrival ≡ s.next_arrival
+  pub event : se.last_event ≡ k.last_event + length s.events
   pub count : se.generator ≡ s.count
   pub apart : AreApart arrival_of se.placed (left_after se.gone k.files)
   pub placed : AllZip (IsQueuedAs new old) s.placed se.placed
@@ -45,10 +46,6 @@ same_queues new old k s se is from (c ∷ connections) =
     let one = same_queue new old k s se is from in
     let rest = same_queues new old k s se is (from + 1) connections in cc
 
-same_counts : (generator : Option Counted) (counts : List ℕ) → with_count generator counts ≡ counts_after generator counts
-same_counts None counts = refl
-same_counts (Some g) counts = refl
-
 -- the kin that all events tell of is that of the earlier ones and that of the later ones
 kin_of_both : (earlier later : List Event) → ◌≡◌ {A = Kin} (from_list (kin_of_all (earlier ++ later))) (union (from_list (kin_of_all earlier)) (from_list (kin_of_all later)))
 kin_of_both earlier later =
@@ -58,15 +55,16 @@ pub state_behind : (new old : ContentRef → List ℕ) (events : List Event) (k 
     → state_with new (events ++ s.events) (session_applied k se) ≡ state_after old (state_with old events k) s
 state_behind new old events k s se is =
     let queues = same_queues new old k s se is 0 k.connections in
-    let counts : with_count se.generator k.counts ≡ counts_after s.count k.counts = same_counts se.generator k.counts ∙ ap (λ (g : Option Counted). counts_after g k.counts) is.count in
-    let made : List (List QueuedFile) → Kin → ℕ → ℕ → List ℕ → State = λ qs kin n a cs. record {
+    let made : List (List QueuedFile) → Kin → ℕ → ℕ → ℕ → List ℕ → State = λ qs kin n a e cs. record {
       store = k.store;
+      line = k.line;
       queues = qs;
       events = events ++ s.events;
       kin = kin;
       next_number = n;
       next_arrival = a;
       next_batch = k.next_batch;
+      last_event = e;
       counts = cs;
     } in
     let k2 = session_applied k se in
@@ -74,8 +72,6 @@ state_behind new old events k s se is =
     let qs2 = map (queue_after old s) (enumerate_from 0 before) in
     let kin1 : Kin = from_list (kin_of_all (events ++ s.events)) in
     let kin2 : Kin = union (from_list (kin_of_all events)) (from_list (kin_of_all s.events)) in
-    ap (λ (qs : List (List QueuedFile)). made qs kin1 se.next_number se.next_arrival (with_count se.generator k.counts)) queues
-    ∙ ap (λ (kin : Kin). made qs2 kin se.next_number se.next_arrival (with_count se.generator k.counts)) (kin_of_both events s.events)
-    ∙ ap (λ (n : ℕ). made qs2 kin2 n se.next_arrival (with_count se.generator k.counts)) is.number
-    ∙ ap (λ (a : ℕ). made qs2 kin2 s.next_number a (with_count se.generator k.counts)) is.arrival
-    ∙ ap (λ (cs : List ℕ). made qs2 kin2 s.next_number s.next_arrival cs) counts
+    ap (λ (qs : List (List QueuedFile)). made qs kin1 se.next_number se.next_arrival se.last_event (with_count se.generator k.counts)) queues
+    ∙ ap (λ (kin : Kin). made qs2 kin se.next_number se.next_arrival se.last_event (with_count se.generator k.counts)) (kin_of_both events s.events)
+    ∙ (λ i. made qs2 kin2 (is.number i) (is.arrival i) (is.event i) (with_count (is.count i) k.counts))

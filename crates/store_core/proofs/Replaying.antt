@@ -9,7 +9,8 @@ use Rattle.flowfile_record.specs.declared.stored.Counted.{Counted}
 use Rattle.flowfile_record.specs.declared.stored.SwapBatch.{SwapBatch}
 use Rattle.record_codec.specs.declared.entry.LogEntry.{LogEntry}
 use Rattle.record_codec.specs.declared.entry.LogEntry.TheVariants.{Begin, Session, Expire, SwapOut, SwapIn}
-use Rattle.kept_state.specs.Applied.{with_count, applied, swapped_out}
+use Rattle.kept_state.specs.Applied.{applied, swapped_out}
+use Rattle.flowfile_record.specs.Counts.{with_count}
 use Rattle.kept_state.specs.Changes.{no_files}
 use Rattle.kept_state.specs.Fits.{fits, replayed}
 use Rattle.store_core.specs.Flow.{flow_in}

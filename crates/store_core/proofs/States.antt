@@ -1,7 +1,8 @@
 -- The machine's state that files stand for once a session's entry was added.
-use Rattle.std.proofs.Common.{◌≡◌, ℕ, ◌==◌, Bool, true, false, cond, not, List, [], ◌∷◌, ◌++◌, map, take, drop, get_or, refl, sym, ap, subst, ◌∙◌}
+use Rattle.std.proofs.Common.{◌≡◌, ℕ, ◌==◌, Bool, true, false, cond, not, List, [], ◌∷◌, ◌++◌, map, take, drop, get_or, refl, sym, ap, subst, ◌∙◌, arith}
 use Rattle.std.specs.Prelude.{Option, None, Some, Ok, All, Contains, filter, unwrap_or}
 use Rattle.std.specs.List.{AllZip}
+use Rattle.std.proofs.lemmas.List.{length-append}
 use Rattle.std.proofs.lemmas.List.Elements.{All-head, All-tail, All-filter}
 use Rattle.disk_trait.specs.Files.{Files, named}
 use Rattle.disk_trait.specs.declared.file_name.FileKind.TheVariants.{Log, Claim}
@@ -24,6 +25,7 @@ use Rattle.kept_state.proofs.Keeping.{suits_from}
 use Rattle.machine_model.specs.State.{State}
 use Rattle.machine_model.specs.Changing.{state_after}
 use Rattle.prov_store.specs.Events.{events_in}
+use Rattle.prov_store.proofs.InFiles.{last_numbered}
 use Rattle.store_core.specs.Change.{IsOldLive}
 use Rattle.store_core.specs.Flow.{Flow, flow_in}
 use Rattle.store_core.specs.Kept.{kept_in}
@@ -129,6 +131,12 @@ state_added s new settled se number e slots old mid files state batches suits sa
       gone = same.gone;
       number = same.number;
       arrival = same.arrival;
+      event = omega (
+        arith,
+        (last_numbered k.last_event old was.events was.events_are).1,
+        (last_numbered se.last_event files (was.events ++ settled.events) events2).1,
+        length-append was.events settled.events,
+      );
       count = same.count;
       apart = (suits_from k se batches suits).arrivals;
       placed = all_queued (content_in files) (content_in old) slots mid settled.placed se.placed are reads placed;

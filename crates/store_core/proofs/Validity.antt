@@ -1,7 +1,7 @@
 -- What is kept is a valid state of the machine: its queues have the live files, each once, by arrival.
 use Rattle.std.proofs.Common.{◌≡◌, ◌≢◌, ◌⊎◌, inl, inr, ℕ, zero, suc, ◌+◌, ◌<◌, ◌≤◌, Bool, true, false, cond, List, [], ◌∷◌, length, map, refl, sym, ap, subst, ◌∙◌, arith, get_or}
 use Rattle.std.specs.Prelude.{◌==◌, All, Contains, IfSome, Option, None, Some, Ok, filter, fold, is_some, nat_lt, slice_get, unwrap_or}
-use Rattle.std.specs.List.{AllPairs, enumerate_from}
+use Rattle.std.specs.List.{AllPairs, enumerate_from, range_with_len}
 use Rattle.std.proofs.lemmas.Bool.{cases_lt, eqb-true, eq-eqb}
 use Rattle.std.proofs.lemmas.List.Elements.{All-nil, All-cons, All-map, All-weaker, All-contains}
 use Rattle.std.proofs.lemmas.List.{length-map}
@@ -289,9 +289,9 @@ module _ (contents : ContentRef → List ℕ) (events : List Event) (k : Kept) w
 
   -- ---- the state
 
-  pub kept_is_valid : (flow : Flow) → IsConsistent k → AreNumberedFrom 1 events → length k.connections ≡ length flow.connections → length k.counts ≡ length flow.processors
+  pub kept_is_valid : (flow : Flow) → IsConsistent k → AreNumberedFrom 1 events → length events ≡ k.last_event → length k.connections ≡ length flow.connections → length k.counts ≡ length flow.processors
       → IsValid flow (state_with contents events k)
-  kept_is_valid flow is in_row connections counts = record {
+  kept_is_valid flow is in_row last connections counts = record {
     queues = length-map (enumerate_from 0 k.connections) (λ (c : ℕ × List ℕ). queue_of contents k.files c.0) ∙ length-enumerate_from 0 k.connections ∙ connections;
     counts = counts;
     numbered = record {
@@ -303,7 +303,11 @@ module _ (contents : ContentRef → List ℕ) (events : List Event) (k : Kept) w
     by_arrival = All-map AreByArrival (λ (c : ℕ × List ℕ). queue_of contents k.files c.0) (enumerate_from 0 k.connections)
         (λ i d lt. ordered contents events k is (get_or (enumerate_from 0 k.connections) i d).0);
     batches = λ one other batch has _. absurd (no_batch one batch has);
-    events = in_row;
+    events = record {
+      line = omega (arith, is.encoded.line);
+      numbers = in_row ∙ ap (λ n. range_with_len (n + 1) (length events)) (sym is.encoded.line);
+      last_event = omega (arith, last, is.encoded.line);
+    };
     kin = refl;
   }
 

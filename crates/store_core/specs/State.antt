@@ -63,12 +63,14 @@ queue_of contents files place =
 abbrev pub state_with : (ContentRef → List ℕ) → List Event → Kept → State
 state_with contents events k = record {
   store = k.store;
+  line = k.line;
   queues = map (λ connection. queue_of contents k.files connection.0) (enumerate_from 0 k.connections);
   events = events;
   kin = from_list (kin_of_all events);
   next_number = k.next_number;
   next_arrival = k.next_arrival;
   next_batch = k.next_batch;
+  last_event = k.last_event;
   counts = k.counts;
 }
 

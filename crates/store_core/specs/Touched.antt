@@ -15,7 +15,7 @@ use Rattle.store_core.specs.Store.{StandsIn}
 abbrev pub TouchesOnly : (FileName → Type 0) → Files → Files → Type 0
 TouchesOnly may old new = (f : FileName) → (may f → ⊥) → new f ≡ old f
 
--- but for these, each file is as it was or shorter: nothing is written to it
+-- But for these, each file is as it was, or no longer: then its bytes may be any, as behind a cut that no sync followed.
 abbrev pub OnlyShortens : (FileName → Type 0) → Files → Files → Type 0
 OnlyShortens may old new = (f : FileName) → (may f → ⊥) → Shortened 0 (old f) (new f)
 

@@ -17,12 +17,12 @@ use Rattle.store_core.specs.Flow.{flow_in}
 use Rattle.store_core.specs.State.{queued, state_with, stands_for}
 use Rattle.store_core.specs.Store.{StoreState, kept_by, Holds}
 
--- what is kept without batches is, with events in a row, a valid state of each flow with as many connections and
+-- what is kept without batches is, with its events in a row, a valid state of each flow with as many connections and
 -- processors
 abbrev pub KeptIsValid : Type 0
 KeptIsValid =
     (flow : Flow) (contents : ContentRef → List ℕ) (events : List Event) (k : Kept) → IsConsistent k → k.batches ≡ []
-    → AreNumberedFrom 1 events
+    → AreNumberedFrom 1 events → length events ≡ k.last_event
     → length k.connections ≡ length flow.connections → length k.counts ≡ length flow.processors
     → IsValid flow (state_with contents events k)
 

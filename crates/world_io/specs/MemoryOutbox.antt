@@ -11,3 +11,7 @@ files_standing outbox = map file_of outbox.files.items
 -- what stands under each name
 abbrev pub standing_in : MemoryOutbox → List ℕ → Option (List ℕ)
 standing_in outbox = bytes_of (files_standing outbox)
+
+-- the files that were put into it, in order, also where a put failed behind its beginning
+abbrev pub files_put : MemoryOutbox → List NamedFile
+files_put outbox = map file_of outbox.puts.items

@@ -6,8 +6,13 @@ pub trait Clock: Send {
     /// The last moment that it gave or waited for.
     ghost time: { Self → ℕ };
 
+    /// What holds of each moment that `now` answers. A type of clock may name any property that all its answers have, so
+    /// who holds no answer can't tell it of a moment: not of a later one, nor of one that was waited for.
+    ghost given: { ℕ → Type 0 };
+
     /// The present moment.
     fn now(&mut self) -> u64
+        ensures answer { given result }
         ensures moment { result ≡ time self.new }
         ensures later { time self.old ≤ time self.new };
 

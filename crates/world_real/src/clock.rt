@@ -1,5 +1,5 @@
 //! The machine's clock.
-ghost use Rattle.std.specs.Prelude.{◌≡◌, ◌≤◌};
+ghost use Rattle.std.specs.Prelude.{◌≡◌, ⊤, ◌≤◌};
 
 use std::time::{Duration, SystemTime, UNIX_EPOCH};
 use std::{rt, thread};
@@ -27,6 +27,8 @@ impl<'r, R: rt::Clock + Sync> MachineClock<'r, R> {
 
 impl<'r, R: rt::Clock + Sync> Clock for MachineClock<'r, R> {
     ghost time = { λ clock. clock.last };
+
+    ghost given = { λ _. ⊤ };
 
     fn now(&mut self) -> u64 {
         self.last = self.last.max(milliseconds(self.rt));

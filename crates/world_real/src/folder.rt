@@ -29,7 +29,7 @@ pub(crate) struct Place<'r, R> {
 pub(crate) enum Entry {
     Nothing,
     File(Metadata),
-    Folder,
+    Folder(Metadata),
     Other,
 }
 
@@ -92,7 +92,7 @@ impl<'r, R> Place<'r, R> {
 pub(crate) fn entry_at<R: Files, P: AsPath>(rt: &R, path: P) -> io::Result<Entry> {
     match fs::symlink_metadata(rt, path) {
         Ok(found) if found.is_file() => Ok(Entry::File(found)),
-        Ok(found) if found.is_dir() => Ok(Entry::Folder),
+        Ok(found) if found.is_dir() => Ok(Entry::Folder(found)),
         Ok(_) => Ok(Entry::Other),
         Err(error) if error.kind() == ErrorKind::NotFound => Ok(Entry::Nothing),
         Err(error) => Err(error),

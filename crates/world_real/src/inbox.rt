@@ -183,7 +183,7 @@ fn found_at<R: Files>(rt: &R, path: &str) -> io::Result<Metadata> {
     match entry_at(rt, path)? {
         Entry::File(found) => Ok(found),
         Entry::Nothing => Err(ErrorKind::NotFound.into()),
-        Entry::Folder | Entry::Other => Err(ErrorKind::Unsupported.into()),
+        Entry::Folder(_) | Entry::Other => Err(ErrorKind::Unsupported.into()),
     }
 }
 

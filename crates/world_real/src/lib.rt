@@ -4,6 +4,7 @@
 //! and sync what they say is durable.
 #![tactic(auto)]
 
+mod aside;
 mod clock;
 mod faults;
 mod folder;

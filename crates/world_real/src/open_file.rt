@@ -80,7 +80,7 @@ pub(crate) fn open_file<R: Files<File = File>>(
     match entry_at(rt, path)? {
         Entry::Nothing => Ok(None),
         Entry::File(named) => Ok(Some(open_named(rt, path, how, &named)?)),
-        Entry::Folder | Entry::Other => Err(ErrorKind::Unsupported.into()),
+        Entry::Folder(_) | Entry::Other => Err(ErrorKind::Unsupported.into()),
     }
 }
 

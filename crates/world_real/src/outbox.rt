@@ -1,31 +1,28 @@
 //! An outbox over a folder.
-ghost use Rattle.std.specs.Prelude.{◌≡◌, false, None};
+ghost use Rattle.std.specs.Prelude.{◌≡◌, false, None, []};
 ghost use Rattle.world_real.specs.Untold.{told_by_none};
 
+use crate::aside::{Aside, sweep};
 use crate::faults::counted;
 use crate::folder::{Entry, Folder, Place, entry_at};
-use crate::numbered::{is_no_text, read_number};
 use crate::open_file::{OpenFolder, create_file, folder_at};
 use disk_trait::Failed;
 use flowfile_record::Name;
 use std::alloc::Global;
 use std::fs::{self, File};
-use std::io::{self, ErrorKind};
-use std::mem;
 use std::rt::Files;
+use std::{io, mem};
 use world_io::Outbox;
-
-/// What the name of a folder begins with in which a file stands before it gets its name.
-const ASIDE: &str = ".flow-aside-";
 
 /// A folder that files are put into.
 ///
 /// A put that answered Ok is durable, and no reader sees a part of it: it is written in a folder aside,
-/// synced, and given its name. That folder is `.flow-aside-N` in the outbox, N being the least number
-/// where nothing or a folder stands. It stays there, empty, for the next put, until `finish` removes it
-/// or a put fails; where something else took its place, another one is made. Whatever folder stood under
-/// such a name before is what a stop left: the first `put` or `holds` removes it with all that it holds,
-/// and so does `sweep`.
+/// synced, and given its name. That folder is `.flow-aside-N` in the outbox, N being the least number where
+/// nothing stands. It has a marker, which is locked as long as the run goes on, and stays there for the
+/// next put until `finish` removes it or a put fails; where something else took its place, another one is
+/// made. A marked folder that no process holds is what a stop left: the first `put` or `holds` removes it,
+/// and so does `sweep`. Any other folder of such a name stays as it is, and so does what somebody put into a
+/// marked one.
 #[derive(Drop)]
 pub struct OutboxFolder<'r, R> {
     place: Place<'r, R>,
@@ -44,8 +41,8 @@ enum FoldersAside {
     Unknown,
     /// There is none.
     Swept,
-    /// There is the one at this path alone, which an earlier put left empty for the next one.
-    Kept(String),
+    /// There is this run's own, which an earlier put left empty for the next one.
+    Kept(Aside),
 }
 
 impl<'r, R: Files<File = File> + Alloc + Sync> OutboxFolder<'r, R> {
@@ -63,7 +60,7 @@ impl<'r, R: Files<File = File> + Alloc + Sync> OutboxFolder<'r, R> {
     }
 
     /// Removes what stops of earlier runs left aside, where no call did yet. What can't be removed stays,
-    /// and that is no fault. Another process may not be putting files there meanwhile.
+    /// and that is no fault.
     pub fn sweep(&mut self)
         ensures { ⟦<OutboxFolder<'r, R> as Outbox>⟧.faults self.new
             ≡ ⟦<OutboxFolder<'r, R> as Outbox>⟧.faults self.old }
@@ -79,7 +76,7 @@ impl<'r, R: Files<File = File> + Alloc + Sync> OutboxFolder<'r, R> {
             ≡ ⟦<OutboxFolder<'r, R> as Outbox>⟧.faults self.old }
     {
         if let FoldersAside::Kept(folder) = mem::replace(&mut self.aside, FoldersAside::Unknown) {
-            let _ = fs::remove_dir(self.place.rt, folder.as_str());
+            let _ = folder.give_up(&self.place);
         }
     }
 }
@@ -88,6 +85,8 @@ impl<'r, R: Files<File = File> + Alloc + Sync> Outbox for OutboxFolder<'r, R> {
     ghost tells = { false };
 
     ghost standing = { λ _ _. None };
+
+    ghost puts = { λ _. [] };
 
     ghost faults = { λ outbox. outbox.faults };
 
@@ -117,7 +116,7 @@ fn holds<R: Files<File = File> + Alloc>(
     sweep_once(place, aside)?;
     match entry_at(place.rt, place.entry(name.text())?.as_str())? {
         Entry::File(_) | Entry::Other => Ok(true),
-        Entry::Folder | Entry::Nothing => Ok(false),
+        Entry::Folder(_) | Entry::Nothing => Ok(false),
     }
 }
 
@@ -132,10 +131,10 @@ fn put<R: Files<File = File> + Alloc>(
     sweep_once(place, aside)?;
     let path = place.entry(name)?;
     let folder = folder_of_a_put(place, aside, path.as_str())?;
-    let answer = put_through(place, lot, open, folder.as_str(), path.as_str(), bytes);
+    let answer = put_through(place, lot, open, &folder, path.as_str(), bytes);
     if answer.is_err() {
         // The next put looks again for what this one leaves.
-        let _ = remove_folder(place.rt, folder.as_str());
+        let _ = folder.give_up(place);
     } else {
         *aside = FoldersAside::Kept(folder);
     }
@@ -153,56 +152,19 @@ fn sweep_once<R: Files<File = File> + Alloc>(
     Ok(())
 }
 
-/// Removes what earlier puts left aside, all that can be removed.
-fn sweep<R: Files<File = File> + Alloc>(place: &Place<'_, R>) -> io::Result<()> {
-    let mut answer = Ok(());
-    for entry in fs::read_dir(&place.rt, place.path()?)? {
-        match entry {
-            Ok(entry) if is_aside(entry.file_name()) => {
-                let path = place.entry(entry.file_name())?;
-                answer = answer.and(remove_folder(place.rt, path.as_str()));
-            }
-            Ok(_) => {}
-            Err(error) if is_no_text(&error) => {}
-            Err(error) => return Err(error),
-        }
-    }
-    answer
-}
-
-fn is_aside(name: &str) -> bool {
-    match name.strip_prefix(ASIDE) {
-        Some(digits) => read_number(digits).is_some(),
-        None => false,
-    }
-}
-
-fn remove_folder<R: Files + Alloc>(rt: &R, path: &str) -> io::Result<()> {
-    match entry_at(rt, path)? {
-        // An empty one is removed whoever may read it.
-        Entry::Folder => match fs::remove_dir(rt, path) {
-            Err(_) => fs::remove_dir_all(rt, path),
-            removed => removed,
-        },
-        Entry::Nothing | Entry::File(_) | Entry::Other => Ok(()),
-    }
-}
-
 /// The folder in which a put at `path` is written: the one that is kept, where it still stands there, or
 /// else a new one. It is taken out of what is known.
-fn folder_of_a_put<R: Files + Alloc>(
+fn folder_of_a_put<R: Files<File = File> + Alloc>(
     place: &Place<'_, R>,
     aside: &mut FoldersAside,
     path: &str,
-) -> io::Result<String> {
+) -> io::Result<Aside> {
     match mem::replace(aside, FoldersAside::Unknown) {
         // Its name is the put's own.
-        FoldersAside::Kept(folder) if folder.as_str() == path => {
-            remove_folder(place.rt, folder.as_str())?;
-        }
-        FoldersAside::Kept(folder) => match entry_at(place.rt, folder.as_str()) {
-            Ok(Entry::Folder) => return Ok(folder),
-            Ok(Entry::Nothing | Entry::File(_) | Entry::Other) => {}
+        FoldersAside::Kept(folder) if folder.path() == path => folder.give_up(place)?,
+        FoldersAside::Kept(folder) => match folder.still_stands(place.rt) {
+            Ok(true) => return Ok(folder),
+            Ok(false) => {}
             Err(error) => {
                 *aside = FoldersAside::Kept(folder);
                 return Err(error);
@@ -210,48 +172,18 @@ fn folder_of_a_put<R: Files + Alloc>(
         },
         FoldersAside::Swept | FoldersAside::Unknown => {}
     }
-    make_aside(place, path)
-}
-
-/// Makes the folder of a put at `path`, and gives its own path.
-fn make_aside<R: Files + Alloc>(place: &Place<'_, R>, path: &str) -> io::Result<String> {
-    for number in 0..u64::MAX {
-        let name = format!(in place.alloc; "{ASIDE}{number}")?;
-        let aside = place.entry(name.as_str())?;
-        if aside.as_str() != path && is_made(place.rt, aside.as_str())? {
-            return Ok(aside);
-        }
-    }
-    Err(ErrorKind::AlreadyExists.into())
-}
-
-/// Makes an empty folder where nothing or a folder stands; false where anything else does.
-fn is_made<R: Files + Alloc>(rt: &R, path: &str) -> io::Result<bool> {
-    match fs::create_dir(rt, path) {
-        Err(error) if error.kind() == ErrorKind::AlreadyExists => is_made_anew(rt, path),
-        made => made.map(|()| true),
-    }
-}
-
-fn is_made_anew<R: Files + Alloc>(rt: &R, path: &str) -> io::Result<bool> {
-    match entry_at(rt, path)? {
-        Entry::Folder => {
-            fs::remove_dir_all(rt, path)?;
-            fs::create_dir(rt, path).map(|()| true)
-        }
-        Entry::Nothing | Entry::File(_) | Entry::Other => Ok(false),
-    }
+    Aside::make(place, path)
 }
 
 fn put_through<R: Files<File = File> + Alloc>(
     place: &Place<'_, R>,
     lot: u64,
     open: &mut Option<OpenFolder>,
-    aside: &str,
+    aside: &Aside,
     path: &str,
     bytes: &[u8],
 ) -> io::Result<()> {
-    let part = format!(in place.alloc; "{aside}/part-{lot}")?;
+    let part = aside.part(place.alloc, lot)?;
     let mut opened = create_file(place.rt, part.as_str())?;
     opened.write(0, bytes)?;
     opened.file.sync_all()?;

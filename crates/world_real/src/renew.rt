@@ -30,7 +30,7 @@ pub(crate) fn sweep_copy<R: Files>(place: &Place<'_, R>) -> io::Result<()> {
     let copy = place.entry(COPY)?;
     match entry_at(place.rt, copy.as_str())? {
         Entry::File(_) => fs::remove_file(place.rt, copy.as_str()),
-        Entry::Nothing | Entry::Folder | Entry::Other => Ok(()),
+        Entry::Nothing | Entry::Folder(_) | Entry::Other => Ok(()),
     }
 }
 

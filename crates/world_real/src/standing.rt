@@ -40,7 +40,7 @@ pub(crate) fn standing_size<R: Files<File = File>>(
     match entry_at(place.rt, path_of(place, name)?.as_str())? {
         Entry::Nothing => Ok(0),
         Entry::File(found) => Ok(found.len()),
-        Entry::Folder | Entry::Other => Err(ErrorKind::Unsupported.into()),
+        Entry::Folder(_) | Entry::Other => Err(ErrorKind::Unsupported.into()),
     }
 }
 

@@ -2,13 +2,14 @@
 ghost use Rattle.std.specs.Prelude.{◌≡◌, ◌<◌, ◌≤◌, false, [], length, IfOk};
 
 use crate::faults::counted;
+use crate::open_file::{for_reading, open_named};
 use disk_trait::Failed;
-use std::fs::File;
+use std::fs::{self, File};
 use std::io::{self, ErrorKind, Read, Write};
 use std::rt::Files;
 use world_io::{Sink, Source};
 
-/// The bytes of a file, from its start. It is opened at the first read.
+/// The bytes of a regular file, from its start. It is opened at the first read.
 #[derive(Drop)]
 pub struct FileSource<'r, R> {
     rt: &'r R,
@@ -55,11 +56,22 @@ fn read_some<R: Files<File = File>>(
     match file {
         Some(file) => read_on(file, into),
         None => {
-            let mut opened = File::open(rt, path)?;
+            let mut opened = open_regular(rt, path)?;
             let answer = read_on(&mut opened, into);
             *file = Some(opened);
             answer
         }
+    }
+}
+
+/// Opens the regular file at a path, or that to which a link there leads. Anything else isn't read: a pipe would be
+/// waited for, and a device may never end.
+fn open_regular<R: Files<File = File>>(rt: &R, path: &str) -> io::Result<File> {
+    let named = fs::metadata(rt, path)?;
+    if named.is_file() {
+        Ok(open_named(rt, path, &for_reading(), &named)?.file)
+    } else {
+        Err(ErrorKind::Unsupported.into())
     }
 }
 

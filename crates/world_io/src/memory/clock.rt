@@ -1,5 +1,5 @@
 //! A clock that goes on by a step at each look.
-ghost use Rattle.std.specs.Prelude.{◌≡◌, ◌+◌, ◌-◌, ◌^◌, ◌≤◌, min, max};
+ghost use Rattle.std.specs.Prelude.{◌≡◌, ⊤, ◌+◌, ◌-◌, ◌^◌, ◌≤◌, min, max};
 
 use crate::Clock;
 
@@ -33,6 +33,8 @@ impl MemoryClock {
 
 impl Clock for MemoryClock {
     ghost time = { λ clock. clock.time };
+
+    ghost given = { λ _. ⊤ };
 
     fn now(&mut self) -> u64
         ensures given { result ≡ self.old.next }

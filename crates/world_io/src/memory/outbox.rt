@@ -1,5 +1,5 @@
 //! An outbox in memory.
-ghost use Rattle.std.specs.Prelude.{◌≡◌, ◌≢◌, ◌↔◌, true, ℕ, List, length, map, is_some, IfOk, OnOk, OnErr, IsErr, bytes_eq};
+ghost use Rattle.std.specs.Prelude.{◌≡◌, ◌≢◌, ◌⊎◌, ◌↔◌, true, ℕ, List, [], ◌∷◌, ◌++◌, length, map, is_some, IfOk, OnOk, OnErr, IsErr, bytes_eq};
 ghost use Rattle.std.specs.List.{IsDistinct};
 ghost use Rattle.std.specs.Option.{option_copied};
 ghost use Rattle.std.proofs.lemmas.Map.Keys.{IsDistinct-prop};
@@ -11,10 +11,11 @@ use crate::{Name, Outbox};
 use disk_trait::{Calls, Failed};
 use std::alloc::AllocError;
 
-/// Keeps the files that are put into it. A call goes over them all.
+/// Keeps the files that are put into it, and a copy of each put. A call goes over them all.
 #[derive(Debug, Drop)]
 pub struct MemoryOutbox {
     files: Vec<(Name, Vec<u8>)>,
+    puts: Vec<(Name, Vec<u8>)>,
     /// Its calls so far.
     pub calls: Calls,
     ghost once: { IsDistinct bytes_eq (names_of files.items) } by { IsDistinct-prop bytes_eq (names_of files.items) },
@@ -28,11 +29,14 @@ impl MemoryOutbox {
         requires { EachOnce (names_of files.items) }
         ensures files { files_standing result ≡ map file_of files.items }
         ensures standing { ⟦<MemoryOutbox as Outbox>⟧.standing result ≡ bytes_of (map file_of files.items) }
+        ensures puts { ⟦<MemoryOutbox as Outbox>⟧.puts result ≡ [] }
         ensures faults { ⟦<MemoryOutbox as Outbox>⟧.faults result ≡ 0 }
         ensures calls { result.calls ≡ record { failing = failing; count = 0; faults = 0 } }
     {
+        let puts = Vec::new(*files.allocator());
         MemoryOutbox {
             files,
+            puts,
             calls: Calls::new(failing),
         }
     }
@@ -53,22 +57,32 @@ impl MemoryOutbox {
     {
         self.files.len()
     }
+
+    /// The files that were put into it, in order, also where a put failed behind its beginning.
+    pub fn puts(&self) -> &[(Name, Vec<u8>)]
+        ensures { map file_of result.now ≡ ⟦<MemoryOutbox as Outbox>⟧.puts self.now }
+    {
+        &self.puts
+    }
 }
 
 #[tactic(auto, using(disk_trait::proofs::Counts::counts_any))]
 impl Outbox for MemoryOutbox {
     ghost use Rattle.disk_trait.specs.Called.{Called, FailsNext};
-    ghost use Rattle.world_io.specs.MemoryOutbox.{files_standing, standing_in};
+    ghost use Rattle.world_io.specs.MemoryOutbox.{files_put, files_standing, standing_in};
 
     ghost tells = { true };
 
     ghost standing = { standing_in };
+
+    ghost puts = { files_put };
 
     ghost faults = { λ outbox. outbox.calls.faults };
 
     fn holds(&mut self, name: &Name) -> Result<bool, Failed>
         ensures holds { IfOk result (λ answer. answer ≡ is_some (standing_in self.old name.now)) }
         ensures files { files_standing self.new ≡ files_standing self.old }
+        ensures puts { files_put self.new ≡ files_put self.old }
         ensures fails { IsErr result ↔ FailsNext self.old.calls }
         ensures called { Called self.old.calls self.new.calls (IsErr result) }
     {
@@ -76,20 +90,36 @@ impl Outbox for MemoryOutbox {
         Ok(place_of(&self.files, name).is_some())
     }
 
-    /// Where memory refuses to grow, the call fails. A failed call changes nothing.
+    /// Where memory refuses to grow, the call fails. A failed call leaves the files that stand there.
     fn put(&mut self, name: &Name, bytes: &[u8]) -> Result<(), Failed>
         ensures put { OnOk result (standing_in self.new ≡ with_file (standing_in self.old) name.now bytes.now) }
         ensures others { (other : List ℕ) → other ≢ name.now → standing_in self.new other ≡ standing_in self.old other }
+        ensures tried { (files_put self.new ≡ files_put self.old ++ record { name = name.now; bytes = bytes.now } ∷ [])
+            ⊎ (IsErr result × (files_put self.new ≡ files_put self.old)) }
         ensures failed { OnErr result (files_standing self.new ≡ files_standing self.old) }
         ensures fails { FailsNext self.old.calls → IsErr result }
         ensures called { Called self.old.calls self.new.calls (IsErr result) }
     {
         self.calls.begin()?;
+        let Ok(()) = note_file(&mut self.puts, name, bytes) else {
+            return Err(self.calls.fault());
+        };
         match put_file(&mut self.files, name, bytes) {
             Ok(()) => Ok(()),
             Err(_) => Err(self.calls.fault()),
         }
     }
+}
+
+// Notes a file behind those that were put.
+fn note_file(puts: &mut Vec<(Name, Vec<u8>)>, name: &Name, bytes: &[u8]) -> Result<(), AllocError>
+    ensures noted { OnOk result (map file_of puts.new.items
+        ≡ map file_of puts.old.items ++ record { name = name.now; bytes = bytes.now } ∷ []) }
+    ensures err { OnErr result (puts.new.items ≡ puts.old.items) }
+{
+    let copy = Vec::from_slice(*puts.allocator(), bytes)?;
+    puts.push((name.clone()?, copy))?;
+    Ok(())
 }
 
 // Puts a file in place of the one of its name, or behind the others.

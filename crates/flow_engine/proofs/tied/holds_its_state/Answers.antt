@@ -21,5 +21,5 @@ returns-clause-tied g c telling flow work m each =
 pub returns-clause-valid : goal.returns-clause-valid
 returns-clause-valid g c flow work contents events row =
     c.what_is_kept_is_a_state.ensures.valid flow contents events c.args.store.now.memory.kept
-    c.state-stored.ensures.consistent c.state-stored.ensures.no_batches row
+    c.state-stored.ensures.consistent c.state-stored.ensures.no_batches row.1 row.0
     (ap (λ (f : Flow). length f.connections) work.flow_is ∙ length-map flow.connections (λ c. c.id)) (ap (λ (f : Flow). f.processors) work.flow_is)

@@ -21,6 +21,11 @@ returns c = record {
   ring_all_full = λ text. refl;
   filtered = λ pattern none. (rw none refl, rw none refl);
   found = λ pattern some. rw some refl;
-  batch_may_go = refl;
+  batch_stays = refl;
+  batch_goes = refl;
+  batch_comes = refl;
+  but_for_its_going = refl;
+  but_for_its_coming = refl;
   batches_in_ring = λ text. refl;
+  but_for_these = λ text. refl;
 }

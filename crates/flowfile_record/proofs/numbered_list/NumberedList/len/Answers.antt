@@ -5,4 +5,4 @@ use Rattle.flowfile_record.proofs.numbered_list.NumberedList.len.Goals as goal
 
 pub returns-clause-ascends : goal.returns-clause-ascends
 returns-clause-ascends g c =
-    subst (AscendsByNumber g.T.Numbered.number) (ap (λ v. v.items) c.self.view_is) (slots_ascend g.T.Numbered.number _ _ c.self.invariant)
+    subst (AscendsByNumber g.T.Numbered.number) (ap (λ v. v.items) c.self.view_is) (slots_ascend g.T.Numbered.number _ _ c.self.invariant.0)

@@ -5,7 +5,7 @@ use Rattle.disk_trait.specs.Files.{Files}
 use Rattle.prov_store.specs.Events.{events_file, events_of_files}
 use Rattle.prov_store.specs.Loading.{IsLoaded}
 use Rattle.prov_store.specs.State.{AreLonger, EventsState, HasEvents, HasStale}
-use Rattle.prov_store.specs.declared.TheConstants.{EVENTS_PER_FILE}
+use Rattle.flowfile_record.specs.declared.limits.TheConstants.{EVENTS_PER_FILE}
 use Rattle.prov_store.specs.declared.error.EventsError.TheVariants.{Damaged, Memory}
 use Rattle.prov_store.proofs.Listing.{none_longer}
 use Rattle.prov_store.proofs.Loaded.{none_loaded, all_damaged, few_counted, has_events, has_stale}

@@ -8,7 +8,7 @@ use Rattle.flowfile_record.specs.declared.event.Event.{Event}
 use Rattle.prov_store.specs.Blocks.{blocks_of, AreParts, AreEncoded, next_offset}
 use Rattle.prov_store.specs.Growing.{Stands}
 use Rattle.prov_store.specs.State.{HasCalled, calls_later, files_for}
-use Rattle.prov_store.specs.declared.TheConstants.{EVENTS_PER_FILE}
+use Rattle.flowfile_record.specs.declared.limits.TheConstants.{EVENTS_PER_FILE}
 use Rattle.prov_store.specs.declared.blocks.Part.{Part}
 use Rattle.prov_store.proofs.Cutting.{one_call_more}
 use Rattle.prov_store.proofs.Growing.{ends_there, grows_on, grows_left}

@@ -4,7 +4,7 @@ use Rattle.flowfile_record.specs.declared.event.Event.{Event}
 use Rattle.prov_store.specs.Blocks.{blocks_of, AreParts}
 use Rattle.prov_store.specs.Growing.{Stands}
 use Rattle.prov_store.specs.State.{GrowsBehind, calls_later}
-use Rattle.prov_store.specs.declared.TheConstants.{EVENTS_PER_FILE}
+use Rattle.flowfile_record.specs.declared.limits.TheConstants.{EVENTS_PER_FILE}
 use Rattle.prov_store.proofs.events.Events.write_parts.Given as goal
 
 abbrev pub invariant-loop-part : goal.invariant-loop-part

@@ -2,7 +2,7 @@ use Rattle.std.proofs.Common.{◌≡◌, ℕ, ◌+◌, ◌/◌, ◌≤◌, ◌<�
 use Rattle.std.specs.Prelude.{All, Contains}
 use Rattle.prov_store.specs.Loading.{IsLoaded}
 use Rattle.prov_store.specs.State.{AreLonger}
-use Rattle.prov_store.specs.declared.TheConstants.{EVENTS_PER_FILE}
+use Rattle.flowfile_record.specs.declared.limits.TheConstants.{EVENTS_PER_FILE}
 use Rattle.prov_store.proofs.load.Loading.find_later.Given as goal
 
 abbrev pub invariant-loop-number : goal.invariant-loop-number

@@ -5,7 +5,7 @@ use Rattle.prov_store.specs.Events.{count_in, first_in, covered_size}
 use Rattle.prov_store.specs.declared.error.EventsError.TheVariants.{Damaged, Memory}
 use Rattle.prov_store.specs.declared.events.Stale.{Stale}
 use Rattle.prov_store.specs.declared.load.Loading.{Loading}
-use Rattle.prov_store.specs.declared.TheConstants.{EVENTS_PER_FILE}
+use Rattle.flowfile_record.specs.declared.limits.TheConstants.{EVENTS_PER_FILE}
 use Rattle.prov_store.proofs.Counting.{count_most}
 use Rattle.prov_store.proofs.Listing.{one_listed, still_listed}
 use Rattle.prov_store.proofs.Loads.{first_damaged, file_read, size_read, stale_same, stale_one, more_loaded}

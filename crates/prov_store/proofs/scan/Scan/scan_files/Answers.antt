@@ -4,7 +4,7 @@ use Rattle.flowfile_record.specs.declared.event.Event.{Event}
 use Rattle.disk_trait.specs.Files.{Files}
 use Rattle.prov_store.specs.Events.{events_of_file, first_in}
 use Rattle.prov_store.specs.Scanning.{numbers_between}
-use Rattle.prov_store.specs.declared.TheConstants.{EVENTS_PER_FILE}
+use Rattle.flowfile_record.specs.declared.limits.TheConstants.{EVENTS_PER_FILE}
 use Rattle.prov_store.proofs.InFiles.{file_of_events}
 use Rattle.prov_store.proofs.Scans.{none_numbered, numbered_on, none_yet, one_file_found, all_found, found_alike}
 use Rattle.prov_store.proofs.scan.Scan.scan_files.Goals as goal
