@@ -1,6 +1,6 @@
 -- An entry whose contents stand elsewhere is as long and has an encoding as before.
 use Rattle.std.proofs.Common.{◌≡◌, ℕ, zero, suc, ◌+◌, ◌<◌, ◌∷◌, List, [], length, map, get_or, set, All, refl, sym, ap, ◌∙◌, length-append, arith}
-use Rattle.std.proofs.lemmas.List.Elements.{All-head, All-tail, All-cons}
+use Rattle.std.proofs.lemmas.List.Elements.{All-head, All-tail, All-cons, All-map, All-nil, All-weaker}
 use Rattle.flowfile_record.specs.declared.content.ContentRef.{ContentRef}
 use Rattle.flowfile_record.specs.declared.stored.ActiveFile.{ActiveFile}
 use Rattle.record_codec.specs.ActiveFile.{IsActiveFile}
@@ -92,6 +92,14 @@ is_entry_with (Session s) place at is entry = record {
 is_entry_with (Expire e) place at is entry = entry
 is_entry_with (SwapOut s) place at is entry = entry
 is_entry_with (SwapIn connection batch) place at is entry = entry
+
+-- the contents of the files that an entry with an encoding places have one
+pub references_encoded : (e : LogEntry) → IsEntry e → All IsContentRef (map (λ a. a.file.content) (placed_in e))
+references_encoded (Begin log) entry = All-nil IsContentRef
+references_encoded (Session s) entry = All-map IsContentRef (λ (a : ActiveFile). a.file.content) s.placed (All-weaker IsActiveFile (λ a. IsContentRef a.file.content) (λ a is. is.file.content) s.placed entry.placed.1)
+references_encoded (Expire e) entry = All-nil IsContentRef
+references_encoded (SwapOut s) entry = All-nil IsContentRef
+references_encoded (SwapIn connection batch) entry = All-nil IsContentRef
 
 pub encoding_with : (e : LogEntry) (place : ℕ) (at : ContentRef) → HasContentLike at place (placed_in e) → length (encoding (with_content e place at)) ≡ length (encoding e)
 encoding_with e place at like =
