@@ -178,4 +178,6 @@ fresh_by taken content (Bytes b) bytes has small some =
 
 pub all_fresh : (c : Case) → IsSettled c → All IsFresh c.settled.placed
 all_fresh c is =
-    λ i d lt bytes some. fresh_by c.ended.taken _ _ bytes (is.tells.contents i d lt) ((records c is).placed i d lt).fresh some
+    λ i d lt bytes some.
+    let p = get_or c.settled.placed i d in
+    fresh_by c.ended.taken p.file.content p.fresh bytes (is.tells.contents i d lt) ((records c is).placed i d lt).fresh some

@@ -256,21 +256,21 @@ zip_at R (a ∷ xs) (b ∷ ys) (suc place) x all is = zip_at R xs ys place x all
 
 pub record StandsBehind (all : List Placed) (most count place : ℕ) (p : Placed) : Type 0 where
   pub behind : count ≤ place
-  pub as : Placed
-  pub is : IsClone all most p as
+  pub other : Placed
+  pub is : IsClone all most p other
 
 behind_all : (all front ps qs : List Placed) (most place of : ℕ) (p : Placed) → Each SharesNothing front → AllZip (IsClone all most) ps qs → slice_get (front ++ ps) place ≡ Some p → p.fresh ≡ As of
     → StandsBehind all most (length front) place p
 behind_all all [] ps qs most place of p alone are there is =
     let found = zip_at (IsClone all most) ps qs place p are there in
-    record { behind = omega arith; as = found.0; is = found.1 }
+    record { behind = omega arith; other = found.0; is = found.1 }
 behind_all all (q ∷ front) ps qs most zero of p alone are there is =
     let both : Some q ≡ Some p = there in
     let same : q ≡ p = cc in
     absurd (alone.0 of (ap (λ (r : Placed). r.fresh) same ∙ is))
 behind_all all (q ∷ front) ps qs most (suc place) of p alone are there is =
     let found = behind_all all front ps qs most place of p alone.1 are there is in
-    record { behind = omega (arith, found.behind); as = found.as; is = found.is }
+    record { behind = omega (arith, found.behind); other = found.other; is = found.is }
 
 pub all-shared : (at : PlacingFrom) (first_clone : ℕ) (files : List EndedFile) → AreShared (returned at files ++ arrived at first_clone files)
 all-shared at first_clone files place of p there is =
@@ -282,7 +282,7 @@ all-shared at first_clone files place of p there is =
     let found = behind_all all front (clones_in at first_clone files) (as_newcomers at first_clone files) most place of p
     (each-append SharesNothing (returned at files) news (returned_alone at files) (news_alone at.sources at.next_arrival (firsts files)))
     (all_clones at first_clone files) (ap (λ xs. slice_get xs place) (sym whole) ∙ there) is in
-    let share : IsShare all most found.as of = subst (ComesAs all most found.as) is found.is.fresh in
+    let share : IsShare all most found.other of = subst (ComesAs all most found.other) is found.is.fresh in
     record {
       original = share.original;
       there = share.there;

@@ -77,12 +77,14 @@ pub placed-weighs : (w : AttributeMap → ℕ) (at : PlacingFrom) (first_clone :
 placed-weighs w at first_clone files few =
     let news = placed_from at.sources at.next_arrival (firsts files) in
     let clones = clones_in at first_clone files in
+    let weighs : tally (placed_weight w) clones ≡ tally (placed_weight w) (as_newcomers at first_clone files) =
+    clones-weigh w (returned at files ++ arrived at first_clone files) (before_clones at files) clones (as_newcomers at first_clone files) (all_clones at first_clone files) in
     omega (
       arith,
       tally-append (placed_weight w) (returned at files) (arrived at first_clone files),
       tally-append (placed_weight w) news clones,
       placed_weighs w at.sources at.next_arrival (firsts files),
-      clones-weigh w (returned at files ++ arrived at first_clone files) (before_clones at files) clones (as_newcomers at first_clone files) (all_clones at first_clone files),
+      weighs,
       placed_weighs w at.sources (at.next_arrival + length (firsts files)) (clones_from first_clone (wanted files)),
       clones_weigh w first_clone (wanted files),
       files_weigh w at files few,

@@ -82,11 +82,17 @@ fn place_content<D: Disk>(
         Fresh::Bytes(bytes) => {
             let at = contents.append(disk, bytes.as_slice(), one.file.content.digest)?;
             entry.set_content(place, at);
+            Ok(())
         }
-        Fresh::As(original) => share_content(contents, entry, place, u64::from(*original), one),
-        _ => contents.hold(&one.file.content),
+        Fresh::As(original) => {
+            share_content(contents, entry, place, *original, one);
+            Ok(())
+        }
+        Fresh::No | Fresh::Staged => {
+            contents.hold(&one.file.content);
+            Ok(())
+        }
     }
-    Ok(())
 }
 
 // Gives the file that an entry records at a place the content of an earlier one, which is held once more.
@@ -94,7 +100,7 @@ fn share_content(
     contents: &mut Content,
     entry: &mut PreparedEntry,
     place: u64,
-    original: u64,
+    original: u32,
     one: &Placed,
 )
     requires shares { one.now.fresh ≡ As original }
@@ -106,7 +112,7 @@ fn share_content(
     ensures same { placeless_entry entry.new ≡ placeless_entry entry.old }
     ensures sizes { (k : ℕ) → size_of contents.new k ≡ size_of contents.old k }
 {
-    let Some(at) = entry.content_at(original) else {
+    let Some(at) = entry.content_at(u64::from(original)) else {
         unreachable!()
     };
     contents.hold(&at);
