@@ -119,7 +119,7 @@ clones_alike all before after most place sources at number arrival (file ∷ fil
     let head = first_of file file.goes in
     let heads = placed_from sources at head in
     let later = placed_from sources (at + length head) (firsts files) in
-    let copies = map (λ (connection : ℕ). (file, connection)) (further file.goes) in
+    let copies : List (EndedFile × ℕ) = map (λ (connection : ℕ). (file, connection)) (further file.goes) in
     let count = length (further file.goes) in
     let counted : length copies ≡ count = length-map (further file.goes) (λ connection. (file, connection)) in
     let here : all ≡ before ++ (heads ++ (later ++ after)) =
@@ -223,7 +223,7 @@ clones-hold taken all most (p ∷ ps) (q ∷ qs) are hold = (
 
 -- ---- all share earlier contents
 
-SharesNothing : Placed → Type 0
+abbrev SharesNothing : Placed → Type 0
 SharesNothing p = (of : ℕ) → p.fresh ≡ As of → ⊥
 
 fresh_alone : (sources : List Source) (body : Body) (of : ℕ) → fresh_in sources body ≡ As of → ⊥

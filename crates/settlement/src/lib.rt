@@ -22,11 +22,3 @@ mod settling;
 pub use counters::Counters;
 pub use handed::Ended;
 pub use settling::settle;
-
-ghost use Rattle.std.specs.Prelude.{◌≡◌};
-
-fn probe() -> u8
-    ensures { result ≡ 0 }
-{
-    0
-}
