@@ -3,7 +3,7 @@ use Rattle.std.proofs.Common.{◌≡◌, ℕ, suc, ◌+◌, ◌<◌, ◌≤◌, 
 use Rattle.std.proofs.lemmas.List.Concat.{flat_map-append}
 use Rattle.flowfile_record.specs.declared.stored.Placed.{Placed}
 use Rattle.process_session.specs.declared.file.Source.{Source}
-use Rattle.settlement.specs.Placing.{Newcomer, PlacingFrom, cloned_from, clones_of, first_of, firsts, further, placed_at, placed_from, returned, returning, wanted}
+use Rattle.settlement.specs.Placing.{Newcomer, PlacingFrom, arrived, cloned_from, clones_of, first_of, firsts, further, placed_at, placed_from, returned, returning, wanted}
 use Rattle.settlement.specs.declared.file.EndedFile.{EndedFile}
 use Rattle.settlement.specs.declared.file.Goes.{Goes}
 use Rattle.settlement.specs.declared.file.Goes.TheVariants.{Queues, Returns, Drops, Leaves}
@@ -111,3 +111,23 @@ few_places from (file ∷ files) =
       one_place from file file.goes,
       few_places from files,
     )
+
+-- one more file returns, or none
+pub returned_left : (from : PlacingFrom) (files : List EndedFile) (i : ℕ) (file : EndedFile) → i < length files → file ≡ get_or files i file
+    → length (returned from (drop i files)) ≡ length (returning from file file.goes) + length (returned from (drop (i + 1) files))
+returned_left from files i file h is =
+    omega (
+      arith,
+      ap (λ xs. length (returned from xs)) (left files i file h is),
+      length-append (returning from file file.goes) (returned from (drop (i + 1) files)),
+    )
+
+-- the files that return, those that go on, and the clones
+pub placed_whole : (at : PlacingFrom) (files : List EndedFile) (first place count : ℕ) (front clones : List Placed) → place ≡ length (returned at files) → count ≡ length (firsts files)
+    → front ≡ returned at files ++ placed_from at.sources at.next_arrival (firsts files) → clones ≡ cloned_from place first (at.next_arrival + count) files
+    → front ++ clones ≡ returned at files ++ arrived at first files
+placed_whole at files first place count front clones place_is count_is front_is clones_are =
+    let news = placed_from at.sources at.next_arrival (firsts files) in
+    (λ i. front_is i ++ clones_are i)
+    ∙ append_assoc (returned at files) news (cloned_from place first (at.next_arrival + count) files)
+    ∙ (λ i. returned at files ++ (news ++ cloned_from (place_is i) first (at.next_arrival + count_is i) files))

@@ -210,9 +210,19 @@ fn count_returned(files: &[EndedFile]) -> u32
 {
     let mut count = 0;
     for file in files {
-        count += u32::from(is_returning(&file.goes));
+        count += count_return(file);
     }
     count
+}
+
+fn count_return(file: &EndedFile) -> u32
+    ensures count { (from : PlacingFrom) → result ≡ length (returning from file.now file.now.goes) }
+    ensures bound { result ≤ 1 }
+{
+    match file.goes {
+        Goes::Returns => 1,
+        _ => 0,
+    }
 }
 
 /// How many files go on into a queue.
