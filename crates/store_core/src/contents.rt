@@ -3,7 +3,7 @@
 ghost use Rattle.std.specs.Prelude.{◌≡◌, ℕ, ◌+◌, ◌<◌, ◌≤◌, Bool, length, map, IsTrue, IfOk, OnOk};
 ghost use Rattle.disk_trait.specs.Files.{Files};
 ghost use Rattle.disk_trait.specs.Images.{After, Since};
-ghost use Rattle.flowfile_record.specs.declared.stored.Fresh.TheVariants.{As};
+ghost use Rattle.flowfile_record.specs.declared.stored.Fresh.TheVariants.{Bytes, As};
 ghost use Rattle.record_codec.specs.Placeless.{placeless_entry};
 ghost use Rattle.content_repo.specs.Claims.{HasSizes};
 ghost use Rattle.content_repo.specs.Errors.{RefusesOnFault};
@@ -79,11 +79,7 @@ fn place_content<D: Disk>(
     ensures refusal { RefusesOnFault result (D.faults disk.old) (D.faults disk.new) }
 {
     match &one.fresh {
-        Fresh::Bytes(bytes) => {
-            let at = contents.append(disk, bytes.as_slice(), one.file.content.digest)?;
-            entry.set_content(place, at);
-            Ok(())
-        }
+        Fresh::Bytes(bytes) => write_content(contents, disk, entry, place, one, bytes.as_slice()),
         Fresh::As(original) => {
             share_content(contents, entry, place, *original, one);
             Ok(())
@@ -93,6 +89,33 @@ fn place_content<D: Disk>(
             Ok(())
         }
     }
+}
+
+// Writes the new content of the file that an entry records at a place.
+fn write_content<D: Disk>(
+    contents: &mut Content,
+    disk: &mut D,
+    entry: &mut PreparedEntry,
+    place: u64,
+    one: &Placed,
+    bytes: &[u8],
+) -> Result<(), ContentError>
+    requires new { one.now.fresh ≡ Bytes bytes.now }
+    requires recorded { IsRecordedAt place one.now (placed_in entry.old) }
+    requires may { MayPlaceOne contents.old one.now }
+    requires sizes { IsTrue D.tells → HasSizes contents.old (D.held disk.old) }
+    ensures placed { OnOk result
+        (PlacesOne D.tells (D.held disk.new) place one.now contents.old contents.new entry.old entry.new) }
+    ensures same { placeless_entry entry.new ≡ placeless_entry entry.old }
+    ensures sizes { OnOk result (IsTrue D.tells → HasSizes contents.new (D.held disk.new)) }
+    ensures held { IsTrue D.tells → GrowsBehind contents.old (D.held disk.old) (D.held disk.new) }
+    ensures images { Since D.moment D.images disk.old disk.new
+        (After (GrowsBehind contents.old) (D.images disk.old (D.moment disk.old))) }
+    ensures refusal { RefusesOnFault result (D.faults disk.old) (D.faults disk.new) }
+{
+    let at = contents.append(disk, bytes, one.file.content.digest)?;
+    entry.set_content(place, at);
+    Ok(())
 }
 
 // Gives the file that an entry records at a place the content of an earlier one, which is held once more.
