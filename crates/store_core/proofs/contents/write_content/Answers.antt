@@ -3,8 +3,8 @@ use Rattle.store_core.proofs.Growing.{since_torn, grows_torn}
 use Rattle.store_core.proofs.PlacingOne.{may_append, new_placed, new_encoded, like_recorded, next_of}
 use Rattle.store_core.proofs.contents.write_content.Goals as goal
 
-pub append-requires-clause-may : goal.append-requires-clause-may
-append-requires-clause-may g c = may_append c.args.contents.now c.args.one.now c.args.bytes.now c.requires.new c.requires.may
+pub append-requires-clause-content : goal.append-requires-clause-content
+append-requires-clause-content g c = may_append c.args.contents.now c.args.one.now c.args.bytes.now c.requires.new c.requires.may
 
 pub returns-in_err-at-clause-held : goal.returns-in_err-at-clause-held
 returns-in_err-at-clause-held g c told =
