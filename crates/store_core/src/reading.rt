@@ -128,8 +128,11 @@ fn new_state<D: Disk>(
     Ok(state)
 }
 
-// The first file that a store which isn't made yet doesn't have.
-fn find_stray<D: Disk>(alloc: Global, disk: &mut D) -> Result<Option<FileName>, StoreError>
+/// The first file that a store which isn't made yet doesn't have.
+pub(crate) fn find_stray<D: Disk>(
+    alloc: Global,
+    disk: &mut D,
+) -> Result<Option<FileName>, StoreError>
     ensures stray { IfOk result (λ stray. IsTrue D.tells → stray ≡ first_stray (D.held disk.old)) }
     ensures refusal { IfErr result IsDiskOrMemory }
     ensures stays { Stays D.held D.moment D.images disk.old disk.new }
@@ -226,8 +229,8 @@ fn agrees(flow: &FlowIdentity<'_>, stored: &Stored) -> bool
             && stored.counts.len() == u64::from(flow.processors))
 }
 
-// What a snapshot says with the log's entries applied. A batch that matters is damage, as where its file is absent.
-fn apply_entries(
+/// What a snapshot says with the log's entries applied. A batch that matters is damage, as where its file is absent.
+pub(crate) fn apply_entries(
     alloc: Global,
     stored: Stored,
     number: u64,
