@@ -10,27 +10,33 @@ use Rattle.flowfile_record.specs.Stored.{Kept}
 use Rattle.flowfile_record.specs.declared.event.Event.{Event}
 use Rattle.flowfile_record.specs.declared.stored.ActiveFile.{ActiveFile}
 use Rattle.checkpoint_store.specs.Consistent.{IsConsistent, IsFileIn}
-use Rattle.content_repo.specs.Claims.{content_in, IsRead}
+use Rattle.content_repo.specs.Claims.{claim, content_in, IsDamage}
 use Rattle.content_repo.specs.Slots.{IsNamed}
 use Rattle.flowfile_wal.specs.Current.{current_number}
+use Rattle.kept_state.specs.Memory.{InMemory}
 use Rattle.machine_model.specs.Files.{queue_at}
 use Rattle.machine_model.specs.State.{QueuedFile, State}
-use Rattle.machine_model.proofs.Among.{Among, among_contained, contains_among}
+use Rattle.machine_model.proofs.Among.{Among, among_contained, contains_among, makes}
 use Rattle.prov_store.specs.Events.{events_in}
 use Rattle.prov_store.specs.State.{EventsState, HasEvents}
 use Rattle.prov_store.proofs.InFiles.{last_numbered}
 use Rattle.prov_store.proofs.Scans.{all_between}
-use Rattle.store_core.specs.Flow.{Flow, agrees_with}
+use Rattle.store_core.specs.Flow.{agrees_with}
 use Rattle.store_core.specs.Kept.{kept_in}
-use Rattle.store_core.specs.Seen.{no_flow, SeenState, kept_seen, IsSeenOn, HasContent, IsContentOf, IsContentRead, live_file}
+use Rattle.store_core.specs.New.{kept_anew}
+use Rattle.store_core.specs.Seen.{no_flow, or_anew, SeenState, kept_seen, IsSeenOn, IsReadOf, HasContent, IsContentOf, live_file}
 use Rattle.store_core.specs.State.{contents_damage, live_contents, queued, state_by, state_of, state_with, stands_for}
-use Rattle.store_core.specs.Valid.{IsLive}
+use Rattle.store_core.proofs.Agreeing.{sound_of, stands_by_kept}
 use Rattle.store_core.proofs.ContentsRead.{file_named}
 use Rattle.store_core.proofs.Opening.{stands_whole}
+use Rattle.store_core.proofs.Sound.{one_sound, damage_not}
 use Rattle.store_core.proofs.Validity.{live_is_queued, queued_is_live}
 
 abbrev of_state : State → Result State Damage
 of_state s = Ok s
+
+abbrev of_kept : Kept → Result Kept Damage
+of_kept k = Ok k
 
 abbrev of_damage : Damage → Result State Damage
 of_damage damage = Err damage
@@ -68,6 +74,46 @@ is_seen files mid s same kept made sound has end =
       stands = stands_whole no_flow 0 files (kept_seen s) here.events kept sound (ap (events_in files) (sym end) ∙ here.says);
     }
 
+pub seen_of : (tells : Bool) (files mid : Files) (stored : Option Kept) (s : SeenState) → IsTrue tells → mid ≡ files → kept_in no_flow 0 files ≡ Ok (or_anew stored)
+    → ((stored ≡ None) ↔ (current_number files ≡ None)) → IsReadOf tells mid stored s → IsSeenOn files s
+seen_of tells files mid stored s told same kept made read =
+    is_seen files mid s same (kept ∙ ap (λ (o : Option Kept). of_kept (or_anew o)) (sym read.stored_is))
+    (λ none. made.0 (sym read.stored_is ∙ none), λ none. read.stored_is ∙ made.1 none)
+    (ap (λ (f : Files). contents_damage f (live_contents (kept_seen s))) (sym same)
+    ∙ ap (λ (o : Option Kept). contents_damage mid (live_contents (or_anew o))) read.stored_is ∙ read.sound told)
+    (read.events told) (read.last_event ∙ ap (λ (o : Option Kept). (or_anew o).last_event) (sym read.stored_is))
+
+some_made : (memory : Option InMemory) (m : InMemory) (files : Files) → memory ≡ Some m → ((memory ≡ None) ↔ (current_number files ≡ None)) → ((Some m.kept ≡ None) ↔ (current_number files ≡ None))
+some_made memory m files is made = (λ (none : Some m.kept ≡ None). absurd cc, λ none. let both : Some m ≡ None = sym is ∙ made.1 none in absurd cc)
+
+-- a store that is made was seen, and one that isn't
+pub made_seen : (tells : Bool) (files mid : Files) (memory : Option InMemory) (m : InMemory) (s : SeenState) → memory ≡ Some m → mid ≡ files
+    → (IsTrue tells → kept_in no_flow 0 files ≡ Ok (or_anew (option_map (λ m. m.kept) memory))) → (IsTrue tells → ((memory ≡ None) ↔ (current_number files ≡ None)))
+    → IsReadOf tells mid (Some m.kept) s → IsTrue tells → IsSeenOn files s
+made_seen tells files mid memory m s is same kept made read told =
+    seen_of tells files mid (Some m.kept) s told same (kept told ∙ ap (λ (o : Option InMemory). of_kept (or_anew (option_map (λ (x : InMemory). x.kept) o))) is)
+    (some_made memory m files is (made told)) read
+
+pub none_seen : (tells : Bool) (files mid : Files) (memory : Option InMemory) (s : SeenState) → memory ≡ None → mid ≡ files
+    → (IsTrue tells → kept_in no_flow 0 files ≡ Ok (or_anew (option_map (λ m. m.kept) memory))) → (IsTrue tells → ((memory ≡ None) ↔ (current_number files ≡ None)))
+    → IsReadOf tells mid None s → IsTrue tells → IsSeenOn files s
+none_seen tells files mid memory s is same kept made read told =
+    seen_of tells files mid None s told same (kept told ∙ ap (λ (o : Option InMemory). of_kept (or_anew (option_map (λ (x : InMemory). x.kept) o))) is)
+    (λ none. (made told).0 is, λ none. refl) read
+
+-- what was read is damaged behind what is kept
+pub made_torn : (files mid : Files) (memory : Option InMemory) (m : InMemory) (damage : Damage) → memory ≡ Some m → mid ≡ files
+    → kept_in no_flow 0 files ≡ Ok (or_anew (option_map (λ m. m.kept) memory)) → state_of mid m.kept ≡ of_damage damage → stands_for no_flow 0 files ≡ of_damage damage
+made_torn files mid memory m damage is same kept torn =
+    stands_by_kept no_flow 0 files m.kept (kept ∙ ap (λ (o : Option InMemory). of_kept (or_anew (option_map (λ (x : InMemory). x.kept) o))) is)
+    ∙ ap (λ (f : Files). state_of f m.kept) (sym same) ∙ torn
+
+pub none_torn : (files mid : Files) (memory : Option InMemory) (damage : Damage) → memory ≡ None → mid ≡ files
+    → kept_in no_flow 0 files ≡ Ok (or_anew (option_map (λ m. m.kept) memory)) → state_of mid (kept_anew no_flow 0) ≡ of_damage damage → stands_for no_flow 0 files ≡ of_damage damage
+none_torn files mid memory damage is same kept torn =
+    stands_by_kept no_flow 0 files (kept_anew no_flow 0) (kept ∙ ap (λ (o : Option InMemory). of_kept (or_anew (option_map (λ (x : InMemory). x.kept) o))) is)
+    ∙ ap (λ (f : Files). state_of f (kept_anew no_flow 0)) (sym same) ∙ torn
+
 -- ---- what is asked of it
 
 -- the state that files stand for which hold what was seen
@@ -77,21 +123,25 @@ state_is files s state seen is = let both : of_state state ≡ of_state (state_w
 pub events_are : (files : Files) (s : SeenState) (state : State) (seen : IsSeenOn files s) → stands_for no_flow 0 files ≡ Ok state → seen.events.events ≡ state.events
 events_are files s state seen is = ap (λ (x : State). x.events) (sym (state_is files s state seen is))
 
-pub between_are : (files : Files) (s : SeenState) (state : State) (from to : ℕ) (found : List Event) → IsSeenOn files s → stands_for no_flow 0 files ≡ Ok state
-    → ((events : List Event) → events_in files s.events.end ≡ Ok events → found ≡ filter (λ e. nat_le from e.number && nat_le e.number to) events)
+pub says_known : (files : Files) (s : SeenState) (known : EventsState) → known ≡ s.events → (seen : IsSeenOn files s) → events_in files known.end ≡ Ok seen.events.events
+says_known files s known is seen = ap (λ (e : EventsState). events_in files e.end) is ∙ seen.events.says
+
+pub between_are : (files : Files) (s : SeenState) (state : State) (known : EventsState) (from to : ℕ) (found : List Event) → known ≡ s.events → IsSeenOn files s → stands_for no_flow 0 files ≡ Ok state
+    → ((events : List Event) → events_in files known.end ≡ Ok events → found ≡ filter (λ e. nat_le from e.number && nat_le e.number to) events)
     → found ≡ filter (λ e. nat_le from e.number && nat_le e.number to) state.events
-between_are files s state from to found seen is find =
-    find seen.events.events seen.events.says
+between_are files s state known from to found same seen is find =
+    find seen.events.events (says_known files s known same seen)
     ∙ ap (filter (λ (e : Event). nat_le from e.number && nat_le e.number to)) (events_are files s state seen is)
 
-pub all_are : (files : Files) (s : SeenState) (state : State) (found : List Event) → IsSeenOn files s → stands_for no_flow 0 files ≡ Ok state
-    → ((events : List Event) → events_in files s.events.end ≡ Ok events → found ≡ filter (λ e. nat_le 1 e.number && nat_le e.number s.events.end) events)
+pub all_are : (files : Files) (s : SeenState) (state : State) (known : EventsState) (to : ℕ) (found : List Event) → known ≡ s.events → to ≡ known.end → IsSeenOn files s → stands_for no_flow 0 files ≡ Ok state
+    → ((events : List Event) → events_in files known.end ≡ Ok events → found ≡ filter (λ e. nat_le 1 e.number && nat_le e.number to) events)
     → found ≡ state.events
-all_are files s state found seen is find =
+all_are files s state known to found same end seen is find =
     let all = seen.events.events in
-    let row = last_numbered s.events.end files all seen.events.says in
-    find all seen.events.says
-    ∙ all_between 1 s.events.end 1 all row.0 (omega arith) (omega (arith, row.1))
+    let says = says_known files s known same seen in
+    let row = last_numbered known.end files all says in
+    find all says
+    ∙ all_between 1 to 1 all row.0 (omega arith) (omega (arith, row.1, end))
     ∙ events_are files s state seen is
 
 -- ---- contents
@@ -148,3 +198,18 @@ content_queued files s state number active bytes seen is consistent found conten
       numbered = item.1;
       bytes_are = sym content;
     }
+
+-- the content of a live file has a place in a claim
+pub live_named : (number : ℕ) (s : SeenState) (active : ActiveFile) → IsConsistent (kept_seen s) → live_file number s ≡ Some active → IsNamed active.file.content
+live_named number s active consistent found =
+    let k = kept_seen s in
+    file_named k active (All-contains (IsFileIn k) k.files active consistent.files (item_there number k.files active found).0)
+
+-- and where the files hold what was seen, nothing is wrong with it
+pub live_sound : (files : Files) (s : SeenState) (number : ℕ) (active : ActiveFile) (damage : Damage) → IsSeenOn files s → live_file number s ≡ Some active
+    → IsDamage active.file.content (files (claim active.file.content.slot)) damage → ⊥
+live_sound files s number active damage seen found wrong =
+    let k = kept_seen s in
+    let whole = sound_of files k (state_with (content_in files) seen.events.events k) (sym (stands_by_kept no_flow 0 files k seen.kept) ∙ seen.stands) in
+    let here = contains_among active.file.content (live_contents k) (makes (λ (a : ActiveFile). a.file.content) k.files active (item_among number k.files active found).0) in
+    damage_not files active.file.content damage (one_sound files (live_contents k) active.file.content whole.contents here) wrong

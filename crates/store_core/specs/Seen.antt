@@ -13,7 +13,7 @@ use Rattle.prov_store.specs.State.{EventsState, HasEvents}
 use Rattle.store_core.specs.Flow.{Flow}
 use Rattle.store_core.specs.Kept.{kept_in}
 use Rattle.store_core.specs.New.{kept_anew}
-use Rattle.store_core.specs.State.{state_with, stands_for}
+use Rattle.store_core.specs.State.{contents_damage, live_contents, state_with, stands_for}
 
 -- ---- what is seen
 
@@ -45,6 +45,13 @@ pub record IsSeenOn (files : Files) (s : SeenState) : Type 0 where
   pub events : HasEvents s.events files
   pub last_event : s.events.end ≡ (kept_seen s).last_event
   pub stands : stands_for no_flow 0 files ≡ Ok (state_with (content_in files) events.events (kept_seen s))
+
+-- what was read beside what is kept: where the disk tells, the live contents are sound, and the events are known
+pub record IsReadOf (tells : Bool) (files : Files) (stored : Option Kept) (s : SeenState) : Type 0 where
+  pub stored_is : s.stored ≡ stored
+  pub last_event : s.events.end ≡ (or_anew stored).last_event
+  pub sound : IsTrue tells → contents_damage files (live_contents (or_anew stored)) ≡ None
+  pub events : IsTrue tells → HasEvents s.events files
 
 -- ---- what is asked of it
 

@@ -114,9 +114,7 @@ fn new_state<D: Disk>(
     ensures stays { Stays D.held D.moment D.images disk.old disk.new }
     ensures cause { CountsFaults (D.faults disk.old) (D.faults disk.new) (IsErrOf result StoreError.Disk) }
 {
-    if let Some(file) = find_stray(alloc, disk)? {
-        return Err(StoreError::Damaged(Damage::Form { file, at: 0 }));
-    }
+    refuse_stray(alloc, disk)?;
     let connections = copy_texts(alloc, flow.connections)?;
     let state = KeptState::new(
         alloc,
@@ -128,11 +126,23 @@ fn new_state<D: Disk>(
     Ok(state)
 }
 
-/// The first file that a store which isn't made yet doesn't have.
-pub(crate) fn find_stray<D: Disk>(
-    alloc: Global,
-    disk: &mut D,
-) -> Result<Option<FileName>, StoreError>
+/// Where no log is current, the files are those of a store that isn't made yet, or the first other one is damaged.
+pub(crate) fn refuse_stray<D: Disk>(alloc: Global, disk: &mut D) -> Result<(), StoreError>
+    ensures none { OnOk result (IsTrue D.tells → first_stray (D.held disk.old) ≡ None) }
+    ensures damaged { (damage : TheDamage) → IsErrOf result (StoreError.Damaged damage) → IsTrue D.tells
+        → IsStrayDamage (D.held disk.old) damage }
+    ensures refusal { IfErr result IsReadRefusal }
+    ensures stays { Stays D.held D.moment D.images disk.old disk.new }
+    ensures cause { CountsFaults (D.faults disk.old) (D.faults disk.new) (IsErrOf result StoreError.Disk) }
+{
+    if let Some(file) = find_stray(alloc, disk)? {
+        return Err(StoreError::Damaged(Damage::Form { file, at: 0 }));
+    }
+    Ok(())
+}
+
+// The first file that a store which isn't made yet doesn't have.
+fn find_stray<D: Disk>(alloc: Global, disk: &mut D) -> Result<Option<FileName>, StoreError>
     ensures stray { IfOk result (λ stray. IsTrue D.tells → stray ≡ first_stray (D.held disk.old)) }
     ensures refusal { IfErr result IsDiskOrMemory }
     ensures stays { Stays D.held D.moment D.images disk.old disk.new }

@@ -1,29 +1,28 @@
 //! A store is read without a write, for a query. A query knows no flow, and opens nothing.
-ghost use Rattle.std.specs.Prelude.{◌≡◌, ◌↔◌, ◌×◌, ℕ, [], None, Some, Ok, Err, IsTrue, IfOk, OnOk, IfErr, IsErrOf, filter, map, max, min, nat_le, ◌&&◌, option_map};
+ghost use Rattle.std.specs.Prelude.{◌≡◌, ◌↔◌, ◌<◌, ℕ, [], None, Some, Ok, Err, IsTrue, IfOk, OnOk, IfErr, IsErrOf, length, filter, map, max, min, nat_le, ◌&&◌, option_map};
 ghost use Rattle.std.specs.Option.{option_copied};
 ghost use Rattle.disk_trait.specs.Faults.{CountsFaults};
-ghost use Rattle.disk_trait.specs.Files.{Files};
 ghost use Rattle.disk_trait.specs.Images.{Stays};
 ghost use Rattle.disk_trait.specs.declared.damage.Damage.{Damage as TheDamage};
 ghost use Rattle.flowfile_record.specs.Stored.{Kept, kept_of};
+ghost use Rattle.flowfile_record.specs.declared.stored.ActiveFile.{ActiveFile as TheFile};
 ghost use Rattle.checkpoint_store.specs.Consistent.{IsConsistent};
 ghost use Rattle.checkpoint_store.specs.Snapshot.{snapshot_file};
 ghost use Rattle.flowfile_wal.specs.Calls.{HaveEncodings};
 ghost use Rattle.flowfile_wal.specs.Current.{current_number};
 ghost use Rattle.flowfile_wal.specs.Steps.{numbered};
 ghost use Rattle.prov_store.specs.Scanning.{numbers_between};
-ghost use Rattle.prov_store.specs.State.{HasEvents};
 ghost use Rattle.store_core.specs.Calls.{IsReadRefusal};
-ghost use Rattle.store_core.specs.Flow.{agrees_with};
 ghost use Rattle.store_core.specs.Kept.{snapshot_for, behind_snapshot, behind_log, kept_in};
-ghost use Rattle.store_core.specs.Seen.{no_flow, or_anew, kept_seen, IsSeenOn, OfTheState, live_file, IsContentRead, IsContentOf};
-ghost use Rattle.store_core.specs.State.{contents_damage, live_contents, state_of, stands_for};
+ghost use Rattle.store_core.specs.Seen.{no_flow, or_anew, kept_seen, IsSeenOn, IsReadOf, OfTheState, live_file, IsContentRead, IsContentOf};
+ghost use Rattle.store_core.specs.New.{kept_anew};
+ghost use Rattle.store_core.specs.State.{state_of, stands_for};
 
 use crate::StoreError;
-use crate::reading::{apply_entries, find_stray, read_contents};
+use crate::reading::{apply_entries, read_contents, refuse_stray};
 use content_repo::read_content;
-use disk_trait::{Damage, Disk};
-use flowfile_record::{Event, EventCounts, Stored};
+use disk_trait::Disk;
+use flowfile_record::{ActiveFile, DIGEST_SIZE, Event, EventCounts, Stored};
 use flowfile_wal::{Log, LogEntries};
 use kept_state::KeptState;
 use prov_store::Events;
@@ -60,7 +59,8 @@ pub fn read_store<D: Disk>(alloc: Global, disk: &mut D) -> Result<Seen, StoreErr
     ensures stays { Stays D.held D.moment D.images disk.old disk.new }
     ensures cause { CountsFaults (D.faults disk.old) (D.faults disk.new) (IsErrOf result StoreError.Disk) }
 {
-    match see_kept(alloc, disk)? {
+    let kept = see_kept(alloc, disk)?;
+    match kept {
         Some(state) => see_made(alloc, disk, state),
         None => see_none(alloc, disk),
     }
@@ -100,13 +100,15 @@ fn see_behind<D: Disk>(
     ensures stays { Stays D.held D.moment D.images disk.old disk.new }
     ensures cause { CountsFaults (D.faults disk.old) (D.faults disk.new) (IsErrOf result StoreError.Disk) }
 {
-    if let Some(number) = current {
-        let state = see_state(alloc, disk, number, entries)?;
-        return Ok(Some(state));
-    }
-    match find_stray(alloc, disk)? {
-        Some(file) => Err(StoreError::Damaged(Damage::Form { file, at: 0 })),
-        None => Ok(None),
+    match current {
+        Some(number) => {
+            let state = see_state(alloc, disk, number, entries)?;
+            Ok(Some(state))
+        }
+        None => {
+            refuse_stray(alloc, disk)?;
+            Ok(None)
+        }
     }
 }
 
@@ -129,24 +131,25 @@ fn see_state<D: Disk>(
     ensures cause { CountsFaults (D.faults disk.old) (D.faults disk.new) (IsErrOf result StoreError.Disk) }
 {
     let stored = checkpoint_store::read(alloc, disk, number)?;
-    agrees_with_none(&stored);
+    has_bytes(stored.flow);
     apply_entries(alloc, stored, number, entries)
 }
 
-// A snapshot names a flow, and so it agrees with none.
-fn agrees_with_none(stored: &Stored)
-    ensures { agrees_with no_flow (kept_of stored.now) ≡ true }
+// A digest has bytes.
+fn has_bytes(digest: [u8; DIGEST_SIZE])
+    ensures { 0 < length digest }
 {
-    let _digest = stored.flow;
+    let _first = digest[0];
+}
+
+fn has_bytes_b(digest: [u8; DIGEST_SIZE])
+    ensures { 0 < length digest }
+{
 }
 
 // What a query sees of a store that is made.
 fn see_made<D: Disk>(alloc: Global, disk: &mut D, state: KeptState) -> Result<Seen, StoreError>
-    ensures stored { IfOk result (λ seen. seen.stored ≡ Some state.kept) }
-    ensures last_event { IfOk result (λ seen. seen.events.end ≡ state.kept.last_event) }
-    ensures events { IfOk result (λ seen. IsTrue D.tells → HasEvents seen.events (D.held disk.old)) }
-    ensures sound { OnOk result (IsTrue D.tells
-        → contents_damage (D.held disk.old) (live_contents state.kept) ≡ None) }
+    ensures seen { IfOk result (IsReadOf D.tells (D.held disk.old) (Some state.kept)) }
     ensures damaged { (damage : TheDamage) → IsErrOf result (StoreError.Damaged damage) → IsTrue D.tells
         → state_of (D.held disk.old) state.kept ≡ Err damage }
     ensures refusal { IfErr result IsReadRefusal }
@@ -164,10 +167,9 @@ fn see_made<D: Disk>(alloc: Global, disk: &mut D, state: KeptState) -> Result<Se
 
 // What a query sees where no store is made yet.
 fn see_none<D: Disk>(alloc: Global, disk: &mut D) -> Result<Seen, StoreError>
-    ensures stored { IfOk result (λ seen. seen.stored ≡ None) }
-    ensures last_event { IfOk result (λ seen. seen.events.end ≡ 0) }
-    ensures events { IfOk result (λ seen. IsTrue D.tells → HasEvents seen.events (D.held disk.old)) }
-    ensures undamaged { (damage : TheDamage) → IsErrOf result (StoreError.Damaged damage) → IsTrue D.tells → ⊥ }
+    ensures seen { IfOk result (IsReadOf D.tells (D.held disk.old) None) }
+    ensures damaged { (damage : TheDamage) → IsErrOf result (StoreError.Damaged damage) → IsTrue D.tells
+        → state_of (D.held disk.old) (kept_anew no_flow 0) ≡ Err damage }
     ensures refusal { IfErr result IsReadRefusal }
     ensures stays { Stays D.held D.moment D.images disk.old disk.new }
     ensures cause { CountsFaults (D.faults disk.old) (D.faults disk.new) (IsErrOf result StoreError.Disk) }
@@ -257,13 +259,24 @@ impl Seen {
         ensures stays { Stays D.held D.moment D.images disk.old disk.new }
         ensures cause { CountsFaults (D.faults disk.old) (D.faults disk.new) (IsErrOf result StoreError.Disk) }
     {
-        let Some(state) = &self.state else {
-            return Ok(None);
-        };
-        let Some(active) = state.stored().files.get(number) else {
-            return Ok(None);
-        };
-        let bytes = read_content(alloc, disk, &active.file.content)?;
-        Ok(Some(bytes))
+        match self.live(number) {
+            Some(active) => {
+                let bytes = read_content(alloc, disk, &active.file.content)?;
+                Ok(Some(bytes))
+            }
+            None => Ok(None),
+        }
+    }
+
+    // The live file of a number.
+    fn live(&self, number: u64) -> Option<&ActiveFile>
+        ensures live { option_copied result ≡ live_file number self.now }
+        ensures consistent { (active : TheFile) → live_file number self.now ≡ Some active
+            → IsConsistent (kept_seen self.now) }
+    {
+        match &self.state {
+            Some(state) => state.stored().files.get(number),
+            None => None,
+        }
     }
 }

@@ -26,7 +26,7 @@ returns-in_err-scan_file-clause-undamaged g c damage is told events says =
     let files = g.D.Disk.held c.args.disk.now in
     let self = c.args.self.now in
     let here = file_of_events self.end c.loop-number.number files events says (omega (arith, c.loop-number-test.true, c.requires.may.there, c.requires.may.counted, c.requires.may.some)) in
-    let p = err_from_is_err_and c.from_residual-in_err-scan_file.result c.from_residual-in_err-scan_file.ensures.1 in
+    let p = err_from_is_err_and c.from_residual.result c.from_residual.ensures.1 in
     let same : c.in_err-scan_file.field-0.0 ≡ Damaged damage = cc (p.1, p.2, is) in
     c.in_err-scan_file.ensures.undamaged damage (ap Err same) told here.0
     (ap (λ (n : ℕ). events_of_file n c.loop-number.number (g.D.Disk.held c.loop-number.disk)) inv.same.end
