@@ -135,16 +135,11 @@ fn see_state<D: Disk>(
     apply_entries(alloc, stored, number, entries)
 }
 
-// A digest has bytes.
+// A digest has bytes. So a snapshot names a flow, and agrees with who knows none.
 fn has_bytes(digest: [u8; DIGEST_SIZE])
     ensures { 0 < length digest }
 {
     let _first = digest[0];
-}
-
-fn has_bytes_b(digest: [u8; DIGEST_SIZE])
-    ensures { 0 < length digest }
-{
 }
 
 // What a query sees of a store that is made.

@@ -23,21 +23,16 @@ read_content-requires-after_bounds g c κs within =
     let live : live_file c.args.number c.args.self.now ≡ Some c.in-Some.active.now = sym c.live.ensures.live ∙ ap option_copied c.in-Some.is in
     (live_named c.args.number c.args.self.now c.in-Some.active.now (c.live.ensures.consistent c.in-Some.active.now live) live).1
 
-pub returns-in-Some-clause-content : goal.returns-in-Some-clause-content
-returns-in-Some-clause-content g c told seen state stands =
+pub returns-in_ok-bytes-in-Some-clause-content : goal.returns-in_ok-bytes-in-Some-clause-content
+returns-in_ok-bytes-in-Some-clause-content g c told seen state stands =
     let live : live_file c.args.number c.args.self.now ≡ Some c.in-Some.active.now = sym c.live.ensures.live ∙ ap option_copied c.in-Some.is in
-    content_queued (g.D.Disk.held c.args.disk.now) c.args.self.now state c.args.number c.in-Some.active.now c.in_ok-bytes.bytes.items seen stands
-    (c.live.ensures.consistent c.in-Some.active.now live) live (c.in_ok-bytes.ensures.read.content told)
+    content_queued (g.D.Disk.held c.args.disk.now) c.args.self.now state c.args.number c.in-Some.active.now c.in_ok-bytes-in-Some.bytes.items seen stands
+    (c.live.ensures.consistent c.in-Some.active.now live) live (c.in_ok-bytes-in-Some.ensures.read.content told)
 
-pub returns-in-Some-clause-read : goal.returns-in-Some-clause-read
-returns-in-Some-clause-read g c =
-    subst (λ (live : Option ActiveFile). IsContentRead g.D.Disk.tells (g.D.Disk.held c.args.disk.now) live (Some c.in_ok-bytes.bytes.items)) (c.live.ensures.live)
-    (subst (λ live. IsContentRead g.D.Disk.tells (g.D.Disk.held c.args.disk.now) (option_copied live) (Some c.in_ok-bytes.bytes.items)) (sym c.in-Some.is) c.in_ok-bytes.ensures.read)
-
-pub returns-in_err-bytes-clause-undamaged : goal.returns-in_err-bytes-clause-undamaged
-returns-in_err-bytes-clause-undamaged g c damage is told seen =
+pub returns-in_err-bytes-in-Some-clause-undamaged : goal.returns-in_err-bytes-in-Some-clause-undamaged
+returns-in_err-bytes-in-Some-clause-undamaged g c damage is told seen =
     let live : live_file c.args.number c.args.self.now ≡ Some c.in-Some.active.now = sym c.live.ensures.live ∙ ap option_copied c.in-Some.is in
     let p = err_from_is_err_and c.from_residual.result c.from_residual.ensures.1 in
-    let same : of_content c.in_err-bytes.field-0.0 ≡ Damaged damage = cc (p.1, p.2, is) in
+    let same : of_content c.in_err-bytes-in-Some.field-0.0 ≡ Damaged damage = cc (p.1, p.2, is) in
     live_sound (g.D.Disk.held c.args.disk.now) c.args.self.now c.args.number c.in-Some.active.now damage seen live
-    (c.in_err-bytes.ensures.refusal.damaged damage (content_damaged c.in_err-bytes.field-0.0 damage same) told)
+    (c.in_err-bytes-in-Some.ensures.refusal.damaged damage (content_damaged c.in_err-bytes-in-Some.field-0.0 damage same) told)
