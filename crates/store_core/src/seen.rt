@@ -138,9 +138,7 @@ fn see_state<D: Disk>(
 // A digest has bytes. So a snapshot names a flow, and agrees with who knows none.
 fn has_bytes(digest: [u8; DIGEST_SIZE])
     ensures { 0 < length digest }
-{
-    let _first = digest[0];
-}
+{}
 
 // What a query sees of a store that is made.
 fn see_made<D: Disk>(alloc: Global, disk: &mut D, state: KeptState) -> Result<Seen, StoreError>
