@@ -1,0 +1,3 @@
+pub mod Writing
+pub mod Lists
+pub mod Decimals

@@ -1,0 +1,80 @@
+-- What puts one behind the other leave.
+use Rattle.std.proofs.Common.{◌≡◌, ℕ, ◌+◌, ◌<◌, ◌≤◌, List, [], ◌∷◌, ◌++◌, length, take, drop, get_or, Result, Ok, Err, refl, sym, ap, ◌∙◌, append_assoc}
+use Rattle.std.specs.List.{flat_map}
+use Rattle.std.proofs.lemmas.List.{append-nil, take_all, take_more, take-append-drop}
+use Rattle.disk_trait.specs.declared.file_name.Failed.{Failed}
+use Rattle.flow_report.specs.Writing.{Puts, Writes}
+
+-- nothing was put
+pub puts-nothing : (before held : List ℕ) → Puts [] before held before held (Ok tt)
+puts-nothing before held = record {
+  part = [];
+  rest = held;
+  written = sym (append-nil before);
+  whole = sym (append-nil held);
+  left = refl;
+}
+
+-- a text behind another
+pub puts-then : (s t b h b' h' b'' h'' : List ℕ) (result : Result (Unit {0}) Failed) → Puts s b h b' h' (Ok tt) → Puts t b' h' b'' h'' result → Puts (s ++ t) b h b'' h'' result
+puts-then s t b h b' h' b'' h'' result one more = record {
+  part = one.part ++ more.part;
+  rest = more.rest;
+  written = more.written ∙ ap (λ (l : List ℕ). l ++ more.part) one.written ∙ append_assoc b one.part more.part;
+  whole =
+      append_assoc one.part more.part more.rest ∙ ap (λ (l : List ℕ). one.part ++ l) (more.whole ∙ ap (λ (l : List ℕ). l ++ t) (sym one.left)) ∙ sym (append_assoc one.part one.rest t)
+      ∙ ap (λ (l : List ℕ). l ++ t) one.whole ∙ append_assoc h s t;
+  left = more.left;
+}
+
+-- after a failure more was to be put
+pub puts-failed : (s t b h b' h' : List ℕ) (e : Failed) → Puts s b h b' h' (Err e) → Puts (s ++ t) b h b' h' (Err e)
+puts-failed s t b h b' h' e one = record {
+  part = one.part;
+  rest = one.rest ++ t;
+  written = one.written;
+  whole = sym (append_assoc one.part one.rest t) ∙ ap (λ (l : List ℕ). l ++ t) one.whole ∙ append_assoc h s t;
+  left = tt;
+}
+
+-- where nothing is held at the beginning and at the end, the text was written
+pub writes-all : (t b b' : List ℕ) (result : Result (Unit {0}) Failed) (h' : List ℕ) → (h' ≡ []) → Puts t b [] b' h' (Ok tt) → b' ≡ b ++ t
+writes-all t b b' result h' none puts =
+    puts.written ∙ ap (λ (l : List ℕ). b ++ l) (sym (append-nil puts.part) ∙ ap (λ (l : List ℕ). puts.part ++ l) (sym (puts.left ∙ none)) ∙ puts.whole)
+
+pub writes-front : (t b b' h' : List ℕ) (e : Failed) → Puts t b [] b' h' (Err e) → (part : List ℕ) × ((rest : List ℕ) × (part ++ rest ≡ t)) × (b' ≡ b ++ part)
+writes-front t b b' h' e puts = (puts.part, (puts.rest, puts.whole), puts.written)
+
+pub puts-named : (s t b h b' h' : List ℕ) (result : Result (Unit {0}) Failed) → s ≡ t → Puts s b h b' h' result → Puts t b h b' h' result
+puts-named s t b h b' h' result same puts =
+    record { part = puts.part; rest = puts.rest; written = puts.written; whole = puts.whole ∙ ap (λ (l : List ℕ). h ++ l) same; left = puts.left }
+
+-- ---- the texts of a list's items, one behind the other
+
+pub texts-append : {X : Type 0} (f : X → List ℕ) → (xs ys : List X) → flat_map f (xs ++ ys) ≡ flat_map f xs ++ flat_map f ys
+texts-append f [] ys = refl
+texts-append f (x ∷ xs) ys = ap (λ (l : List ℕ). f x ++ l) (texts-append f xs ys) ∙ sym (append_assoc (f x) (flat_map f xs) (flat_map f ys))
+
+pub texts-more : {X : Type 0} (f : X → List ℕ) (xs : List X) (i : ℕ) (d : X) → i < length xs → flat_map f (take i xs) ++ f (get_or xs i d) ≡ flat_map f (take (i + 1) xs)
+texts-more f xs i d within =
+    ap (λ (l : List ℕ). flat_map f (take i xs) ++ l) (sym (append-nil (f (get_or xs i d)))) ∙ sym (texts-append f (take i xs) (get_or xs i d ∷ [])) ∙ ap (flat_map f) (sym (take_more xs i d within))
+
+pub texts-whole : {X : Type 0} (f : X → List ℕ) (xs : List X) (i : ℕ) → flat_map f (take i xs) ++ flat_map f (drop i xs) ≡ flat_map f xs
+texts-whole f xs i = sym (texts-append f (take i xs) (drop i xs)) ∙ ap (flat_map f) (take-append-drop i xs)
+
+-- one item more
+pub puts-more : {X : Type 0} (f : X → List ℕ) (xs : List X) (i : ℕ) (d : X) (b h b' h' b'' h'' : List ℕ) → i < length xs → Puts (flat_map f (take i xs)) b h b' h' (Ok tt)
+    → Puts (f (get_or xs i d)) b' h' b'' h'' (Ok tt) → Puts (flat_map f (take (i + 1) xs)) b h b'' h'' (Ok tt)
+puts-more f xs i d b h b' h' b'' h'' within so_far more =
+    puts-named _ _ b h b'' h'' (Ok tt) (texts-more f xs i d within) (puts-then _ _ b h b' h' b'' h'' (Ok tt) so_far more)
+
+-- an item failed
+pub puts-more-failed : {X : Type 0} (f : X → List ℕ) (xs : List X) (i : ℕ) (d : X) (b h b' h' b'' h'' : List ℕ) (e : Failed) → i < length xs → Puts (flat_map f (take i xs)) b h b' h' (Ok tt)
+    → Puts (f (get_or xs i d)) b' h' b'' h'' (Err e) → Puts (flat_map f xs) b h b'' h'' (Err e)
+puts-more-failed f xs i d b h b' h' b'' h'' e within so_far more =
+    let here = puts-named _ _ b h b'' h'' (Err e) (texts-more f xs i d within) (puts-then _ _ b h b' h' b'' h'' (Err e) so_far more) in
+    puts-named _ _ b h b'' h'' (Err e) (texts-whole f xs (i + 1)) (puts-failed (flat_map f (take (i + 1) xs)) (flat_map f (drop (i + 1) xs)) b h b'' h'' e here)
+
+-- all items
+pub puts-all : {X : Type 0} (f : X → List ℕ) (xs : List X) (i : ℕ) (b h b' h' : List ℕ) → length xs ≤ i → Puts (flat_map f (take i xs)) b h b' h' (Ok tt) → Puts (flat_map f xs) b h b' h' (Ok tt)
+puts-all f xs i b h b' h' past so_far = puts-named _ _ b h b' h' (Ok tt) (ap (flat_map f) (take_all i xs past)) so_far

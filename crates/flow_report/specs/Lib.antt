@@ -1,0 +1,5 @@
+pub mod Texts
+pub mod Events
+pub mod Words
+pub mod Writing
+pub mod Parts
