@@ -1,3 +1,4 @@
 pub mod Writing
 pub mod Lists
 pub mod Decimals
+pub mod EventText

@@ -1,5 +1,5 @@
 -- What puts one behind the other leave.
-use Rattle.std.proofs.Common.{◌≡◌, ℕ, ◌+◌, ◌<◌, ◌≤◌, List, [], ◌∷◌, ◌++◌, length, take, drop, get_or, Result, Ok, Err, refl, sym, ap, ◌∙◌, append_assoc}
+use Rattle.std.proofs.Common.{◌≡◌, ℕ, ◌+◌, ◌<◌, ◌≤◌, List, [], ◌∷◌, ◌++◌, length, take, drop, get_or, Result, Ok, Err, refl, sym, ap, ◌∙◌, subst, append_assoc, OnOk}
 use Rattle.std.specs.List.{flat_map}
 use Rattle.std.proofs.lemmas.List.{append-nil, take_all, take_more, take-append-drop}
 use Rattle.disk_trait.specs.declared.file_name.Failed.{Failed}
@@ -38,11 +38,11 @@ puts-failed s t b h b' h' e one = record {
 }
 
 -- where nothing is held at the beginning and at the end, the text was written
-pub writes-all : (t b b' : List ℕ) (result : Result (Unit {0}) Failed) (h' : List ℕ) → (h' ≡ []) → Puts t b [] b' h' (Ok tt) → b' ≡ b ++ t
-writes-all t b b' result h' none puts =
+writes-all : (t b b' : List ℕ) (h' : List ℕ) → h' ≡ [] → Puts t b [] b' h' (Ok tt) → b' ≡ b ++ t
+writes-all t b b' h' none puts =
     puts.written ∙ ap (λ (l : List ℕ). b ++ l) (sym (append-nil puts.part) ∙ ap (λ (l : List ℕ). puts.part ++ l) (sym (puts.left ∙ none)) ∙ puts.whole)
 
-pub writes-front : (t b b' h' : List ℕ) (e : Failed) → Puts t b [] b' h' (Err e) → (part : List ℕ) × ((rest : List ℕ) × (part ++ rest ≡ t)) × (b' ≡ b ++ part)
+writes-front : (t b b' h' : List ℕ) (e : Failed) → Puts t b [] b' h' (Err e) → (part : List ℕ) × ((rest : List ℕ) × (part ++ rest ≡ t)) × (b' ≡ b ++ part)
 writes-front t b b' h' e puts = (puts.part, (puts.rest, puts.whole), puts.written)
 
 pub puts-named : (s t b h b' h' : List ℕ) (result : Result (Unit {0}) Failed) → s ≡ t → Puts s b h b' h' result → Puts t b h b' h' result
@@ -78,3 +78,41 @@ puts-more-failed f xs i d b h b' h' b'' h'' e within so_far more =
 -- all items
 pub puts-all : {X : Type 0} (f : X → List ℕ) (xs : List X) (i : ℕ) (b h b' h' : List ℕ) → length xs ≤ i → Puts (flat_map f (take i xs)) b h b' h' (Ok tt) → Puts (flat_map f xs) b h b' h' (Ok tt)
 puts-all f xs i b h b' h' past so_far = puts-named _ _ b h b' h' (Ok tt) (ap (flat_map f) (take_all i xs past)) so_far
+
+-- nothing was put, and nothing is held
+pub puts-none : (before kept : List ℕ) → kept ≡ [] → Puts [] before [] before kept (Ok tt)
+puts-none before kept none = record { part = []; rest = []; written = sym (append-nil before); whole = refl; left = sym none }
+
+-- where nothing was held at the beginning, and nothing is at the end
+pub writes-result : (t b b' h' : List ℕ) (result : Result (Unit {0}) Failed) → OnOk result (h' ≡ []) → Puts t b [] b' h' result → Writes t b b' result
+writes-result t b b' h' (Ok u) none puts = record { ok = writes-all t b b' h' none puts; err = tt }
+writes-result t b b' h' (Err e) none puts = record { ok = tt; err = writes-front t b b' h' e puts }
+
+-- ---- lines behind lines
+
+pub writes-nothing : (before : List ℕ) → Writes [] before before (Ok tt)
+writes-nothing before = record { ok = sym (append-nil before); err = tt }
+
+pub writes-then : (s t b b' b'' : List ℕ) (result : Result (Unit {0}) Failed) → Writes s b b' (Ok tt) → Writes t b' b'' result → Writes (s ++ t) b b'' result
+writes-then s t b b' b'' (Ok u) one more = record { ok = more.ok ∙ ap (λ (l : List ℕ). l ++ t) one.ok ∙ append_assoc b s t; err = tt }
+writes-then s t b b' b'' (Err e) one more =
+    let front = more.err in
+    record {
+      ok = tt;
+      err = (
+        s ++ front.0,
+        (front.1.0, append_assoc s front.0 front.1.0 ∙ ap (λ (l : List ℕ). s ++ l) front.1.1),
+        front.2 ∙ ap (λ (l : List ℕ). l ++ front.0) one.ok ∙ append_assoc b s front.0,
+      );
+    }
+
+pub writes-failed : (s t b b' : List ℕ) (e : Failed) → Writes s b b' (Err e) → Writes (s ++ t) b b' (Err e)
+writes-failed s t b b' e one =
+    let front = one.err in
+    record {
+      ok = tt;
+      err = (front.0, (front.1.0 ++ t, sym (append_assoc front.0 front.1.0 t) ∙ ap (λ (l : List ℕ). l ++ t) front.1.1), front.2);
+    }
+
+pub writes-named : (s t b b' : List ℕ) (result : Result (Unit {0}) Failed) → s ≡ t → Writes s b b' result → Writes t b b' result
+writes-named s t b b' result same = subst (λ (l : List ℕ). Writes l b b' result) same

@@ -5,6 +5,7 @@ use Rattle.hex.specs.Hex.{encode_lower}
 use Rattle.json.specs.Print.{quoted}
 use Rattle.serde_json.specs.Data.{array}
 use Rattle.serde_json.specs.Written.{compact_text}
+use Rattle.flowfile_record.specs.Identifier.{identifier}
 use Rattle.flow_report.specs.Events.{file_items}
 use Rattle.flow_report.specs.Texts.{line_feed}
 use Rattle.flow_report.specs.Words.{uuid_text}
@@ -18,9 +19,8 @@ part_text (part.Sum one other) = decimal (one + other)
 part_text (part.Uuid id) = uuid_text id.now
 part_text (part.Digest digest) = encode_lower digest.now
 part_text (part.Quoted text) = quoted text.now
-part_text (part.QuotedUuid id) = quoted (uuid_text id.now)
+part_text (part.QuotedUuid store number) = quoted (uuid_text (identifier store number))
 part_text (part.QuotedDigest digest) = quoted (encode_lower digest.now)
-part_text (part.Sum one other) = decimal (one + other)
 part_text (part.Uuids store numbers) = compact_text (array (file_items store numbers.now))
 
 abbrev pub line_of_parts : List Part → List ℕ

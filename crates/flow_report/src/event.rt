@@ -9,7 +9,7 @@ ghost use Rattle.flow_report.specs.Writing.{Writes};
 use crate::part::{Part, write_parts};
 use crate::words::word_of_event;
 use disk_trait::Failed;
-use flowfile_record::{Event, uuid_of};
+use flowfile_record::Event;
 use world_io::Sink;
 
 /// Writes the line of an event in the store of an id: a JSON object, its keys in the order of their bytes.
@@ -19,7 +19,6 @@ pub(crate) fn write_event<S: Sink>(sink: &mut S, store: u64, event: &Event) -> R
     ensures cause { CountsFaults (S.faults sink.old) (S.faults sink.new) (IsErr result) }
 {
     use Part::{Number, Quoted, QuotedDigest, QuotedUuid, Text, Uuids};
-    let id = uuid_of(store, event.file);
     let parts = [
         Text("{\"children\":"),
         Uuids(store, event.children.as_slice()),
@@ -40,7 +39,7 @@ pub(crate) fn write_event<S: Sink>(sink: &mut S, store: u64, event: &Event) -> R
         Text(",\"size\":"),
         Number(event.size),
         Text(",\"uuid\":"),
-        QuotedUuid(&id),
+        QuotedUuid(store, event.file),
         Text("}"),
     ];
     write_parts(sink, &parts)

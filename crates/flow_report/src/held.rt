@@ -54,9 +54,10 @@ impl Held {
     {
         let ones = one % 10 + other % 10;
         let tens = one / 10 + other / 10 + ones / 10;
-        if tens > 0 {
-            self.put_number(sink, tens)?;
+        if tens == 0 {
+            return self.put_number(sink, ones);
         }
+        self.put_number(sink, tens)?;
         self.put_number(sink, ones % 10)
     }
 

@@ -7,7 +7,7 @@ ghost use Rattle.flow_report.specs.Writing.{Puts, Writes};
 use crate::held::Held;
 use crate::words::text_of_digest;
 use disk_trait::Failed;
-use flowfile_record::DIGEST_SIZE;
+use flowfile_record::{DIGEST_SIZE, uuid_of};
 use uuid::Uuid;
 use world_io::Sink;
 
@@ -22,7 +22,8 @@ pub(crate) enum Part<'a> {
     Digest(&'a [u8; DIGEST_SIZE]),
     /// A text in quotation marks, as in JSON.
     Quoted(&'a str),
-    QuotedUuid(&'a Uuid),
+    /// The identifier of a file of a store, in quotation marks.
+    QuotedUuid(u64, u64),
     QuotedDigest(&'a [u8; DIGEST_SIZE]),
     /// The identifiers of files of a store, as a list of JSON.
     Uuids(u64, &'a [u64]),
@@ -55,7 +56,7 @@ fn put_part<S: Sink>(held: &mut Held, sink: &mut S, part: &Part) -> Result<(), F
         Part::Uuid(id) => held.put_uuid(sink, id),
         Part::Digest(digest) => held.put(sink, &text_of_digest(digest)),
         Part::Quoted(text) => held.put_quoted(sink, text.as_bytes()),
-        Part::QuotedUuid(id) => held.put_quoted_uuid(sink, id),
+        Part::QuotedUuid(store, number) => held.put_quoted_uuid(sink, &uuid_of(store, number)),
         Part::QuotedDigest(digest) => held.put_quoted(sink, &text_of_digest(digest)),
         Part::Uuids(store, numbers) => held.put_uuids(sink, store, numbers),
     }

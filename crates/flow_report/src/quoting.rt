@@ -84,9 +84,10 @@ impl Held {
             self.old.bytes.items (S.written sink.new) self.new.bytes.items result }
         ensures cause { CountsFaults (S.faults sink.old) (S.faults sink.new) (IsErr result) }
     {
-        if is_later {
-            self.put(sink, b",")?;
+        if !is_later {
+            return self.put_quoted_uuid(sink, id);
         }
+        self.put(sink, b",")?;
         self.put_quoted_uuid(sink, id)
     }
 }
