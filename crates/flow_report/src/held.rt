@@ -47,7 +47,12 @@ impl Held {
     }
 
     /// Puts the sum of two numbers in decimal. It may have a bit more than they have.
-    pub(crate) fn put_sum<S: Sink>(&mut self, sink: &mut S, one: u128, other: u128) -> Result<(), Failed>
+    pub(crate) fn put_sum<S: Sink>(
+        &mut self,
+        sink: &mut S,
+        one: u128,
+        other: u128,
+    ) -> Result<(), Failed>
         ensures put { IsTrue S.tells → Puts (decimal (one + other)) (S.written sink.old) self.old.bytes.items
             (S.written sink.new) self.new.bytes.items result }
         ensures cause { CountsFaults (S.faults sink.old) (S.faults sink.new) (IsErr result) }

@@ -9,6 +9,8 @@ mod held;
 mod line;
 mod part;
 mod quoting;
+#[cfg(test)]
+mod tests;
 mod words;
 
 pub use bytes::write_bytes;

@@ -16,11 +16,7 @@ use world_io::Sink;
 #[derive(Clone, Copy)]
 pub enum Line<'a> {
     /// A connection: how many live files it has, swapped ones too, and the sum of their contents' sizes in bytes.
-    Connection {
-        id: &'a str,
-        files: u64,
-        bytes: u64,
-    },
+    Connection { id: &'a str, files: u64, bytes: u64 },
     /// A live file of a connection, and its content's size in bytes.
     Queued { file: Uuid, size: u64 },
     /// A file of a lineage.
@@ -57,7 +53,8 @@ pub enum KinWord {
 }
 
 // The words of a command, where there is none.
-const USAGE: &str = "usage: flow run, queues, events, lineage UUID, content UUID, check, trial N; options --threads N --max-commits N --checkpoint N";
+const USAGE: &str =
+    "usage: flow run, queues, events, lineage UUID, content UUID, check, trial N; options --threads N --max-commits N --checkpoint N";
 
 /// Writes a line.
 pub fn write_line<S: Sink>(sink: &mut S, line: &Line) -> Result<(), Failed>
@@ -68,21 +65,47 @@ pub fn write_line<S: Sink>(sink: &mut S, line: &Line) -> Result<(), Failed>
     match line {
         Line::Connection { id, files, bytes } => write_parts(
             sink,
-            &[Text("connection "), Text(id), Text(" "), Number(*files), Text(" "), Number(*bytes)],
+            &[
+                Text("connection "),
+                Text(id),
+                Text(" "),
+                Number(*files),
+                Text(" "),
+                Number(*bytes),
+            ],
         ),
-        Line::Queued { file, size } => write_parts(sink, &[Text("file "), Uuid(file), Text(" "), Number(*size)]),
-        Line::Kin { word, file } => write_parts(sink, &[Text(word_of_kin(*word)), Text(" "), Uuid(file)]),
+        Line::Queued { file, size } => write_parts(
+            sink,
+            &[Text("file "), Uuid(file), Text(" "), Number(*size)],
+        ),
+        Line::Kin { word, file } => write_parts(
+            sink,
+            &[Text(word_of_kin(*word)), Text(" "), Uuid(file)],
+        ),
         Line::Happened { store, event } => write_event(sink, *store, event),
         Line::Blocked(id) => write_parts(sink, &[Text("blocked: "), Text(id)]),
-        Line::Limit { name, number } => write_parts(sink, &[Text("limit: "), Text(name), Text(" "), Number(*number)]),
+        Line::Limit { name, number } => write_parts(
+            sink,
+            &[Text("limit: "), Text(name), Text(" "), Number(*number)],
+        ),
         Line::Sound { files, events } => write_parts(
             sink,
-            &[Text("store sound: files "), Number(*files), Text(", events "), Number(*events)],
+            &[
+                Text("store sound: files "),
+                Number(*files),
+                Text(", events "),
+                Number(*events),
+            ],
         ),
         Line::Usage => write_parts(sink, &[Text(USAGE)]),
         Line::Refused { rule, place } => write_parts(
             sink,
-            &[Text("flow refused: rule "), Number(u64::from(*rule)), Text(" at "), Text(place)],
+            &[
+                Text("flow refused: rule "),
+                Number(u64::from(*rule)),
+                Text(" at "),
+                Text(place),
+            ],
         ),
         Line::Damaged(damage) => write_damage(sink, damage),
         Line::DiskFault => write_parts(sink, &[Text("disk fault")]),
@@ -100,20 +123,49 @@ fn write_damage<S: Sink>(sink: &mut S, damage: &Damage) -> Result<(), Failed>
 {
     use Part::{Digest, Number, Text};
     match damage {
-        Damage::Digest { file, at, stored, found } => write_parts(
+        Damage::Digest {
+            file,
+            at,
+            stored,
+            found,
+        } => write_parts(
             sink,
             &[
-                Text("damaged: "), Text(word_of_kind(file.kind)), Text(" "), Number(file.number), Text(" at "), Number(*at),
-                Text(" kept "), Digest(stored), Text(" found "), Digest(found),
+                Text("damaged: "),
+                Text(word_of_kind(file.kind)),
+                Text(" "),
+                Number(file.number),
+                Text(" at "),
+                Number(*at),
+                Text(" kept "),
+                Digest(stored),
+                Text(" found "),
+                Digest(found),
             ],
         ),
         Damage::Short { file, at, .. } => write_parts(
             sink,
-            &[Text("damaged: "), Text(word_of_kind(file.kind)), Text(" "), Number(file.number), Text(" at "), Number(*at), Text(" short")],
+            &[
+                Text("damaged: "),
+                Text(word_of_kind(file.kind)),
+                Text(" "),
+                Number(file.number),
+                Text(" at "),
+                Number(*at),
+                Text(" short"),
+            ],
         ),
         Damage::Form { file, at } => write_parts(
             sink,
-            &[Text("damaged: "), Text(word_of_kind(file.kind)), Text(" "), Number(file.number), Text(" at "), Number(*at), Text(" form")],
+            &[
+                Text("damaged: "),
+                Text(word_of_kind(file.kind)),
+                Text(" "),
+                Number(file.number),
+                Text(" at "),
+                Number(*at),
+                Text(" form"),
+            ],
         ),
     }
 }

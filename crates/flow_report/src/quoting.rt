@@ -103,7 +103,14 @@ fn escape_of(byte: u8) -> ([u8; 6], usize)
     }
     if byte < b' ' {
         return (
-            [b'\\', b'u', b'0', b'0', hex_digit(byte / 16), hex_digit(byte % 16)],
+            [
+                b'\\',
+                b'u',
+                b'0',
+                b'0',
+                hex_digit(byte / 16),
+                hex_digit(byte % 16),
+            ],
             6,
         );
     }
