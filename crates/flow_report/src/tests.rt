@@ -93,29 +93,82 @@ const DAMAGED: [&str; 5] = [
 
 // Lines with no identifier.
 const PLAIN: [(Line<'static>, &'static str); 17] = [
-    (Line::Connection { id: "made", files: 0, bytes: 0 }, "connection made 0 0\n"),
     (
-        Line::Connection { id: "tens", files: u64::MAX, bytes: u64::MAX },
+        Line::Connection {
+            id: "made",
+            files: 0,
+            bytes: 0,
+        },
+        "connection made 0 0\n",
+    ),
+    (
+        Line::Connection {
+            id: "tens",
+            files: u64::MAX,
+            bytes: u64::MAX,
+        },
         "connection tens 18446744073709551615 18446744073709551615\n",
     ),
     (Line::Blocked("merge"), "blocked: merge\n"),
     (Line::Blocked("é"), "blocked: é\n"),
-    (Line::Limit { name: "journal", number: 0 }, "limit: journal 0\n"),
-    (Line::Limit { name: "file-bytes", number: u64::MAX }, "limit: file-bytes 18446744073709551615\n"),
-    (Line::Sound { files: 0, events: 10 }, "store sound: files 0, events 10\n"),
-    (Line::Sound { files: u64::MAX, events: 0 }, "store sound: files 18446744073709551615, events 0\n"),
+    (
+        Line::Limit {
+            name: "journal",
+            number: 0,
+        },
+        "limit: journal 0\n",
+    ),
+    (
+        Line::Limit {
+            name: "file-bytes",
+            number: u64::MAX,
+        },
+        "limit: file-bytes 18446744073709551615\n",
+    ),
+    (
+        Line::Sound {
+            files: 0,
+            events: 10,
+        },
+        "store sound: files 0, events 10\n",
+    ),
+    (
+        Line::Sound {
+            files: u64::MAX,
+            events: 0,
+        },
+        "store sound: files 18446744073709551615, events 0\n",
+    ),
     (
         Line::Usage,
         "usage: flow run, queues, events, lineage UUID, content UUID, check, trial N; options --threads N --max-commits N --checkpoint N\n",
     ),
-    (Line::Refused { rule: 1, place: "/" }, "flow refused: rule 1 at /\n"),
-    (Line::Refused { rule: 255, place: "/processors/1/type" }, "flow refused: rule 255 at /processors/1/type\n"),
+    (
+        Line::Refused {
+            rule: 1,
+            place: "/",
+        },
+        "flow refused: rule 1 at /\n",
+    ),
+    (
+        Line::Refused {
+            rule: 255,
+            place: "/processors/1/type",
+        },
+        "flow refused: rule 255 at /processors/1/type\n",
+    ),
     (Line::DiskFault, "disk fault\n"),
     (Line::InboxFault, "inbox fault\n"),
     (Line::OutboxFault, "outbox fault\n"),
     (Line::SourceFault, "source fault\n"),
     (Line::OutOfMemory, "out of memory\n"),
-    (Line::Limit { name: "claims", number: 1 }, "limit: claims 1\n"),
+    (
+        Line::Limit {
+            name: "claims",
+            number: 1,
+        },
+        "limit: claims 1\n",
+    ),
 ];
 
 // A line is one write. Where each byte is one, and the sink fails behind some, these are written.
@@ -125,7 +178,11 @@ fn try_line(rt: &impl Abort, alloc: Global, line: &Line, text: &str) -> Result<(
     assert_eq!(rt; sink.written(), text.as_bytes());
     assert_eq!(rt; sink.calls.count, 1);
     for left in 0..text.len() {
-        let mut slow = Slow { bytes: Vec::new(alloc), left, faults: 0 };
+        let mut slow = Slow {
+            bytes: Vec::new(alloc),
+            left,
+            faults: 0,
+        };
         assert!(rt; write_line(&mut slow, line).is_err());
         assert_eq!(rt; slow.bytes.as_slice(), &text.as_bytes()[..left]);
         assert_eq!(rt; slow.faults, 1);
@@ -140,7 +197,12 @@ fn lines_say_what_they_should(rt: HostRuntime) -> Result<(), Fail> {
         try_line(&rt, alloc, line, text)?;
     }
     for (damage, text) in DAMAGES.iter().zip(&DAMAGED) {
-        try_line(&rt, alloc, &Line::Damaged(damage), &format!(in alloc; "damaged: {text}")?)?;
+        try_line(
+            &rt,
+            alloc,
+            &Line::Damaged(damage),
+            &format!(in alloc; "damaged: {text}")?,
+        )?;
     }
     Ok(())
 }
@@ -151,11 +213,60 @@ const KEPT: &str = "00000000-0000-8001-8000-00000000000a";
 fn lines_name_files(rt: HostRuntime) -> Result<(), Fail> {
     let alloc = rt.alloc();
     let file = uuid_of(1, 10);
-    try_line(&rt, alloc, &Line::Absent(file), &format!(in alloc; "absent: {KEPT}\n")?)?;
-    try_line(&rt, alloc, &Line::Queued { file, size: 0 }, &format!(in alloc; "file {KEPT} 0\n")?)?;
-    let words = [(KinWord::File, "file"), (KinWord::Ancestor, "ancestor"), (KinWord::Descendant, "descendant")];
+    try_line(
+        &rt,
+        alloc,
+        &Line::Absent(file),
+        &format!(in alloc; "absent: {KEPT}\n")?,
+    )?;
+    try_line(
+        &rt,
+        alloc,
+        &Line::Queued { file, size: 0 },
+        &format!(in alloc; "file {KEPT} 0\n")?,
+    )?;
+    let words = [
+        (KinWord::File, "file"),
+        (KinWord::Ancestor, "ancestor"),
+        (KinWord::Descendant, "descendant"),
+    ];
     for (word, text) in &words {
-        try_line(&rt, alloc, &Line::Kin { word: *word, file }, &format!(in alloc; "{text} {KEPT}\n")?)?;
+        try_line(
+            &rt,
+            alloc,
+            &Line::Kin { word: *word, file },
+            &format!(in alloc; "{text} {KEPT}\n")?,
+        )?;
     }
     Ok(())
+}
+
+// As Python's `json.dumps` has it, with its keys sorted and no spaces.
+const CLONED: &str =
+    "{\"children\":[\"00000000-0000-8001-8000-00000000000a\",\"00000000-0000-8001-8000-00000000000b\"],\"component\":\"split\",\"detail\":\"\\\"\\\\\\b\\f\\n\\r\\t\\u0001\\u001f \u{7f}é\",\"digest\":\"abababababababababababababababababababababababababababababababab\",\"event\":3,\"kind\":\"CLONE\",\"moment\":0,\"parents\":[],\"size\":18446744073709551615,\"uuid\":\"00000000-0000-8001-8000-00000000000a\"}\n";
+
+#[test]
+fn an_event_is_json(rt: HostRuntime) -> Result<(), Fail> {
+    let alloc = rt.alloc();
+    let event = Event {
+        number: 3,
+        kind: EventKind::Clone,
+        moment: 0,
+        component: Text::from_str(alloc, "split")?,
+        file: 10,
+        parents: Numbers::new(alloc),
+        children: Numbers::from_slice(alloc, &[10, 11])?,
+        detail: Text::from_str(alloc, "\"\\\u{8}\u{c}\n\r\t\u{1}\u{1f} \u{7f}é")?,
+        size: u64::MAX,
+        digest: [0xab; 32],
+    };
+    try_line(
+        &rt,
+        alloc,
+        &Line::Happened {
+            store: 1,
+            event: &event,
+        },
+        CLONED,
+    )
 }
