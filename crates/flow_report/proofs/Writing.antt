@@ -116,3 +116,19 @@ writes-failed s t b b' e one =
 
 pub writes-named : (s t b b' : List ℕ) (result : Result (Unit {0}) Failed) → s ≡ t → Writes s b b' result → Writes t b b' result
 writes-named s t b b' result same = subst (λ (l : List ℕ). Writes l b b' result) same
+
+-- one line more
+pub writes-more : {X : Type 0} (f : X → List ℕ) (xs : List X) (i : ℕ) (d : X) (b b' b'' : List ℕ) → i < length xs → Writes (flat_map f (take i xs)) b b' (Ok tt)
+    → Writes (f (get_or xs i d)) b' b'' (Ok tt) → Writes (flat_map f (take (i + 1) xs)) b b'' (Ok tt)
+writes-more f xs i d b b' b'' within so_far more = writes-named _ _ b b'' (Ok tt) (texts-more f xs i d within) (writes-then _ _ b b' b'' (Ok tt) so_far more)
+
+-- a line failed
+pub writes-more-failed : {X : Type 0} (f : X → List ℕ) (xs : List X) (i : ℕ) (d : X) (b b' b'' : List ℕ) (e : Failed) → i < length xs → Writes (flat_map f (take i xs)) b b' (Ok tt)
+    → Writes (f (get_or xs i d)) b' b'' (Err e) → Writes (flat_map f xs) b b'' (Err e)
+writes-more-failed f xs i d b b' b'' e within so_far more =
+    let here = writes-named _ _ b b'' (Err e) (texts-more f xs i d within) (writes-then _ _ b b' b'' (Err e) so_far more) in
+    writes-named _ _ b b'' (Err e) (texts-whole f xs (i + 1)) (writes-failed (flat_map f (take (i + 1) xs)) (flat_map f (drop (i + 1) xs)) b b'' e here)
+
+-- all lines
+pub writes-all-lines : {X : Type 0} (f : X → List ℕ) (xs : List X) (i : ℕ) (b b' : List ℕ) → length xs ≤ i → Writes (flat_map f (take i xs)) b b' (Ok tt) → Writes (flat_map f xs) b b' (Ok tt)
+writes-all-lines f xs i b b' past so_far = writes-named _ _ b b' (Ok tt) (ap (flat_map f) (take_all i xs past)) so_far
