@@ -111,3 +111,41 @@ or-right false b h = h
 
 pub or-none : (a b : Bool) → a ≡ false → b ≡ false → (a || b) ≡ false
 or-none a b h k = ap (λ x. x || b) h ∙ k
+
+-- ---- the file behind a bin is the last that it looks at
+
+filling-none : (room : ℕ) (files : List FileView) → filling zero room files ≡ []
+filling-none room [] = refl
+filling-none room (file ∷ files) = refl
+
+filling-front : (most room n : ℕ) (files : List FileView) → most ≤ n → filling most room (take n files) ≡ filling most room files
+filling-front zero room n files le = filling-none room (take n files) ∙ sym (filling-none room files)
+filling-front (suc most) room zero files le = absurd (omega arith)
+filling-front (suc most) room (suc n) [] le = refl
+filling-front (suc most) room (suc n) (file ∷ files) le =
+    ap (λ l. cond (nat_le file.size room) (file ∷ l) []) (filling-front most (room - file.size) n files (omega arith))
+
+filling-length : (most room : ℕ) (files : List FileView) → length (filling most room files) ≤ most
+filling-length most room [] = omega arith
+filling-length zero room (file ∷ files) = omega arith
+filling-length (suc most) room (file ∷ files) =
+    let rest = filling-length most (room - file.size) files in
+    elim (nat_le file.size room) as (λ b. length (cond b (file ∷ filling most (room - file.size) files) []) ≤ suc most) [
+      | true ↦ omega arith
+      | false ↦ omega arith
+    ]
+
+passes-front : (count room n : ℕ) (files : List FileView) → count < n → next_would_pass count room (take n files) ≡ next_would_pass count room files
+passes-front count room zero files lt = absurd (omega arith)
+passes-front count room (suc n) [] lt = refl
+passes-front zero room (suc n) (file ∷ files) lt = refl
+passes-front (suc count) room (suc n) (file ∷ files) lt = passes-front count (room - file.size) n files (omega arith)
+
+pub bin-front : (min max : ℕ) (files : List FileView) → bin_of min max (take (max + 1) files) ≡ bin_of min max files
+bin-front min max files =
+    let front = take (max + 1) files in
+    let bin = filling max CONTENT_MAX files in
+    let by : List FileView → Bool → Option (List FileView) = λ bin passes. cond (nat_lt 0 (length bin) && (nat_le min (length bin) || passes)) (Some bin) None in
+    let short = filling-length max CONTENT_MAX files in
+    ap (λ bin. by bin (next_would_pass (length bin) CONTENT_MAX front)) (filling-front max CONTENT_MAX (max + 1) files (omega arith))
+    ∙ ap (by bin) (passes-front (length bin) CONTENT_MAX (max + 1) files (omega arith))

@@ -1,9 +1,8 @@
 -- The numbers of files that expired, of some files and one more; they ascend as those of the files do.
-use Rattle.std.proofs.Common.{◌≡◌, ℕ, ◌+◌, ◌<◌, ◌&&◌, not, nat_le, Bool, true, false, cond, List, [], ◌∷◌, ◌++◌, length, take, drop, get_or, length-append, refl, sym, ap, ◌∙◌, arith}
+use Rattle.std.proofs.Common.{◌≡◌, ℕ, ◌+◌, ◌<◌, ◌&&◌, not, nat_le, Bool, true, false, cond, List, [], ◌∷◌, refl, sym, ap, ◌∙◌, arith}
 use Rattle.std.specs.Prelude.{All, Contains, Some, filter}
 use Rattle.std.proofs.lemmas.Bool.{le-leb, true≢false}
-use Rattle.std.proofs.lemmas.List.{map-append, take-append-drop}
-use Rattle.std.proofs.lemmas.List.Elements.{All-head, All-weaker, All-map, All-filter, All-contains_itself, filter-append}
+use Rattle.std.proofs.lemmas.List.Elements.{All-head, All-weaker, All-map, All-filter, All-contains_itself}
 use Rattle.flowfile_record.specs.NumberedItems.{AscendsByNumber}
 use Rattle.machine_model.specs.declared.flow.QueueLimits.{QueueLimits}
 use Rattle.machine_model.specs.Due.{numbers_of}
@@ -11,62 +10,44 @@ use Rattle.machine_model.specs.Events.{ascending, put_ascending}
 use Rattle.machine_model.specs.View.{FileView, is_expired, at_rest}
 use Rattle.machine_model.proofs.Among.{Among, among_contained, contains_among, kept_by}
 use Rattle.flow_queue.specs.declared.held.Held.{Held}
+use Rattle.flow_queue.specs.Picking.{expiring}
 use Rattle.flow_queue.specs.Queue.{number_of, view_of, views_of, flight_of}
 use Rattle.flow_queue.proofs.AtRest.{seen-at}
-use Rattle.flow_queue.proofs.Best.{views-more}
 use Rattle.flow_queue.proofs.Numbered.{ascends-filter, ascends-map}
 
--- the numbers in the order of the files
-abbrev pub expiring : QueueLimits → ℕ → List FileView → List ℕ
-expiring limits moment files = numbers_of (filter (is_expired limits.expiration moment) (at_rest files))
+-- whether its number is one of them
+abbrev pub expires : QueueLimits → ℕ → FileView → Bool
+expires limits moment file = not file.in_flight && is_expired limits.expiration moment file
 
-expiring-more : (limits : QueueLimits) (moment : ℕ) (files : List FileView) (file : FileView)
-    → expiring limits moment (files ++ file ∷ []) ≡ expiring limits moment files ++ cond (not file.in_flight && is_expired limits.expiration moment file) (file.number ∷ []) []
-expiring-more limits moment files file =
+pub expiring-cons : (limits : QueueLimits) (moment : ℕ) (file : FileView) (files : List FileView)
+    → expiring limits moment (file ∷ files) ≡ cond (expires limits moment file) (file.number ∷ expiring limits moment files) (expiring limits moment files)
+expiring-cons limits moment file files =
     let test = is_expired limits.expiration moment in
-    let rests : FileView → Bool = λ other. not other.in_flight in
-    let last = filter test (filter rests (file ∷ [])) in
-    let numbers : numbers_of last ≡ cond (not file.in_flight && test file) (file.number ∷ []) []
-    = elim file.in_flight as (λ b. numbers_of (filter test (cond (not b) (file ∷ []) [])) ≡ cond (not b && test file) (file.number ∷ []) []) [
+    let rest = at_rest files in
+    elim file.in_flight as (λ b. numbers_of (filter test (cond (not b) (file ∷ rest) rest)) ≡ cond (not b && test file) (file.number ∷ numbers_of (filter test rest)) (numbers_of (filter test rest))) [
       | true ↦ refl
-      | false ↦ elim (test file) as (λ b. numbers_of (cond b (file ∷ []) []) ≡ cond b (file.number ∷ []) []) [ true ↦ refl | false ↦ refl ]
-    ] in
-    ap (λ l. numbers_of (filter test l)) (filter-append rests files (file ∷ []))
-    ∙ ap numbers_of (filter-append test (filter rests files) (filter rests (file ∷ [])))
-    ∙ map-append (λ (other : FileView). other.number) (filter test (filter rests files)) last
-    ∙ ap (λ l. expiring limits moment files ++ l) numbers
+      | false ↦ elim (test file) as (λ b. numbers_of (cond b (file ∷ filter test rest) (filter test rest)) ≡ cond b (file.number ∷ numbers_of (filter test rest)) (numbers_of (filter test rest))) [ true ↦ refl | false ↦ refl ]
+    ]
 
-pub expiring-next : (limits : QueueLimits) (moment : ℕ) (files : List Held) (i : ℕ) (d : Held) → i < length files
-    → expiring limits moment (views_of (take (i + 1) files))
-    ≡ expiring limits moment (views_of (take i files)) ++ cond (not (get_or files i d).in_flight && is_expired limits.expiration moment (view_of (get_or files i d))) ((get_or files i d).file.number ∷ []) []
-expiring-next limits moment files i d lt =
-    ap (expiring limits moment) (views-more files i d lt) ∙ expiring-more limits moment (views_of (take i files)) (view_of (get_or files i d))
+-- the next file is passed over, or its number is noted
+pub expiring-over : (limits : QueueLimits) (moment : ℕ) (file : FileView) (files : List FileView) → expires limits moment file ≡ false → expiring limits moment (file ∷ files) ≡ expiring limits moment files
+expiring-over limits moment file files h =
+    expiring-cons limits moment file files ∙ ap (λ b. cond b (file.number ∷ expiring limits moment files) (expiring limits moment files)) h
 
-expiring-append : (limits : QueueLimits) (moment : ℕ) (files others : List Held) → expiring limits moment (views_of (files ++ others)) ≡ expiring limits moment (views_of files) ++ expiring limits moment (views_of others)
-expiring-append limits moment files others =
-    let test = is_expired limits.expiration moment in
-    let rests : FileView → Bool = λ other. not other.in_flight in
-    ap (expiring limits moment) (map-append view_of files others)
-    ∙ ap (λ l. numbers_of (filter test l)) (filter-append rests (views_of files) (views_of others))
-    ∙ ap numbers_of (filter-append test (filter rests (views_of files)) (filter rests (views_of others)))
-    ∙ map-append (λ (other : FileView). other.number) (filter test (filter rests (views_of files))) (filter test (filter rests (views_of others)))
+pub expiring-noted : (limits : QueueLimits) (moment : ℕ) (file : FileView) (files : List FileView) → expires limits moment file ≡ true → expiring limits moment (file ∷ files) ≡ file.number ∷ expiring limits moment files
+expiring-noted limits moment file files h =
+    expiring-cons limits moment file files ∙ ap (λ b. cond b (file.number ∷ expiring limits moment files) (expiring limits moment files)) h
 
--- where one of the files expired there is a number
-pub expiring-some : (limits : QueueLimits) (moment : ℕ) (files : List Held) (i : ℕ) (held : Held) → held ≡ get_or files i held → i < length files
-    → held.in_flight ≡ false → is_expired limits.expiration moment (view_of held) ≡ true → expiring limits moment (views_of files) ≡ [] → ⊥
-expiring-some limits moment files i held read lt resting expired none =
-    let first = expiring limits moment (views_of (take i files)) in
-    let rest = expiring limits moment (views_of (drop (i + 1) files)) in
-    let expires : Held → Bool = λ h. not h.in_flight && is_expired limits.expiration moment (view_of h) in
-    let here : Held → List ℕ = λ h. cond (expires h) (h.file.number ∷ []) [] in
-    let one : here held ≡ held.file.number ∷ [] =
-    ap (λ b. cond b (held.file.number ∷ []) []) (ap (λ b. not b && is_expired limits.expiration moment (view_of held)) resting ∙ expired) in
-    let is : expiring limits moment (views_of files) ≡ (first ++ held.file.number ∷ []) ++ rest =
-    ap (λ fs. expiring limits moment (views_of fs)) (sym (take-append-drop (i + 1) files))
-    ∙ expiring-append limits moment (take (i + 1) files) (drop (i + 1) files)
-    ∙ ap (λ l. l ++ rest) (expiring-next limits moment files i held lt ∙ ap (λ h. first ++ here h) (sym read) ∙ ap (λ l. first ++ l) one) in
-    let none_is : length ((first ++ held.file.number ∷ []) ++ rest) ≡ 0 = ap length (sym is ∙ none) in
-    omega (arith, none_is, length-append (first ++ held.file.number ∷ []) rest, length-append first (held.file.number ∷ []))
+-- with no limit of age none expires
+pub none-expire : (limits : QueueLimits) (moment : ℕ) (files : List FileView) → limits.expiration ≡ 0 → expiring limits moment files ≡ []
+none-expire limits moment [] is = refl
+none-expire limits moment (file ∷ files) is =
+    let never : expires limits moment file ≡ false = ap (λ n. not file.in_flight && is_expired n moment file) is ∙ nothing (not file.in_flight) in
+    expiring-over limits moment file files never ∙ none-expire limits moment files is
+  where
+    nothing : (b : Bool) → (b && false) ≡ false
+    nothing true = refl
+    nothing false = refl
 
 put-first : (n : ℕ) (numbers : List ℕ) → All (λ later. n < later) numbers → put_ascending n numbers ≡ n ∷ numbers
 put-first n [] above = refl

@@ -1,26 +1,25 @@
--- What an edit of the files at a place leaves of what holds of a queue's fields.
-use Rattle.std.proofs.Common.{◌≡◌, ◌≢◌, ℕ, ◌+◌, ◌-◌, ◌*◌, ◌^◌, ◌<◌, ◌≤◌, ◌==◌, Bool, true, false, cond, List, [], ◌∷◌, length, map, set, get_or, Some, None, refl, sym, ap, ◌∙◌, subst, arith}
-use Rattle.std.specs.Prelude.{All}
-use Rattle.std.specs.List.{insert, remove}
+-- What a change of the files leaves of what holds of a queue's fields.
+use Rattle.std.proofs.Common.{◌≡◌, ◌≢◌, inl, inr, ℕ, ◌+◌, ◌-◌, ◌*◌, ◌^◌, ◌<◌, ◌≤◌, ◌==◌, not, nat_lt, Bool, true, false, cond, List, [], ◌∷◌, length, map, Some, None, Result, Ok, Err, refl, sym, ap, ◌∙◌, subst, arith}
+use Rattle.std.specs.Prelude.{All, OnErr, filter, sum_by}
 use Rattle.std.specs.List.Sorted.{IsPermutation}
-use Rattle.std.proofs.lemmas.List.Elements.{All-nil, All-cons, All-head, All-tail, All-map, All-set, All-weaker}
-use Rattle.std.proofs.lemmas.List.Kept.{AllPairs-cons}
-use Rattle.std.proofs.lemmas.List.Sorted.{IsPermutation-insert, IsPermutation-remove, IsPermutation-map, All-permutation}
-use Rattle.std.proofs.lemmas.List.Sums.{sum_by-insert, sum_by-remove, sum_by-set, sum_by-le}
-use Rattle.flowfile_record.specs.NumberedItems.{item_of, AscendsByNumber}
+use Rattle.std.proofs.lemmas.Bool.{cases_Bool, eqb-true}
+use Rattle.std.proofs.lemmas.List.{length-map}
+use Rattle.std.proofs.lemmas.List.Elements.{All-nil, All-cons, All-head, All-tail, All-map, All-weaker, All-filter}
+use Rattle.std.proofs.lemmas.List.Kept.{AllPairs-cons, AllPairs-filter}
+use Rattle.std.proofs.lemmas.List.Sorted.{IsPermutation-refl, IsPermutation-trans, IsPermutation-cons, IsPermutation-middle, IsPermutation-map, All-permutation, sum_by-IsPermutation}
+use Rattle.std.proofs.lemmas.List.Sums.{sum_by-cons, sum_by-le}
+use Rattle.flowfile_record.specs.NumberedItems.{item_of, with_item, without_item, AscendsByNumber}
 use Rattle.flowfile_record.specs.declared.flow_file.FlowFile.{FlowFile}
-use Rattle.machine_model.specs.View.{FileView}
+use Rattle.flowfile_record.proofs.ByNumber.{ascends-with, none_above}
 use Rattle.machine_model.specs.Laws.{ArrivalsDiffer}
+use Rattle.machine_model.specs.View.{FileView}
 use Rattle.machine_model.proofs.Ordered.{pairs_head, pairs_tail, pairs_nil}
 use Rattle.machine_model.proofs.OnlyOrder.{differ-permuted}
 use Rattle.flow_queue.specs.declared.held.Held.{Held}
 use Rattle.flow_queue.specs.Inside.{AreSound}
-use Rattle.flow_queue.specs.Places.{StandsAt, FitsAt}
 use Rattle.flow_queue.specs.Queue.{QueueState, number_of, size_of, view_of, views_of, AreApart, IsApart, with_file, without_file, with_flight}
-use Rattle.flow_queue.proofs.Numbered.{item_of-at, item_of-gap, with_item-gap, without_item-at, changed-at, ascends-insert, ascends-filter, ascends-map}
-
-abbrev Differ : FileView → FileView → Type 0
-Differ one other = one.arrival ≢ other.arrival
+use Rattle.flow_queue.proofs.InOrder.{Differ, filter-mapped}
+use Rattle.flow_queue.proofs.Numbered.{ascends-filter, ascends-map}
 
 abbrev Fits64 : Held → Type 0
 Fits64 held = size_of held < 2 ^ 64
@@ -28,8 +27,9 @@ Fits64 held = size_of held < 2 ^ 64
 pub same_state : (one other : QueueState) → one.order ≡ other.order → one.limits ≡ other.limits → one.files ≡ other.files → one.spare ≡ other.spare → one ≡ other
 same_state one other order limits files spare = λ i. record { order = order i; limits = limits i; files = files i; spare = spare i }
 
-pub nowhere : (files : List Held) (number place : ℕ) → FitsAt number files place → item_of number_of number files ≡ None
-nowhere files number place fits = item_of-gap number_of files place number fits.within fits.before fits.after
+pub on-err : {X E : Type 0} (result : Result X E) (P : Type 0) → P → OnErr result P
+on-err (Ok x) P h = tt
+on-err (Err error) P h = h
 
 pub sum_fits : (files : List Held) (bytes : ℕ) → AreSound files bytes → bytes ≤ length files * (2 ^ 64 - 1)
 sum_fits files bytes are =
@@ -39,36 +39,98 @@ sum_fits files bytes are =
 
 -- ---- a file comes in
 
-module _ (files : List Held) (bytes : ℕ) (are : AreSound files bytes) (file : FlowFile) (place : ℕ) (fits : FitsAt file.number files place) (apart : IsApart file files) where
+pub with-permutes : (new : Held) (files : List Held) → IsPermutation (new ∷ files) (with_item number_of new files)
+with-permutes new [] = IsPermutation-refl (new ∷ [])
+with-permutes new (held ∷ files) =
+    elim (nat_lt (number_of held) (number_of new)) as (λ b. IsPermutation (new ∷ held ∷ files) (cond b (held ∷ with_item number_of new files) (new ∷ held ∷ files))) [
+      | true ↦ IsPermutation-trans _ _ _ (IsPermutation-middle (new ∷ []) held files) (IsPermutation-cons held (new ∷ files) (with_item number_of new files) (with-permutes new files))
+      | false ↦ IsPermutation-refl (new ∷ held ∷ files)
+    ]
+
+pub new-number : (file : FlowFile) (files : List Held) → IsApart file files → item_of number_of file.number files ≡ None
+new-number file [] apart = refl
+new-number file (held ∷ files) apart =
+    let Apart = λ (other : Held). (other.file.number ≢ file.number) × (other.file.arrival ≢ file.arrival) in
+    let here = All-head Apart held files apart in
+    elim (cases_Bool (number_of held == file.number)) [
+      | inl is ↦ absurd (here.0 (eqb-true (number_of held) file.number is))
+      | inr other ↦ ap (λ b. cond b (Some held) (item_of number_of file.number files)) other ∙ new-number file files (All-tail Apart held files apart)
+    ]
+
+module _ (file : FlowFile) (files : List Held) (apart : IsApart file files) where
   abbrev new : Held
   new = record { file = file; in_flight = false }
 
-  arrives_apart : All (Differ (view_of new)) (views_of files)
+  pub arrives_apart : All (Differ (view_of new)) (views_of files)
   arrives_apart = All-map (Differ (view_of new)) view_of files
       (All-weaker (λ (held : Held). (held.file.number ≢ file.number) × (held.file.arrival ≢ file.arrival)) (λ held. Differ (view_of new) (view_of held)) (λ held h e. h.1 (sym e)) files apart)
 
-  pub files-put : with_file file files ≡ insert files place new
-  files-put = with_item-gap number_of new files place fits.within fits.before fits.after
+  pub differ-with : ArrivalsDiffer (views_of files) → ArrivalsDiffer (view_of new ∷ views_of files)
+  differ-with differ = AllPairs-cons Differ (view_of new) (views_of files) arrives_apart differ
 
-  pub sound-put : (total : ℕ) → total ≡ bytes + file.content.size → file.content.size < 2 ^ 64 → AreSound (insert files place new) total
-  sound-put total is lt = record {
+  pub sound-put : (bytes total : ℕ) → AreSound files bytes → total ≡ bytes + file.content.size → file.content.size < 2 ^ 64 → AreSound (with_file file files) total
+  sound-put bytes total are is lt = record {
     apart = record {
-      numbers = ascends-insert number_of new files place are.apart.numbers fits.within fits.before fits.after;
-      arrivals = differ-permuted (view_of new ∷ views_of files) (views_of (insert files place new))
-          (AllPairs-cons Differ (view_of new) (views_of files) arrives_apart are.apart.arrivals)
-          (IsPermutation-map view_of (new ∷ files) (insert files place new) (IsPermutation-insert files place new));
+      numbers = ascends-with number_of new files (new-number file files apart) are.apart.numbers;
+      arrivals = differ-permuted (view_of new ∷ views_of files) (views_of (with_file file files)) (differ-with are.apart.arrivals)
+          (IsPermutation-map view_of (new ∷ files) (with_file file files) (with-permutes new files));
     };
-    sizes = All-permutation Fits64 (new ∷ files) (insert files place new) (IsPermutation-insert files place new) (All-cons Fits64 new files lt are.sizes);
-    sum = is ∙ ap (λ n. n + file.content.size) are.sum ∙ sym (sum_by-insert size_of files place new);
+    sizes = All-permutation Fits64 (new ∷ files) (with_file file files) (with-permutes new files) (All-cons Fits64 new files lt are.sizes);
+    sum =
+        let sum = sum_by-IsPermutation size_of (new ∷ files) (with_file file files) (with-permutes new files) in
+        let first = sum_by-cons size_of new files in
+        let was = are.sum in
+        omega arith;
   }
 
--- ---- the file at a place
+-- ---- a file leaves
 
-marks : ℕ → Bool → Held → Held
+one_gone : (n : ℕ) (held : Held) (files : List Held) → AscendsByNumber number_of files → item_of number_of n files ≡ Some held → sum_by size_of files ≡ size_of held + sum_by size_of (without_file n files)
+one_gone n held [] up is = cc
+one_gone n held (first ∷ files) up is =
+    elim (cases_Bool (number_of first == n)) [
+      | inl it ↦
+          let found : Some first ≡ Some held = rw it at is in
+          let same : first ≡ held = cc in
+          let above : All (λ later. n < number_of later) files = rw (eqb-true (number_of first) n it) at up.0 in
+          sum_by-cons size_of first files ∙ (λ j. size_of (same j) + sum_by size_of files)
+          ∙ ap (λ l. size_of held + sum_by size_of l) (sym (ap (λ b. cond (not b) (first ∷ without_file n files) (without_file n files)) it ∙ none_above number_of n files above))
+      | inr other ↦
+          let later : item_of number_of n files ≡ Some held = rw other at is in
+          let rest = one_gone n held files up.1 later in
+          let left = ap (λ b. sum_by size_of (cond (not b) (first ∷ without_file n files) (without_file n files))) other in
+          let first_of = sum_by-cons size_of first files in
+          let first_left = sum_by-cons size_of first (without_file n files) in
+          omega arith
+    ]
+
+pub sound-leave : (n : ℕ) (held : Held) (files : List Held) (bytes total : ℕ) → item_of number_of n files ≡ Some held → AreSound files bytes → total ≡ bytes - size_of held → AreSound (without_file n files) total
+sound-leave n held files bytes total there are is =
+    let stays : FileView → Bool = λ view. not (view.number == n) in
+    record {
+      apart = record {
+        numbers = ascends-filter number_of _ files are.apart.numbers;
+        arrivals = subst ArrivalsDiffer (filter-mapped view_of stays files) (AllPairs-filter Differ stays (views_of files) are.apart.arrivals);
+      };
+      sizes = All-filter _ Fits64 files are.sizes;
+      sum =
+          let sum = one_gone n held files are.apart.numbers there in
+          let was = are.sum in
+          omega arith;
+    }
+
+pub size-within : (n : ℕ) (held : Held) (files : List Held) (bytes : ℕ) → item_of number_of n files ≡ Some held → AreSound files bytes → size_of held ≤ bytes
+size-within n held files bytes there are =
+    let sum = one_gone n held files are.apart.numbers there in
+    let was = are.sum in
+    omega arith
+
+-- ---- a file is marked
+
+abbrev pub marks : ℕ → Bool → Held → Held
 marks number in_flight held = cond (number_of held == number) (record { file = held.file; in_flight = in_flight }) held
 
-same_file : (number : ℕ) (in_flight : Bool) (held : Held) → (marks number in_flight held).file ≡ held.file
-unfolding marks
+pub same_file : (number : ℕ) (in_flight : Bool) (held : Held) → (marks number in_flight held).file ≡ held.file
 same_file number in_flight held =
     elim (number_of held == number) as (λ b. (cond b (record { file = held.file; in_flight = in_flight }) held).file ≡ held.file) [ true ↦ refl | false ↦ refl ]
 
@@ -86,60 +148,25 @@ differ-marked number in_flight (held ∷ files) differ =
         (λ e. All-head (Differ (view_of held)) (view_of other) (views_of others) h (sym (ap (λ (f : FlowFile). f.arrival) (same_file number in_flight held)) ∙ e ∙ ap (λ (f : FlowFile). f.arrival) (same_file number in_flight other)))
         (behind others (All-tail (Differ (view_of held)) (view_of other) (views_of others) h))
 
-marked_apart : (number : ℕ) (in_flight : Bool) (files : List Held) → AreApart files → AreApart (with_flight number in_flight files)
-unfolding marks
-marked_apart number in_flight files are = record {
-  numbers = ascends-map number_of number_of (marks number in_flight) (λ held. ap (λ (f : FlowFile). f.number) (same_file number in_flight held)) files are.numbers;
-  arrivals = differ-marked number in_flight files are.arrivals;
+sum-marked : (number : ℕ) (in_flight : Bool) (files : List Held) → sum_by size_of (map (marks number in_flight) files) ≡ sum_by size_of files
+sum-marked number in_flight [] = refl
+sum-marked number in_flight (held ∷ files) =
+    let one = sum_by-cons size_of (marks number in_flight held) (map (marks number in_flight) files) in
+    let other = sum_by-cons size_of held files in
+    let same = ap (λ (f : FlowFile). f.content.size) (same_file number in_flight held) in
+    let rest = sum-marked number in_flight files in
+    omega arith
+
+pub sound-mark : (number : ℕ) (in_flight : Bool) (files : List Held) (bytes : ℕ) → AreSound files bytes → AreSound (with_flight number in_flight files) bytes
+sound-mark number in_flight files bytes are = record {
+  apart = record {
+    numbers = ascends-map number_of number_of (marks number in_flight) (λ held. ap (λ (f : FlowFile). f.number) (same_file number in_flight held)) files are.apart.numbers;
+    arrivals = differ-marked number in_flight files are.apart.arrivals;
+  };
+  sizes = All-map Fits64 (marks number in_flight) files
+      (All-weaker Fits64 (λ held. Fits64 (marks number in_flight held)) (λ held lt. subst (λ (f : FlowFile). f.content.size < 2 ^ 64) (sym (same_file number in_flight held)) lt) files are.sizes);
+  sum = are.sum ∙ sym (sum-marked number in_flight files);
 }
 
-module _ (files : List Held) (bytes : ℕ) (are : AreSound files bytes) (number : ℕ) (place : ℕ) (stands : StandsAt number files place) (held : Held) (read : held ≡ get_or files place held) where
-  pub is_there : item_of number_of number files ≡ Some held
-  is_there = item_of-at number_of files place number held are.apart.numbers stands.within stands.at ∙ ap (λ (h : Held). Some h) (sym read)
-
-  pub files-leave : without_file number files ≡ remove files place
-  files-leave = without_item-at number_of files place number are.apart.numbers stands.within stands.at
-
-  leaves : IsPermutation files (held ∷ remove files place)
-  leaves = IsPermutation-remove files place held stands.within read
-
-  pub size-within : size_of held ≤ bytes
-  size-within =
-      let sum = sum_by-remove size_of files place held stands.within in
-      let at = ap size_of read in
-      let is = are.sum in
-      omega arith
-
-  pub sound-leave : (total : ℕ) → total ≡ bytes - size_of held → AreSound (remove files place) total
-  sound-leave total is = record {
-    apart = record {
-      numbers = subst (AscendsByNumber number_of) files-leave (ascends-filter number_of _ files are.apart.numbers);
-      arrivals = pairs_tail Differ (view_of held) (views_of (remove files place))
-          (differ-permuted (views_of files) (view_of held ∷ views_of (remove files place)) are.apart.arrivals (IsPermutation-map view_of files (held ∷ remove files place) leaves));
-    };
-    sizes = All-tail Fits64 held (remove files place) (All-permutation Fits64 files (held ∷ remove files place) leaves are.sizes);
-    sum =
-        let sum = sum_by-remove size_of files place held stands.within in
-        let at = ap size_of read in
-        let was = are.sum in
-        omega arith;
-  }
-
-  abbrev marked : Bool → Held
-  marked in_flight = record { file = held.file; in_flight = in_flight }
-
-  pub files-mark : (in_flight : Bool) → with_flight number in_flight files ≡ set files place (marked in_flight)
-  files-mark in_flight =
-      changed-at number_of (λ h. record { file = h.file; in_flight = in_flight }) files place number held are.apart.numbers stands.within stands.at
-      ∙ ap (λ (h : Held). set files place (record { file = h.file; in_flight = in_flight })) (sym read)
-
-  pub sound-mark : (in_flight : Bool) → AreSound (set files place (marked in_flight)) bytes
-  sound-mark in_flight = record {
-    apart = subst AreApart (files-mark in_flight) (marked_apart number in_flight files are.apart);
-    sizes = All-set Fits64 files place (marked in_flight) (subst Fits64 (sym read) (are.sizes place held stands.within)) are.sizes;
-    sum =
-        let sum = sum_by-set size_of files place (marked in_flight) held stands.within in
-        let at = ap size_of read in
-        let was = are.sum in
-        omega arith;
-  }
+pub length-mark : (number : ℕ) (in_flight : Bool) (files : List Held) → length (with_flight number in_flight files) ≡ length files
+length-mark number in_flight files = length-map files (marks number in_flight)

@@ -70,6 +70,24 @@ item_of-without n m (held ∷ files) =
           ∙ swapped (number_of held == n) (m == n) (Some held) None (item_of number_of n files) (λ a b. ne (eqb-true (number_of held) n a ∙ sym (eqb-true m n b))))
     ]
 
+pub none-left : (n : ℕ) (files : List Held) → item_of number_of n (without_item number_of n files) ≡ None
+none-left n files = item_of-without n n files ∙ ap (λ b. cond b None (item_of number_of n files)) (eq-eqb n n refl)
+
+pub its-number : (n : ℕ) (held : Held) (files : List Held) → item_of number_of n files ≡ Some held → number_of held ≡ n
+its-number n held [] is = cc
+its-number n held (first ∷ files) is =
+    elim (cases_eq (number_of first) n) [
+      | inl same ↦
+          let here : (number_of first == n) ≡ true = eq-eqb (number_of first) n same in
+          let found : Some first ≡ Some held = rw here at is in
+          let it : first ≡ held = cc in
+          ap number_of (sym it) ∙ same
+      | inr other ↦
+          let away : (number_of first == n) ≡ false = ne_eqb (number_of first) n other in
+          let later : item_of number_of n files ≡ Some held = rw away at is in
+          its-number n held files later
+    ]
+
 -- whether a session works on a file, behind each change
 
 after : {X Y : Type 0} (f : X → Y) (b : Bool) (x : X) (o : Option X) → option_map f (cond b (Some x) o) ≡ cond b (Some (f x)) (option_map f o)

@@ -1,12 +1,12 @@
 pub mod AtRest
-pub mod Best
 pub mod Bins
 pub mod Compared
 pub mod Crosses
 pub mod Expiring
 pub mod Fields
 pub mod ForCallers
+pub mod InOrder
 pub mod Numbered
 pub mod Parts
-pub mod Sorting
+pub mod Ranks
 pub mod Taken

@@ -14,7 +14,7 @@ use Rattle.machine_model.specs.Taking.{Fragment, fragment_of, is_fragment_at, fr
 use Rattle.machine_model.specs.View.{FileView}
 use Rattle.machine_model.proofs.Among.{Among, among_contained, contains_among, kept_by}
 use Rattle.machine_model.proofs.Ordered.{in_order-permutes}
-use Rattle.flow_queue.specs.Picking.{Picks}
+use Rattle.flow_queue.specs.Picking.{Picks, Lists}
 use Rattle.flow_queue.specs.Queue.{QueueState, number_of, views_of, IsAtRest, eligible_in, picked, picked_numbers}
 use Rattle.flow_queue.proofs.AtRest.{seen-at, resting}
 
@@ -39,6 +39,15 @@ picks-numbers found (Err error) list h = tt
 pub picks-failed : {E : Type 0} (found : Option (List ℕ)) (result : Result Bool E) (list : List ℕ) → Picks found result list → OnErr result (list ≡ [])
 picks-failed found (Ok answer) list h = tt
 picks-failed found (Err error) list h = h
+
+-- the same of a list of numbers
+pub lists-numbers : {E : Type 0} (numbers other : List ℕ) (result : Result (Unit {0}) E) (list : List ℕ) → Lists numbers result list → numbers ≡ other → OnOk result (list ≡ other)
+lists-numbers numbers other (Ok done) list h is = h ∙ is
+lists-numbers numbers other (Err error) list h is = tt
+
+pub lists-all : {E : Type 0} (P : ℕ → Type 0) (numbers : List ℕ) (result : Result (Unit {0}) E) (list : List ℕ) → Lists numbers result list → All P numbers → All P list
+lists-all P numbers (Ok done) list h all = subst (All P) (sym h) all
+lists-all P numbers (Err error) list h all = subst (All P) (sym h) (All-nil P)
 
 -- ---- what is picked stands among the files
 

@@ -1,22 +1,27 @@
 -- The fields of a queue, and what they stand for.
-use Rattle.std.specs.Prelude.{◌≡◌, ℕ, ◌-◌, ◌<◌, ◌^◌, List, All, sum_by, vec_len, vec_capacity}
+use Rattle.std.specs.Prelude.{◌≡◌, ℕ, ◌+◌, ◌<◌, ◌≤◌, ◌^◌, List, All, length, sum_by}
+use Rattle.std.specs.VecDeque.{deque_capacity}
 use Rattle.flow_queue.specs.declared.held.Held.{Held}
 use Rattle.flow_queue.specs.declared.queue.Queue.TheInside.{Inside}
 use Rattle.flow_queue.specs.Queue.{QueueState, AreApart, size_of}
+use Rattle.flow_queue.specs.Ranked.{IsRanked}
 
 abbrev pub state_in : Inside → QueueState
 state_in queue = record {
   order = queue.order;
   limits = queue.limits;
   files = queue.files.items;
-  spare = vec_capacity queue.files - vec_len queue.files;
+  spare = queue.files.room;
 }
 
--- what holds of the fields: the sum of the sizes is kept
+-- what holds of the files: the sum of the sizes is kept
 pub record AreSound (files : List Held) (bytes : ℕ) : Type 0 where
   pub apart : AreApart files
   pub sizes : All (λ held. size_of held < 2 ^ 64) files
   pub sum : bytes ≡ sum_by size_of files
 
-abbrev pub IsSoundInside : Inside → Type 0
-IsSoundInside queue = AreSound queue.files.items queue.bytes
+-- the numbers stand in the order of the queue, and those of as many more files as there is room for have capacity
+pub record IsSoundInside (queue : Inside) : Type 0 where
+  pub files : AreSound queue.files.items queue.bytes
+  pub ranked : IsRanked queue.order queue.files.items queue.by_rank.items
+  pub room : length queue.files.items + queue.files.room ≤ deque_capacity queue.by_rank

@@ -1,10 +1,11 @@
 -- What is picked of files that stand in their order.
-use Rattle.std.specs.Prelude.{◌≡◌, ℕ, ◌&&◌, ◌||◌, nat_lt, nat_le, Bool, List, [], map, Option, Some, None, Result, Ok, Err, is_some, if◌then◌else◌}
+use Rattle.std.specs.Prelude.{◌≡◌, ℕ, ◌&&◌, ◌||◌, nat_lt, nat_le, Bool, List, [], map, filter, Option, Some, None, Result, Ok, Err, is_some, if◌then◌else◌}
 use Rattle.std.specs.Option.{option_map, unwrap_or}
+use Rattle.machine_model.specs.declared.flow.QueueLimits.{QueueLimits}
 use Rattle.machine_model.specs.declared.kind.TakeRule.{TakeRule}
 use Rattle.machine_model.specs.Due.{numbers_of}
 use Rattle.machine_model.specs.Taking.{picks}
-use Rattle.machine_model.specs.View.{FileView}
+use Rattle.machine_model.specs.View.{FileView, is_expired, at_rest}
 use Rattle.flow_queue.specs.declared.held.Held.{Held}
 use Rattle.flow_queue.specs.Queue.{view_of}
 use denote.Ref.{Bor}
@@ -29,3 +30,7 @@ Lists numbers (Err error) list = list ≡ []
 -- so many files, if they are at least `min`, or the next one has no room
 abbrev pub size_by : (size min : ℕ) → (is_filled : Bool) → Option ℕ
 size_by size min is_filled = if nat_lt 0 size && (nat_le min size || is_filled) then Some size else None
+
+-- the numbers of the files that expired and that no session works on, in the order of the files
+abbrev pub expiring : QueueLimits → ℕ → List FileView → List ℕ
+expiring limits moment files = numbers_of (filter (is_expired limits.expiration moment) (at_rest files))

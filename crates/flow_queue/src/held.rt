@@ -6,7 +6,7 @@ ghost use Rattle.machine_model.specs.Order.{standing_of, goes_before, is_eligibl
 ghost use Rattle.machine_model.specs.View.{is_penalised, is_expired};
 ghost use Rattle.flow_queue.specs.Queue.{view_of, size_of};
 
-use flowfile_record::FlowFile;
+use flowfile_record::{FlowFile, Numbered};
 use machine_model::QueueLimits;
 use prioritizer::{Order, Rank};
 use std::cmp::Ordering;
@@ -16,6 +16,14 @@ use std::cmp::Ordering;
 pub(crate) struct Held {
     pub(crate) file: FlowFile,
     pub(crate) in_flight: bool,
+}
+
+impl Numbered for Held {
+    ghost number = { λ held. held.file.number };
+
+    fn number(&self) -> u64 {
+        self.file.number
+    }
 }
 
 impl Held {

@@ -4,16 +4,16 @@ ghost use Rattle.flow_queue.specs.Queue.{IsApart, AreApart, with_file, without_f
 
 mod bins;
 mod choosing;
-mod ordered;
-mod places;
+mod ranked;
 mod wholes;
 
-use self::places::place_of;
+use self::ranked::place_in_order;
 use crate::held::Held;
-use flowfile_record::FlowFile;
+use flowfile_record::{FlowFile, NumberedList};
 use machine_model::QueueLimits;
 use prioritizer::Order;
 use std::alloc::{AllocError, Global};
+use std::collections::VecDeque;
 use std::marker::Model;
 
 /// The files that wait at the end of a connection, those that a session works on too, and room for more.
@@ -21,8 +21,9 @@ use std::marker::Model;
 pub struct Queue {
     order: Order,
     limits: QueueLimits,
-    // Ascending by their numbers.
-    files: Vec<Held>,
+    files: NumberedList<Held>,
+    // Their numbers in the order of the queue, with capacity for as many more as there is room.
+    by_rank: VecDeque<u64>,
     // Those of their contents.
     bytes: u128,
 }
@@ -51,7 +52,8 @@ impl Queue {
         Queue {
             order,
             limits,
-            files: Vec::new(alloc),
+            files: NumberedList::new(alloc),
+            by_rank: VecDeque::new(alloc),
             bytes: 0,
         }
     }
@@ -64,7 +66,8 @@ impl Queue {
         ensures fails { OnErr result (self.old.spare < count) }
         ensures failed { OnErr result (self.new ≡ self.old) }
     {
-        self.files.reserve(count as usize)
+        self.by_rank.reserve(count as usize)?;
+        self.files.reserve(u64::from(count))
     }
 
     /// Puts a file that no session works on into the queue. There is room for it.
@@ -78,13 +81,12 @@ impl Queue {
             file,
             in_flight: false,
         };
+        let place = place_in_order(&self.by_rank, &self.files, &self.order, &held);
         let size = held.size();
-        let Err(place) = place_of(&self.files, held.file.number) else {
+        let Ok(()) = self.by_rank.insert(place, held.file.number) else {
             unreachable!()
         };
-        let Ok(()) = self.files.insert(place, held) else {
-            unreachable!()
-        };
+        self.files.put(held);
         self.bytes += u128::from(size);
     }
 
@@ -108,10 +110,13 @@ impl Queue {
         requires { IsSome (flight_of number self.old.files) }
         ensures { self.new ≡ record self.old { files = with_flight number in_flight self.old.files } }
     {
-        let Ok(place) = place_of(&self.files, number) else {
+        let Some(held) = self.files.take(number) else {
             unreachable!()
         };
-        self.files[place].in_flight = in_flight;
+        self.files.put(Held {
+            file: held.file,
+            in_flight,
+        });
     }
 
     /// Takes a file out of the queue.
@@ -121,10 +126,14 @@ impl Queue {
         ensures left { self.new
             ≡ record self.old { files = without_file number self.old.files; spare = self.old.spare + 1 } }
     {
-        let Ok(place) = place_of(&self.files, number) else {
+        let Some(held) = self.files.get(number) else {
             unreachable!()
         };
-        let held = self.files.remove(place);
+        let place = place_in_order(&self.by_rank, &self.files, &self.order, held);
+        self.by_rank.remove(place);
+        let Some(held) = self.files.take(number) else {
+            unreachable!()
+        };
         self.bytes -= u128::from(held.size());
         held.file
     }

@@ -1,23 +1,23 @@
 //! What a queue answers.
-ghost use Rattle.std.specs.Prelude.{◌≡◌, ◌||◌, nat_lt, min, [], ◌∷◌, None, length, map, filter, All, IfOk, IfSome, IsOk, OnOk, OnErr, is_some};
+ghost use Rattle.std.specs.Prelude.{◌≡◌, nat_lt, min, [], ◌∷◌, None, length, map, filter, All, IfOk, IfSome, IsOk, OnOk, OnErr, is_some};
 ghost use Rattle.std.specs.List.{reduce};
 ghost use Rattle.std.specs.Option.{option_map};
 ghost use Rattle.machine_model.specs.Due.{expired_numbers};
-ghost use Rattle.machine_model.specs.Laws.{ArrivalsDiffer};
-ghost use Rattle.machine_model.specs.Order.{best, eligible_files};
+ghost use Rattle.machine_model.specs.Order.{best};
 ghost use Rattle.machine_model.specs.Quiet.{is_full};
-ghost use Rattle.flow_queue.specs.Choosing.{goes_first};
-ghost use Rattle.flow_queue.specs.Picking.{Picks, numbers_picked};
-ghost use Rattle.flow_queue.specs.Queue.{AreApart, IsAtRest, seen, view_of, views_of, offered, offered_by, picked, picked_numbers, next_penalty_end};
+ghost use Rattle.flow_queue.specs.Picking.{Picks, Lists, numbers_picked, expiring};
+ghost use Rattle.flow_queue.specs.Queue.{AreApart, IsAtRest, seen, views_of, offered, offered_by, picked, picked_numbers, next_penalty_end};
+ghost use Rattle.flow_queue.specs.Ranked.{eligible_among};
 
 use super::Queue;
 use super::bins::pick_bin;
-use super::ordered::in_order;
+use super::ranked::{best_of, first_eligible};
 use super::wholes::pick_whole;
 use crate::held::Held;
+use flowfile_record::NumberedList;
 use machine_model::{QueueLimits, TakeRule};
-use prioritizer::Order;
-use std::alloc::{AllocError, Global};
+use std::alloc::AllocError;
+use std::collections::VecDeque;
 
 impl Queue {
     /// How many files there are, those that a session works on too.
@@ -25,7 +25,7 @@ impl Queue {
         ensures len { result ≡ length self.now.files }
         ensures apart { AreApart self.now.files }
     {
-        self.files.len() as u64
+        self.files.len()
     }
 
     /// The number of the file that goes first of those that may be taken at a moment.
@@ -34,7 +34,7 @@ impl Queue {
             (best self.now.order self.now.limits moment (seen self.now).active) }
         ensures at_rest { IfSome result (IsAtRest self.now) }
     {
-        let held = best_of(&self.files, &self.order, &self.limits, moment)?;
+        let held = best_of(&self.by_rank, &self.files, &self.limits, moment)?;
         Some(held.file.number)
     }
 
@@ -48,7 +48,14 @@ impl Queue {
         // Memory is taken where there are files to pick from.
         ensures free { offered rule moment self.now ≡ [] → IsOk result }
     {
-        pick_by(rule, &self.files, &self.order, &self.limits, moment, list)
+        pick_by(
+            rule,
+            &self.by_rank,
+            &self.files,
+            &self.limits,
+            moment,
+            list,
+        )
     }
 
     /// The numbers of the files that expired by a moment and that no session works on, ascending.
@@ -61,15 +68,10 @@ impl Queue {
         // Memory is taken for numbers alone.
         ensures free { expired_numbers self.now.limits moment (seen self.now).active ≡ [] → IsOk result }
     {
-        for held in &self.files {
-            if !held.in_flight && held.is_expired(&self.limits, moment) {
-                if let Err(error) = list.push(held.file.number) {
-                    list.clear();
-                    return Err(error.into());
-                }
-            }
+        if self.limits.expiration == 0 {
+            return Ok(());
         }
-        Ok(())
+        list_expired(&self.files, &self.limits, moment, list)
     }
 
     /// Whether the queue has reached one of its limits.
@@ -77,7 +79,7 @@ impl Queue {
         ensures { result ≡ is_full self.now.limits (seen self.now) }
     {
         let QueueLimits { objects, bytes, .. } = self.limits;
-        (objects > 0 && objects <= self.files.len() as u64)
+        (objects > 0 && objects <= self.files.len())
             || (bytes > 0 && u128::from(bytes) <= self.bytes)
     }
 
@@ -89,31 +91,53 @@ impl Queue {
     }
 }
 
+fn list_expired(
+    files: &NumberedList<Held>,
+    limits: &QueueLimits,
+    moment: u64,
+    list: &mut Vec<u64>,
+) -> Result<(), AllocError>
+    requires { list.old.items ≡ [] }
+    ensures lists { Lists (expiring limits.now moment (views_of files.now.items)) result list.new.items }
+    ensures free { expiring limits.now moment (views_of files.now.items) ≡ [] → IsOk result }
+{
+    for held in files.iter() {
+        if !held.in_flight && held.is_expired(limits, moment) {
+            if let Err(error) = list.push(held.file.number) {
+                list.clear();
+                return Err(error.into());
+            }
+        }
+    }
+    Ok(())
+}
+
 fn pick_by(
     rule: TakeRule,
-    files: &[Held],
-    order: &Order,
+    by_rank: &VecDeque<u64>,
+    files: &NumberedList<Held>,
     limits: &QueueLimits,
     moment: u64,
     list: &mut Vec<u64>,
 ) -> Result<bool, AllocError>
-    requires arrivals { ArrivalsDiffer (views_of files.now) }
-    requires empty { list.old.items ≡ [] }
-    ensures picks { Picks (numbers_picked rule (eligible_files order.now limits.now moment (views_of files.now)))
+    requires { list.old.items ≡ [] }
+    ensures picks { Picks (numbers_picked rule (eligible_among limits.now moment files.now.items by_rank.now.items))
         result list.new.items }
-    ensures free { offered_by rule (eligible_files order.now limits.now moment (views_of files.now)) ≡ []
+    ensures free { offered_by rule (eligible_among limits.now moment files.now.items by_rank.now.items) ≡ []
         → IsOk result }
 {
     let alloc = *list.allocator();
     match rule {
         TakeRule::Source => Ok(false),
-        TakeRule::One => pick_best(best_of(files, order, limits, moment), list),
+        TakeRule::One => pick_best(best_of(by_rank, files, limits, moment), list),
         TakeRule::Bin { min, max } => {
-            let files = in_order(alloc, files, order, limits, moment)?;
+            // The file behind a bin tells whether the bin is filled.
+            let most = max as usize + 1;
+            let files = first_eligible(alloc, by_rank, files, limits, moment, most)?;
             pick_bin(&files, min, max, list)
         }
         TakeRule::Defragment => {
-            let files = in_order(alloc, files, order, limits, moment)?;
+            let files = first_eligible(alloc, by_rank, files, limits, moment, by_rank.len())?;
             pick_whole(alloc, &files, list)
         }
     }
@@ -133,38 +157,8 @@ fn pick_best(best: Option<&Held>, list: &mut Vec<u64>) -> Result<bool, AllocErro
     }
 }
 
-fn best_of<'a>(
-    files: &'a [Held],
-    order: &Order,
-    limits: &QueueLimits,
-    moment: u64,
-) -> Option<&'a Held>
-    requires { ArrivalsDiffer (views_of files.now) }
-    ensures { option_map (λ held. view_of held.now) result
-        ≡ best order.now limits.now moment (views_of files.now) }
-{
-    let mut best: Option<&'a Held> = None;
-    for held in files {
-        if held.is_eligible(limits, moment) && goes_first(held, best, order) {
-            best = Some(held);
-        }
-    }
-    best
-}
-
-// Whether a file goes before the first one so far, or there is none.
-fn goes_first(held: &Held, first: Option<&Held>, order: &Order) -> bool
-    ensures { result
-        ≡ goes_first order.now (view_of held.now) (option_map (λ held. view_of held.now) first.entry) }
-{
-    match first {
-        Some(first) => held.goes_before(first, order),
-        None => true,
-    }
-}
-
-fn next_end(files: &[Held], moment: u64) -> Option<u64>
-    ensures { result ≡ reduce min (filter (nat_lt moment) (map (λ held. held.file.penalty_end) files.now)) }
+fn next_end(files: &NumberedList<Held>, moment: u64) -> Option<u64>
+    ensures { result ≡ reduce min (filter (nat_lt moment) (map (λ held. held.file.penalty_end) files.now.items)) }
 {
     files
         .iter()

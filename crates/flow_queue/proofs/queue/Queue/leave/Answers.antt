@@ -1,39 +1,40 @@
-use Rattle.std.proofs.Common.{◌≡◌, ◌-◌, None, IsSome, sym, ◌∙◌, ap, subst, arith}
-use Rattle.std.specs.Option.{option_map}
-use Rattle.std.proofs.lemmas.Bool.{true≢false}
+use Rattle.std.proofs.Common.{◌≡◌, ◌+◌, ◌-◌, ◌<◌, ◌≤◌, Some, length, sym, ◌∙◌, ap, subst, arith}
 use Rattle.flowfile_record.specs.NumberedItems.{item_of}
-use Rattle.flow_queue.specs.Queue.{number_of, file_of, without_file}
-use Rattle.flow_queue.proofs.Fields.{same_state, nowhere, is_there, files-leave, size-within, sound-leave}
+use Rattle.flowfile_record.proofs.ByNumber.{length-without}
+use Rattle.flow_queue.specs.Inside.{AreSound}
+use Rattle.flow_queue.specs.Queue.{number_of, without_file}
+use Rattle.flow_queue.proofs.Fields.{size-within, sound-leave}
+use Rattle.flow_queue.proofs.ForCallers.{its-number}
+use Rattle.flow_queue.proofs.Ranks.{if_some, leave-within, ranked-leave, still-ranked}
 use Rattle.flow_queue.proofs.queue.Queue.leave.Goals as goal
-
-pub unreachable-requires : goal.unreachable-requires
-unreachable-requires c =
-    let fits = rw c.deref.ensures.value at c.in_default.ensures.fits in
-    let none : item_of number_of c.args.number c.args.self.now.files ≡ None = ap (λ q. item_of number_of c.args.number q.files) (sym c.self.view_is) ∙ nowhere c.self.inside.files.items c.args.number c.in_default.field-0 fits in
-    true≢false (sym (subst (λ found. IsSome (option_map (λ held. held.in_flight) found)) none c.requires))
 
 pub overflow_sub-self : goal.overflow_sub-self
 overflow_sub-self c =
-    let stands = rw c.deref.ensures.value at c.in-Ok.ensures.stands in
-    let within = size-within c.self.inside.files.items c.self.inside.bytes c.self.invariant c.args.number c.in-Ok.place stands c.remove-held.result c.remove-held.ensures.value in
-    omega arith
+    let queue = c.self.inside in
+    let within = size-within c.args.number c.in-Some-take.held queue.files.items queue.bytes (sym c.in-Some-take.ensures.item) c.self.invariant.files in
+    omega (arith, within, c.from.ensures, c.size.ensures)
 
 pub invariant_of-self : goal.invariant_of-self
 invariant_of-self c =
-    let stands = rw c.deref.ensures.value at c.in-Ok.ensures.stands in
-    rw c.remove-held.ensures.items (sound-leave c.self.inside.files.items c.self.inside.bytes c.self.invariant c.args.number c.in-Ok.place stands c.remove-held.result c.remove-held.ensures.value
-    (c.self.inside.bytes - c.from.result) (ap (λ n. c.self.inside.bytes - n) (c.from.ensures ∙ c.size.ensures)))
-
-pub returns-clause-file : goal.returns-clause-file
-returns-clause-file c =
-    let stands = rw c.deref.ensures.value at c.in-Ok.ensures.stands in
-    ap (λ q. file_of c.args.number q.files) (sym c.self.view_is)
-    ∙ ap (option_map (λ held. held.file)) (is_there c.self.inside.files.items c.self.inside.bytes c.self.invariant c.args.number c.in-Ok.place stands c.remove-held.result c.remove-held.ensures.value)
-
-pub returns-clause-left : goal.returns-clause-left
-returns-clause-left c =
-    let stands = rw c.deref.ensures.value at c.in-Ok.ensures.stands in
-    let made = files-leave c.self.inside.files.items c.self.inside.bytes c.self.invariant c.args.number c.in-Ok.place stands c.remove-held.result c.remove-held.ensures.value in
-    let spare = ap (λ q. q.spare) c.self.view_is in
-    same_state _ _ (ap (λ q. q.order) c.self.view_is) (ap (λ q. q.limits) c.self.view_is)
-    (c.remove-held.ensures.items ∙ sym made ∙ ap (λ q. without_file c.args.number q.files) c.self.view_is) (omega (arith, c.remove-held.ensures.len, c.remove-held.ensures.capacity))
+    let queue = c.self.inside in
+    let files = queue.files.items in
+    let numbers = queue.by_rank.items in
+    let n = c.args.number in
+    let first = c.in-Some.held.now in
+    let found : item_of number_of n files ≡ Some first = sym c.in-Some.ensures in
+    let same : number_of first ≡ n = its-number n first files found in
+    let here : item_of number_of (number_of first) files ≡ Some first = ap (λ m. item_of number_of m files) same ∙ found in
+    let place = c.place_in_order-place.result in
+    let rank = c.place_in_order-place.ensures.rank in
+    let lt = leave-within queue.order files numbers c.self.invariant.files.apart c.self.invariant.ranked first place here rank in
+    let gone = if_some c.remove.result _ _ (c.remove.ensures.succeeds 0 (omega (arith, lt, queue.by_rank.ok.0))) c.remove.ensures.items in
+    let taken : item_of number_of n files ≡ Some c.in-Some-take.held = sym c.in-Some-take.ensures.item in
+    let total = ap (λ k. queue.bytes - k) (c.from.ensures ∙ c.size.ensures) in
+    let sound = sound-leave n c.in-Some-take.held files queue.bytes (queue.bytes - c.from.result) taken c.self.invariant.files total in
+    let left = length-without number_of n files c.in-Some-take.held c.self.invariant.files.apart.numbers taken in
+    record {
+      files = subst (λ fs. AreSound fs (queue.bytes - c.from.result)) (sym c.in-Some-take.ensures.items) sound;
+      ranked = still-ranked queue.order _ _ _ _ (c.in-Some-take.ensures.items ∙ ap (λ m. without_file m files) (sym same)) gone
+          (ranked-leave queue.order files numbers c.self.invariant.files.apart c.self.invariant.ranked first place here rank);
+      room = omega (arith, c.self.invariant.room, left, ap length c.in-Some-take.ensures.items, c.in-Some-take.ensures.room, c.remove.ensures.capacity);
+    }

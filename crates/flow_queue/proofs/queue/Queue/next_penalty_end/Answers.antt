@@ -11,5 +11,5 @@ pub returns : goal.returns
 returns c =
     c.next_end.ensures
     ∙ ap (λ ends. reduce min (filter (nat_lt c.args.moment) ends))
-    (ap (map (λ (held : Held). held.file.penalty_end)) (c.deref.ensures.value ∙ ap (λ q. q.files) c.self.view_is)
+    (ap (map (λ (held : Held). held.file.penalty_end)) (ap (λ q. q.files) c.self.view_is)
     ∙ sym (map-map (λ (file : FileView). file.penalty_end) view_of c.args.self.now.files))

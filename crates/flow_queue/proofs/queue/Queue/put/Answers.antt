@@ -1,36 +1,40 @@
-use Rattle.std.proofs.Common.{◌+◌, ◌<◌, ◌^◌, false, length, vec_len, vec_capacity, sym, ◌∙◌, ap, subst, arith}
+use Rattle.std.proofs.Common.{◌≡◌, ◌+◌, ◌<◌, ◌^◌, length, sym, ◌∙◌, ap, subst, arith}
+use Rattle.flowfile_record.proofs.ByNumber.{length-with}
 use Rattle.flow_queue.specs.declared.held.Held.{Held}
-use Rattle.flow_queue.specs.Queue.{IsApart, with_file}
-use Rattle.flow_queue.proofs.Fields.{same_state, sum_fits, files-put, sound-put}
+use Rattle.flow_queue.specs.Inside.{AreSound}
+use Rattle.flow_queue.specs.Queue.{IsApart, number_of, with_file}
+use Rattle.flow_queue.proofs.Fields.{new-number, sum_fits, sound-put}
+use Rattle.flow_queue.proofs.Ranks.{ranked-length, ranked-put, still-ranked}
 use Rattle.flow_queue.proofs.queue.Queue.put.Goals as goal
 
 pub unreachable-requires : goal.unreachable-requires
 unreachable-requires c =
-    let stands = rw c.deref.ensures.value at c.in_default.ensures.stands in
-    let apart : IsApart c.args.file c.self.inside.files.items = subst (IsApart c.args.file) (ap (λ q. q.files) (sym c.self.view_is)) c.requires.apart in
-    let held : Held = record { file = c.args.file; in_flight = false } in
-    (apart c.in_default.field-0 held stands.within).0 (stands.at held)
+    let queue = c.self.inside in
+    let long = ranked-length queue.order queue.files.items queue.by_rank.items c.self.invariant.ranked in
+    omega (arith, c.in_default.ensures.full, c.self.invariant.room, long, queue.by_rank.ok.0, c.requires.room, ap (λ q. q.spare) c.self.view_is)
+
+pub put-requires-clause-new : goal.put-requires-clause-new
+put-requires-clause-new c =
+    new-number c.args.file c.self.inside.files.items (subst (IsApart c.args.file) (ap (λ q. q.files) (sym c.self.view_is)) c.requires.apart)
 
 pub overflow_add-self : goal.overflow_add-self
 overflow_add-self c =
-    let le = sum_fits c.self.inside.files.items c.self.inside.bytes c.self.invariant in
-    omega (arith, ap length c.deref.ensures.value, c.deref.type_inv, c.size-size.type_inv)
+    let queue = c.self.inside in
+    let le = sum_fits queue.files.items queue.bytes c.self.invariant.files in
+    let long = ranked-length queue.order queue.files.items queue.by_rank.items c.self.invariant.ranked in
+    omega (arith, le, long, queue.by_rank.ok.0, queue.by_rank.small.0, queue.by_rank.small.1, c.size-size.type_inv)
 
 pub invariant_of-self : goal.invariant_of-self
 invariant_of-self c =
-    let fits = rw c.deref.ensures.value at c.in-Err.ensures.fits in
-    let apart : IsApart c.args.file c.self.inside.files.items = subst (IsApart c.args.file) (ap (λ q. q.files) (sym c.self.view_is)) c.requires.apart in
+    let queue = c.self.inside in
+    let files = queue.files.items in
+    let new : Held = record { file = c.args.file; in_flight = false } in
+    let apart : IsApart c.args.file files = subst (IsApart c.args.file) (ap (λ q. q.files) (sym c.self.view_is)) c.requires.apart in
     let small : c.args.file.content.size < 2 ^ 64 = omega (arith, c.size-size.type_inv, c.size-size.ensures) in
-    rw c.in-Ok.ensures.items (sound-put c.self.inside.files.items c.self.inside.bytes c.self.invariant c.args.file c.in-Err.place fits apart
-    (c.self.inside.bytes + c.from.result) (ap (λ n. c.self.inside.bytes + n) (c.from.ensures ∙ c.size-size.ensures)) small)
-
-pub returns : goal.returns
-returns c =
-    let fits = rw c.deref.ensures.value at c.in-Err.ensures.fits in
-    let apart : IsApart c.args.file c.self.inside.files.items = subst (IsApart c.args.file) (ap (λ q. q.files) (sym c.self.view_is)) c.requires.apart in
-    let made = files-put c.self.inside.files.items c.self.inside.bytes c.self.invariant c.args.file c.in-Err.place fits apart in
-    let spare = ap (λ q. q.spare) c.self.view_is in
-    let room : vec_len c.self.inside.files < vec_capacity c.self.inside.files = omega (arith, c.requires.room) in
-    let block = c.in-Ok.ensures.in_place room in
-    same_state _ _ (ap (λ q. q.order) c.self.view_is) (ap (λ q. q.limits) c.self.view_is)
-    (c.in-Ok.ensures.items ∙ sym made ∙ ap (λ q. with_file c.args.file q.files) c.self.view_is) (omega (arith, c.in-Ok.ensures.len, block))
+    let sound = sound-put c.args.file files apart queue.bytes (queue.bytes + c.from.result) c.self.invariant.files (ap (λ n. queue.bytes + n) (c.from.ensures ∙ c.size-size.ensures)) small in
+    let ranked = ranked-put queue.order files queue.by_rank.items c.self.invariant.files.apart c.self.invariant.ranked c.args.file c.place_in_order-place.result apart c.place_in_order-place.ensures.rank in
+    record {
+      files = subst (λ fs. AreSound fs (queue.bytes + c.from.result)) (sym c.put.ensures.items) sound;
+      ranked = still-ranked queue.order _ _ _ _ c.put.ensures.items c.in-Ok.ensures.items ranked;
+      room = omega (arith, c.self.invariant.room, ap length c.put.ensures.items, length-with number_of new files, c.put.ensures.room, c.in-Ok.ensures.capacity);
+    }

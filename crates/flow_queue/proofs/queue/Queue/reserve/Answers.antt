@@ -1,0 +1,25 @@
+use Rattle.std.proofs.Common.{◌≡◌, ◌+◌, ◌<◌, ◌≤◌, length, sym, ◌∙◌, ap, subst, arith}
+use Rattle.flow_queue.specs.Inside.{AreSound}
+use Rattle.flow_queue.proofs.Fields.{on-err}
+use Rattle.flow_queue.proofs.Ranks.{more-room, ranked-length, still-ranked}
+use Rattle.flow_queue.proofs.queue.Queue.reserve.Goals as goal
+
+pub returns-in_err-reserve-clause-fails : goal.returns-in_err-reserve-clause-fails
+returns-in_err-reserve-clause-fails c =
+    let queue = c.self.inside in
+    let long = ranked-length queue.order queue.files.items queue.by_rank.items c.self.invariant.ranked in
+    on-err c.from_residual.result (c.args.self.now.spare < c.args.count)
+    (omega (arith, c.in_err-reserve.ensures.full, c.self.invariant.room, long, queue.by_rank.ok.0, ap (λ q. q.spare) c.self.view_is))
+
+pub invariant_of-self-2 : goal.invariant_of-self-2
+invariant_of-self-2 c =
+    let queue = c.self.inside in
+    let long = ranked-length queue.order queue.files.items queue.by_rank.items c.self.invariant.ranked in
+    let roomy = more-room c.reserve-2.result queue.files.room c.reserve-2.new.self.room c.args.count (length queue.files.items) _ c.reserve-2.ensures.ok c.reserve-2.ensures.err
+    (omega (arith, c.in_ok-reserve.ensures.ok, c.in_ok-reserve.ensures.len, long, queue.by_rank.ok.0, c.from.ensures))
+    (omega (arith, c.self.invariant.room, c.in_ok-reserve.ensures.capacity)) in
+    record {
+      files = subst (λ fs. AreSound fs queue.bytes) (sym c.reserve-2.ensures.items) c.self.invariant.files;
+      ranked = still-ranked queue.order _ _ _ _ c.reserve-2.ensures.items c.in_ok-reserve.ensures.items c.self.invariant.ranked;
+      room = omega (arith, roomy, ap length c.reserve-2.ensures.items);
+    }

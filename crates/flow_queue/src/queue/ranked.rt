@@ -1,0 +1,99 @@
+//! The numbers of a queue's files in its order, and the files that they stand for.
+ghost use Rattle.std.specs.Prelude.{◌≡◌, ◌≤◌, [], take, slice_get, IfOk, IsOk};
+ghost use Rattle.std.specs.Option.{option_map};
+ghost use Rattle.std.specs.VecDeque.{deque_len};
+ghost use Rattle.machine_model.specs.Order.{in_order};
+ghost use Rattle.flow_queue.specs.Picking.{views_at};
+ghost use Rattle.flow_queue.specs.Queue.{AreApart, view_of, views_of};
+ghost use Rattle.flow_queue.specs.Ranked.{IsRanked, IsRankOf, eligible_among, eligible_at, goes_ahead};
+
+use crate::held::Held;
+use flowfile_record::NumberedList;
+use machine_model::QueueLimits;
+use prioritizer::Order;
+use std::alloc::{AllocError, Global};
+use std::collections::VecDeque;
+
+// How many files go before one.
+pub(super) fn place_in_order(
+    by_rank: &VecDeque<u64>,
+    files: &NumberedList<Held>,
+    order: &Order,
+    held: &Held,
+) -> usize
+    requires apart { AreApart files.now.items }
+    requires ranked { IsRanked order.now files.now.items by_rank.now.items }
+    ensures bound { result ≤ deque_len by_rank.now }
+    ensures rank { IsRankOf order.now (view_of held.now) (in_order order.now (views_of files.now.items)) result }
+{
+    by_rank.partition_point(|number| goes_ahead(*number, files, order, held))
+}
+
+// Whether the file of a number goes before one.
+fn goes_ahead(number: u64, files: &NumberedList<Held>, order: &Order, held: &Held) -> bool
+    ensures { result ≡ goes_ahead order.now (view_of held.now) files.now.items number }
+{
+    match files.get(number) {
+        Some(other) => other.goes_before(held, order),
+        None => false,
+    }
+}
+
+// The first file that may be taken of those of some numbers.
+pub(super) fn best_of<'a>(
+    by_rank: &VecDeque<u64>,
+    files: &'a NumberedList<Held>,
+    limits: &QueueLimits,
+    moment: u64,
+) -> Option<&'a Held>
+    ensures { option_map (λ held. view_of held.now) result
+        ≡ slice_get (eligible_among limits.now moment files.now.items by_rank.now.items) 0 }
+{
+    for number in by_rank.iter() {
+        if let Some(held) = eligible(*number, files, limits, moment) {
+            return Some(held);
+        }
+    }
+    None
+}
+
+// The first files that may be taken of those of some numbers, at most so many.
+pub(super) fn first_eligible<'a>(
+    alloc: Global,
+    by_rank: &VecDeque<u64>,
+    files: &'a NumberedList<Held>,
+    limits: &QueueLimits,
+    moment: u64,
+    most: usize,
+) -> Result<Vec<&'a Held>, AllocError>
+    ensures files { IfOk result (λ list. views_at list.items
+        ≡ take most (eligible_among limits.now moment files.now.items by_rank.now.items)) }
+    ensures free { eligible_among limits.now moment files.now.items by_rank.now.items ≡ [] → IsOk result }
+{
+    let mut list = Vec::new(alloc);
+    for number in by_rank.iter() {
+        if list.len() == most {
+            return Ok(list);
+        }
+        if let Some(held) = eligible(*number, files, limits, moment) {
+            list.push(held)?;
+        }
+    }
+    Ok(list)
+}
+
+// The file of a number, where it may be taken.
+fn eligible<'a>(
+    number: u64,
+    files: &'a NumberedList<Held>,
+    limits: &QueueLimits,
+    moment: u64,
+) -> Option<&'a Held>
+    ensures { option_map (λ held. view_of held.now) result ≡ eligible_at limits.now moment files.now.items number }
+{
+    let held = files.get(number)?;
+    if !held.is_eligible(limits, moment) {
+        return None;
+    }
+    Some(held)
+}
