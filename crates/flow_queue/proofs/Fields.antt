@@ -1,6 +1,6 @@
 -- What a change of the files leaves of what holds of a queue's fields.
 use Rattle.std.proofs.Common.{◌≡◌, ◌≢◌, inl, inr, ℕ, ◌+◌, ◌-◌, ◌*◌, ◌^◌, ◌<◌, ◌≤◌, ◌==◌, not, nat_lt, Bool, true, false, cond, List, [], ◌∷◌, length, map, Some, None, Result, Ok, Err, refl, sym, ap, ◌∙◌, subst, arith}
-use Rattle.std.specs.Prelude.{All, OnErr, filter, sum_by}
+use Rattle.std.specs.Prelude.{All, OnErr, sum_by}
 use Rattle.std.specs.List.Sorted.{IsPermutation}
 use Rattle.std.proofs.lemmas.Bool.{cases_Bool, eqb-true}
 use Rattle.std.proofs.lemmas.List.{length-map}
@@ -8,7 +8,7 @@ use Rattle.std.proofs.lemmas.List.Elements.{All-nil, All-cons, All-head, All-tai
 use Rattle.std.proofs.lemmas.List.Kept.{AllPairs-cons, AllPairs-filter}
 use Rattle.std.proofs.lemmas.List.Sorted.{IsPermutation-refl, IsPermutation-trans, IsPermutation-cons, IsPermutation-middle, IsPermutation-map, All-permutation, sum_by-IsPermutation}
 use Rattle.std.proofs.lemmas.List.Sums.{sum_by-cons, sum_by-le}
-use Rattle.flowfile_record.specs.NumberedItems.{item_of, with_item, without_item, AscendsByNumber}
+use Rattle.flowfile_record.specs.NumberedItems.{item_of, with_item, AscendsByNumber}
 use Rattle.flowfile_record.specs.declared.flow_file.FlowFile.{FlowFile}
 use Rattle.flowfile_record.proofs.ByNumber.{ascends-with, none_above}
 use Rattle.machine_model.specs.Laws.{ArrivalsDiffer}
@@ -17,7 +17,7 @@ use Rattle.machine_model.proofs.Ordered.{pairs_head, pairs_tail, pairs_nil}
 use Rattle.machine_model.proofs.OnlyOrder.{differ-permuted}
 use Rattle.flow_queue.specs.declared.held.Held.{Held}
 use Rattle.flow_queue.specs.Inside.{AreSound}
-use Rattle.flow_queue.specs.Queue.{QueueState, number_of, size_of, view_of, views_of, AreApart, IsApart, with_file, without_file, with_flight}
+use Rattle.flow_queue.specs.Queue.{QueueState, number_of, size_of, view_of, views_of, IsApart, with_file, without_file, with_flight}
 use Rattle.flow_queue.proofs.InOrder.{Differ, filter-mapped}
 use Rattle.flow_queue.proofs.Numbered.{ascends-filter, ascends-map}
 

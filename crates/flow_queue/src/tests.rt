@@ -349,18 +349,19 @@ fn the_order_is_that_of_a_scan(rt: HostRuntime) -> Result<(), Fail> {
     let alloc = rt.alloc();
     let samples = drawn(alloc, 32)?;
     for order in &ORDERS {
-        let mut queue = filled(alloc, *order, &samples)?;
+        let mut left = filled(alloc, *order, &samples)?;
+        let mut in_flight = filled(alloc, *order, &samples)?;
         let mut gone = Vec::new(alloc);
-        answers_as_scanned(&rt, alloc, &queue, *order, &samples, &gone)?;
+        answers_as_scanned(&rt, alloc, &left, *order, &samples, &gone)?;
         for moment in 3..12u64 {
-            let Some(number) = queue.best(moment) else {
-                return Err(Fail::from("no file goes"));
-            };
-            queue.check_out(number);
+            let number = left.best(moment).ok_or("no file goes")?;
+            left.leave(number);
+            let same = in_flight.best(moment).ok_or("no file goes")?;
+            in_flight.check_out(same);
+            assert_eq!(rt; same, number);
             gone.push(number)?;
-            answers_as_scanned(&rt, alloc, &queue, *order, &samples, &gone)?;
-            queue.leave(number);
-            answers_as_scanned(&rt, alloc, &queue, *order, &samples, &gone)?;
+            answers_as_scanned(&rt, alloc, &left, *order, &samples, &gone)?;
+            answers_as_scanned(&rt, alloc, &in_flight, *order, &samples, &gone)?;
         }
     }
     Ok(())

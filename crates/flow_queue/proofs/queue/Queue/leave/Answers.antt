@@ -1,4 +1,4 @@
-use Rattle.std.proofs.Common.{◌≡◌, ◌+◌, ◌-◌, ◌<◌, ◌≤◌, Some, length, sym, ◌∙◌, ap, subst, arith}
+use Rattle.std.proofs.Common.{◌≡◌, ◌-◌, Some, length, sym, ◌∙◌, ap, subst, arith}
 use Rattle.flowfile_record.specs.NumberedItems.{item_of}
 use Rattle.flowfile_record.proofs.ByNumber.{length-without}
 use Rattle.flow_queue.specs.Inside.{AreSound}

@@ -1,8 +1,8 @@
-use Rattle.std.proofs.Common.{◌≡◌, ◌+◌, ◌<◌, ◌^◌, length, sym, ◌∙◌, ap, subst, arith}
+use Rattle.std.proofs.Common.{◌+◌, ◌<◌, ◌^◌, false, length, sym, ◌∙◌, ap, subst, arith}
 use Rattle.flowfile_record.proofs.ByNumber.{length-with}
 use Rattle.flow_queue.specs.declared.held.Held.{Held}
 use Rattle.flow_queue.specs.Inside.{AreSound}
-use Rattle.flow_queue.specs.Queue.{IsApart, number_of, with_file}
+use Rattle.flow_queue.specs.Queue.{IsApart, number_of}
 use Rattle.flow_queue.proofs.Fields.{new-number, sum_fits, sound-put}
 use Rattle.flow_queue.proofs.Ranks.{ranked-length, ranked-put, still-ranked}
 use Rattle.flow_queue.proofs.queue.Queue.put.Goals as goal

@@ -1,4 +1,5 @@
-use Rattle.std.proofs.Common.{◌≡◌, ◌+◌, ◌<◌, ◌≤◌, length, sym, ◌∙◌, ap, subst, arith}
+use Rattle.std.proofs.Common.{◌<◌, length, sym, ap, subst, arith}
+use Rattle.std.specs.VecDeque.{deque_capacity}
 use Rattle.flow_queue.specs.Inside.{AreSound}
 use Rattle.flow_queue.proofs.Fields.{on-err}
 use Rattle.flow_queue.proofs.Ranks.{more-room, ranked-length, still-ranked}
@@ -15,7 +16,7 @@ pub invariant_of-self-2 : goal.invariant_of-self-2
 invariant_of-self-2 c =
     let queue = c.self.inside in
     let long = ranked-length queue.order queue.files.items queue.by_rank.items c.self.invariant.ranked in
-    let roomy = more-room c.reserve-2.result queue.files.room c.reserve-2.new.self.room c.args.count (length queue.files.items) _ c.reserve-2.ensures.ok c.reserve-2.ensures.err
+    let roomy = more-room c.reserve-2.result queue.files.room c.reserve-2.new.self.room c.from.result (length queue.files.items) (deque_capacity c.reserve.new.self) c.reserve-2.ensures.ok c.reserve-2.ensures.err
     (omega (arith, c.in_ok-reserve.ensures.ok, c.in_ok-reserve.ensures.len, long, queue.by_rank.ok.0, c.from.ensures))
     (omega (arith, c.self.invariant.room, c.in_ok-reserve.ensures.capacity)) in
     record {

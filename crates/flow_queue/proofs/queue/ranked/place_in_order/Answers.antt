@@ -1,4 +1,4 @@
-use Rattle.std.proofs.Common.{sym, ap, rules, arith}
+use Rattle.std.proofs.Common.{rules, arith}
 use Rattle.std.proofs.lemmas.Fn.{always_returns_same}
 use Rattle.flow_queue.specs.Queue.{view_of}
 use Rattle.flow_queue.proofs.Ranks.{ahead, numbers-parted, rank-from}
