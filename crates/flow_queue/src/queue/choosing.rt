@@ -48,14 +48,7 @@ impl Queue {
         // Memory is taken where there are files to pick from.
         ensures free { offered rule moment self.now ≡ [] → IsOk result }
     {
-        pick_by(
-            rule,
-            &self.by_rank,
-            &self.files,
-            &self.limits,
-            moment,
-            list,
-        )
+        pick_by(rule, &self.by_rank, &self.files, &self.limits, moment, list)
     }
 
     /// The numbers of the files that expired by a moment and that no session works on, ascending.
