@@ -96,11 +96,11 @@ def merges(one):
         return []
     if one.property("Merge Strategy") == "Defragment":
         return [Warning_(one.value.line, f"{one.name}: fragments wait without end if one of their whole is missing, and "
-                         "the run ends with 0; a whole of more than 1,000 goes to failure")]
+                         "the run ends with 0 or 10; a whole of more than 1,000 goes to failure")]
     least = one.property("Minimum Number of Entries")
     if least not in (None, "1"):
         return [Warning_(one.line("properties", "Minimum Number of Entries"),
-                         f"{one.name}: fewer than {least} files wait without end, and the run ends with 0")]
+                         f"{one.name}: fewer than {least} files wait without end, and the run ends with 0 or 10")]
     return []
 
 
