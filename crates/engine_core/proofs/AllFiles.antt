@@ -23,7 +23,7 @@ module _ (contents : ContentRef → List ℕ) (s : Settled) (files : List Active
   of_left q = tally (λ (a : ActiveFile). w (queued contents a)) (filter (λ a. a.connection == q.0) (left_after s.gone files))
 
   abbrev of_placed : ℕ × List ℕ → ℕ
-  of_placed q = tally (λ (p : Placed). w (placed_file contents p)) (filter (λ p. p.connection == q.0) s.placed)
+  of_placed q = tally (λ (p : Placed). w (placed_file contents s.placed p)) (filter (λ p. p.connection == q.0) s.placed)
 
   one_queue : (place : ℕ) (id : List ℕ) → tally w (queue_after contents s (place, queue_of contents files place)) ≡ of_left (place, id) + of_placed (place, id)
   one_queue place id =
@@ -32,11 +32,11 @@ module _ (contents : ContentRef → List ℕ) (s : Settled) (files : List Active
       let come = filter (λ (p : Placed). p.connection == place) s.placed in
       omega (
         arith,
-        tally-fold w (placed_into contents place s.placed) (without_files (queue_of contents files place) s.gone),
+        tally-fold w (placed_into contents s.placed place s.placed) (without_files (queue_of contents files place) s.gone),
         ap (tally w) (queue_left contents place s.gone files),
         tally-fold w (line contents place left) [],
         tally-map w (queued contents) of_place,
-        tally-map w (placed_file contents) come,
+        tally-map w (placed_file contents s.placed) come,
       )
 
   all_queues : (from : ℕ) (connections : List (List ℕ))
@@ -56,7 +56,7 @@ pub record StandSomewhere (k : Kept) (s : Settled) : Type 0 where
 
 pub all_files : (contents : ContentRef → List ℕ) (events : List Event) (k : Kept) (s : Settled) (w : QueuedFile → ℕ) → StandSomewhere k s
     → tally w (files_of_all (state_after contents (state_with contents events k) s))
-    ≡ tally (λ a. w (queued contents a)) (left_after s.gone k.files) + tally (λ p. w (placed_file contents p)) s.placed
+    ≡ tally (λ a. w (queued contents a)) (left_after s.gone k.files) + tally (λ p. w (placed_file contents s.placed p)) s.placed
 all_files contents events k s w stand =
     let left = left_after s.gone k.files in
     omega (
@@ -64,5 +64,5 @@ all_files contents events k s w stand =
       all_queues contents s k.files w 0 k.connections,
       tally-plus (of_left contents s k.files w) (of_placed contents s k.files w) (enumerate_from 0 k.connections),
       by_place (λ (a : ActiveFile). w (queued contents a)) (λ a. a.connection) k.connections left stand.left,
-      by_place (λ (p : Placed). w (placed_file contents p)) (λ p. p.connection) k.connections s.placed stand.placed,
+      by_place (λ (p : Placed). w (placed_file contents s.placed p)) (λ p. p.connection) k.connections s.placed stand.placed,
     )

@@ -1,13 +1,16 @@
 -- A settled session may be handed to the store, and makes of its state what the machine makes.
-use Rattle.std.proofs.Common.{◌≡◌, ℕ, List, get_or, length, map, sym, subst, arith}
-use Rattle.std.specs.Prelude.{All, Contains, MatchOption, Option, None, Some}
+use Rattle.std.proofs.Common.{◌≡◌, ℕ, true, List, get_or, map, sym, subst, arith}
+use Rattle.std.specs.Prelude.{All, Contains}
+use Rattle.flowfile_record.specs.Shared.{is_stored}
 use Rattle.flowfile_record.specs.Stored.{Kept}
 use Rattle.flowfile_record.specs.declared.content.ContentRef.{ContentRef}
 use Rattle.flowfile_record.specs.declared.flow_file.FlowFile.{FlowFile}
 use Rattle.flowfile_record.specs.declared.stored.ActiveFile.{ActiveFile}
+use Rattle.flowfile_record.specs.declared.stored.Fresh.{Fresh}
+use Rattle.flowfile_record.specs.declared.stored.Fresh.TheVariants.{No, Bytes, Staged, As}
 use Rattle.record_codec.specs.ActiveFile.{active}
-use Rattle.sha2.specs.Sha256.{sha256}
 use Rattle.machine_model.proofs.Among.{Among, all_among, among_contained, contains_among, is_made, makes}
+use Rattle.settlement.specs.TellsOf.{IsContentBy}
 use Rattle.store_core.specs.Change.{HasLiveContents, MayChange}
 use Rattle.store_core.specs.State.{state_with}
 use Rattle.store_core.specs.Store.{StoreState, kept_by}
@@ -36,6 +39,7 @@ may_change c is =
       numbered = events_numbered c is;
       events = events_have_blocks c is;
       fresh = all_fresh c is;
+      shared = is.tells.shared;
     }
 
 -- ---- contents that stay
@@ -49,18 +53,18 @@ live_content files connection taken content there has =
     let among = makes (λ (a : ActiveFile). a.file.content) files (active connection from.source) (among_contained (active connection from.source) files stands) in
     contains_among content (map (λ (a : ActiveFile). a.file.content) files) (subst (λ (at : ContentRef). Among at (map (λ (a : ActiveFile). a.file.content) files)) from.is among)
 
-live_by : (c : Case) → IsSettled c → (content : ContentRef) (fresh : Option (List ℕ))
-    → MatchOption fresh (Contains (map (λ file. file.content) c.ended.taken) content) (λ bytes. (content.size ≡ length bytes) × (content.digest ≡ sha256 bytes))
-    → fresh ≡ None → Contains (map (λ a. a.file.content) c.k.files) content
-live_by c is content None has none = live_content c.k.files c.ended.connection c.ended.taken content is.may.there has
-live_by c is content (Some bytes) has none = absurd cc
+live_by : (c : Case) → IsSettled c → (content : ContentRef) (fresh : Fresh) → IsContentBy c.ended.taken content fresh → is_stored fresh ≡ true → Contains (map (λ a. a.file.content) c.k.files) content
+live_by c is content No has stored = live_content c.k.files c.ended.connection c.ended.taken content is.may.there has
+live_by c is content Staged has stored = absurd has
+live_by c is content (Bytes bytes) has stored = absurd cc
+live_by c is content (As of) has stored = absurd cc
 
 pub live_contents : (c : Case) → IsSettled c → (s : StoreState) → kept_by s ≡ c.k → HasLiveContents s c.settled
 live_contents c is s same =
-    λ i d lt none.
+    λ i d lt stored.
     let p = get_or c.settled.placed i d in
     subst (λ (k : Kept). Contains (map (λ (a : ActiveFile). a.file.content) k.files) p.file.content) (sym same)
-    (live_by c is p.file.content p.fresh (is.tells.contents i d lt) none)
+    (live_by c is p.file.content p.fresh (is.tells.contents i d lt) stored)
 
 -- ---- the state behind it
 

@@ -1,20 +1,26 @@
 -- The entry of a settled session has an encoding unless a number passes its limit, and its contents are as its files say.
-use Rattle.std.proofs.Common.{◌≡◌, inl, inr, ℕ, ◌+◌, ◌^◌, ◌<◌, ◌≤◌, List, length, map, refl, sym, ap, subst, ◌∙◌, arith}
-use Rattle.std.specs.Prelude.{All, Contains, IfSome, MatchOption, Option, None, Some, nat_lt}
+use Rattle.std.proofs.Common.{◌≡◌, inl, inr, ℕ, ◌+◌, ◌^◌, ◌<◌, ◌≤◌, List, get_or, length, map, refl, sym, ap, subst, ◌∙◌, arith}
+use Rattle.std.specs.Prelude.{All, IfSome, Option, None, Some, nat_lt, slice_get}
 use Rattle.std.specs.Option.{option_or}
 use Rattle.std.proofs.lemmas.Bool.{cases_Bool, ltb-false}
 use Rattle.std.proofs.lemmas.List.{length-map}
 use Rattle.std.proofs.lemmas.List.Elements.{All-map, All-same, All-weaker, All-contains}
+use Rattle.std.proofs.lemmas.Option.{slice_get-get_or}
 use Rattle.sha2.specs.Sha256.{sha256}
 use Rattle.sha2.proofs.Facts256.{length-sha256}
 use Rattle.flowfile_record.specs.Attributes.{IsWithinLimits}
 use Rattle.flowfile_record.specs.Encoding.{IsNumber}
+use Rattle.flowfile_record.specs.Shared.{own_bytes}
 use Rattle.flowfile_record.specs.declared.TheConstants.{CONTENT_MAX}
 use Rattle.flowfile_record.specs.declared.content.ContentRef.{ContentRef}
 use Rattle.flowfile_record.specs.declared.flow_file.FlowFile.{FlowFile}
+use Rattle.flowfile_record.specs.declared.stored.Fresh.{Fresh}
+use Rattle.flowfile_record.specs.declared.stored.Fresh.TheVariants.{No, Bytes, Staged, As}
+use Rattle.flowfile_record.specs.declared.stored.Placed.{Placed}
 use Rattle.record_codec.specs.ActiveFile.{IsActiveFile, active}
 use Rattle.record_codec.specs.EntryEncoding.{IsEntry, IsGenerator, IsMoment}
 use Rattle.record_codec.specs.FileEncoding.{IsContentRef}
+use Rattle.record_codec.specs.Placeless.{placeless}
 use Rattle.record_codec.specs.declared.entry.LogEntry.TheVariants.{Session}
 use Rattle.checkpoint_store.specs.Consistent.{IsFileIn}
 use Rattle.kept_state.specs.Applied.{session_applied}
@@ -25,11 +31,12 @@ use Rattle.kept_state.specs.declared.limit.TheConstants.{NUMBER_MAX}
 use Rattle.kept_state.specs.declared.limit.Which.TheVariants.{Numbers}
 use Rattle.machine_model.specs.declared.kind.Kind.{Kind}
 use Rattle.machine_model.specs.declared.kind.Kind.TheVariants.{GenerateFlowFile}
+use Rattle.settlement.specs.TellsOf.{IsContentBy}
 use Rattle.settlement.specs.Whole.{count_of}
 use Rattle.store_core.specs.Change.{IsFresh}
 use Rattle.engine_core.proofs.Cases.{Case, IsSettled, entry_in}
 use Rattle.engine_core.proofs.Parts.{new_arrivals, new_numbers}
-use Rattle.engine_core.proofs.Recorded.{kept_contents, few_taken, records, taken_kept}
+use Rattle.engine_core.proofs.Recorded.{IsOfNew, kept_contents, few_taken, records, shared_new, taken_kept}
 
 -- ---- limits
 
@@ -61,9 +68,6 @@ numbers_below c none =
 
 -- ---- placed files
 
-abbrev Stamped : List ContentRef → ContentRef → Option (List ℕ) → Type 0
-Stamped contents content fresh = MatchOption fresh (Contains contents content) (λ bytes. (content.size ≡ length bytes) × (content.digest ≡ sha256 bytes))
-
 record IsFileToBe (connection : ℕ) (file : FlowFile) : Type 0 where
   place : connection < 2 ^ 16
   first_number : 1 ≤ file.number
@@ -73,21 +77,8 @@ record IsFileToBe (connection : ℕ) (file : FlowFile) : Type 0 where
   penalty_end : file.penalty_end < 2 ^ 64
   arrival : IsNumber file.arrival
 
-active_by : (contents : List ContentRef) (connection : ℕ) (file : FlowFile) (fresh : Option (List ℕ)) → All IsContentRef contents → IsFileToBe connection file
-    → Stamped contents file.content fresh → IfSome fresh (λ bytes. length bytes ≤ CONTENT_MAX) → IsActiveFile (recorded connection file fresh)
-active_by contents connection file None known is stamped small = record {
-  connection = is.place;
-  file = record {
-    first_number = is.first_number;
-    number = is.number;
-    attributes = is.attributes;
-    content = All-contains IsContentRef contents file.content known stamped;
-    entered = is.entered;
-    penalty_end = is.penalty_end;
-    arrival = is.arrival;
-  };
-}
-active_by contents connection file (Some bytes) known is stamped small = record {
+active_new : (connection : ℕ) (file : FlowFile) → IsFileToBe connection file → IsOfNew file.content → IsActiveFile (active connection (placeless file))
+active_new connection file is new = record {
   connection = is.place;
   file = record {
     first_number = is.first_number;
@@ -96,14 +87,32 @@ active_by contents connection file (Some bytes) known is stamped small = record 
     content = record {
       slot = omega arith;
       offset = omega arith;
-      size = let same = stamped.0 in omega (arith, same, small);
-      digest = ap length stamped.1 ∙ length-sha256 bytes;
+      size = let same = new.size in let small = new.small in omega (arith, same, small);
+      digest = ap length new.digest ∙ length-sha256 new.bytes;
     };
     entered = is.entered;
     penalty_end = is.penalty_end;
     arrival = is.arrival;
   };
 }
+
+active_by : (c : Case) → IsSettled c → (place : ℕ) (p : Placed) → slice_get c.settled.placed place ≡ Some p → (fresh : Fresh) → p.fresh ≡ fresh → IsFileToBe p.connection p.file
+    → IsContentBy c.ended.taken p.file.content fresh → IfSome (own_bytes fresh) (λ bytes. length bytes ≤ CONTENT_MAX) → IsActiveFile (recorded p.connection p.file fresh)
+active_by c settled place p there No from is has small = record {
+  connection = is.place;
+  file = record {
+    first_number = is.first_number;
+    number = is.number;
+    attributes = is.attributes;
+    content = All-contains IsContentRef (map (λ (file : FlowFile). file.content) c.ended.taken) p.file.content (kept_contents c settled) has;
+    entered = is.entered;
+    penalty_end = is.penalty_end;
+    arrival = is.arrival;
+  };
+}
+active_by c settled place p there Staged from is has small = absurd has
+active_by c settled place p there (Bytes bytes) from is has small = active_new p.connection p.file is (record { bytes = bytes; size = has.0; digest = has.1; small = small })
+active_by c settled place p there (As of) from is has small = active_new p.connection p.file is (shared_new c settled place of p there from)
 
 all_active : (c : Case) → IsSettled c → AreNumbersBelow c → All IsActiveFile (map record_of c.settled.placed)
 all_active c is below =
@@ -115,7 +124,8 @@ all_active c is below =
     let number_below = below.number in
     let arrival_below = below.arrival in
     let connection = known.connection in
-    active_by (map (λ (file : FlowFile). file.content) c.ended.taken) _ _ _ (kept_contents c is) (record {
+    let p = get_or c.settled.placed i d in
+    active_by c is i p (slice_get-get_or c.settled.placed i d lt) p.fresh refl (record {
       place = let few = is.sound.connection_count in omega (arith, connection, few);
       first_number = number.0;
       number = omega (arith, number.1, number_below);
@@ -157,13 +167,17 @@ encoded c is none =
 
 -- ---- new contents
 
-fresh_by : (contents : List ContentRef) (content : ContentRef) (fresh : Option (List ℕ)) (bytes : List ℕ) → Stamped contents content fresh → IfSome fresh (λ b. length b ≤ CONTENT_MAX)
-    → fresh ≡ Some bytes → (length bytes ≤ CONTENT_MAX) × (content.size ≡ length bytes) × (content.digest ≡ sha256 bytes)
-fresh_by contents content None bytes stamped small some = absurd cc
-fresh_by contents content (Some b) bytes stamped small some =
+fresh_by : (taken : List FlowFile) (content : ContentRef) (fresh : Fresh) (bytes : List ℕ) → IsContentBy taken content fresh → IfSome (own_bytes fresh) (λ b. length b ≤ CONTENT_MAX)
+    → fresh ≡ Bytes bytes → (length bytes ≤ CONTENT_MAX) × (content.size ≡ length bytes) × (content.digest ≡ sha256 bytes)
+fresh_by taken content No bytes has small some = absurd cc
+fresh_by taken content Staged bytes has small some = absurd has
+fresh_by taken content (As of) bytes has small some = absurd cc
+fresh_by taken content (Bytes b) bytes has small some =
     let same : b ≡ bytes = cc in
-    subst (λ (l : List ℕ). (length l ≤ CONTENT_MAX) × (content.size ≡ length l) × (content.digest ≡ sha256 l)) same (small, stamped.0, stamped.1)
+    subst (λ (l : List ℕ). (length l ≤ CONTENT_MAX) × (content.size ≡ length l) × (content.digest ≡ sha256 l)) same (small, has.0, has.1)
 
 pub all_fresh : (c : Case) → IsSettled c → All IsFresh c.settled.placed
 all_fresh c is =
-    λ i d lt bytes some. fresh_by (map (λ (file : FlowFile). file.content) c.ended.taken) _ _ bytes (is.tells.contents i d lt) ((records c is).placed i d lt).fresh some
+    λ i d lt bytes some.
+    let p = get_or c.settled.placed i d in
+    fresh_by c.ended.taken p.file.content p.fresh bytes (is.tells.contents i d lt) ((records c is).placed i d lt).fresh some

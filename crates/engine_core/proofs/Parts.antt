@@ -1,11 +1,14 @@
 -- The numbers of what a settlement places are new, each in its range, and so are the arrivals.
-use Rattle.std.proofs.Common.{◌≡◌, ℕ, ◌+◌, ◌<◌, ◌≤◌, ◌==◌, List, [], ◌∷◌, map, refl, sym, ap, subst, ◌∙◌, arith}
-use Rattle.std.specs.Prelude.{All, Option, None, Some}
+use Rattle.std.proofs.Common.{◌≡◌, ℕ, ◌+◌, ◌<◌, ◌≤◌, ◌==◌, Bool, true, false, cond, List, [], ◌∷◌, map, refl, sym, ap, subst, ◌∙◌, arith}
+use Rattle.std.specs.Prelude.{All}
 use Rattle.std.proofs.lemmas.List.Elements.{All-nil, All-cons, All-head, All-tail, All-weaker}
+use Rattle.flowfile_record.specs.Shared.{is_stored}
 use Rattle.flowfile_record.specs.declared.content.ContentRef.{ContentRef}
 use Rattle.flowfile_record.specs.declared.flow_file.FlowFile.{FlowFile}
 use Rattle.flowfile_record.specs.declared.stored.ActiveFile.{ActiveFile}
+use Rattle.flowfile_record.specs.declared.stored.Fresh.{Fresh}
 use Rattle.flowfile_record.specs.declared.stored.Placed.{Placed}
+use Rattle.record_codec.specs.Placeless.{placeless}
 use Rattle.kept_state.specs.Applied.{left_after}
 use Rattle.kept_state.specs.Changes.{record_of, recorded}
 use Rattle.machine_model.specs.Changing.{placed_file, state_after}
@@ -20,22 +23,28 @@ use Rattle.engine_core.proofs.Past.{past}
 use Rattle.engine_core.proofs.Recorded.{stand_somewhere, the_processor}
 
 -- whatever its content, a placed file's record has its number and its arrival
-recorded_number : (connection : ℕ) (file : FlowFile) (fresh : Option (List ℕ)) → (recorded connection file fresh).file.number ≡ file.number
-recorded_number connection file None = refl
-recorded_number connection file (Some bytes) = refl
+recorded_number : (connection : ℕ) (file : FlowFile) (fresh : Fresh) → (recorded connection file fresh).file.number ≡ file.number
+recorded_number connection file fresh = by (is_stored fresh)
+  where
+    by : (b : Bool) → (cond b file (placeless file)).number ≡ file.number
+    by true = refl
+    by false = refl
 
-recorded_arrival : (connection : ℕ) (file : FlowFile) (fresh : Option (List ℕ)) → (recorded connection file fresh).file.arrival ≡ file.arrival
-recorded_arrival connection file None = refl
-recorded_arrival connection file (Some bytes) = refl
+recorded_arrival : (connection : ℕ) (file : FlowFile) (fresh : Fresh) → (recorded connection file fresh).file.arrival ≡ file.arrival
+recorded_arrival connection file fresh = by (is_stored fresh)
+  where
+    by : (b : Bool) → (cond b file (placeless file)).arrival ≡ file.arrival
+    by true = refl
+    by false = refl
 
 unmapped : {X Y : Type 0} (P : Y → Type 0) (f : X → Y) (xs : List X) → All P (map f xs) → All (λ x. P (f x)) xs
 unmapped P f [] all = All-nil (λ x. P (f x))
 unmapped P f (x ∷ xs) all = All-cons (λ y. P (f y)) x xs (All-head P (f x) (map f xs) all) (unmapped P f xs (All-tail P (f x) (map f xs) all))
 
 -- what of a file is counted, as a queue has it
-pub record IsPart (part : FlowFile → ℕ) (key : QueuedFile → ℕ) (contents : ContentRef → List ℕ) : Type 0 where
+pub record IsPart (part : FlowFile → ℕ) (key : QueuedFile → ℕ) (contents : ContentRef → List ℕ) (all : List Placed) : Type 0 where
   pub left : (a : ActiveFile) → key (queued contents a) ≡ part a.file
-  pub placed : (p : Placed) → key (placed_file contents p) ≡ part p.file
+  pub placed : (p : Placed) → key (placed_file contents all p) ≡ part p.file
   pub recorded : (p : Placed) → part (record_of p).file ≡ part p.file
 
 -- of the files that are left and the placed ones one at most has it, and each placed one has it in range
@@ -43,7 +52,7 @@ pub record IsNewPart (c : Case) (part : FlowFile → ℕ) (next : ℕ) : Type 0 
   pub once : (n : ℕ) → many part n (map (λ a. a.file) (left_after c.settled.gone c.k.files)) + many (λ (m : ℕ). m) n (map (λ a. part a.file) (map record_of c.settled.placed)) ≤ 1
   pub within : All (λ p. (1 ≤ part p.file) × (part p.file < next)) c.settled.placed
 
-new_part : (c : Case) → IsSettled c → (part : FlowFile → ℕ) (key : QueuedFile → ℕ) (contents : ContentRef → List ℕ) (next : ℕ) → IsPart part key contents
+new_part : (c : Case) → IsSettled c → (part : FlowFile → ℕ) (key : QueuedFile → ℕ) (contents : ContentRef → List ℕ) (next : ℕ) → IsPart part key contents c.settled.placed
     → AreNumbered key next (files_of_all (state_after contents (state_of c contents) c.settled)) → IsNewPart c part next
 new_part c is part key contents next of numbers =
     record {
@@ -53,13 +62,13 @@ new_part c is part key contents next of numbers =
         whole n,
         tally-same (λ (a : ActiveFile). bit (key (queued contents a) == n)) (λ a. bit (part a.file == n)) (λ a. ap (λ m. bit (m == n)) (of.left a)) left,
         tally-map (λ (f : FlowFile). bit (part f == n)) (λ (a : ActiveFile). a.file) left,
-        tally-same (λ (p : Placed). bit (key (placed_file contents p) == n)) (λ p. bit (part (record_of p).file == n)) (λ p. ap (λ m. bit (m == n)) (of.placed p ∙ sym (of.recorded p))) placed,
+        tally-same (λ (p : Placed). bit (key (placed_file contents placed p) == n)) (λ p. bit (part (record_of p).file == n)) (λ p. ap (λ m. bit (m == n)) (of.placed p ∙ sym (of.recorded p))) placed,
         tally-map (λ (m : ℕ). bit (m == n)) (λ (a : ActiveFile). part a.file) (map record_of placed),
         tally-map (λ (a : ActiveFile). bit (part a.file == n)) record_of placed,
       );
-      within = All-weaker (λ p. (1 ≤ key (placed_file contents p)) × (key (placed_file contents p) < next)) (λ p. (1 ≤ part p.file) × (part p.file < next))
+      within = All-weaker (λ p. (1 ≤ key (placed_file contents placed p)) × (key (placed_file contents placed p) < next)) (λ p. (1 ≤ part p.file) × (part p.file < next))
           (λ p h. subst (λ m. (1 ≤ m) × (m < next)) (of.placed p) h) placed
-          (unmapped (λ f. (1 ≤ key f) × (key f < next)) (placed_file contents) placed (numbered key next (map (placed_file contents) placed) come).within);
+          (unmapped (λ f. (1 ≤ key f) × (key f < next)) (placed_file contents placed) placed (numbered key next (map (placed_file contents placed) placed) come).within);
     }
   where
     left : List ActiveFile
@@ -74,13 +83,13 @@ new_part c is part key contents next of numbers =
     all : Counted key next files
     all = counted key next files numbers
 
-    whole : (n : ℕ) → many key n files ≡ tally (λ (a : ActiveFile). bit (key (queued contents a) == n)) left + tally (λ (p : Placed). bit (key (placed_file contents p) == n)) placed
+    whole : (n : ℕ) → many key n files ≡ tally (λ (a : ActiveFile). bit (key (queued contents a) == n)) left + tally (λ (p : Placed). bit (key (placed_file contents placed p) == n)) placed
     whole n = all_files contents (past c.k.last_event) c.k c.settled (λ (f : QueuedFile). bit (key f == n)) (stand_somewhere c is)
 
-    mapped : (n : ℕ) → many key n (map (placed_file contents) placed) ≡ tally (λ (p : Placed). bit (key (placed_file contents p) == n)) placed
-    mapped n = tally-map (λ (f : QueuedFile). bit (key f == n)) (placed_file contents) placed
+    mapped : (n : ℕ) → many key n (map (placed_file contents placed) placed) ≡ tally (λ (p : Placed). bit (key (placed_file contents placed p) == n)) placed
+    mapped n = tally-map (λ (f : QueuedFile). bit (key f == n)) (placed_file contents placed) placed
 
-    come : Counted key next (map (placed_file contents) placed)
+    come : Counted key next (map (placed_file contents placed) placed)
     come = record {
       first = all.first;
       once = λ n. omega (arith, all.once n, whole n, mapped n);

@@ -1,21 +1,27 @@
 -- What is known of a settlement that a store may record: of the files that were taken, and of those that are placed.
-use Rattle.std.proofs.Common.{◌≡◌, ℕ, ◌<◌, ◌≤◌, List, [], ◌∷◌, length, map, ap, ◌∙◌, arith}
-use Rattle.std.specs.Prelude.{All, Contains, MatchOption, Option, Some, None, slice_get}
+use Rattle.std.proofs.Common.{◌≡◌, ℕ, ◌<◌, ◌≤◌, true, List, [], ◌∷◌, get_or, length, map, refl, sym, ap, subst, ◌∙◌, arith}
+use Rattle.std.specs.Prelude.{All, Contains, IfSome, Some, slice_get}
 use Rattle.std.proofs.lemmas.List.{length-map}
 use Rattle.std.proofs.lemmas.List.Elements.{All-head, All-map, All-weaker, All-contains, All-filter}
+use Rattle.std.proofs.lemmas.Option.{get_or_from_slice_get, slice_get-get_or, slice_get_within}
 use Rattle.sha2.specs.Sha256.{sha256}
 use Rattle.sha2.proofs.Facts256.{length-sha256}
 use Rattle.flowfile_record.specs.Encoding.{IsDigest}
+use Rattle.flowfile_record.specs.Shared.{may_be_shared, own_bytes}
+use Rattle.flowfile_record.specs.declared.TheConstants.{CONTENT_MAX}
 use Rattle.flowfile_record.specs.declared.content.ContentRef.{ContentRef}
 use Rattle.flowfile_record.specs.declared.flow_file.FlowFile.{FlowFile}
 use Rattle.flowfile_record.specs.declared.limits.TheConstants.{TAKEN_MAX}
+use Rattle.flowfile_record.specs.declared.stored.Fresh.{Fresh}
+use Rattle.flowfile_record.specs.declared.stored.Fresh.TheVariants.{No, Bytes, Staged, As}
+use Rattle.flowfile_record.specs.declared.stored.Placed.{Placed}
 use Rattle.record_codec.specs.ActiveFile.{active}
 use Rattle.record_codec.specs.FileEncoding.{IsContentRef}
 use Rattle.checkpoint_store.specs.Consistent.{IsFileIn}
 use Rattle.kept_state.specs.Applied.{is_among}
 use Rattle.machine_model.specs.declared.flow.Processor.{Processor}
 use Rattle.settlement.specs.Recording.{IsKeptFile, IsRecordable, Records}
-use Rattle.settlement.specs.TellsOf.{HasContent}
+use Rattle.settlement.specs.TellsOf.{HasContent, IsContentBy}
 use Rattle.engine_core.proofs.AllFiles.{StandSomewhere}
 use Rattle.engine_core.proofs.Cases.{Case, IsSettled, connections_same, counters_of, found}
 use Rattle.engine_core.proofs.FanOut.{fan_out}
@@ -79,12 +85,40 @@ kept_contents c is =
     All-map IsContentRef (λ (file : FlowFile). file.content) c.ended.taken
     (All-weaker (λ file. IsFileIn c.k (active c.ended.connection file)) (λ file. IsContentRef file.content) (λ file kept. kept.encoded.file.content) c.ended.taken (taken_kept c is))
 
-digest_by : (c : Case) → IsSettled c → (content : ContentRef) (fresh : Option (List ℕ))
-    → MatchOption fresh (Contains (map (λ file. file.content) c.ended.taken) content) (λ bytes. (content.size ≡ length bytes) × (content.digest ≡ sha256 bytes))
-    → IsDigest content.digest
-digest_by c is content None has = (All-contains IsContentRef (map (λ (file : FlowFile). file.content) c.ended.taken) content (kept_contents c is) has).digest
-digest_by c is content (Some bytes) has = ap length has.1 ∙ length-sha256 bytes
+-- a content has the size and the digest of new bytes, which aren't too many
+pub record IsOfNew (content : ContentRef) : Type 0 where
+  pub bytes : List ℕ
+  pub size : content.size ≡ length bytes
+  pub digest : content.digest ≡ sha256 bytes
+  pub small : length bytes ≤ CONTENT_MAX
+
+new_by : (taken : List FlowFile) (content : ContentRef) (fresh : Fresh) → may_be_shared fresh ≡ true → IsContentBy taken content fresh → IfSome (own_bytes fresh) (λ bytes. length bytes ≤ CONTENT_MAX) → IsOfNew content
+new_by taken content No may has small = absurd cc
+new_by taken content Staged may has small = absurd has
+new_by taken content (As of) may has small = absurd cc
+new_by taken content (Bytes bytes) may has small = record { bytes = bytes; size = has.0; digest = has.1; small = small }
+
+-- a shared content is that of a file which brings it
+pub shared_new : (c : Case) → IsSettled c → (place of : ℕ) (p : Placed) → slice_get c.settled.placed place ≡ Some p → p.fresh ≡ As of → IsOfNew p.file.content
+shared_new c is place of p there from =
+    let share = is.tells.shared place of p there from in
+    let q = share.original in
+    let lt = slice_get_within c.settled.placed of q share.there in
+    let at : get_or c.settled.placed of q ≡ q = get_or_from_slice_get c.settled.placed of q q share.there in
+    let small = subst (λ (r : Placed). IfSome (own_bytes r.fresh) (λ bytes. length bytes ≤ CONTENT_MAX)) at ((records c is).placed of q lt).fresh in
+    subst IsOfNew (sym share.same)
+    (new_by c.ended.taken q.file.content q.fresh share.shared (subst (HasContent c.ended.taken) at (is.tells.contents of q lt)) small)
+
+digest_by : (c : Case) → IsSettled c → (place : ℕ) (p : Placed) → slice_get c.settled.placed place ≡ Some p → (fresh : Fresh) → p.fresh ≡ fresh → IsContentBy c.ended.taken p.file.content fresh
+    → IsDigest p.file.content.digest
+digest_by c is place p there No from has = (All-contains IsContentRef (map (λ (file : FlowFile). file.content) c.ended.taken) p.file.content (kept_contents c is) has).digest
+digest_by c is place p there (Bytes bytes) from has = ap length has.1 ∙ length-sha256 bytes
+digest_by c is place p there Staged from has = absurd has
+digest_by c is place p there (As of) from has =
+    let new = shared_new c is place of p there from in ap length new.digest ∙ length-sha256 new.bytes
 
 pub digests : (c : Case) → IsSettled c → All (λ p. IsDigest p.file.content.digest) c.settled.placed
 digests c is =
-    All-weaker (HasContent c.ended.taken) (λ p. IsDigest p.file.content.digest) (λ p has. digest_by c is p.file.content p.fresh has) c.settled.placed is.tells.contents
+    λ i d lt.
+    let p = get_or c.settled.placed i d in
+    digest_by c is i p (slice_get-get_or c.settled.placed i d lt) p.fresh refl (is.tells.contents i d lt)

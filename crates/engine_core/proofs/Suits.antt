@@ -1,13 +1,16 @@
 -- The entry of a settled session suits what is kept.
-use Rattle.std.proofs.Common.{◌≡◌, inl, inr, ℕ, ◌<◌, ◌==◌, ◌&&◌, Bool, true, false, List, [], ◌∷◌, length, map, refl, ap, ◌∙◌, arith}
-use Rattle.std.specs.Prelude.{All, Contains, Option, None, Some, nat_lt, nat_le}
+use Rattle.std.proofs.Common.{◌≡◌, inl, inr, ℕ, ◌<◌, ◌==◌, ◌&&◌, Bool, true, false, cond, List, [], ◌∷◌, length, map, refl, ap, ◌∙◌, arith}
+use Rattle.std.specs.Prelude.{All, Contains, Option, Some, nat_lt, nat_le}
 use Rattle.std.specs.List.{list_all}
 use Rattle.std.proofs.lemmas.Bool.{and_from, eq-eqb, ne_eqb, lt-ltb, le-leb}
 use Rattle.std.proofs.lemmas.List.Elements.{All-head, All-tail}
 use Rattle.flowfile_record.specs.NumberedItems.{AscendsByNumber}
+use Rattle.flowfile_record.specs.Shared.{is_stored}
 use Rattle.flowfile_record.specs.declared.flow_file.FlowFile.{FlowFile}
 use Rattle.flowfile_record.specs.declared.stored.ActiveFile.{ActiveFile}
+use Rattle.flowfile_record.specs.declared.stored.Fresh.{Fresh}
 use Rattle.record_codec.specs.ActiveFile.{active}
+use Rattle.record_codec.specs.Placeless.{placeless}
 use Rattle.kept_state.specs.Applied.{left_after, number_of}
 use Rattle.kept_state.specs.Changes.{no_files, record_of, recorded}
 use Rattle.kept_state.specs.Fits.{active_of, are_active_in, are_active_in_one, are_active_with, are_distinct, are_new, has_count, has_place, is_in, keeps_counters, live, placed_are_new, session_suits}
@@ -86,19 +89,24 @@ record HasPlace (c : Case) (connection : ℕ) (file : FlowFile) : Type 0 where
   first_arrival : 0 < file.arrival
   arrival : file.arrival < c.settled.next_arrival
 
-place_of : (c : Case) (connection : ℕ) (file : FlowFile) (fresh : Option (List ℕ)) → HasPlace c connection file → has_place c.k (entry_in c) (recorded connection file fresh) ≡ true
-place_of c connection file None has =
-    let a : nat_lt connection (length c.k.connections) ≡ true = lt-ltb connection (length c.k.connections) has.place in
-    let b : nat_lt file.number c.settled.next_number ≡ true = lt-ltb file.number c.settled.next_number has.number in
-    let d : nat_lt 0 file.arrival ≡ true = lt-ltb 0 file.arrival has.first_arrival in
-    let e : nat_lt file.arrival c.settled.next_arrival ≡ true = lt-ltb file.arrival c.settled.next_arrival has.arrival in
-    simp (a, b, d, e)
-place_of c connection file (Some bytes) has =
-    let a : nat_lt connection (length c.k.connections) ≡ true = lt-ltb connection (length c.k.connections) has.place in
-    let b : nat_lt file.number c.settled.next_number ≡ true = lt-ltb file.number c.settled.next_number has.number in
-    let d : nat_lt 0 file.arrival ≡ true = lt-ltb 0 file.arrival has.first_arrival in
-    let e : nat_lt file.arrival c.settled.next_arrival ≡ true = lt-ltb file.arrival c.settled.next_arrival has.arrival in
-    simp (a, b, d, e)
+place_of : (c : Case) (connection : ℕ) (file : FlowFile) (fresh : Fresh) → HasPlace c connection file → has_place c.k (entry_in c) (recorded connection file fresh) ≡ true
+place_of c connection file fresh has = by (is_stored fresh)
+  where
+    a : nat_lt connection (length c.k.connections) ≡ true
+    a = lt-ltb connection (length c.k.connections) has.place
+
+    b : nat_lt file.number c.settled.next_number ≡ true
+    b = lt-ltb file.number c.settled.next_number has.number
+
+    d : nat_lt 0 file.arrival ≡ true
+    d = lt-ltb 0 file.arrival has.first_arrival
+
+    e : nat_lt file.arrival c.settled.next_arrival ≡ true
+    e = lt-ltb file.arrival c.settled.next_arrival has.arrival
+
+    by : (stored : Bool) → has_place c.k (entry_in c) (active connection (cond stored file (placeless file))) ≡ true
+    by true = simp (a, b, d, e)
+    by false = simp (a, b, d, e)
 
 all_pass : {X Y : Type 0} (test : Y → Bool) (make : X → Y) (xs : List X) → All (λ x. test (make x) ≡ true) xs → list_all test (map make xs) ≡ true
 all_pass test make [] all = refl

@@ -6,14 +6,16 @@ use Rattle.std.specs.List.{list_any, list_all}
 use Rattle.std.proofs.lemmas.Bool.{cases_Bool, and_parts, or_from, ltb-true, eqb-true}
 use Rattle.std.proofs.lemmas.List.Elements.{All-nil, All-cons, All-head, All-tail}
 use Rattle.flowfile_record.specs.NumberedItems.{with_item}
+use Rattle.flowfile_record.specs.Shared.{is_stored}
 use Rattle.flowfile_record.specs.Stored.{Kept}
 use Rattle.flowfile_record.specs.declared.change.Settled.{Settled}
 use Rattle.flowfile_record.specs.declared.content.ContentRef.{ContentRef}
 use Rattle.flowfile_record.specs.declared.flow_file.FlowFile.{FlowFile}
 use Rattle.flowfile_record.specs.declared.stored.ActiveFile.{ActiveFile}
+use Rattle.flowfile_record.specs.declared.stored.Fresh.{Fresh}
 use Rattle.flowfile_record.specs.declared.stored.Placed.{Placed}
 use Rattle.record_codec.specs.ActiveFile.{active}
-use Rattle.record_codec.specs.Placeless.{placeless_active, placeless_entry}
+use Rattle.record_codec.specs.Placeless.{placeless, placeless_active, placeless_entry}
 use Rattle.record_codec.specs.declared.entry.LogEntry.{LogEntry}
 use Rattle.record_codec.specs.declared.entry.LogEntry.TheVariants.{Begin, Session, Expire, SwapOut, SwapIn}
 use Rattle.record_codec.specs.declared.entry.SessionEntry.{SessionEntry}
@@ -96,9 +98,12 @@ found_joined (a ∷ placed) left apart =
 
 -- ---- the placed files as they are kept
 
-recorded_placeless : (connection : ℕ) (file : FlowFile) (fresh : Option (List ℕ)) → placeless_active (recorded connection file fresh) ≡ placeless_active (active connection file)
-recorded_placeless connection file None = refl
-recorded_placeless connection file (Some bytes) = refl
+recorded_placeless : (connection : ℕ) (file : FlowFile) (fresh : Fresh) → placeless_active (recorded connection file fresh) ≡ placeless_active (active connection file)
+recorded_placeless connection file fresh = by (is_stored fresh)
+  where
+    by : (b : Bool) → placeless_active (active connection (cond b file (placeless file))) ≡ placeless_active (active connection file)
+    by true = refl
+    by false = refl
 
 abbrev first : ActiveFile → List ActiveFile → ActiveFile
 first d [] = d

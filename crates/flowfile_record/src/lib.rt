@@ -40,8 +40,8 @@ pub use numbered::Numbered;
 pub use numbered_list::{NumberedIter, NumberedList};
 pub use sequence::{Bytes, Numbers, Sequence};
 pub use stored::{
-    ActiveFile, ActiveList, BatchList, Counted, EventList, FileList, Placed, PlacedList, Stored,
-    SwapBatch,
+    ActiveFile, ActiveList, BatchList, Counted, EventList, FileList, Fresh, Placed, PlacedList,
+    Stored, SwapBatch,
 };
 pub use text::{Text, TextList};
 pub use worked::{Body, End, Origin, Outcome, Sent, Worked, WorkedList};

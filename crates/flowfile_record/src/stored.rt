@@ -1,4 +1,7 @@
 //! The state of a flow that a store keeps.
+ghost use Rattle.std.specs.Prelude.{◌≡◌};
+ghost use Rattle.flowfile_record.specs.Shared.{is_stored};
+
 use crate::{
     Bytes, DIGEST_SIZE, Event, FlowFile, Numbered, NumberedList, Numbers, Sequence, TextList,
 };
@@ -62,13 +65,35 @@ impl Numbered for SwapBatch {
     }
 }
 
-/// A flow file that a session places into the queue of a connection. `fresh` is its content where that isn't in the
-/// store yet; then the slot and the offset of its reference mean nothing.
+/// Where the content of a placed file comes from. Of `Bytes` and `As` the slot and the offset of the file's reference
+/// mean nothing.
+#[derive(Debug, Drop)]
+pub enum Fresh {
+    /// It is in the store.
+    No,
+    /// It isn't in the store yet. These are its bytes.
+    Bytes(Bytes),
+    /// It is in a claim already, where it was written ahead of its change.
+    Staged,
+    /// It is that of the file at this place of the same change, an earlier one whose content is `Bytes` or `Staged`.
+    As(u32),
+}
+
+impl Fresh {
+    /// Whether it is in the store.
+    pub fn is_stored(&self) -> bool
+        ensures { result ≡ is_stored self.now }
+    {
+        matches!(self, Fresh::No | Fresh::Staged)
+    }
+}
+
+/// A flow file that a session places into the queue of a connection.
 #[derive(Debug, Drop)]
 pub struct Placed {
     pub connection: u16,
     pub file: FlowFile,
-    pub fresh: Option<Bytes>,
+    pub fresh: Fresh,
 }
 
 pub type PlacedList = Sequence<Placed>;

@@ -1,6 +1,6 @@
 -- An entry whose contents stand elsewhere is as long and has an encoding as before.
-use Rattle.std.proofs.Common.{◌≡◌, ℕ, zero, suc, ◌+◌, ◌<◌, ◌∷◌, List, [], length, map, get_or, set, All, refl, sym, ap, ◌∙◌, length-append, arith}
-use Rattle.std.proofs.lemmas.List.Elements.{All-head, All-tail, All-cons}
+use Rattle.std.proofs.Common.{◌≡◌, ℕ, zero, suc, ◌+◌, ◌<◌, ◌∷◌, List, [], length, map, get_or, set, All, refl, sym, ap, subst, ◌∙◌, length-append, arith}
+use Rattle.std.proofs.lemmas.List.Elements.{All-get_or, All-head, All-tail, All-cons, All-nil}
 use Rattle.flowfile_record.specs.declared.content.ContentRef.{ContentRef}
 use Rattle.flowfile_record.specs.declared.stored.ActiveFile.{ActiveFile}
 use Rattle.record_codec.specs.ActiveFile.{IsActiveFile}
@@ -92,6 +92,18 @@ is_entry_with (Session s) place at is entry = record {
 is_entry_with (Expire e) place at is entry = entry
 is_entry_with (SwapOut s) place at is entry = entry
 is_entry_with (SwapIn connection batch) place at is entry = entry
+
+-- the files that an entry with an encoding places have one
+active_encoded : (e : LogEntry) → IsEntry e → All IsActiveFile (placed_in e)
+active_encoded (Begin log) entry = All-nil IsActiveFile
+active_encoded (Session s) entry = entry.placed.1
+active_encoded (Expire e) entry = All-nil IsActiveFile
+active_encoded (SwapOut s) entry = All-nil IsActiveFile
+active_encoded (SwapIn connection batch) entry = All-nil IsActiveFile
+
+pub content_encoded : (e : LogEntry) (place : ℕ) (a : ActiveFile) → IsEntry e → place < length (placed_in e) → a ≡ get_or (placed_in e) place a → IsContentRef a.file.content
+content_encoded e place a entry lt is =
+    subst (λ (b : ActiveFile). IsContentRef b.file.content) (sym is) (All-get_or IsActiveFile (placed_in e) place a lt (active_encoded e entry)).file.content
 
 pub encoding_with : (e : LogEntry) (place : ℕ) (at : ContentRef) → HasContentLike at place (placed_in e) → length (encoding (with_content e place at)) ≡ length (encoding e)
 encoding_with e place at like =

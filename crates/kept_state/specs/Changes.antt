@@ -1,5 +1,6 @@
 -- Which entry a change makes, and which changes may be handed in.
-use Rattle.std.specs.Prelude.{◌≡◌, ℕ, ◌+◌, ◌<◌, ◌≤◌, ◌^◌, true, zero, suc, List, [], ◌∷◌, length, map, Option, None, Some}
+use Rattle.std.specs.Prelude.{◌≡◌, ℕ, ◌+◌, ◌<◌, ◌≤◌, ◌^◌, true, zero, suc, List, [], ◌∷◌, length, map, None, if◌then◌else◌}
+use Rattle.flowfile_record.specs.Shared.{is_stored}
 use Rattle.flowfile_record.specs.Stored.{Kept}
 use Rattle.flowfile_record.specs.declared.change.Change.{Change}
 use Rattle.flowfile_record.specs.declared.change.Change.TheVariants as change
@@ -8,6 +9,7 @@ use Rattle.flowfile_record.specs.declared.content.ContentRef.{ContentRef}
 use Rattle.flowfile_record.specs.declared.event.Event.{Event}
 use Rattle.flowfile_record.specs.declared.flow_file.FlowFile.{FlowFile}
 use Rattle.flowfile_record.specs.declared.stored.ActiveFile.{ActiveFile}
+use Rattle.flowfile_record.specs.declared.stored.Fresh.{Fresh}
 use Rattle.flowfile_record.specs.declared.stored.Placed.{Placed}
 use Rattle.record_codec.specs.ActiveFile.{active}
 use Rattle.record_codec.specs.EntryEncoding.{entry as encoding, IsEntry, IsMoment}
@@ -23,9 +25,8 @@ use Rattle.kept_state.specs.Limits.{numbers_limit}
 -- ---- entries
 
 -- a placed file's record: a content that isn't in the store yet stands at offset 0 of slot 0 there until it is
-abbrev pub recorded : ℕ → FlowFile → Option (List ℕ) → ActiveFile
-recorded connection file None = active connection file
-recorded connection file (Some bytes) = active connection (placeless file)
+abbrev pub recorded : ℕ → FlowFile → Fresh → ActiveFile
+recorded connection file fresh = active connection (if is_stored fresh then file else placeless file)
 
 abbrev pub record_of : Placed → ActiveFile
 record_of p = recorded p.connection p.file p.fresh

@@ -1,5 +1,5 @@
 //! An entry that is ready to be written.
-ghost use Rattle.std.specs.Prelude.{◌≡◌, ◌<◌, ◌≤◌, [], length, vec_len, vec_capacity, IfOk};
+ghost use Rattle.std.specs.Prelude.{◌≡◌, ◌<◌, ◌≤◌, [], length, map, slice_get, vec_len, vec_capacity, IfOk, IfSome};
 ghost use Rattle.record_codec.specs.EntryEncoding.{entry as encoding, IsEntry};
 ghost use Rattle.record_codec.specs.FileEncoding.{IsContentRef};
 ghost use Rattle.record_codec.specs.Placeless.{placeless_entry};
@@ -63,6 +63,17 @@ impl PreparedEntry {
         ensures { result.now ≡ placed_in self.now }
     {
         placed_in(&self.entry)
+    }
+
+    /// The content of the placed file at a place, where there is one.
+    pub fn content_at(&self, place: u64) -> Option<ContentRef>
+        ensures content { result ≡ slice_get (map (λ a. a.file.content) (placed_in self.now)) place }
+        ensures encoded { IfSome result IsContentRef }
+    {
+        let Some(active) = placed_in(&self.entry).get(place as usize) else {
+            return None;
+        };
+        Some(active.file.content)
     }
 
     /// The content of the placed file at a place stands there from now on. Its size and its digest stay.

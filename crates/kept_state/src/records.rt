@@ -21,7 +21,7 @@ fn record_of(placed: &Placed) -> Result<ActiveFile, AllocError>
     ensures { IfOk result (λ active. active ≡ record_of placed.now) }
 {
     let mut file = placed.file.copy()?;
-    if placed.fresh.is_some() {
+    if !placed.fresh.is_stored() {
         file.content.slot = 0;
         file.content.offset = 0;
     }

@@ -5,6 +5,7 @@ use Rattle.std.specs.List.{enumerate_from}
 use Rattle.flowfile_record.specs.Counts.{with_count}
 use Rattle.flowfile_record.specs.Kin.{kin_of_all}
 use Rattle.flowfile_record.specs.NumberedItems.{with_item}
+use Rattle.flowfile_record.specs.Shared.{bytes_among}
 use Rattle.flowfile_record.specs.declared.change.Settled.{Settled}
 use Rattle.flowfile_record.specs.declared.content.ContentRef.{ContentRef}
 use Rattle.flowfile_record.specs.declared.flow_file.FlowFile.{FlowFile}
@@ -24,13 +25,16 @@ queued_file contents file = record {
   batch = None;
 }
 
--- a placed file, with its bytes: those of a new content, or those that its reference stands for
-abbrev pub placed_file : (contents : ContentRef → List ℕ) → Placed → QueuedFile
-placed_file contents p = record (queued_file contents p.file) { bytes = unwrap_or p.fresh (contents p.file.content) }
+-- one of all these placed files, with its bytes: those of a new content, or those that its reference stands for
+abbrev pub placed_file : (contents : ContentRef → List ℕ) → (all : List Placed) → Placed → QueuedFile
+placed_file contents all p =
+    record (queued_file contents p.file) { bytes = unwrap_or (bytes_among all p.fresh) (contents p.file.content) }
 
--- what is placed into the queue of a connection
-abbrev pub placed_into : (contents : ContentRef → List ℕ) → (connection : ℕ) → List Placed → List QueuedFile
-placed_into contents connection placed = map (placed_file contents) (filter (λ p. p.connection == connection) placed)
+-- what of them is placed into the queue of a connection
+abbrev pub placed_into : (contents : ContentRef → List ℕ) → (all : List Placed) → (connection : ℕ) → List Placed
+    → List QueuedFile
+placed_into contents all connection placed =
+    map (placed_file contents all) (filter (λ p. p.connection == connection) placed)
 
 -- one file more in a queue, by its arrival
 abbrev pub with_arrival : List QueuedFile → QueuedFile → List QueuedFile
@@ -39,7 +43,7 @@ with_arrival queue file = with_item (λ f. f.arrival) file queue
 -- a queue without what is gone, and with what is placed into it, by arrival
 abbrev pub queue_after : (contents : ContentRef → List ℕ) → Settled → ℕ × List QueuedFile → List QueuedFile
 queue_after contents s (connection, queue) =
-    fold with_arrival (without_files queue s.gone) (placed_into contents connection s.placed)
+    fold with_arrival (without_files queue s.gone) (placed_into contents s.placed connection s.placed)
 
 -- The state behind a settled session. The kin is what the events tell of.
 abbrev pub state_after : (contents : ContentRef → List ℕ) → State → Settled → State

@@ -10,11 +10,13 @@ use Rattle.machine_model.specs.Settling as machine
 use Rattle.machine_model.specs.Settling.{arriving, in_queue, newcomer, newcomers}
 use Rattle.machine_model.specs.State.{QueuedFile}
 use Rattle.machine_model.proofs.Tally.{Each, each-append}
+use Rattle.flowfile_record.specs.Shared.{own_bytes}
 use Rattle.flowfile_record.specs.declared.stored.Placed.{Placed}
 use Rattle.settlement.specs.Contents.{fresh_in}
 use Rattle.settlement.specs.Ending.{goes_to}
-use Rattle.settlement.specs.Placing.{Newcomer, clones_from, first_of, firsts, placed_at, placed_from, wanted}
+use Rattle.settlement.specs.Placing.{Newcomer, first_of, firsts, placed_at, placed_from, wanted}
 use Rattle.settlement.proofs.ByArrival.{put_last, put_all}
+use Rattle.settlement.proofs.Clones.{clones_from, fresh-own}
 use Rattle.settlement.proofs.EndedFiles.{Case, ended_of, place}
 use Rattle.settlement.proofs.Listing.{map-map, flat_map-map, map-flat_map, flat_map-same}
 use Rattle.settlement.proofs.ToldEvents.{as_ended, wanted-same}
@@ -80,22 +82,24 @@ comers-queued files clones =
 
 -- the bytes of a file are those of its content
 abbrev pub HasBytes : Case → SettledFile → Type 0
-HasBytes c file = unwrap_or (fresh_in c.ended.sources file.worked.body) (c.bytes (ended_of (place c) file).content) ≡ file.bytes
+HasBytes c file = unwrap_or (own_bytes (fresh_in c.ended.sources file.worked.body)) (c.bytes (ended_of (place c) file).content) ≡ file.bytes
 
-pub placed-queued : (c : Case) (arrival connection number : ℕ) (file : SettledFile) → HasBytes c file
-    → placed_file c.bytes (placed_at c.ended.sources arrival (connection, number, ended_of (place c) file)) ≡ in_queue file number arrival
-placed-queued c arrival connection number file has = λ i. record (in_queue file number arrival) { bytes = has i }
+pub placed-queued : (c : Case) (all : List Placed) (arrival connection number : ℕ) (file : SettledFile) → HasBytes c file
+    → placed_file c.bytes all (placed_at c.ended.sources arrival (connection, number, ended_of (place c) file)) ≡ in_queue file number arrival
+placed-queued c all arrival connection number file has =
+    let bytes = ap (λ own. unwrap_or own (c.bytes (ended_of (place c) file).content)) (fresh-own all c.ended.sources file.worked.body) ∙ has in
+    λ i. record (in_queue file number arrival) { bytes = bytes i }
 
-pub arriving-same : (c : Case) (arrival connection : ℕ) (news : List Comer) → Each (λ (one : Comer). HasBytes c one.2) news
-    → placed_into c.bytes connection (placed_from c.ended.sources arrival (map (as_placed c) news)) ≡ arriving arrival connection (map as_queued news)
-arriving-same c arrival connection [] has = refl
-arriving-same c arrival connection (one ∷ news) has =
+pub arriving-same : (c : Case) (all : List Placed) (arrival connection : ℕ) (news : List Comer) → Each (λ (one : Comer). HasBytes c one.2) news
+    → placed_into c.bytes all connection (placed_from c.ended.sources arrival (map (as_placed c) news)) ≡ arriving arrival connection (map as_queued news)
+arriving-same c all arrival connection [] has = refl
+arriving-same c all arrival connection (one ∷ news) has =
     let later = placed_from c.ended.sources (arrival + 1) (map (as_placed c) news) in
     let first = placed_at c.ended.sources arrival (as_placed c one) in
-    elim (one.0 == connection) as (λ b. map (placed_file c.bytes) (cond b (first ∷ filter (λ (file : Placed). file.connection == connection) later) (filter (λ (file : Placed). file.connection == connection) later))
+    elim (one.0 == connection) as (λ b. map (placed_file c.bytes all) (cond b (first ∷ filter (λ (file : Placed). file.connection == connection) later) (filter (λ (file : Placed). file.connection == connection) later))
     ≡ cond b (in_queue one.2 one.1 arrival ∷ arriving (arrival + 1) connection (map as_queued news)) (arriving (arrival + 1) connection (map as_queued news))) [
-      | true ↦ λ i. placed-queued c arrival one.0 one.1 one.2 has.0 i ∷ arriving-same c (arrival + 1) connection news has.1 i
-      | false ↦ arriving-same c (arrival + 1) connection news has.1
+      | true ↦ λ i. placed-queued c all arrival one.0 one.1 one.2 has.0 i ∷ arriving-same c all (arrival + 1) connection news has.1 i
+      | false ↦ arriving-same c all (arrival + 1) connection news has.1
     ]
 
 -- ---- behind the others

@@ -3,6 +3,7 @@ use Rattle.std.proofs.Common.{◌≡◌, ℕ, zero, suc, ◌+◌, ◌-◌, ◌<�
 use Rattle.std.specs.Prelude.{Option, Some, None, IfSome, unwrap_or, slice_get, slice_range}
 use Rattle.sha2.specs.Sha256.{sha256}
 use Rattle.flowfile_record.specs.Outcome.{content_of, IsBodyOver}
+use Rattle.flowfile_record.specs.Shared.{own_bytes}
 use Rattle.flowfile_record.specs.declared.content.ContentRef.{ContentRef}
 use Rattle.flowfile_record.specs.declared.flow_file.FlowFile.{FlowFile}
 use Rattle.flowfile_record.specs.declared.worked.Body.{Body}
@@ -68,7 +69,7 @@ content-stamp bytes taken sources (New written) read within = record { size = re
 -- the bytes of a file's content are those that come with it, or else those that its reference stands for
 pub content-bytes : (bytes : ContentRef → List ℕ) (taken : List FlowFile) (sources : List Source) (body : Body) → AreRead bytes taken sources → IsBodyWithin sources body
     → IsBodyOver (sizes_of taken) body → length (sizes_of taken) ≡ length taken
-    → unwrap_or (fresh_in sources body) (bytes (content_in taken sources body)) ≡ content_of (contents_of bytes taken) body
+    → unwrap_or (own_bytes (fresh_in sources body)) (bytes (content_in taken sources body)) ≡ content_of (contents_of bytes taken) body
 content-bytes bytes taken sources (Whole of) read within over count = sym (kept_bytes bytes taken of (omega arith))
 content-bytes bytes taken sources (Part of offset size) read within over count = part_same bytes taken sources of offset size read within
 content-bytes bytes taken sources (New written) read within over count = refl

@@ -1,9 +1,8 @@
 -- That what is placed has its content.
 use Rattle.std.proofs.Common.{◌≡◌, inl, inr, ℕ, zero, suc, ◌+◌, ◌<◌, List, [], ◌∷◌, ◌++◌, map, length, refl, sym, subst, arith}
-use Rattle.std.specs.Prelude.{All, Contains, IfOk, MatchOption, Ok, Err, Result, zip}
+use Rattle.std.specs.Prelude.{All, IfOk, Ok, Err, Result, zip}
 use Rattle.std.proofs.lemmas.List.{length-map}
 use Rattle.std.proofs.lemmas.List.Elements.{All-cons, All-head, All-nil, All-tail}
-use Rattle.sha2.specs.Sha256.{sha256}
 use Rattle.flowfile_record.specs.Outcome.{IsBodyOver, IsWorked}
 use Rattle.flowfile_record.specs.declared.change.Settled.{Settled}
 use Rattle.flowfile_record.specs.declared.flow_file.FlowFile.{FlowFile}
@@ -21,20 +20,20 @@ use Rattle.process_session.specs.declared.file.Source.{Source}
 use Rattle.settlement.specs.Contents.{content_in, fresh_in, kept_content}
 use Rattle.settlement.specs.Ending.{EndingPlace, ended_file, ended_files}
 use Rattle.settlement.specs.Handed.{MaySettle, sizes_of}
-use Rattle.settlement.specs.Placing.{Newcomer, PlacingFrom, arrived, clones_from, first_of, firsts, further, placed_from, returned, returning, wanted}
-use Rattle.settlement.specs.TellsOf.{HasContent, TellsOf}
+use Rattle.settlement.specs.Placing.{Newcomer, PlacingFrom, arrived, first_of, firsts, further, placed_from, returned, returning, wanted}
+use Rattle.settlement.specs.TellsOf.{HasContent, IsContentBy, TellsOf}
 use Rattle.settlement.specs.Whole.{place_in, placing_at, settled_in}
 use Rattle.settlement.specs.declared.counters.Counters.{Counters}
 use Rattle.settlement.specs.declared.file.EndedFile.{EndedFile}
 use Rattle.settlement.specs.declared.file.Goes.{Goes}
 use Rattle.settlement.specs.declared.file.Goes.TheVariants.{Queues, Returns, Drops, Leaves}
 use Rattle.settlement.specs.declared.handed.Ended.{Ended}
+use Rattle.settlement.proofs.Clones.{all-shared, all_clones, as_newcomers, before_clones, clones-hold, clones_from, clones_in}
 
 -- a file has its content: bytes of its own with their size and digest, or that of a taken file
 abbrev Holds : List FlowFile → List Source → EndedFile → Type 0
 Holds taken sources file =
-    MatchOption (fresh_in sources file.worked.body) (Contains (map (λ file. file.content) taken) file.content)
-    (λ bytes. (file.content.size ≡ length bytes) × (file.content.digest ≡ sha256 bytes))
+    IsContentBy taken file.content (fresh_in sources file.worked.body)
 
 kept_there : (taken : List FlowFile) (of : ℕ) → of < length taken → Among (kept_content taken of) (map (λ (file : FlowFile). file.content) taken)
 kept_there [] of h = absurd (omega arith)
@@ -42,8 +41,7 @@ kept_there (file ∷ taken) zero h = inl refl
 kept_there (file ∷ taken) (suc of) h = inr (kept_there taken of (omega arith))
 
 body_holds : (taken : List FlowFile) (sources : List Source) (body : Body) → IsBodyOver (sizes_of taken) body
-    → MatchOption (fresh_in sources body) (Contains (map (λ file. file.content) taken) (content_in taken sources body))
-    (λ bytes. ((content_in taken sources body).size ≡ length bytes) × ((content_in taken sources body).digest ≡ sha256 bytes))
+    → IsContentBy taken (content_in taken sources body) (fresh_in sources body)
 body_holds taken sources (Whole of) over =
     contains_among (kept_content taken of) (map (λ (file : FlowFile). file.content) taken) (kept_there taken of (omega (arith, length-map taken (λ (file : FlowFile). file.content.size))))
 body_holds taken sources (Part of offset size) over = (refl, refl)
@@ -114,8 +112,9 @@ settled-tells flow given counters ended processor may =
     (entered_in given.moment (map (λ (file : FlowFile). file.entered) ended.taken) ended.outcome.files) ended.outcome.files may.outcome.each in
     let news : Each (HasContent ended.taken) (placed_from ended.sources counters.next_arrival (firsts files))
     = placed_hold ended.taken ended.sources counters.next_arrival (firsts files) (firsts_hold ended.taken ended.sources files hold) in
-    let clones : Each (HasContent ended.taken) (placed_from ended.sources (counters.next_arrival + length (firsts files)) (clones_from first (wanted files)))
-    = placed_hold ended.taken ended.sources (counters.next_arrival + length (firsts files)) (clones_from first (wanted files)) (clones_hold ended.taken ended.sources first (wanted files) (wanted_hold ended.taken ended.sources files hold)) in
+    let clones : Each (HasContent ended.taken) (clones_in from first files)
+    = clones-hold ended.taken (returned from files ++ arrived from first files) (before_clones from files) (clones_in from first files) (as_newcomers from first files) (all_clones from first files)
+    (placed_hold ended.taken ended.sources (counters.next_arrival + length (firsts files)) (clones_from first (wanted files)) (clones_hold ended.taken ended.sources first (wanted files) (wanted_hold ended.taken ended.sources files hold))) in
     record {
       processor = refl;
       moment = refl;
@@ -123,6 +122,7 @@ settled-tells flow given counters ended processor may =
       contents = all_of ended.taken (returned from files ++ arrived from first files)
           (each-append (HasContent ended.taken) (returned from files) (arrived from first files) (returned_hold from files hold)
           (each-append (HasContent ended.taken) (placed_from ended.sources counters.next_arrival (firsts files)) _ news clones));
+      shared = all-shared from first files;
     }
 
 pub if-tells : {E : Type 0} (flow : Flow) (given : Given) (counters : Counters) (ended : Ended) (processor : Processor) (result : Result Settled E) → MaySettle flow counters ended

@@ -1,6 +1,7 @@
 -- That what is handed in stands for a session of a valid state, and what the calls inside make of it settles it.
 use Rattle.std.proofs.Common.{◌≡◌, inl, inr, ℕ, ◌*◌, ◌<◌, ◌≤◌, List, [], ◌∷◌, map, length, refl, sym, ap, subst, ◌∙◌, arith}
 use Rattle.std.specs.Prelude.{◌==◌, All, Contains, IfOk, Ok, Err, Result, Some, slice_get, zip, unwrap_or}
+use Rattle.flowfile_record.specs.Shared.{own_bytes}
 use Rattle.flowfile_record.specs.declared.change.Settled.{Settled}
 use Rattle.std.proofs.lemmas.Bool.{cases_lt, ne_eqb}
 use Rattle.std.proofs.lemmas.List.{length-map}
@@ -46,7 +47,7 @@ one_has c number entered worked read within over =
     let at = content_in c.ended.taken c.ended.sources worked.body in
     let stamp = content-stamp c.bytes c.ended.taken c.ended.sources worked.body read within in
     rw (taken_contents c.bytes c.ended.taken)
-    (ap (λ content. unwrap_or (fresh_in c.ended.sources worked.body) (c.bytes content)) (sym (stamped at _ stamp))
+    (ap (λ content. unwrap_or (own_bytes (fresh_in c.ended.sources worked.body)) (c.bytes content)) (sym (stamped at _ stamp))
     ∙ content-bytes c.bytes c.ended.taken c.ended.sources worked.body read within over (length-map c.ended.taken (λ (file : FlowFile). file.content.size)))
 
 all_has : (c : Case) (relationships : ℕ) (numbers entered : List ℕ) (files : List Worked) → AreRead c.bytes c.ended.taken c.ended.sources

@@ -3,6 +3,7 @@ pub mod Arriving
 pub mod Bounds
 pub mod Bytes
 pub mod Children
+pub mod Clones
 pub mod Contained
 pub mod EndedFiles
 pub mod EventCount

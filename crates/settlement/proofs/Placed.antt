@@ -3,11 +3,11 @@ use Rattle.std.proofs.Common.{◌≡◌, ℕ, suc, ◌+◌, ◌<◌, ◌≤◌, 
 use Rattle.std.proofs.lemmas.List.Concat.{flat_map-append}
 use Rattle.flowfile_record.specs.declared.stored.Placed.{Placed}
 use Rattle.process_session.specs.declared.file.Source.{Source}
-use Rattle.settlement.specs.Placing.{Newcomer, PlacingFrom, clones_from, first_of, firsts, placed_at, placed_from, returned, returning, wanted}
+use Rattle.settlement.specs.Placing.{Newcomer, PlacingFrom, arrived, cloned_from, clones_of, first_of, firsts, further, placed_at, placed_from, returned, returning, wanted}
 use Rattle.settlement.specs.declared.file.EndedFile.{EndedFile}
 use Rattle.settlement.specs.declared.file.Goes.{Goes}
 use Rattle.settlement.specs.declared.file.Goes.TheVariants.{Queues, Returns, Drops, Leaves}
-use Rattle.settlement.proofs.Steps.{left, length_wanted_one, wanted_left, wanted_one}
+use Rattle.settlement.proofs.Steps.{left, length_wanted_one, wanted_left}
 
 pub placed-append : (sources : List Source) (arrival : ℕ) (xs ys : List Newcomer) → placed_from sources arrival (xs ++ ys) ≡ placed_from sources arrival xs ++ placed_from sources (arrival + length xs) ys
 placed-append sources arrival [] ys = ap (λ n. placed_from sources n ys) (omega arith)
@@ -19,61 +19,48 @@ pub length-placed : (sources : List Source) (arrival : ℕ) (xs : List Newcomer)
 length-placed sources arrival [] = refl
 length-placed sources arrival (x ∷ xs) = ap suc (length-placed sources (arrival + 1) xs)
 
-pub clones-append : (number : ℕ) (xs ys : List (EndedFile × ℕ)) → clones_from number (xs ++ ys) ≡ clones_from number xs ++ clones_from (number + length xs) ys
-clones-append number [] ys = ap (λ n. clones_from n ys) (omega arith)
-clones-append number (x ∷ xs) ys =
-    let moved : number + 1 + length xs ≡ number + suc (length xs) = omega arith in
-    ap (λ rest. (x.1, number, x.0) ∷ rest) (clones-append (number + 1) xs ys ∙ ap (λ n. clones_from (number + 1) xs ++ clones_from n ys) moved)
-
-pub length-clones : (number : ℕ) (xs : List (EndedFile × ℕ)) → length (clones_from number xs) ≡ length xs
-length-clones number [] = refl
-length-clones number (x ∷ xs) = ap suc (length-clones (number + 1) xs)
-
--- the clones of one more file
-pub clones-on : (sources : List Source) (arrival number : ℕ) (old new : List Placed) (xs ys : List (EndedFile × ℕ))
-    → new ≡ old ++ placed_from sources (arrival + length old) (clones_from (number + length old) xs)
-    → new ++ placed_from sources (arrival + length new) (clones_from (number + length new) ys)
-    ≡ old ++ placed_from sources (arrival + length old) (clones_from (number + length old) (xs ++ ys))
-clones-on sources arrival number old new xs ys is =
-    let more = placed_from sources (arrival + length old) (clones_from (number + length old) xs) in
-    let long : length new ≡ length old + length xs
-    = ap length is ∙ length-append old more ∙ ap (λ n. length old + n) (length-placed sources (arrival + length old) (clones_from (number + length old) xs) ∙ length-clones (number + length old) xs) in
-    let place : arrival + length new ≡ arrival + length old + length xs = omega arith in
-    let next : number + length new ≡ number + length old + length xs = omega arith in
-    let count = length-clones (number + length old) xs in
-    ap (λ n. new ++ placed_from sources n (clones_from (number + length new) ys)) place
-    ∙ ap (λ n. new ++ placed_from sources (arrival + length old + length xs) (clones_from n ys)) next
-    ∙ ap (λ zs. zs ++ placed_from sources (arrival + length old + length xs) (clones_from (number + length old + length xs) ys)) is
-    ∙ append_assoc old more (placed_from sources (arrival + length old + length xs) (clones_from (number + length old + length xs) ys))
-    ∙ ap (λ n. old ++ (more ++ placed_from sources (arrival + length old + n) (clones_from (number + length old + length xs) ys))) (sym count)
-    ∙ ap (λ zs. old ++ zs) (sym (placed-append sources (arrival + length old) (clones_from (number + length old) xs) (clones_from (number + length old + length xs) ys)))
-    ∙ ap (λ zs. old ++ placed_from sources (arrival + length old) zs) (sym (clones-append (number + length old) xs ys))
+pub length-clones_of : (place number arrival : ℕ) (file : EndedFile) (connections : List ℕ) → length (clones_of place number arrival file connections) ≡ length connections
+length-clones_of place number arrival file [] = refl
+length-clones_of place number arrival file (connection ∷ connections) = ap suc (length-clones_of place (number + 1) (arrival + 1) file connections)
 
 -- what a step over the clones of one more file leaves
-pub clones_step : (sources : List Source) (arrival number : ℕ) (old new whole : List Placed) (files : List EndedFile) (i : ℕ) (file : EndedFile) → i < length files → file ≡ get_or files i file
-    → new ≡ old ++ placed_from sources (arrival + length old) (clones_from (number + length old) (wanted (file ∷ [])))
-    → old ++ placed_from sources (arrival + length old) (clones_from (number + length old) (wanted (drop i files))) ≡ whole
-    → new ++ placed_from sources (arrival + length new) (clones_from (number + length new) (wanted (drop (i + 1) files))) ≡ whole
-clones_step sources arrival number old new whole files i file h is added before =
+pub clones_step : (place next number arrival : ℕ) (old new whole : List Placed) (files : List EndedFile) (i : ℕ) (file : EndedFile) → i < length files → file ≡ get_or files i file
+    → next ≡ place + length (first_of file file.goes)
+    → new ≡ old ++ clones_of place (number + length old) (arrival + length old) file (further file.goes)
+    → old ++ cloned_from place (number + length old) (arrival + length old) (drop i files) ≡ whole
+    → new ++ cloned_from next (number + length new) (arrival + length new) (drop (i + 1) files) ≡ whole
+clones_step place next number arrival old new whole files i file h is next_is added before =
     let rest = drop (i + 1) files in
-    let joined : wanted (file ∷ []) ++ wanted rest ≡ wanted (file ∷ rest) = ap (λ xs. xs ++ wanted rest) (wanted_one file) in
-    clones-on sources arrival number old new (wanted (file ∷ [])) (wanted rest) added
-    ∙ ap (λ xs. old ++ placed_from sources (arrival + length old) (clones_from (number + length old) xs)) (joined ∙ ap wanted (sym (left files i file h is)))
+    let count = length (further file.goes) in
+    let later = place + length (first_of file file.goes) in
+    let more = clones_of place (number + length old) (arrival + length old) file (further file.goes) in
+    let long : length new ≡ length old + count
+    = ap length added ∙ length-append old more ∙ ap (λ n. length old + n) (length-clones_of place (number + length old) (arrival + length old) file (further file.goes)) in
+    let numbers : number + length new ≡ number + length old + count = omega arith in
+    let arrivals : arrival + length new ≡ arrival + length old + count = omega arith in
+    (λ j. added j ++ cloned_from (next_is j) (numbers j) (arrivals j) rest)
+    ∙ append_assoc old more (cloned_from later (number + length old + count) (arrival + length old + count) rest)
+    ∙ ap (λ xs. old ++ cloned_from place (number + length old) (arrival + length old) xs) (sym (left files i file h is))
     ∙ before
 
-pub clones_counted : (sources : List Source) (arrival number : ℕ) (old new : List Placed) (files : List EndedFile) (i : ℕ) (file : EndedFile) → i < length files → file ≡ get_or files i file
-    → new ≡ old ++ placed_from sources (arrival + length old) (clones_from (number + length old) (wanted (file ∷ [])))
+pub clones_counted : (place number arrival : ℕ) (old new : List Placed) (files : List EndedFile) (i : ℕ) (file : EndedFile) → i < length files → file ≡ get_or files i file
+    → new ≡ old ++ clones_of place (number + length old) (arrival + length old) file (further file.goes)
     → length old + length (wanted (drop i files)) ≡ length (wanted files) → length new + length (wanted (drop (i + 1) files)) ≡ length (wanted files)
-clones_counted sources arrival number old new files i file h is added before =
+clones_counted place number arrival old new files i file h is added before =
     omega (
       arith,
       ap length added,
-      length-append old (placed_from sources (arrival + length old) (clones_from (number + length old) (wanted (file ∷ [])))),
-      length-placed sources (arrival + length old) (clones_from (number + length old) (wanted (file ∷ []))),
-      length-clones (number + length old) (wanted (file ∷ [])),
+      length-append old (clones_of place (number + length old) (arrival + length old) file (further file.goes)),
+      length-clones_of place (number + length old) (arrival + length old) file (further file.goes),
       length_wanted_one file,
       wanted_left files i file h is,
     )
+
+-- where the next file that goes on is placed
+pub places_on : (place : ℕ) (files : List EndedFile) (i : ℕ) (file : EndedFile) → i < length files → file ≡ get_or files i file
+    → place + length (firsts (drop i files)) ≡ place + length (first_of file file.goes) + length (firsts (drop (i + 1) files))
+places_on place files i file h is =
+    omega (arith, ap (λ xs. length (firsts xs)) (left files i file h is), length-append (first_of file file.goes) (firsts (drop (i + 1) files)))
 
 -- what goes on of one more file
 pub firsts_step : (sources : List Source) (arrival : ℕ) (old new : List Placed) (done : List EndedFile) (file : EndedFile) → old ≡ placed_from sources arrival (firsts done)
@@ -107,3 +94,41 @@ firsts_few (file ∷ files) = omega (arith, length-append (first_of file file.go
 -- fewer go on than were looked at
 pub firsts_placed : (sources : List Source) (arrival : ℕ) (old : List Placed) (done : List EndedFile) → old ≡ placed_from sources arrival (firsts done) → length old ≤ length done
 firsts_placed sources arrival old done is = omega (arith, ap length is, length-placed sources arrival (firsts done), firsts_few done)
+
+one_place : (from : PlacingFrom) (file : EndedFile) (goes : Goes) → length (returning from file goes) + length (first_of file goes) ≤ 1
+one_place from file (Queues first others) = omega arith
+one_place from file Returns = omega arith
+one_place from file (Drops relationship) = omega arith
+one_place from file Leaves = omega arith
+
+-- no more return or go on than there are
+pub few_places : (from : PlacingFrom) (files : List EndedFile) → length (returned from files) + length (firsts files) ≤ length files
+few_places from [] = omega arith
+few_places from (file ∷ files) =
+    omega (
+      arith,
+      length-append (returning from file file.goes) (returned from files),
+      length-append (first_of file file.goes) (firsts files),
+      one_place from file file.goes,
+      few_places from files,
+    )
+
+-- one more file returns, or none
+pub returned_left : (from : PlacingFrom) (files : List EndedFile) (i : ℕ) (file : EndedFile) → i < length files → file ≡ get_or files i file
+    → length (returned from (drop i files)) ≡ length (returning from file file.goes) + length (returned from (drop (i + 1) files))
+returned_left from files i file h is =
+    omega (
+      arith,
+      ap (λ xs. length (returned from xs)) (left files i file h is),
+      length-append (returning from file file.goes) (returned from (drop (i + 1) files)),
+    )
+
+-- the files that return, those that go on, and the clones
+pub placed_whole : (at : PlacingFrom) (files : List EndedFile) (first place count : ℕ) (front clones : List Placed) → place ≡ length (returned at files) → count ≡ length (firsts files)
+    → front ≡ returned at files ++ placed_from at.sources at.next_arrival (firsts files) → clones ≡ cloned_from place first (at.next_arrival + count) files
+    → front ++ clones ≡ returned at files ++ arrived at first files
+placed_whole at files first place count front clones place_is count_is front_is clones_are =
+    let news = placed_from at.sources at.next_arrival (firsts files) in
+    (λ i. front_is i ++ clones_are i)
+    ∙ append_assoc (returned at files) news (cloned_from place first (at.next_arrival + count) files)
+    ∙ (λ i. returned at files ++ (news ++ cloned_from (place_is i) first (at.next_arrival + count_is i) files))

@@ -79,36 +79,36 @@ found_back c number (file ∷ files) once =
 
 -- ---- what is placed as coming back
 
-back_same : (c : Case) (file : SettledFile) (goes : Destination) → HasBytes c file → (connection : ℕ)
-    → placed_into c.bytes connection (returning (placing_at (place c) c.ended.connection c.state.next_arrival) (ended_of (place c) file) (goes_to goes)) ≡ cond (c.ended.connection == connection) (back_of c file goes) []
-back_same c file placing.Returns has connection =
+back_same : (c : Case) (all : List Placed) (file : SettledFile) (goes : Destination) → HasBytes c file → (connection : ℕ)
+    → placed_into c.bytes all connection (returning (placing_at (place c) c.ended.connection c.state.next_arrival) (ended_of (place c) file) (goes_to goes)) ≡ cond (c.ended.connection == connection) (back_of c file goes) []
+back_same c all file placing.Returns has connection =
     let at = arrival_of c.ended.taken file.worked.origin in
-    elim (c.ended.connection == connection) as (λ b. map (placed_file c.bytes) (cond b (placed_at c.ended.sources at (c.ended.connection, file.number, ended_of (place c) file) ∷ []) []) ≡ cond b (in_queue file file.number at ∷ []) []) [
-      | true ↦ ap (λ one. one ∷ []) (placed-queued c at c.ended.connection file.number file has)
+    elim (c.ended.connection == connection) as (λ b. map (placed_file c.bytes all) (cond b (placed_at c.ended.sources at (c.ended.connection, file.number, ended_of (place c) file) ∷ []) []) ≡ cond b (in_queue file file.number at ∷ []) []) [
+      | true ↦ ap (λ one. one ∷ []) (placed-queued c all at c.ended.connection file.number file has)
       | false ↦ refl
     ]
-back_same c file (placing.Queues first others) has connection = elim (c.ended.connection == connection) as (λ b. [] ≡ cond b (back_of c file (placing.Queues first others)) []) [ true ↦ refl | false ↦ refl ]
-back_same c file (placing.Drops relationship) has connection = elim (c.ended.connection == connection) as (λ b. [] ≡ cond b (back_of c file (placing.Drops relationship)) []) [ true ↦ refl | false ↦ refl ]
-back_same c file placing.Leaves has connection = elim (c.ended.connection == connection) as (λ b. [] ≡ cond b (back_of c file placing.Leaves) []) [ true ↦ refl | false ↦ refl ]
+back_same c all file (placing.Queues first others) has connection = elim (c.ended.connection == connection) as (λ b. [] ≡ cond b (back_of c file (placing.Queues first others)) []) [ true ↦ refl | false ↦ refl ]
+back_same c all file (placing.Drops relationship) has connection = elim (c.ended.connection == connection) as (λ b. [] ≡ cond b (back_of c file (placing.Drops relationship)) []) [ true ↦ refl | false ↦ refl ]
+back_same c all file placing.Leaves has connection = elim (c.ended.connection == connection) as (λ b. [] ≡ cond b (back_of c file placing.Leaves) []) [ true ↦ refl | false ↦ refl ]
 
-placed_append : (c : Case) (connection : ℕ) (xs ys : List Placed) → placed_into c.bytes connection (xs ++ ys) ≡ placed_into c.bytes connection xs ++ placed_into c.bytes connection ys
-placed_append c connection xs ys =
-    ap (map (placed_file c.bytes)) (filter-append (λ (file : Placed). file.connection == connection) xs ys)
-    ∙ map-append (placed_file c.bytes) (filter (λ (file : Placed). file.connection == connection) xs) (filter (λ (file : Placed). file.connection == connection) ys)
+placed_append : (c : Case) (all : List Placed) (connection : ℕ) (xs ys : List Placed) → placed_into c.bytes all connection (xs ++ ys) ≡ placed_into c.bytes all connection xs ++ placed_into c.bytes all connection ys
+placed_append c all connection xs ys =
+    ap (map (placed_file c.bytes all)) (filter-append (λ (file : Placed). file.connection == connection) xs ys)
+    ∙ map-append (placed_file c.bytes all) (filter (λ (file : Placed). file.connection == connection) xs) (filter (λ (file : Placed). file.connection == connection) ys)
 
-pub placed-append : (c : Case) (connection : ℕ) (xs ys : List Placed) → placed_into c.bytes connection (xs ++ ys) ≡ placed_into c.bytes connection xs ++ placed_into c.bytes connection ys
-placed-append c connection xs ys = placed_append c connection xs ys
+pub placed-append : (c : Case) (all : List Placed) (connection : ℕ) (xs ys : List Placed) → placed_into c.bytes all connection (xs ++ ys) ≡ placed_into c.bytes all connection xs ++ placed_into c.bytes all connection ys
+placed-append c all connection xs ys = placed_append c all connection xs ys
 
 cond_append : (b : Bool) (xs ys : List QueuedFile) → cond b xs [] ++ cond b ys [] ≡ cond b (xs ++ ys) []
 cond_append true xs ys = refl
 cond_append false xs ys = refl
 
-returned_same : (c : Case) (connection : ℕ) (files : List SettledFile) → Each (HasBytes c) files
-    → placed_into c.bytes connection (returned (placing_at (place c) c.ended.connection c.state.next_arrival) (map (ended_of (place c)) files)) ≡ cond (c.ended.connection == connection) (flat_map (back c) files) []
-returned_same c connection [] has = elim (c.ended.connection == connection) as (λ b. [] ≡ cond b (flat_map (back c) []) []) [ true ↦ refl | false ↦ refl ]
-returned_same c connection (file ∷ files) has =
-    placed_append c connection (returning (placing_at (place c) c.ended.connection c.state.next_arrival) (ended_of (place c) file) (goes_to file.goes)) (returned (placing_at (place c) c.ended.connection c.state.next_arrival) (map (ended_of (place c)) files))
-    ∙ (λ i. back_same c file file.goes has.0 connection i ++ returned_same c connection files has.1 i)
+returned_same : (c : Case) (all : List Placed) (connection : ℕ) (files : List SettledFile) → Each (HasBytes c) files
+    → placed_into c.bytes all connection (returned (placing_at (place c) c.ended.connection c.state.next_arrival) (map (ended_of (place c)) files)) ≡ cond (c.ended.connection == connection) (flat_map (back c) files) []
+returned_same c all connection [] has = elim (c.ended.connection == connection) as (λ b. [] ≡ cond b (flat_map (back c) []) []) [ true ↦ refl | false ↦ refl ]
+returned_same c all connection (file ∷ files) has =
+    placed_append c all connection (returning (placing_at (place c) c.ended.connection c.state.next_arrival) (ended_of (place c) file) (goes_to file.goes)) (returned (placing_at (place c) c.ended.connection c.state.next_arrival) (map (ended_of (place c)) files))
+    ∙ (λ i. back_same c all file file.goes has.0 connection i ++ returned_same c all connection files has.1 i)
     ∙ cond_append (c.ended.connection == connection) (back c file) (flat_map (back c) files)
 
 -- ---- the file of a taken number
@@ -436,11 +436,11 @@ stays_at : (c : Case) → Stands c → (k : ℕ) → (all : List QueuedFile) →
 stays_at c s k all each has =
     stays-in-place (keeps c) (stays c) (queue_at c.state k) all (rising (queue_at c.state k) (by_arrival_at c.state.queues k s.valid.by_arrival)) (apart (queue_at c.state k) (queue_once c s k)) each has
 
-pub queue-stays : (c : Case) → Stands c → (k : ℕ)
-    → put_all (without_files (queue_at c.state k) (gone c)) (placed_into c.bytes k (returned (placing_at (place c) c.ended.connection c.state.next_arrival) (map (ended_of (place c)) (files_of c))))
+pub queue-stays : (c : Case) (all : List Placed) → Stands c → (k : ℕ)
+    → put_all (without_files (queue_at c.state k) (gone c)) (placed_into c.bytes all k (returned (placing_at (place c) c.ended.connection c.state.next_arrival) (map (ended_of (place c)) (files_of c))))
     ≡ staying (files_of c) (queue_at c.state k)
-queue-stays c s k =
-    ap (put_all (without_files (queue_at c.state k) (gone c))) (returned_same c k (files_of c) s.bytes)
+queue-stays c all s k =
+    ap (put_all (without_files (queue_at c.state k) (gone c))) (returned_same c all k (files_of c) s.bytes)
     ∙ elim (cases_eq c.ended.connection k) [
       | inl same ↦
           let yes : (c.ended.connection == k) ≡ true = eq-eqb c.ended.connection k same in

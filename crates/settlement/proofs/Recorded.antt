@@ -7,6 +7,7 @@ use Rattle.std.proofs.lemmas.List.Elements.{All-cons, All-head, All-nil, All-tai
 use Rattle.std.proofs.lemmas.List.Sums.{sum-map}
 use Rattle.flowfile_record.specs.Attributes.{AttributeMap, IsWithinLimits, encoded_size}
 use Rattle.flowfile_record.specs.Outcome.{AreInTurn, IsWorked}
+use Rattle.flowfile_record.specs.Shared.{own_bytes}
 use Rattle.flowfile_record.specs.declared.TheConstants.{CONTENT_MAX}
 use Rattle.flowfile_record.specs.declared.change.Settled.{Settled}
 use Rattle.flowfile_record.specs.declared.flow_file.FlowFile.{FlowFile}
@@ -23,7 +24,7 @@ use Rattle.process_session.specs.declared.file.Source.{Source}
 use Rattle.settlement.specs.Contents.{fresh_in}
 use Rattle.settlement.specs.Ending.{EndingPlace, ended_file, ended_files}
 use Rattle.settlement.specs.Handed.{MaySettle, sizes_of}
-use Rattle.settlement.specs.Placing.{Newcomer, PlacingFrom, arrived, clones_from, first_of, firsts, further, placed_from, returned, returning, wanted}
+use Rattle.settlement.specs.Placing.{Newcomer, PlacingFrom, arrived, first_of, firsts, further, placed_from, returned, returning, wanted}
 use Rattle.settlement.specs.Recording.{IsKeptFile, IsRecordable, MayRecord, Records, RecordsAll}
 use Rattle.settlement.specs.Whole.{place_in, placing_at, settled_in}
 use Rattle.settlement.specs.declared.counters.Counters.{Counters}
@@ -31,6 +32,7 @@ use Rattle.settlement.specs.declared.file.EndedFile.{EndedFile}
 use Rattle.settlement.specs.declared.file.Goes.{Goes}
 use Rattle.settlement.specs.declared.file.Goes.TheVariants.{Queues, Returns, Drops, Leaves}
 use Rattle.settlement.specs.declared.handed.Ended.{Ended}
+use Rattle.settlement.proofs.Clones.{all_clones, as_newcomers, before_clones, clones-fit, clones_from, clones_in}
 use Rattle.settlement.proofs.RecordedFiles.{AreMoments, entered-moments, fresh-fits, named-within, penalty-moment}
 use Rattle.settlement.proofs.RecordedPlaces.{AreBelow, Below, GoesFew, goes-few, places_of}
 use Rattle.settlement.proofs.RecordedSizes.{placed_weight, placed-weighs, tally-length, tally-sum, weight}
@@ -42,7 +44,7 @@ record IsTold (sources : List Source) (file : EndedFile) : Type 0 where
   attributes : IsWithinLimits file.worked.attributes
   entered : file.entered < 2 ^ 64
   penalty_end : file.penalty_end < 2 ^ 64
-  fresh : IfSome (fresh_in sources file.worked.body) (λ bytes. length bytes ≤ CONTENT_MAX)
+  fresh : IfSome (own_bytes (fresh_in sources file.worked.body)) (λ bytes. length bytes ≤ CONTENT_MAX)
 
 record IsFit (most connection : ℕ) (sources : List Source) (file : EndedFile) : Type 0 where
   told : IsTold sources file
@@ -163,8 +165,9 @@ placed_fit flow at first_clone files fit =
     let most = length flow.connections in
     let news = placed_from at.sources at.next_arrival (firsts files) in
     each-append (IsRecordable flow) (returned at files) (arrived at first_clone files) (returned_fit flow at files fit)
-    (each-append (IsRecordable flow) news _ (news_fit flow at.sources at.next_arrival (firsts files) (firsts_fit most at.connection at.sources files fit))
-    (news_fit flow at.sources (at.next_arrival + length (firsts files)) (clones_from first_clone (wanted files)) (clones_fit most at.sources first_clone (wanted files) (wanted_fit most at.connection at.sources files fit))))
+    (each-append (IsRecordable flow) news (clones_in at first_clone files) (news_fit flow at.sources at.next_arrival (firsts files) (firsts_fit most at.connection at.sources files fit))
+    (clones-fit flow (returned at files ++ arrived at first_clone files) (before_clones at files) (clones_in at first_clone files) (as_newcomers at first_clone files) (all_clones at first_clone files)
+    (news_fit flow at.sources (at.next_arrival + length (firsts files)) (clones_from first_clone (wanted files)) (clones_fit most at.sources first_clone (wanted files) (wanted_fit most at.connection at.sources files fit)))))
 
 -- ---- a settlement
 

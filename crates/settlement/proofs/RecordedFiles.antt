@@ -9,6 +9,7 @@ use Rattle.uuid.proofs.TextLemmas.{hyphenated_ascii}
 use Rattle.flowfile_record.specs.Attributes.{AttributeMap, IsPair, IsWithinLimits, encoded_size}
 use Rattle.flowfile_record.specs.Identifier.{identifier}
 use Rattle.flowfile_record.specs.Outcome.{IsBodyOver, IsWorked, is_made}
+use Rattle.flowfile_record.specs.Shared.{own_bytes}
 use Rattle.flowfile_record.specs.declared.TheConstants.{CONTENT_MAX}
 use Rattle.flowfile_record.specs.declared.limits.TheConstants.{FILENAME_SIZE}
 use Rattle.flowfile_record.specs.declared.worked.Body.{Body}
@@ -114,7 +115,7 @@ size_at (size ∷ sizes) (suc place) all = size_at sizes place all.1
 range_most : (bytes : List ℕ) (offset size : ℕ) → length (slice_range bytes offset (offset + size)) ≤ size
 range_most bytes offset size = omega (arith, length-take (offset + size - offset) (drop offset bytes))
 
-pub fresh-fits : (sizes : List ℕ) (sources : List Source) (body : Body) → Each (λ size. size ≤ CONTENT_MAX) sizes → IsBodyOver sizes body → IfSome (fresh_in sources body) (λ bytes. length bytes ≤ CONTENT_MAX)
+pub fresh-fits : (sizes : List ℕ) (sources : List Source) (body : Body) → Each (λ size. size ≤ CONTENT_MAX) sizes → IsBodyOver sizes body → IfSome (own_bytes (fresh_in sources body)) (λ bytes. length bytes ≤ CONTENT_MAX)
 fresh-fits sizes sources (Whole of) kept over = tt
 fresh-fits sizes sources (Part of offset size) kept over = omega (arith, over.1, size_at sizes of kept, range_most (source_bytes sources of) offset size)
 fresh-fits sizes sources (New bytes) kept over = over

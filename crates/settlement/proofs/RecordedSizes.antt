@@ -8,10 +8,11 @@ use Rattle.flowfile_record.specs.declared.stored.Placed.{Placed}
 use Rattle.machine_model.specs.declared.limits.TheConstants.{FAN_OUT_MAX}
 use Rattle.machine_model.proofs.Tally.{Each, tally, tally-append}
 use Rattle.process_session.specs.declared.file.Source.{Source}
-use Rattle.settlement.specs.Placing.{Newcomer, PlacingFrom, arrived, clones_from, first_of, firsts, further, placed_from, returned, returning, wanted}
+use Rattle.settlement.specs.Placing.{Newcomer, PlacingFrom, arrived, first_of, firsts, further, placed_from, returned, returning, wanted}
 use Rattle.settlement.specs.declared.file.EndedFile.{EndedFile}
 use Rattle.settlement.specs.declared.file.Goes.{Goes}
 use Rattle.settlement.specs.declared.file.Goes.TheVariants.{Queues, Returns, Drops, Leaves}
+use Rattle.settlement.proofs.Clones.{all_clones, as_newcomers, before_clones, clones-weigh, clones_from, clones_in}
 use Rattle.settlement.proofs.RecordedPlaces.{places_of}
 
 pub tally-sum : {X : Type 0} (w : X → ℕ) (xs : List X) → sum_by w xs ≡ tally w xs
@@ -75,12 +76,15 @@ pub placed-weighs : (w : AttributeMap → ℕ) (at : PlacingFrom) (first_clone :
     → tally (placed_weight w) (returned at files ++ arrived at first_clone files) ≤ FAN_OUT_MAX * tally (weight w) files
 placed-weighs w at first_clone files few =
     let news = placed_from at.sources at.next_arrival (firsts files) in
-    let clones = placed_from at.sources (at.next_arrival + length (firsts files)) (clones_from first_clone (wanted files)) in
+    let clones = clones_in at first_clone files in
+    let weighs : tally (placed_weight w) clones ≡ tally (placed_weight w) (as_newcomers at first_clone files) =
+    clones-weigh w (returned at files ++ arrived at first_clone files) (before_clones at files) clones (as_newcomers at first_clone files) (all_clones at first_clone files) in
     omega (
       arith,
       tally-append (placed_weight w) (returned at files) (arrived at first_clone files),
       tally-append (placed_weight w) news clones,
       placed_weighs w at.sources at.next_arrival (firsts files),
+      weighs,
       placed_weighs w at.sources (at.next_arrival + length (firsts files)) (clones_from first_clone (wanted files)),
       clones_weigh w first_clone (wanted files),
       files_weigh w at files few,

@@ -10,7 +10,7 @@ use Rattle.flowfile_record.specs.declared.change.Settled.{Settled}
 use Rattle.flowfile_record.specs.declared.flow_file.FlowFile.{FlowFile}
 use Rattle.machine_model.specs.declared.kind.Kind.{Kind}
 use Rattle.machine_model.specs.declared.kind.Kind.TheVariants.{GenerateFlowFile}
-use Rattle.machine_model.specs.Changing.{placed_into, queue_after, queued_file, state_after, with_arrival}
+use Rattle.machine_model.specs.Changing.{placed_into, queue_after, state_after, with_arrival}
 use Rattle.flowfile_record.specs.Counts.{with_count}
 use Rattle.machine_model.specs.Events.{Draft, drafts, numbered_from}
 use Rattle.machine_model.specs.Files.{queue_at}
@@ -25,13 +25,14 @@ use Rattle.machine_model.proofs.EventsTell.{settle-tells}
 use Rattle.machine_model.proofs.KinSets.{kin_joined}
 use Rattle.machine_model.proofs.Places.{place_of}
 use Rattle.machine_model.proofs.Tally.{Each, each-append, each-map}
-use Rattle.settlement.specs.Placing.{arrived, clones_from, firsts, placed_from, returned, wanted}
+use Rattle.settlement.specs.Placing.{arrived, firsts, placed_from, returned, wanted}
 use Rattle.settlement.specs.Telling.{all_drafts, numbered_wrapping}
 use Rattle.settlement.specs.Whole.{count_of, placing_at, told_of}
 use Rattle.settlement.specs.declared.file.EndedFile.{EndedFile}
 use Rattle.settlement.proofs.ByArrival.{put_all}
 use Rattle.settlement.proofs.AddedEvents.{numbers-fit}
 use Rattle.settlement.proofs.Arriving.{Below, Comer, HasBytes, arriving-same, as_placed, as_queued, comer, comers, comers-placed, comers-queued, put-arriving}
+use Rattle.settlement.proofs.Clones.{all_clones, as_newcomers, before_clones, clones-into, clones_from, clones_in, length-clones}
 use Rattle.settlement.proofs.EndedFiles.{Case, ended_of, place, session}
 use Rattle.settlement.proofs.Listing.{fold-append}
 use Rattle.settlement.proofs.Placed as placed
@@ -66,11 +67,24 @@ clones_of c = settlement_clones (session c) c.ended.outcome.files
 
 -- ---- queues
 
-arrived_same : (c : Case) → arrived (placing_at (place c) c.ended.connection c.state.next_arrival) (first_clone c) (ended_all c)
-    ≡ placed_from c.ended.sources c.state.next_arrival (map (as_placed c) (comers (files_of c) (clones_of c)))
-arrived_same c =
-    sym (placed.placed-append c.ended.sources c.state.next_arrival (firsts (ended_all c)) (clones_from (first_clone c) (wanted (ended_all c))))
-    ∙ ap (placed_from c.ended.sources c.state.next_arrival) (comers-placed c (first_clone c) (files_of c))
+-- what arrives in a queue, the clones being as newcomers with their contents
+arrived_same : (c : Case) (k : ℕ)
+    → let at = placing_at (place c) c.ended.connection c.state.next_arrival in
+    let all = (settled_over c (ended_all c)).placed in
+    placed_into c.bytes all k (arrived at (first_clone c) (ended_all c))
+    ≡ placed_into c.bytes all k (placed_from c.ended.sources c.state.next_arrival (map (as_placed c) (comers (files_of c) (clones_of c))))
+arrived_same c k =
+    let at = placing_at (place c) c.ended.connection c.state.next_arrival in
+    let all = (settled_over c (ended_all c)).placed in
+    let news = placed_from c.ended.sources c.state.next_arrival (firsts (ended_all c)) in
+    let clones = clones_in at (first_clone c) (ended_all c) in
+    let alike = as_newcomers at (first_clone c) (ended_all c) in
+    placed-append c all k news clones
+    ∙ ap (λ queue. placed_into c.bytes all k news ++ queue) (clones-into c.bytes all (before_clones at (ended_all c)) k clones alike (all_clones at (first_clone c) (ended_all c)))
+    ∙ sym (placed-append c all k news alike)
+    ∙ ap (placed_into c.bytes all k)
+    (sym (placed.placed-append c.ended.sources c.state.next_arrival (firsts (ended_all c)) (clones_from (first_clone c) (wanted (ended_all c))))
+    ∙ ap (placed_from c.ended.sources c.state.next_arrival) (comers-placed c (first_clone c) (files_of c)))
 
 -- what stays keeps its arrival
 stays_below : (arrival : ℕ) (file : QueuedFile) (found : Option SettledFile) → file.arrival < arrival → Below arrival (staying_as file found)
@@ -122,12 +136,13 @@ queue_same : (c : Case) → Stands c → (k : ℕ)
 queue_same c s k =
     let at = placing_at (place c) c.ended.connection c.state.next_arrival in
     let left = without_files (queue_at c.state k) (map (λ (file : FlowFile). file.number) c.ended.taken) in
+    let all = (settled_over c (ended_all c)).placed in
     let news = comers (files_of c) (clones_of c) in
-    ap (put_all left) (placed-append c k (returned at (ended_all c)) (arrived at (first_clone c) (ended_all c)))
-    ∙ fold-append with_arrival left (placed_into c.bytes k (returned at (ended_all c))) (placed_into c.bytes k (arrived at (first_clone c) (ended_all c)))
-    ∙ ap (λ queue. put_all queue (placed_into c.bytes k (arrived at (first_clone c) (ended_all c)))) (queue-stays c s k)
-    ∙ ap (λ xs. put_all (staying (files_of c) (queue_at c.state k)) (placed_into c.bytes k xs)) (arrived_same c)
-    ∙ ap (put_all (staying (files_of c) (queue_at c.state k))) (arriving-same c c.state.next_arrival k news (has_comers c s.bytes))
+    ap (put_all left) (placed-append c all k (returned at (ended_all c)) (arrived at (first_clone c) (ended_all c)))
+    ∙ fold-append with_arrival left (placed_into c.bytes all k (returned at (ended_all c))) (placed_into c.bytes all k (arrived at (first_clone c) (ended_all c)))
+    ∙ ap (λ queue. put_all queue (placed_into c.bytes all k (arrived at (first_clone c) (ended_all c)))) (queue-stays c all s k)
+    ∙ ap (put_all (staying (files_of c) (queue_at c.state k))) (arrived_same c k)
+    ∙ ap (put_all (staying (files_of c) (queue_at c.state k))) (arriving-same c all c.state.next_arrival k news (has_comers c s.bytes))
     ∙ put-arriving c.state.next_arrival k news (staying (files_of c) (queue_at c.state k)) (all_below c.state.next_arrival (files_of c) (queue_at c.state k) (arrival-below c s k))
     ∙ ap (λ xs. staying (files_of c) (queue_at c.state k) ++ arriving c.state.next_arrival k xs) (sym (comers-queued (files_of c) (clones_of c)))
 
@@ -161,7 +176,7 @@ clone_count c =
 
 newcomer_count : (c : Case) → length (firsts (ended_all c)) + length (wanted (ended_all c)) ≡ length (newcomers (files_of c) (clones_of c))
 newcomer_count c =
-    ap (λ n. length (firsts (ended_all c)) + n) (sym (placed.length-clones (first_clone c) (wanted (ended_all c))))
+    ap (λ n. length (firsts (ended_all c)) + n) (sym (length-clones (first_clone c) (wanted (ended_all c))))
     ∙ sym (length-append (firsts (ended_all c)) (clones_from (first_clone c) (wanted (ended_all c))))
     ∙ ap length (comers-placed c (first_clone c) (files_of c))
     ∙ length-map (comers (files_of c) (clones_of c)) (as_placed c)

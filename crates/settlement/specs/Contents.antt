@@ -1,9 +1,11 @@
 -- The contents of the files of a session, as the calls inside see them.
-use Rattle.std.specs.Prelude.{ℕ, ◌+◌, ◌≤◌, List, [], length, Option, Some, None, unwrap_or, slice_get, slice_range}
+use Rattle.std.specs.Prelude.{ℕ, ◌+◌, ◌≤◌, List, [], length, unwrap_or, slice_get, slice_range}
 use Rattle.std.specs.Option.{option_map_or}
 use Rattle.sha2.specs.Sha256.{sha256}
 use Rattle.flowfile_record.specs.declared.content.ContentRef.{ContentRef}
 use Rattle.flowfile_record.specs.declared.flow_file.FlowFile.{FlowFile}
+use Rattle.flowfile_record.specs.declared.stored.Fresh.{Fresh}
+use Rattle.flowfile_record.specs.declared.stored.Fresh.TheVariants.{No, Bytes, As}
 use Rattle.flowfile_record.specs.declared.worked.Body.{Body}
 use Rattle.flowfile_record.specs.declared.worked.Body.TheVariants.{Whole, Part, New}
 use Rattle.process_session.specs.declared.file.Source.{Source}
@@ -26,11 +28,16 @@ content_in taken sources (Part of offset size) =
     fresh_ref (slice_range (source_bytes sources of) offset (offset + size))
 content_in taken sources (New bytes) = fresh_ref bytes
 
--- the bytes of a content that isn't in the store yet
-abbrev pub fresh_in : List Source → Body → Option (List ℕ)
-fresh_in sources (Whole of) = None
-fresh_in sources (Part of offset size) = Some (slice_range (source_bytes sources of) offset (offset + size))
-fresh_in sources (New bytes) = Some bytes
+-- where the content of a body comes from: one that isn't in the store yet has its bytes
+abbrev pub fresh_in : List Source → Body → Fresh
+fresh_in sources (Whole of) = No
+fresh_in sources (Part of offset size) = Bytes (slice_range (source_bytes sources of) offset (offset + size))
+fresh_in sources (New bytes) = Bytes bytes
+
+-- the same for a clone whose original is placed here: it shares a content that isn't in the store yet
+abbrev pub shared_in : (place : ℕ) → Body → Fresh
+shared_in place (Whole of) = No
+shared_in place _ = As place
 
 -- a part is one of bytes that were read
 abbrev pub IsBodyWithin : List Source → Body → Type 0

@@ -2,11 +2,12 @@
 use Rattle.std.specs.Prelude.{ℕ, ◌+◌, Bool, true, false, Option, Some, None, List, [], ◌∷◌, ◌++◌, length, map, slice_index}
 use Rattle.std.specs.List.{flat_map}
 use Rattle.flowfile_record.specs.declared.flow_file.FlowFile.{FlowFile}
+use Rattle.flowfile_record.specs.declared.stored.Fresh.{Fresh}
 use Rattle.flowfile_record.specs.declared.stored.Placed.{Placed}
 use Rattle.flowfile_record.specs.declared.worked.Origin.{Origin}
 use Rattle.flowfile_record.specs.declared.worked.Origin.TheVariants.{Taken}
 use Rattle.process_session.specs.declared.file.Source.{Source}
-use Rattle.settlement.specs.Contents.{fresh_in}
+use Rattle.settlement.specs.Contents.{fresh_in, shared_in}
 use Rattle.settlement.specs.declared.file.EndedFile.{EndedFile}
 use Rattle.settlement.specs.declared.file.Goes.{Goes}
 use Rattle.settlement.specs.declared.file.Goes.TheVariants.{Queues, Returns}
@@ -41,10 +42,6 @@ further _ = []
 abbrev pub wanted : List EndedFile → List (EndedFile × ℕ)
 wanted files = flat_map (λ file. map (λ connection. (file, connection)) (further file.goes)) files
 
-abbrev pub clones_from : (number : ℕ) → List (EndedFile × ℕ) → List Newcomer
-clones_from number [] = []
-clones_from number (clone ∷ clones) = (clone.1, number, clone.0) ∷ clones_from (number + 1) clones
-
 -- ---- what is placed
 
 -- where files come from, and the next arrival
@@ -62,8 +59,9 @@ placing_of placer = record {
   next_arrival = placer.next_arrival;
 }
 
-abbrev pub placed_at : List Source → (arrival : ℕ) → Newcomer → Placed
-placed_at sources arrival (connection, number, file) = record {
+-- a newcomer whose content comes from there
+abbrev pub placed_as : Fresh → (arrival : ℕ) → Newcomer → Placed
+placed_as fresh arrival (connection, number, file) = record {
   connection = connection;
   file = record {
     number = number;
@@ -73,8 +71,12 @@ placed_at sources arrival (connection, number, file) = record {
     penalty_end = file.penalty_end;
     arrival = arrival;
   };
-  fresh = fresh_in sources file.worked.body;
+  fresh = fresh;
 }
+
+abbrev pub placed_at : List Source → (arrival : ℕ) → Newcomer → Placed
+placed_at sources arrival (connection, number, file) =
+    placed_as (fresh_in sources file.worked.body) arrival (connection, number, file)
 
 -- arrivals are given in turn
 abbrev pub placed_from : List Source → (arrival : ℕ) → List Newcomer → List Placed
@@ -95,9 +97,23 @@ returning placing file _ = []
 abbrev pub returned : PlacingFrom → List EndedFile → List Placed
 returned placing files = flat_map (λ file. returning placing file file.goes) files
 
--- the files that go on, then the clones
+-- the clones of a file that is placed here, one for each of these connections, with numbers and arrivals in turn
+abbrev pub clones_of : (place number arrival : ℕ) → EndedFile → List ℕ → List Placed
+clones_of place number arrival file [] = []
+clones_of place number arrival file (connection ∷ connections) =
+    placed_as (shared_in place file.worked.body) arrival (connection, number, file)
+    ∷ clones_of place (number + 1) (arrival + 1) file connections
+
+-- the clones of all files, of which the first one that goes on is placed here
+abbrev pub cloned_from : (place number arrival : ℕ) → List EndedFile → List Placed
+cloned_from place number arrival [] = []
+cloned_from place number arrival (file ∷ files) =
+    let count = length (further file.goes) in
+    clones_of place number arrival file (further file.goes)
+    ++ cloned_from (place + length (first_of file file.goes)) (number + count) (arrival + count) files
+
+-- the files that go on, then the clones; those that return stand before them
 abbrev pub arrived : PlacingFrom → (first_clone : ℕ) → List EndedFile → List Placed
 arrived placing first_clone files =
     placed_from placing.sources placing.next_arrival (firsts files)
-    ++ placed_from placing.sources (placing.next_arrival + length (firsts files))
-    (clones_from first_clone (wanted files))
+    ++ cloned_from (length (returned placing files)) first_clone (placing.next_arrival + length (firsts files)) files

@@ -2,6 +2,7 @@
 use Rattle.std.specs.Prelude.{◌≡◌, ℕ, ◌+◌, ◌*◌, ◌<◌, ◌≤◌, ◌^◌, List, length, map, All, IfSome, Some, slice_get}
 use Rattle.std.specs.List.{sum}
 use Rattle.flowfile_record.specs.Attributes.{IsWithinLimits, encoded_size}
+use Rattle.flowfile_record.specs.Shared.{own_bytes}
 use Rattle.flowfile_record.specs.declared.TheConstants.{CONTENT_MAX}
 use Rattle.flowfile_record.specs.declared.change.Settled.{Settled}
 use Rattle.flowfile_record.specs.declared.flow_file.FlowFile.{FlowFile}
@@ -35,7 +36,7 @@ pub record IsRecordable (flow : Flow) (placed : Placed) : Type 0 where
   pub attributes : IsWithinLimits placed.file.attributes
   pub entered : placed.file.entered < 2 ^ 64
   pub penalty_end : placed.file.penalty_end < 2 ^ 64
-  pub fresh : IfSome placed.fresh (λ bytes. length bytes ≤ CONTENT_MAX)
+  pub fresh : IfSome (own_bytes placed.fresh) (λ bytes. length bytes ≤ CONTENT_MAX)
 
 -- What a settlement places can be told in one entry: there are no more files and no more bytes of attributes than a
 -- session's files have, each at the end of so many connections. No counter falls.

@@ -1,18 +1,26 @@
 -- What a settlement says of its session, whatever the state.
-use Rattle.std.specs.Prelude.{◌≡◌, List, map, length, All, Contains, MatchOption}
+use Rattle.std.specs.Prelude.{◌≡◌, List, map, length, All, Contains}
 use Rattle.sha2.specs.Sha256.{sha256}
+use Rattle.flowfile_record.specs.Shared.{AreShared}
 use Rattle.flowfile_record.specs.declared.change.Settled.{Settled}
+use Rattle.flowfile_record.specs.declared.content.ContentRef.{ContentRef}
 use Rattle.flowfile_record.specs.declared.flow_file.FlowFile.{FlowFile}
+use Rattle.flowfile_record.specs.declared.stored.Fresh.{Fresh}
+use Rattle.flowfile_record.specs.declared.stored.Fresh.TheVariants.{No, Bytes, Staged, As}
 use Rattle.flowfile_record.specs.declared.stored.Placed.{Placed}
 use Rattle.machine_model.specs.declared.given.Given.{Given}
 use Rattle.settlement.specs.declared.handed.Ended.{Ended}
 
--- a fresh content has its size and its digest, and another is that of a file that was taken
+-- A content that is in the store is that of a file that was taken, and a new one has its size and its digest. Nothing
+-- is staged. Of a shared one see `shared` below.
+abbrev pub IsContentBy : List FlowFile → ContentRef → Fresh → Type 0
+IsContentBy taken content No = Contains (map (λ file. file.content) taken) content
+IsContentBy taken content (Bytes bytes) = (content.size ≡ length bytes) × (content.digest ≡ sha256 bytes)
+IsContentBy taken content Staged = ⊥
+IsContentBy taken content (As place) = Unit {0}
+
 abbrev pub HasContent : List FlowFile → Placed → Type 0
-HasContent taken placed =
-    let content = placed.file.content in
-    MatchOption placed.fresh (Contains (map (λ file. file.content) taken) content)
-    (λ bytes. (content.size ≡ length bytes) × (content.digest ≡ sha256 bytes))
+HasContent taken placed = IsContentBy taken placed.file.content placed.fresh
 
 -- all files that were taken are gone, also those that are placed again
 pub record TellsOf (given : Given) (ended : Ended) (settled : Settled) : Type 0 where
@@ -20,3 +28,4 @@ pub record TellsOf (given : Given) (ended : Ended) (settled : Settled) : Type 0 
   pub moment : settled.moment ≡ given.moment
   pub gone : settled.gone ≡ map (λ file. file.number) ended.taken
   pub contents : All (HasContent ended.taken) settled.placed
+  pub shared : AreShared settled.placed

@@ -1,8 +1,8 @@
 //! The contents of a session's files.
-ghost use Rattle.std.specs.Prelude.{◌≡◌, ◌+◌, ◌≤◌, length, slice_range, unwrap_or, IfOk, Some, []};
-ghost use Rattle.settlement.specs.Contents.{content_in, fresh_in, fresh_ref, kept_content, source_bytes, IsBodyWithin};
+ghost use Rattle.std.specs.Prelude.{◌≡◌, ◌+◌, ◌≤◌, length, slice_range, unwrap_or, IfOk, []};
+ghost use Rattle.settlement.specs.Contents.{content_in, fresh_in, fresh_ref, kept_content, shared_in, source_bytes, IsBodyWithin};
 
-use flowfile_record::{Body, Bytes, ContentRef, FlowFile};
+use flowfile_record::{Body, Bytes, ContentRef, FlowFile, Fresh};
 use process_session::Source;
 use sha2::{Digest, Sha256};
 use std::alloc::{AllocError, Global};
@@ -40,39 +40,29 @@ fn fresh_ref(bytes: &[u8]) -> ContentRef
     }
 }
 
-/// The bytes of a content that isn't in the store yet. What the session wrote is moved, a part is copied.
-pub fn fresh_of(alloc: Global, sources: &[Source], body: Body) -> Result<Option<Bytes>, AllocError>
+/// Where the content of a body comes from. What the session wrote is moved, a part is copied.
+pub fn fresh_of(alloc: Global, sources: &[Source], body: Body) -> Result<Fresh, AllocError>
     requires { IsBodyWithin sources.now body }
     ensures { IfOk result (λ fresh. fresh ≡ fresh_in sources.now body) }
 {
     match body {
-        Body::New(bytes) => Ok(Some(bytes)),
-        Body::Whole { of: _ } => Ok(None),
-        Body::Part { of, offset, size } => copy_of(alloc, part_of(sources, of, offset, size)),
+        Body::New(bytes) => Ok(Fresh::Bytes(bytes)),
+        Body::Whole { of: _ } => Ok(Fresh::No),
+        Body::Part { of, offset, size } => {
+            let bytes = Bytes::from_slice(alloc, part_of(sources, of, offset, size))?;
+            Ok(Fresh::Bytes(bytes))
+        }
     }
 }
 
-/// A copy of the bytes of a content that isn't in the store yet.
-pub fn fresh_copy(
-    alloc: Global,
-    sources: &[Source],
-    body: &Body,
-) -> Result<Option<Bytes>, AllocError>
-    requires { IsBodyWithin sources.now body.now }
-    ensures { IfOk result (λ fresh. fresh ≡ fresh_in sources.now body.now) }
+/// Where the content of a clone comes from whose original is placed here. A new one is shared.
+pub fn shared_in(place: u32, body: &Body) -> Fresh
+    ensures { result ≡ shared_in place body.now }
 {
     match body {
-        Body::New(bytes) => copy_of(alloc, bytes.as_slice()),
-        Body::Whole { .. } => Ok(None),
-        Body::Part { of, offset, size } => copy_of(alloc, part_of(sources, *of, *offset, *size)),
+        Body::Whole { .. } => Fresh::No,
+        Body::Part { .. } | Body::New(_) => Fresh::As(place),
     }
-}
-
-fn copy_of(alloc: Global, bytes: &[u8]) -> Result<Option<Bytes>, AllocError>
-    ensures { IfOk result (λ copy. copy ≡ Some bytes.now) }
-{
-    let copy = Bytes::from_slice(alloc, bytes)?;
-    Ok(Some(copy))
 }
 
 /// A part of the content of the taken file of a place.

@@ -1,9 +1,9 @@
 //! What a session puts into queues.
 ghost use Rattle.std.specs.Prelude.{◌≡◌, ◌+◌, ◌*◌, ◌<◌, ◌≤◌, ◌^◌, ◌∷◌, ◌++◌, [], ℕ, length, map, slice_index, vec_len, All, IfOk, OnOk};
-ghost use Rattle.settlement.specs.Contents.{IsBodyWithin};
-ghost use Rattle.settlement.specs.Placing.{arrival_of, arrived, clones_from, first_of, firsts, first_in, further, is_returning, placed_at, placed_from, placing_of, returned, returning, wanted};
+ghost use Rattle.settlement.specs.Contents.{shared_in, IsBodyWithin};
+ghost use Rattle.settlement.specs.Placing.{PlacingFrom, arrival_of, arrived, cloned_from, clones_of, first_of, firsts, first_in, further, is_returning, placed_as, placed_at, placed_from, placing_of, returned, returning, wanted};
 
-use crate::content::{fresh_copy, fresh_of};
+use crate::content::{fresh_of, shared_in};
 use crate::file::{EndedFile, Goes};
 use flowfile_record::{FlowFile, Origin, Placed, Worked};
 use process_session::Source;
@@ -27,13 +27,15 @@ impl Placer<'_> {
         files: Vec<EndedFile>,
     ) -> Result<Vec<Placed>, AllocError>
         requires within { All (λ file. IsBodyWithin self.now.sources.now file.worked.body) files.items }
+        requires few { length files.items < 2 ^ 32 }
         requires numbers { first_clone + length (wanted files.items) < 2 ^ 64 }
         requires arrivals { self.now.next_arrival + length files.items + length (wanted files.items) < 2 ^ 64 }
         ensures { IfOk result (λ placed. placed.items ≡ returned (placing_of self.now) files.items
             ++ arrived (placing_of self.now) first_clone files.items) }
     {
+        let place = count_returned(&files);
         let arrival = self.next_arrival + count_firsts(&files);
-        let mut clones = self.clones_of_all(first_clone, arrival, &files)?;
+        let mut clones = self.clones_of_all(place, first_clone, arrival, &files)?;
         let mut placed = self.place_each(files)?;
         placed.append(&mut clones)?;
         Ok(placed)
@@ -129,74 +131,97 @@ impl Placer<'_> {
         })
     }
 
-    /// The clones of all files, with numbers and arrivals from these on.
+    /// The clones of all files, with numbers and arrivals from these on. The first file that goes on is placed here.
     fn clones_of_all(
         &self,
+        first_place: u32,
         number: u64,
         arrival: u64,
         files: &[EndedFile],
     ) -> Result<Vec<Placed>, AllocError>
-        requires within { All (λ file. IsBodyWithin self.now.sources.now file.worked.body) files.now }
+        requires places { first_place + length (firsts files.now) < 2 ^ 32 }
         requires numbers { number + length (wanted files.now) < 2 ^ 64 }
         requires arrivals { arrival + length (wanted files.now) < 2 ^ 64 }
-        ensures { IfOk result (λ clones. clones.items
-            ≡ placed_from self.now.sources.now arrival (clones_from number (wanted files.now))) }
+        ensures { IfOk result (λ clones. clones.items ≡ cloned_from first_place number arrival files.now) }
     {
         let mut clones = Vec::new(self.alloc);
+        let mut place = first_place;
         for file in files {
-            self.add_clones(&mut clones, number, arrival, file)?;
+            add_clones(&mut clones, place, number, arrival, file)?;
+            place += count_first(file);
         }
         Ok(clones)
     }
+}
 
-    /// The clones of a file, behind those of the files before it, of which the first has this number and this arrival.
-    fn add_clones(
-        &self,
-        clones: &mut Vec<Placed>,
-        number: u64,
-        arrival: u64,
-        file: &EndedFile,
-    ) -> Result<(), AllocError>
-        requires within { IsBodyWithin self.now.sources.now file.now.worked.body }
-        requires numbers { number + vec_len clones.old + length (further file.now.goes) < 2 ^ 64 }
-        requires arrivals { arrival + vec_len clones.old + length (further file.now.goes) < 2 ^ 64 }
-        ensures { OnOk result (clones.new.items ≡ clones.old.items
-            ++ placed_from self.now.sources.now (arrival + vec_len clones.old)
-            (clones_from (number + vec_len clones.old) (wanted (file.now ∷ [])))) }
-    {
-        for connection in file.goes.further() {
-            let next = clones.len() as u64;
-            let clone = self.clone_of(*connection, number + next, arrival + next, file)?;
-            clones.push(clone)?;
-        }
-        Ok(())
+/// The clones of a file that is placed here, behind those of the files before it, of which the first has this number and
+/// this arrival.
+fn add_clones(
+    clones: &mut Vec<Placed>,
+    place: u32,
+    number: u64,
+    arrival: u64,
+    file: &EndedFile,
+) -> Result<(), AllocError>
+    requires numbers { number + vec_len clones.old + length (further file.now.goes) < 2 ^ 64 }
+    requires arrivals { arrival + vec_len clones.old + length (further file.now.goes) < 2 ^ 64 }
+    ensures { OnOk result (clones.new.items ≡ clones.old.items
+        ++ clones_of place (number + vec_len clones.old) (arrival + vec_len clones.old) file.now
+        (further file.now.goes)) }
+{
+    for connection in file.goes.further() {
+        let next = clones.len() as u64;
+        let clone = clone_of(place, *connection, number + next, arrival + next, file)?;
+        clones.push(clone)?;
     }
+    Ok(())
+}
 
-    fn clone_of(
-        &self,
-        connection: u16,
-        number: u64,
-        arrival: u64,
-        file: &EndedFile,
-    ) -> Result<Placed, AllocError>
-        requires { IsBodyWithin self.now.sources.now file.now.worked.body }
-        ensures { IfOk result (λ placed. placed
-            ≡ placed_at self.now.sources.now arrival (connection, number, file.now)) }
-    {
-        let fresh = fresh_copy(self.alloc, self.sources, &file.worked.body)?;
-        let attributes = file.worked.attributes.copy()?;
-        Ok(Placed {
-            connection,
-            file: FlowFile {
-                number,
-                attributes,
-                content: file.content,
-                entered: file.entered,
-                penalty_end: file.penalty_end,
-                arrival,
-            },
-            fresh,
-        })
+/// A clone of a file that is placed here.
+fn clone_of(
+    place: u32,
+    connection: u16,
+    number: u64,
+    arrival: u64,
+    file: &EndedFile,
+) -> Result<Placed, AllocError>
+    ensures { IfOk result (λ placed. placed
+        ≡ placed_as (shared_in place file.now.worked.body) arrival (connection, number, file.now)) }
+{
+    let attributes = file.worked.attributes.copy()?;
+    Ok(Placed {
+        connection,
+        file: FlowFile {
+            number,
+            attributes,
+            content: file.content,
+            entered: file.entered,
+            penalty_end: file.penalty_end,
+            arrival,
+        },
+        fresh: shared_in(place, &file.worked.body),
+    })
+}
+
+/// How many files return to where they were.
+fn count_returned(files: &[EndedFile]) -> u32
+    requires { length files.now < 2 ^ 32 }
+    ensures { (from : PlacingFrom) → result ≡ length (returned from files.now) }
+{
+    let mut count = 0;
+    for file in files {
+        count += count_return(file);
+    }
+    count
+}
+
+fn count_return(file: &EndedFile) -> u32
+    ensures count { (from : PlacingFrom) → result ≡ length (returning from file.now file.now.goes) }
+    ensures bound { result ≤ 1 }
+{
+    match file.goes {
+        Goes::Returns => 1,
+        _ => 0,
     }
 }
 
@@ -207,12 +232,12 @@ pub fn count_firsts(files: &[EndedFile]) -> u64
 {
     let mut count = 0;
     for file in files {
-        count += count_first(file);
+        count += u64::from(count_first(file));
     }
     count
 }
 
-fn count_first(file: &EndedFile) -> u64
+fn count_first(file: &EndedFile) -> u32
     ensures count { result ≡ length (first_of file.now file.now.goes) }
     ensures bound { result ≤ 1 }
 {

@@ -50,6 +50,7 @@ pub places_beside : (tells : Bool) (events : EventsState) (old new : Files) (pla
     → PlacesAll tells new placed slots more e
 places_beside tells events old new placed slots more e grows is = record {
   placed = are_placed tells more old new placed (placed_in e) (λ told. claims_beside events old new (grows told)) is.placed;
+  shared = is.shared;
   holds = is.holds;
 }
 

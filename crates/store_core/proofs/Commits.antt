@@ -4,17 +4,20 @@ use Rattle.std.specs.List.{AllZip}
 use Rattle.std.specs.Prelude.{Option, None, Some, is_none, Ok, All, Contains}
 use Rattle.std.proofs.lemmas.Bool.{and_from}
 use Rattle.std.proofs.lemmas.List.{length-map}
-use Rattle.std.proofs.lemmas.List.Elements.{All-nil, All-cons, All-head, All-tail}
+use Rattle.std.proofs.lemmas.List.Elements.{All-nil, All-cons}
 use Rattle.sha2.specs.Sha256.{sha256}
 use Rattle.disk_trait.specs.Files.{Files, named}
 use Rattle.disk_trait.specs.declared.file_name.FileKind.TheVariants.{Log, Claim, Events}
 use Rattle.disk_trait.specs.declared.file_name.FileName.{FileName}
+use Rattle.flowfile_record.specs.Shared.{AreShared, is_stored}
 use Rattle.flowfile_record.specs.Stored.{Kept}
 use Rattle.flowfile_record.specs.declared.change.Settled.{Settled}
 use Rattle.flowfile_record.specs.declared.content.ContentRef.{ContentRef}
 use Rattle.flowfile_record.specs.declared.limits.TheConstants.{LIVE_FILES_MAX}
 use Rattle.flowfile_record.specs.declared.stored.ActiveFile.{ActiveFile}
 use Rattle.flowfile_record.specs.declared.stored.Counted.{Counted}
+use Rattle.flowfile_record.specs.declared.stored.Fresh.{Fresh}
+use Rattle.flowfile_record.specs.declared.stored.Fresh.TheVariants.{No, Bytes, Staged, As}
 use Rattle.flowfile_record.specs.declared.stored.Placed.{Placed}
 use Rattle.record_codec.specs.Placeless.{placeless_active, placeless_entry}
 use Rattle.record_codec.specs.declared.entry.LogEntry.{LogEntry}
@@ -45,13 +48,14 @@ use Rattle.store_core.specs.Change.{IsFresh, IsOldLive, HasLiveContents}
 use Rattle.store_core.specs.Committed.{PreparedChange, IsPrepared, IsEntryFor}
 use Rattle.store_core.specs.Flow.{Flow, flow_in}
 use Rattle.store_core.specs.Kept.{kept_in}
-use Rattle.store_core.specs.Placing.{contents_of, IsHeldIn, MayPlace, IsPlacedAs, ArePlaced, HoldsMore}
+use Rattle.store_core.specs.Placing.{contents_of, IsHeldIn, MayPlace, IsPlacedAs, ArePlaced, HoldsMore, ReferAlike}
 use Rattle.store_core.specs.State.{contents_damage, live_contents}
 use Rattle.store_core.specs.Store.{StoreState, IsWorking, kept_by, live_in, Holds, HasLog}
 use Rattle.store_core.proofs.Committing.{kept_with_entry}
 use Rattle.store_core.proofs.Counting.{references_left, references_applied, length_applied}
 use Rattle.store_core.proofs.EventsStay.{has_same}
 use Rattle.store_core.proofs.Reclaiming.{counted}
+use Rattle.store_core.proofs.Sharing.{HasSource, all_at, all_sources}
 use Rattle.store_core.proofs.Sound.{IsSoundIn, content_of, each_sound, all_sound, one_sound, all_applied}
 
 -- ---- the entry
@@ -162,6 +166,7 @@ may_place s p prepared live works consistent opened =
       fresh = prepared.may.fresh;
       room = prepared.within.claims;
       old = λ i d lt none. held_live s works (get_or p.settled.placed i d).file.content (live i d lt none);
+      shared = prepared.may.shared;
       few =
           omega (
             arith,
@@ -242,13 +247,18 @@ referred_gone s se placed_slots works consistent suits holds j =
 
 -- ---- files
 
-sound_with : (files : Files) (slots : List Slot) (s : StoreState) (p : Placed) (a : ActiveFile) → HasSizes slots files → contents_damage files (live_in s) ≡ None → IsFresh p → IsOldLive s p → IsPlacedAs true slots files p a
-    → IsSoundIn files (content_of a)
-sound_with files slots s p a sizes live fresh old is = by p.fresh refl
+sound_with : (files : Files) (slots : List Slot) (s : StoreState) (p : Placed) (a : ActiveFile) → HasSizes slots files → contents_damage files (live_in s) ≡ None → IsFresh p → IsOldLive s p
+    → ((of : ℕ) → p.fresh ≡ As of → ⊥) → IsPlacedAs true slots files p a → IsSoundIn files (content_of a)
+sound_with files slots s p a sizes live fresh old alone is = by p.fresh refl
   where
-    by : (o : Option (List ℕ)) → p.fresh ≡ o → IsSoundIn files (content_of a)
-    by None none = subst (IsSoundIn files) (sym (is.old none)) (one_sound files (live_in s) p.file.content live (old none))
-    by (Some bytes) some =
+    stored : is_stored p.fresh ≡ true → IsSoundIn files (content_of a)
+    stored is_old = subst (IsSoundIn files) (sym (is.old is_old)) (one_sound files (live_in s) p.file.content live (old is_old))
+
+    by : (f : Fresh) → p.fresh ≡ f → IsSoundIn files (content_of a)
+    by No from = stored (ap is_stored from)
+    by Staged from = stored (ap is_stored from)
+    by (As of) from = absurd (alone of from)
+    by (Bytes bytes) some =
         let at = content_of a in
         let f = fresh bytes some in
         record {
@@ -257,14 +267,13 @@ sound_with files slots s p a sizes live fresh old is = by p.fresh refl
         }
 
 pub placed_sound : (files : Files) (slots : List Slot) (s : StoreState) (placed : List Placed) (recorded : List ActiveFile) → HasSizes slots files → contents_damage files (live_in s) ≡ None
-    → All IsFresh placed → All (IsOldLive s) placed → ArePlaced true slots files placed recorded → All (IsSoundIn files) (map content_of recorded)
-placed_sound files slots s [] [] sizes live fresh old are = All-nil (IsSoundIn files)
-placed_sound files slots s [] (a ∷ recorded) sizes live fresh old are = absurd are
-placed_sound files slots s (p ∷ placed) [] sizes live fresh old are = absurd are
-placed_sound files slots s (p ∷ placed) (a ∷ recorded) sizes live fresh old are =
-    All-cons (IsSoundIn files) (content_of a) (map content_of recorded)
-    (sound_with files slots s p a sizes live (All-head IsFresh p placed fresh) (All-head (IsOldLive s) p placed old) are.0)
-    (placed_sound files slots s placed recorded sizes live (All-tail IsFresh p placed fresh) (All-tail (IsOldLive s) p placed old) are.1)
+    → All IsFresh placed → All (IsOldLive s) placed → AreShared placed → ReferAlike placed recorded → ArePlaced true slots files placed recorded → All (IsSoundIn files) (map content_of recorded)
+placed_sound files slots s placed recorded sizes live fresh old shared alike are =
+    zip_all (IsSoundIn files) (HasSource placed true slots files) placed recorded
+    (λ p a from.
+    subst (IsSoundIn files) (sym from.refers)
+    (sound_with files slots s from.source from.by sizes live (all_at IsFresh placed from.place from.source fresh from.there) (all_at (IsOldLive s) placed from.place from.source old from.there) from.alone from.stands))
+    (all_sources placed true slots files recorded shared alike are)
 
 counts_long : (g : Option Counted) (counts : List ℕ) → length (with_count g counts) ≡ length counts
 counts_long None counts = refl

@@ -1,7 +1,8 @@
 -- Files that expire are prepared as their settled session.
 use Rattle.std.proofs.Common.{◌≡◌, ℕ, ◌+◌, List, [], length, sym, ap, subst, inr, arith}
-use Rattle.std.specs.Prelude.{All, None}
+use Rattle.std.specs.Prelude.{All, None, Some}
 use Rattle.std.proofs.lemmas.List.Elements.{All-nil}
+use Rattle.flowfile_record.specs.Shared.{AreShared}
 use Rattle.flowfile_record.specs.Stored.{Kept}
 use Rattle.flowfile_record.specs.declared.change.Settled.{Settled}
 use Rattle.flowfile_record.specs.declared.stored.Placed.{Placed}
@@ -20,12 +21,16 @@ use Rattle.store_core.specs.declared.prepared.SettledExpiry.{SettledExpiry}
 none_placed : (k : Kept) (connection : ℕ) (s : Settled) → MayExpireAs k connection s → s.placed ≡ []
 none_placed k connection s may = ap (λ (t : Settled). t.placed) may.as_session
 
+none_shared : AreShared []
+none_shared place of p there is = absurd (let both : None ≡ Some p = there in cc)
+
 pub expiry_changes : (k : Kept) (x : SettledExpiry) → IsConsistent k → MayExpire k x → MayChange k x.settled
 expiry_changes k x was may = record {
   settles = expiry_settles k x.connection x.settled was may.expires;
   numbered = may.numbered;
   events = may.events;
   fresh = subst (λ (placed : List Placed). All IsFresh placed) (sym (none_placed k x.connection x.settled may.expires)) (All-nil IsFresh);
+  shared = subst AreShared (sym (none_placed k x.connection x.settled may.expires)) none_shared;
 }
 
 pub expiry_within : (s : StoreState) (x : SettledExpiry) → IsConsistent (kept_by s) → MayExpire (kept_by s) x → numbers_limit (kept_with s x.settled) ≡ None → IsWithinLimits s x.settled

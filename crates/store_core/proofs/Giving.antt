@@ -1,11 +1,14 @@
 -- The contents of files that go, one after another.
-use Rattle.std.proofs.Common.{◌≡◌, ℕ, ◌+◌, ◌<◌, ◌≤◌, List, [], ◌∷◌, ◌++◌, length, map, take, drop, get_or, sym, ap, ◌∙◌, arith}
+use Rattle.std.proofs.Common.{◌≡◌, ℕ, ◌+◌, ◌<◌, ◌≤◌, List, [], ◌∷◌, ◌++◌, length, map, take, drop, get_or, refl, sym, ap, ◌∙◌, arith}
 use Rattle.std.specs.Prelude.{Option, None, Some, option_map}
 use Rattle.std.specs.List.{cons_option}
 use Rattle.std.proofs.lemmas.List.{take_more, take-append-drop, append-nil, map-append}
 use Rattle.std.proofs.lemmas.List.Elements.{filter_map-append}
+use Rattle.flowfile_record.specs.Shared.{own_bytes}
 use Rattle.flowfile_record.specs.declared.content.ContentRef.{ContentRef}
 use Rattle.flowfile_record.specs.declared.stored.ActiveFile.{ActiveFile}
+use Rattle.flowfile_record.specs.declared.stored.Fresh.{Fresh}
+use Rattle.flowfile_record.specs.declared.stored.Fresh.TheVariants.{No, Bytes, Staged, As}
 use Rattle.flowfile_record.specs.declared.stored.Placed.{Placed}
 use Rattle.content_repo.specs.Slots.{references_to}
 use Rattle.kept_state.specs.Fits.{active_of}
@@ -39,11 +42,17 @@ module _ (files : List ActiveFile) (gone : List ℕ) where
       )
 
 -- new contents, one after another
+pub none_own : (f : Fresh) → ((bytes : List ℕ) → f ≡ Bytes bytes → ⊥) → own_bytes f ≡ None
+none_own No not = refl
+none_own Staged not = refl
+none_own (As of) not = refl
+none_own (Bytes bytes) not = absurd (not bytes refl)
+
 pub fresh_next : (placed : List Placed) (i : ℕ) (p : Placed) → i < length placed → p ≡ get_or placed i p
-    → fresh_contents_of (take (i + 1) placed) ≡ fresh_contents_of (take i placed) ++ cons_option p.fresh []
+    → fresh_contents_of (take (i + 1) placed) ≡ fresh_contents_of (take i placed) ++ cons_option (own_bytes p.fresh) []
 fresh_next placed i p lt is =
-    ap fresh_contents_of (take_more placed i p lt) ∙ filter_map-append (λ (q : Placed). q.fresh) (take i placed) (get_or placed i p ∷ [])
-    ∙ ap (λ (q : Placed). fresh_contents_of (take i placed) ++ cons_option q.fresh []) (sym is)
+    ap fresh_contents_of (take_more placed i p lt) ∙ filter_map-append (λ (q : Placed). own_bytes q.fresh) (take i placed) (get_or placed i p ∷ [])
+    ∙ ap (λ (q : Placed). fresh_contents_of (take i placed) ++ cons_option (own_bytes q.fresh) []) (sym is)
 
 pub sizes_more : (sizes : List ℕ) (contents more : List (List ℕ)) (bytes : List ℕ) → sizes ≡ map length contents → more ≡ contents ++ bytes ∷ [] → sizes ++ length bytes ∷ [] ≡ map length more
 sizes_more sizes contents more bytes are is =

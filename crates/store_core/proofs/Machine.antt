@@ -29,14 +29,14 @@ pub record IsSessionFor (new old : ContentRef → List ℕ) (k : Kept) (s : Sett
   pub event : se.last_event ≡ k.last_event + length s.events
   pub count : se.generator ≡ s.count
   pub apart : AreApart arrival_of se.placed (left_after se.gone k.files)
-  pub placed : AllZip (IsQueuedAs new old) s.placed se.placed
+  pub placed : AllZip (IsQueuedAs new old s.placed) s.placed se.placed
   pub left : (place : ℕ) → line new place (left_after se.gone k.files) ≡ line old place (left_after se.gone k.files)
 
 same_queue : (new old : ContentRef → List ℕ) (k : Kept) (s : Settled) (se : SessionEntry) → IsSessionFor new old k s se → (place : ℕ)
     → queue_of new (session_applied k se).files place ≡ queue_after old s (place, queue_of old k.files place)
 same_queue new old k s se is place =
     queue_behind new old place se.gone s.placed se.placed k.files is.apart is.placed (is.left place)
-    ∙ ap (λ (gone : List ℕ). fold with_arrival (without_files (queue_of old k.files place) gone) (placed_into old place s.placed)) is.gone
+    ∙ ap (λ (gone : List ℕ). fold with_arrival (without_files (queue_of old k.files place) gone) (placed_into old s.placed place s.placed)) is.gone
 
 same_queues : (new old : ContentRef → List ℕ) (k : Kept) (s : Settled) (se : SessionEntry) → IsSessionFor new old k s se → (from : ℕ) (connections : List (List ℕ))
     → map (λ c. queue_of new (session_applied k se).files c.0) (enumerate_from from connections)

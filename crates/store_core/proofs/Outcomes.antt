@@ -1,5 +1,5 @@
 -- What each exit of a commit leaves: of the contents that were placed, and of the entry that was logged behind them.
-use Rattle.std.proofs.Common.{◌≡◌, ℕ, ◌+◌, ◌-◌, ◌^◌, ◌≤◌, Bool, true, false, List, [], ◌++◌, length, refl, sym, ap, subst, ◌∙◌, arith, inl, inr, IsTrue}
+use Rattle.std.proofs.Common.{◌≡◌, ℕ, ◌+◌, ◌-◌, ◌^◌, ◌≤◌, Bool, true, false, List, [], ◌++◌, length, map, refl, sym, ap, subst, ◌∙◌, arith, inl, inr, IsTrue}
 use Rattle.std.specs.Prelude.{Option, None, Some, is_some, Result, Ok, ◌⊎◌, min}
 use Rattle.disk_trait.specs.Files.{Files}
 use Rattle.disk_trait.specs.declared.damage.Damage.{Damage}
@@ -8,7 +8,7 @@ use Rattle.disk_trait.specs.Images.{After, Since}
 use Rattle.disk_trait.proofs.Moments.{wider, wider_where_left}
 use Rattle.flowfile_record.specs.declared.stored.ActiveFile.{ActiveFile}
 use Rattle.flowfile_record.specs.declared.stored.Placed.{Placed}
-use Rattle.record_codec.specs.Placeless.{placeless_entry}
+use Rattle.record_codec.specs.Placeless.{placeless_active, placeless_entry}
 use Rattle.record_codec.specs.declared.entry.LogEntry.{LogEntry}
 use Rattle.record_codec.specs.declared.entry.LogEntry.TheVariants.{Session}
 use Rattle.record_codec.specs.declared.entry.SessionEntry.{SessionEntry}
@@ -25,10 +25,10 @@ use Rattle.machine_model.specs.Changing.{state_after}
 use Rattle.prov_store.specs.Events.{events_in}
 use Rattle.prov_store.specs.State.{EventsState, IsAppended}
 use Rattle.store_core.specs.Change.{HasLiveContents}
-use Rattle.store_core.specs.Committed.{PreparedChange, IsPrepared, HasChange, HoldsEither}
+use Rattle.store_core.specs.Committed.{PreparedChange, IsPrepared, HasChange, HoldsEither, KeepsShared}
 use Rattle.store_core.specs.Touched.{ClaimsGrow, MayTouch, TouchesOnly}
 use Rattle.store_core.specs.Flow.{flow_in}
-use Rattle.store_core.specs.Placing.{contents_of, GrowsAhead, AddsEvents, ArePlaced, HoldsMore, PlacesAll}
+use Rattle.store_core.specs.Placing.{contents_of, GrowsAhead, AddsEvents, ArePlaced, HoldsMore, PlacesAll, ReferAlike}
 use Rattle.store_core.specs.State.{stands_for}
 use Rattle.store_core.specs.Store.{StoreState, IsWorking, IsKeptOn, EachStandsFor, Holds, kept_by}
 use Rattle.store_core.proofs.Agreeing.{of_state}
@@ -157,6 +157,7 @@ as_session_places : (tells : Bool) (files : Files) (all : List Placed) (old new 
     → PlacesAll tells files all old new (Session t)
 as_session_places tells files all old new e t puts places = record {
   placed = subst (λ (l : List ActiveFile). ArePlaced tells new files all l) puts places.placed;
+  shared = subst (ReferAlike all) puts places.shared;
   holds = subst (λ (l : List ActiveFile). HoldsMore l old new) puts places.holds;
 }
 
@@ -185,7 +186,7 @@ module _ {D : Type 0} (tells : Bool) (held : D → Files) (moment : D → ℕ) (
   added_entry : IsTrue tells → IsAdded s new e (held mid)
   added_entry told =
       is_added moment images held s new p e old mid slots has.works (has.kept.log has.unfailed) (has.kept.holds has.unfailed) has.grows has.consistent has.prepared has.same has.live
-      (logged.left mid told) (logged.sizes told) (really_placed told) logged.kept logged.lot (logged.events.ready told).has
+      (logged.left mid told) (logged.sizes told) logged.placed.shared (really_placed told) logged.kept logged.lot (logged.events.ready told).has
 
   added_holds : (c : Files) → IsTrue tells → Adds number e (held mid) c → Holds new c
   added_holds c told added =
@@ -227,7 +228,7 @@ module _ {D : Type 0} (tells : Bool) (held : D → Files) (moment : D → ℕ) (
       let held_then = has.kept.holds has.unfailed (held old) before in
       state_added s new p.settled is.session number e slots (held old) (held mid) c state has.batches is.suits
       (same_session s p e has.consistent has.prepared has.same) (events_behind c told added) held_then (stands (held old) before)
-      (follows_ahead s (held old) (held mid) has.works held_then.events (has.held_grows told)) added placed has.live (added_holds c told added) kept logged.lot
+      (follows_ahead s (held old) (held mid) has.works held_then.events (has.held_grows told)) added has.prepared.may.shared (subst (ReferAlike p.settled.placed) is.puts logged.placed.shared) placed has.live (added_holds c told added) kept logged.lot
 
   pub logged_states : (state : State) → EachStandsFor (flow_in (kept_by s)) s.lot state (images old (moment old))
       → Since moment images old end (λ c. (stands_for (flow_in (kept_by s)) s.lot c ≡ of_state state) ⊎ (stands_for (flow_in (kept_by s)) s.lot c ≡ of_state (behind state)))
@@ -241,6 +242,17 @@ module _ {D : Type 0} (tells : Bool) (held : D → Files) (moment : D → ℕ) (
       by_end k c image (inl after) =
           inl (state_following s state after.0 c has.works (has.kept.log has.unfailed after.0 after.1) after.2 (has.kept.holds has.unfailed after.0 after.1) (stands after.0 after.1))
       by_end k c image (inr added) = inr (state_logged state c stands (logged.told end k c image) added)
+
+  -- what is kept has the files that share a content together
+  pub kept_shared : KeepsShared p.settled s new
+  kept_shared =
+      let is = entry_acts s p e has.consistent has.prepared has.same in
+      record {
+        entry = e;
+        kept = logged.kept;
+        placed = ap (map placeless_active) is.puts ∙ is.placed;
+        alike = logged.placed.shared;
+      }
 
   -- once the log has answered
   pub acknowledged_state : (state : State) → EachStandsFor (flow_in (kept_by s)) s.lot state (images old (moment old)) → InEach (images end (moment end)) (Adds number e (held mid))

@@ -1,21 +1,24 @@
 -- Placed files, one after another.
 use Rattle.std.proofs.Common.{◌≡◌, ℕ, ◌+◌, ◌<◌, ◌≤◌, eqb, Bool, cond, List, [], ◌∷◌, ◌++◌, length, map, take, drop, get_or, refl, sym, ap, subst, ◌∙◌, arith, add-one, append_assoc, length-append, drop-cons, length-drop, suc, IsTrue}
 use Rattle.std.specs.List.{AllZip}
-use Rattle.std.specs.Prelude.{Option, None, Some}
+use Rattle.std.specs.Prelude.{Option, None, Some, true, slice_get}
 use Rattle.std.specs.List.{filter_map, cons_option}
 use Rattle.std.proofs.lemmas.List.Sums.{sum_by-append}
 use Rattle.std.proofs.lemmas.List.{take_more, take_all, append-nil, map-append, nil_from_length}
 use Rattle.disk_trait.specs.Files.{Files}
+use Rattle.flowfile_record.specs.Shared.{AreShared, is_stored, own_bytes}
 use Rattle.flowfile_record.specs.declared.content.ContentRef.{ContentRef}
 use Rattle.flowfile_record.specs.declared.stored.ActiveFile.{ActiveFile}
+use Rattle.flowfile_record.specs.declared.stored.Fresh.TheVariants.{As}
 use Rattle.flowfile_record.specs.declared.stored.Placed.{Placed}
 use Rattle.record_codec.specs.declared.entry.LogEntry.{LogEntry}
 use Rattle.content_repo.specs.Slots.{size_of, references_to, taken, HasRoom}
 use Rattle.content_repo.specs.declared.slot.Slot.{Slot}
 use Rattle.kept_state.specs.Changes.{placed_in, record_of}
 use Rattle.store_core.specs.Change.{IsFresh, fresh_sizes_of}
-use Rattle.store_core.specs.Placing.{IsPlacedAs, ArePlaced, HoldsMore, IsHeldIn, IsRecordedAt, MayPlace, MayPlaceOne, PlacesOne, PlacesAll, GrowsBehind}
+use Rattle.store_core.specs.Placing.{IsPlacedAs, ArePlaced, HoldsMore, IsHeldIn, IsRecordedAt, MayPlace, MayPlaceOne, MayShare, PlacesOne, PlacesAll, GrowsBehind, ReferAlike, references_of}
 use Rattle.store_core.proofs.Growing.{same_grown}
+use Rattle.store_core.proofs.Sharing.{may_share, refer_next, refer_none, zip_wider}
 use Rattle.store_core.proofs.Sound.{content_of}
 
 zip_push : {A B : Type 0} (R : A → B → Type 0) (xs : List A) (ys : List B) (x : A) (y : B) → AllZip R xs ys → R x y → AllZip R (xs ++ x ∷ []) (ys ++ y ∷ [])
@@ -23,12 +26,6 @@ zip_push R [] [] x y all r = (r, tt)
 zip_push R [] (b ∷ ys) x y all r = absurd all
 zip_push R (a ∷ xs) [] x y all r = absurd all
 zip_push R (a ∷ xs) (b ∷ ys) x y all r = (all.0, zip_push R xs ys x y all.1 r)
-
-zip_wider : {A B : Type 0} (R S : A → B → Type 0) (xs : List A) (ys : List B) → ((x : A) (y : B) → R x y → S x y) → AllZip R xs ys → AllZip S xs ys
-zip_wider R S [] [] to all = tt
-zip_wider R S [] (b ∷ ys) to all = absurd all
-zip_wider R S (a ∷ xs) [] to all = absurd all
-zip_wider R S (a ∷ xs) (b ∷ ys) to all = (to a b all.0, zip_wider R S xs ys to all.1)
 
 -- where claims grow, what was placed is placed still
 pub placed_still : (tells : Bool) (slots more : List Slot) (old new : Files) (placed : List Placed) (files : List ActiveFile)
@@ -52,6 +49,7 @@ pub record IsPlacedTo (tells : Bool) (all : List Placed) (start slots : List Slo
   pub long : length done ≡ i
   pub recorded : placed_in entry ≡ done ++ map record_of (drop i all)
   pub placed : ArePlaced tells slots files (take i all) done
+  pub shared : ReferAlike (take i all) done
   pub holds : HoldsMore done start slots
   pub room : HasRoom slots (fresh_sizes_of (drop i all))
 
@@ -67,14 +65,15 @@ placed_none tells placed slots files entry recorded room = record {
   long = refl;
   recorded = recorded;
   placed = tt;
+  shared = refer_none;
   holds = record { counts = λ k. omega arith; held = omega arith; sizes = λ k. omega arith };
   room = room;
 }
 
 sizes-cons : (p : Placed) (placed : List Placed) → fresh_sizes_of (p ∷ placed) ≡ fresh_sizes_of (p ∷ []) ++ fresh_sizes_of placed
-sizes-cons p placed = by p.fresh
+sizes-cons p placed = by (own_bytes p.fresh)
   where
-    by : (fresh : Option (List ℕ)) → map length (cons_option fresh (filter_map (λ q. q.fresh) placed)) ≡ map length (cons_option fresh []) ++ map length (filter_map (λ q. q.fresh) placed)
+    by : (own : Option (List ℕ)) → map length (cons_option own (filter_map (λ q. own_bytes q.fresh) placed)) ≡ map length (cons_option own []) ++ map length (filter_map (λ q. own_bytes q.fresh) placed)
     by None = refl
     by (Some bytes) = refl
 
@@ -82,10 +81,10 @@ split_at : (placed : List Placed) (i : ℕ) (p : Placed) → i < length placed �
 split_at placed i p lt here =
     drop-cons placed i p lt ∙ ap (λ (q : Placed). q ∷ drop (suc i) placed) (sym here) ∙ ap (λ (n : ℕ). p ∷ drop n placed) (sym (add-one i))
 
-pub placed_next : (tells : Bool) (placed : List Placed) (start slots more : List Slot) (old new : Files) (before after : LogEntry) (i : ℕ) (p : Placed) → i < length placed → p ≡ get_or placed i p
+pub placed_next : (tells : Bool) (placed : List Placed) (start slots more : List Slot) (old new : Files) (before after : LogEntry) (i : ℕ) (p : Placed) → AreShared placed → i < length placed → p ≡ get_or placed i p
     → IsPlacedTo tells placed start slots old before i → PlacesOne tells new i p slots more before after → (IsTrue tells → GrowsBehind slots old new)
     → IsPlacedTo tells placed start more new after (i + 1)
-placed_next tells placed start slots more old new before after i p lt here so_far one grows =
+placed_next tells placed start slots more old new before after i p shared lt here so_far one grows =
     let rest = drop (i + 1) placed in
     let split : drop i placed ≡ p ∷ rest = split_at placed i p lt here in
     let a = one.recorded in
@@ -97,6 +96,9 @@ placed_next tells placed start slots more old new before after i p lt here so_fa
       placed =
           subst (λ (l : List Placed). ArePlaced tells more new l (so_far.done ++ a ∷ [])) (sym (take_more placed i p lt ∙ ap (λ (q : Placed). take i placed ++ q ∷ []) (sym here)))
           (zip_push (IsPlacedAs tells more new) (take i placed) so_far.done p a (placed_still tells slots more old new (take i placed) so_far.done one.holds.sizes grows so_far.placed) one.placed);
+      shared =
+          refer_next placed i p so_far.done (record_of p ∷ map record_of rest) a shared lt here so_far.long so_far.shared
+          (λ of is. ap (λ (l : List ActiveFile). slice_get (references_of l) of) (sym recorded) ∙ one.shared of is);
       holds = record {
         counts = λ k. omega (arith, one.holds.counts k, so_far.holds.counts k, references-more k so_far.done a);
         held = omega (arith, one.holds.held, so_far.holds.held, length-append so_far.done (a ∷ []));
@@ -137,9 +139,16 @@ may_next tells placed start slots files entry i p lt here may so_far =
           (subst (HasRoom slots) (ap fresh_sizes_of split ∙ sizes-cons p (drop (i + 1) placed)) so_far.room);
       old = λ none.
           still_held_in start slots so_far.done p.file.content so_far.holds
-          ((subst (λ (q : Placed). q.fresh ≡ None → IsHeldIn start q.file.content) (sym here) (may.old i p lt)) none);
+          ((subst (λ (q : Placed). is_stored q.fresh ≡ true → IsHeldIn start q.file.content) (sym here) (may.old i p lt)) none);
       few = omega (arith, so_far.holds.held, so_far.long, may.few, lt);
     }
+
+-- what the next one shares may be shared
+pub share_next : (tells : Bool) (placed : List Placed) (start slots : List Slot) (files : Files) (entry : LogEntry) (i : ℕ) (p : Placed) → i < length placed → p ≡ get_or placed i p
+    → MayPlace start placed → IsPlacedTo tells placed start slots files entry i → (of : ℕ) → p.fresh ≡ As of → MayShare slots (placed_in entry) p of
+share_next tells placed start slots files entry i p lt here may so_far of is =
+    subst (λ (l : List ActiveFile). MayShare slots l p of) (sym so_far.recorded)
+    (may_share tells placed start slots files so_far.done (map record_of (drop i placed)) i of p may.shared lt here so_far.long so_far.placed so_far.holds is)
 
 pub placed_all : (tells : Bool) (placed : List Placed) (start slots : List Slot) (files : Files) (entry : LogEntry) (i : ℕ) → length placed ≤ i → IsPlacedTo tells placed start slots files entry i
     → PlacesAll tells files placed start slots entry
@@ -150,5 +159,8 @@ placed_all tells placed start slots files entry i le so_far =
       placed =
           subst (λ (l : List ActiveFile). ArePlaced tells slots files placed l) (sym whole)
           (subst (λ (l : List Placed). ArePlaced tells slots files l so_far.done) (take_all i placed le) so_far.placed);
+      shared =
+          subst (λ (l : List ActiveFile). ReferAlike placed l) (sym whole)
+          (subst (λ (l : List Placed). ReferAlike l so_far.done) (take_all i placed le) so_far.shared);
       holds = subst (λ (l : List ActiveFile). HoldsMore l start slots) (sym whole) so_far.holds;
     }

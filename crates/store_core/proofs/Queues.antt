@@ -130,33 +130,33 @@ module _ (contents : ContentRef → List ℕ) (place : ℕ) where
 -- ---- a queue behind a session
 
 -- a placed file as it is queued
-pub record IsQueuedAs (new old : ContentRef → List ℕ) (p : Placed) (a : ActiveFile) : Type 0 where
+pub record IsQueuedAs (new old : ContentRef → List ℕ) (all : List Placed) (p : Placed) (a : ActiveFile) : Type 0 where
   pub connection : a.connection ≡ p.connection
-  pub file : queued new a ≡ placed_file old p
+  pub file : queued new a ≡ placed_file old all p
 
-line_placed : (new old : ContentRef → List ℕ) (place : ℕ) (placed : List Placed) (files : List ActiveFile) → AllZip (IsQueuedAs new old) placed files
-    → line new place files ≡ placed_into old place placed
-line_placed new old place [] [] all = refl
-line_placed new old place [] (a ∷ files) all = absurd all
-line_placed new old place (p ∷ placed) [] all = absurd all
-line_placed new old place (p ∷ placed) (a ∷ files) all =
-    let rest = line_placed new old place placed files all.1 in
-    ap (λ (n : ℕ). map (queued new) (cond (n == place) (a ∷ filter (λ b. b.connection == place) files) (filter (λ b. b.connection == place) files))) all.0.connection
+line_placed : (new old : ContentRef → List ℕ) (all : List Placed) (place : ℕ) (placed : List Placed) (files : List ActiveFile) → AllZip (IsQueuedAs new old all) placed files
+    → line new place files ≡ placed_into old all place placed
+line_placed new old all place [] [] are = refl
+line_placed new old all place [] (a ∷ files) are = absurd are
+line_placed new old all place (p ∷ placed) [] are = absurd are
+line_placed new old all place (p ∷ placed) (a ∷ files) are =
+    let rest = line_placed new old all place placed files are.1 in
+    ap (λ (n : ℕ). map (queued new) (cond (n == place) (a ∷ filter (λ b. b.connection == place) files) (filter (λ b. b.connection == place) files))) are.0.connection
     ∙ by (p.connection == place) rest
   where
-    by : (t : Bool) → line new place files ≡ placed_into old place placed
+    by : (t : Bool) → line new place files ≡ placed_into old all place placed
         → map (queued new) (cond t (a ∷ filter (λ b. b.connection == place) files) (filter (λ b. b.connection == place) files))
-        ≡ map (placed_file old) (cond t (p ∷ filter (λ q. q.connection == place) placed) (filter (λ q. q.connection == place) placed))
-    by true rest = let one = all.0.file in cc
+        ≡ map (placed_file old all) (cond t (p ∷ filter (λ q. q.connection == place) placed) (filter (λ q. q.connection == place) placed))
+    by true rest = let one = are.0.file in cc
     by false rest = rest
 
 pub queue_behind : (new old : ContentRef → List ℕ) (place : ℕ) (gone : List ℕ) (placed : List Placed) (recorded files : List ActiveFile)
-    → AreApart arrival_of recorded (left_after gone files) → AllZip (IsQueuedAs new old) placed recorded
+    → AreApart arrival_of recorded (left_after gone files) → AllZip (IsQueuedAs new old placed) placed recorded
     → line new place (left_after gone files) ≡ line old place (left_after gone files)
     → queue_of new (with_files recorded (left_after gone files)) place
-    ≡ fold with_arrival (without_files (queue_of old files place) gone) (placed_into old place placed)
+    ≡ fold with_arrival (without_files (queue_of old files place) gone) (placed_into old placed place placed)
 queue_behind new old place gone placed recorded files apart all same =
     join_all new place recorded (left_after gone files) [] apart
     ∙ ap (λ (l : List QueuedFile). fold with_arrival (fold with_arrival [] l) (line new place recorded)) same
-    ∙ ap (fold with_arrival (queue_of old (left_after gone files) place)) (line_placed new old place placed recorded all)
-    ∙ ap (λ (queue : List QueuedFile). fold with_arrival queue (placed_into old place placed)) (sym (queue_left old place gone files))
+    ∙ ap (fold with_arrival (queue_of old (left_after gone files) place)) (line_placed new old placed place placed recorded all)
+    ∙ ap (λ (queue : List QueuedFile). fold with_arrival queue (placed_into old placed place placed)) (sym (queue_left old place gone files))

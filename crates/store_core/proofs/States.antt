@@ -1,17 +1,20 @@
 -- The machine's state that files stand for once a session's entry was added.
 use Rattle.std.proofs.Common.{◌≡◌, ℕ, ◌==◌, Bool, true, false, cond, not, List, [], ◌∷◌, ◌++◌, map, take, drop, get_or, refl, sym, ap, subst, ◌∙◌, arith}
-use Rattle.std.specs.Prelude.{Option, None, Some, Ok, All, Contains, filter, unwrap_or}
+use Rattle.std.specs.Prelude.{None, Ok, All, Contains, filter, unwrap_or}
 use Rattle.std.specs.List.{AllZip}
 use Rattle.std.proofs.lemmas.List.{length-append}
 use Rattle.std.proofs.lemmas.List.Elements.{All-head, All-tail, All-filter}
 use Rattle.disk_trait.specs.Files.{Files, named}
 use Rattle.disk_trait.specs.declared.file_name.FileKind.TheVariants.{Log, Claim}
 use Rattle.disk_trait.specs.declared.file_name.FileName.{FileName}
+use Rattle.flowfile_record.specs.Shared.{AreShared, bytes_among, is_stored, own_bytes}
 use Rattle.flowfile_record.specs.Stored.{Kept}
 use Rattle.flowfile_record.specs.declared.change.Settled.{Settled}
 use Rattle.flowfile_record.specs.declared.content.ContentRef.{ContentRef}
 use Rattle.flowfile_record.specs.declared.event.Event.{Event}
 use Rattle.flowfile_record.specs.declared.stored.ActiveFile.{ActiveFile}
+use Rattle.flowfile_record.specs.declared.stored.Fresh.{Fresh}
+use Rattle.flowfile_record.specs.declared.stored.Fresh.TheVariants.{No, Bytes, Staged, As}
 use Rattle.flowfile_record.specs.declared.stored.Placed.{Placed}
 use Rattle.record_codec.specs.declared.entry.LogEntry.{LogEntry}
 use Rattle.record_codec.specs.declared.entry.SessionEntry.{SessionEntry}
@@ -29,7 +32,7 @@ use Rattle.prov_store.proofs.InFiles.{last_numbered}
 use Rattle.store_core.specs.Change.{IsOldLive}
 use Rattle.store_core.specs.Flow.{Flow, flow_in}
 use Rattle.store_core.specs.Kept.{kept_in}
-use Rattle.store_core.specs.Placing.{IsPlacedAs, ArePlaced}
+use Rattle.store_core.specs.Placing.{ArePlaced, ReferAlike}
 use Rattle.store_core.specs.State.{stands_for, contents_damage, live_contents, queued}
 use Rattle.store_core.specs.Store.{StoreState, kept_by, live_in, Holds}
 use Rattle.store_core.proofs.Agreeing.{of_state, sound_of, stands_by_kept, state_of_sound}
@@ -37,6 +40,7 @@ use Rattle.store_core.proofs.Commits.{same_flow}
 use Rattle.store_core.proofs.Following.{Follows}
 use Rattle.store_core.proofs.Machine.{IsSessionFor, state_behind}
 use Rattle.store_core.proofs.Queues.{IsQueuedAs, line}
+use Rattle.store_core.proofs.Sharing.{HasSource, all_at, all_sources, zip_wider}
 use Rattle.store_core.proofs.Sound.{content_of, unmap}
 
 added_content : (number : ℕ) (e : LogEntry) (old new : Files) (at : ContentRef) → Adds number e old new → content_in new at ≡ content_in old at
@@ -66,33 +70,36 @@ line_same new old place (a ∷ files) same =
         }) one in cc
     by false one rest = rest
 
-bytes_of : (o : Option (List ℕ)) (p : Placed) (old : ContentRef → List ℕ) (bytes : List ℕ) → p.fresh ≡ o → ((b : List ℕ) → p.fresh ≡ Some b → bytes ≡ b) → (p.fresh ≡ None → bytes ≡ old p.file.content) → bytes ≡ unwrap_or p.fresh (old p.file.content)
-bytes_of None p old bytes is some none = none is ∙ ap (λ (f : Option (List ℕ)). unwrap_or f (old p.file.content)) (sym is)
-bytes_of (Some b) p old bytes is some none = some b is ∙ ap (λ (f : Option (List ℕ)). unwrap_or f (old p.file.content)) (sym is)
+bytes_of : (f : Fresh) (p : Placed) (old : ContentRef → List ℕ) (bytes : List ℕ) → p.fresh ≡ f → ((of : ℕ) → p.fresh ≡ As of → ⊥) → ((b : List ℕ) → p.fresh ≡ Bytes b → bytes ≡ b)
+    → (is_stored p.fresh ≡ true → bytes ≡ old p.file.content) → bytes ≡ unwrap_or (own_bytes p.fresh) (old p.file.content)
+bytes_of No p old bytes is alone new stored = stored (ap is_stored is) ∙ ap (λ (f : Fresh). unwrap_or (own_bytes f) (old p.file.content)) (sym is)
+bytes_of Staged p old bytes is alone new stored = stored (ap is_stored is) ∙ ap (λ (f : Fresh). unwrap_or (own_bytes f) (old p.file.content)) (sym is)
+bytes_of (Bytes b) p old bytes is alone new stored = new b is ∙ ap (λ (f : Fresh). unwrap_or (own_bytes f) (old p.file.content)) (sym is)
+bytes_of (As of) p old bytes is alone new stored = absurd (alone of is)
 
 -- a placed file is queued with its bytes
-queued_as : (new old : ContentRef → List ℕ) (slots : List Slot) (files : Files) (p : Placed) (a : ActiveFile) → IsPlacedAs true slots files p a
-    → ((at : ContentRef) → new at ≡ content_in files at) → (p.fresh ≡ None → content_in files p.file.content ≡ old p.file.content) → IsQueuedAs new old p a
-queued_as new old slots files p a is reads same =
+queued_as : (new old : ContentRef → List ℕ) (slots : List Slot) (files : Files) (all : List Placed) (p : Placed) (a : ActiveFile) → HasSource all true slots files p a
+    → ((at : ContentRef) → new at ≡ content_in files at) → All (λ q. is_stored q.fresh ≡ true → content_in files q.file.content ≡ old q.file.content) all → IsQueuedAs new old all p a
+queued_as new old slots files all p a from reads same =
     let at = content_of a in
-    let bytes : new at ≡ unwrap_or p.fresh (old p.file.content) =
-    bytes_of p.fresh p old (new at) refl (λ b some. reads at ∙ is.stands refl b some) (λ none. ap new (is.old none) ∙ reads p.file.content ∙ same none) in
+    let q = from.source in
+    let source : new (content_of from.by) ≡ unwrap_or (own_bytes q.fresh) (old q.file.content) =
+    bytes_of q.fresh q old (new (content_of from.by)) refl from.alone (λ b some. reads (content_of from.by) ∙ from.stands.stands refl b some)
+    (λ stored. ap new (from.stands.old stored) ∙ reads q.file.content ∙ all_at (λ r. is_stored r.fresh ≡ true → content_in files r.file.content ≡ old r.file.content) all from.place q same from.there stored) in
+    let bytes : new at ≡ unwrap_or (bytes_among all p.fresh) (old p.file.content) =
+    ap new from.refers ∙ source ∙ (λ i. unwrap_or (sym from.bytes i) (old (sym from.same i))) in
     record {
-      connection = ap (λ (b : ActiveFile). b.connection) is.file;
+      connection = ap (λ (b : ActiveFile). b.connection) from.is.file;
       file =
-          ap (λ (b : ActiveFile). record { number = b.file.number; attributes = b.file.attributes; bytes = new at; entered = b.file.entered; penalty_end = b.file.penalty_end; arrival = b.file.arrival; batch = None }) is.file
+          ap (λ (b : ActiveFile). record { number = b.file.number; attributes = b.file.attributes; bytes = new at; entered = b.file.entered; penalty_end = b.file.penalty_end; arrival = b.file.arrival; batch = None }) from.is.file
           ∙ ap (λ (b : List ℕ). record { number = p.file.number; attributes = p.file.attributes; bytes = b; entered = p.file.entered; penalty_end = p.file.penalty_end; arrival = p.file.arrival; batch = None }) bytes;
     }
 
-all_queued : (new old : ContentRef → List ℕ) (slots : List Slot) (files : Files) (placed : List Placed) (recorded : List ActiveFile) → ArePlaced true slots files placed recorded
-    → ((at : ContentRef) → new at ≡ content_in files at) → All (λ p. p.fresh ≡ None → content_in files p.file.content ≡ old p.file.content) placed → AllZip (IsQueuedAs new old) placed recorded
-all_queued new old slots files [] [] are reads same = tt
-all_queued new old slots files [] (a ∷ recorded) are reads same = absurd are
-all_queued new old slots files (p ∷ placed) [] are reads same = absurd are
-all_queued new old slots files (p ∷ placed) (a ∷ recorded) are reads same = (
-  queued_as new old slots files p a are.0 reads (All-head (λ q. q.fresh ≡ None → content_in files q.file.content ≡ old q.file.content) p placed same),
-  all_queued new old slots files placed recorded are.1 reads (All-tail (λ q. q.fresh ≡ None → content_in files q.file.content ≡ old q.file.content) p placed same),
-)
+all_queued : (new old : ContentRef → List ℕ) (slots : List Slot) (files : Files) (placed : List Placed) (recorded : List ActiveFile) → AreShared placed → ReferAlike placed recorded → ArePlaced true slots files placed recorded
+    → ((at : ContentRef) → new at ≡ content_in files at) → All (λ p. is_stored p.fresh ≡ true → content_in files p.file.content ≡ old p.file.content) placed → AllZip (IsQueuedAs new old placed) placed recorded
+all_queued new old slots files placed recorded shared alike are reads same =
+    zip_wider (HasSource placed true slots files) (IsQueuedAs new old placed) placed recorded (λ p a from. queued_as new old slots files placed p a from reads same)
+    (all_sources placed true slots files recorded shared alike are)
 
 -- ---- a state
 
@@ -106,10 +113,10 @@ pub record IsSame (s : Settled) (se : SessionEntry) : Type 0 where
 pub state_added : (s new : StoreState) (settled : Settled) (se : SessionEntry) (number : ℕ) (e : LogEntry) (slots : List Slot) (old mid files : Files) (state : State)
     → (kept_by s).batches ≡ [] → session_suits no_files (kept_by s) se ≡ true → IsSame settled se
     → ((events : List Event) → events_in old (kept_by s).last_event ≡ Ok events → events_in files se.last_event ≡ Ok (events ++ settled.events))
-    → Holds s old → stands_for (flow_in (kept_by s)) s.lot old ≡ of_state state → Follows s old mid → Adds number e mid files → ArePlaced true slots mid settled.placed se.placed → All (IsOldLive s) settled.placed
+    → Holds s old → stands_for (flow_in (kept_by s)) s.lot old ≡ of_state state → Follows s old mid → Adds number e mid files → AreShared settled.placed → ReferAlike settled.placed se.placed → ArePlaced true slots mid settled.placed se.placed → All (IsOldLive s) settled.placed
     → Holds new files → kept_by new ≡ session_applied (kept_by s) se → new.lot ≡ s.lot
     → stands_for (flow_in (kept_by s)) s.lot files ≡ of_state (state_after (content_in old) state settled)
-state_added s new settled se number e slots old mid files state batches suits same behind holds stands follows added are live now kept lot =
+state_added s new settled se number e slots old mid files state batches suits same behind holds stands follows added shared alike are live now kept lot =
     let k = kept_by s in
     let flow = flow_in k in
     let k2 = session_applied k se in
@@ -122,10 +129,10 @@ state_added s new settled se number e slots old mid files state batches suits sa
     let reads : (at : ContentRef) → content_in files at ≡ content_in mid at = λ at. added_content number e mid files at added in
     let stay : All (λ (at : ContentRef). content_in files at ≡ content_in old at) (live_in s) =
     λ i d lt. let at = get_or (live_in s) i d in reads at ∙ (follows.contents i d lt).bytes in
-    let placed : All (λ (p : Placed). p.fresh ≡ None → content_in mid p.file.content ≡ content_in old p.file.content) settled.placed =
-    λ i d lt fresh.
+    let placed : All (λ (p : Placed). is_stored p.fresh ≡ true → content_in mid p.file.content ≡ content_in old p.file.content) settled.placed =
+    λ i d lt stored.
     let at = (get_or settled.placed i d).file.content in
-    let has : Contains (live_in s) at = live i d lt fresh in
+    let has : Contains (live_in s) at = live i d lt stored in
     subst (λ (r : ContentRef). content_in mid r ≡ content_in old r) has.2 (follows.contents has.0 at has.1).bytes in
     let session : IsSessionFor (content_in files) (content_in old) k settled se = record {
       gone = same.gone;
@@ -139,7 +146,7 @@ state_added s new settled se number e slots old mid files state batches suits sa
       );
       count = same.count;
       apart = (suits_from k se batches suits).arrivals;
-      placed = all_queued (content_in files) (content_in old) slots mid settled.placed se.placed are reads placed;
+      placed = all_queued (content_in files) (content_in old) slots mid settled.placed se.placed shared alike are reads placed;
       left = λ place.
           line_same (content_in files) (content_in old) place (left_after se.gone k.files)
           (All-filter (λ a. not (is_among se.gone a)) (λ a. content_in files (content_of a) ≡ content_in old (content_of a)) k.files

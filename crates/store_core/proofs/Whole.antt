@@ -33,7 +33,7 @@ use Rattle.record_codec.specs.Placeless.{placeless_entry}
 use Rattle.content_repo.specs.Claims.{HasSizes}
 use Rattle.store_core.specs.Change.{HasLiveContents}
 use Rattle.store_core.specs.Committed.{PreparedChange, IsPrepared}
-use Rattle.store_core.specs.Placing.{ArePlaced}
+use Rattle.store_core.specs.Placing.{ArePlaced, ReferAlike}
 use Rattle.kept_state.specs.Changes.{placed_in}
 use Rattle.store_core.proofs.Following.{Follows, follows_ahead, follows_kept_log, follows_in_turn, holds_following, logs_ahead}
 use Rattle.store_core.proofs.Sound.{IsSoundIn, content_of}
@@ -159,9 +159,9 @@ module _ {D : Type 0} (moment : D → ℕ) (images : D → ℕ → Files → Typ
   pub is_added : (works : IsWorking s) → InEach (images old (moment old)) (HasLog s) → InEach (images old (moment old)) (Holds s)
       → Since moment images old mid (After (GrowsAhead s.slots s.events) (images old (moment old)))
       → IsConsistent (kept_by s) → (prepared : IsPrepared s p) → (same : placeless_entry e ≡ placeless_entry p.entry) → HasLiveContents s p.settled
-      → images mid (moment mid) (held mid) → HasSizes slots (held mid) → ArePlaced true slots (held mid) p.settled.placed (placed_in e)
+      → images mid (moment mid) (held mid) → HasSizes slots (held mid) → ReferAlike p.settled.placed (placed_in e) → ArePlaced true slots (held mid) p.settled.placed (placed_in e)
       → kept_by new ≡ applied no_files (kept_by s) e → new.lot ≡ s.lot → HasEvents new.events (held mid) → IsAdded s new e (held mid)
-  is_added works has holds first consistent prepared same live left sizes placed kept lot events =
+  is_added works has holds first consistent prepared same live left sizes alike placed kept lot events =
       let is = entry_acts s p e consistent prepared same in
       let before = at_the_end moment images old mid (After (GrowsAhead s.slots s.events) (images old (moment old))) first (held mid) left in
       let holds_mid = holds_ahead s before.0 (held mid) works (has before.0 before.1) (holds before.0 before.1) before.2 in
@@ -171,7 +171,8 @@ module _ {D : Type 0} (moment : D → ℕ) (images : D → ℕ → Files → Typ
         alone = is.alone;
         fit = is.fit;
         contents =
-            placed_sound (held mid) slots s p.settled.placed is.session.placed sizes holds_mid.contents prepared.may.fresh live
+            placed_sound (held mid) slots s p.settled.placed is.session.placed sizes holds_mid.contents prepared.may.fresh live prepared.may.shared
+            (subst (ReferAlike p.settled.placed) is.puts alike)
             (subst (λ (l : List ActiveFile). ArePlaced true slots (held mid) p.settled.placed l) is.puts placed);
         kept = kept;
         lot = lot;

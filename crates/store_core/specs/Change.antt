@@ -1,10 +1,12 @@
 -- What a settled session asks of a store, and what files do that expire.
-use Rattle.std.specs.Prelude.{◌≡◌, ◌⊎◌, ℕ, ◌+◌, ◌≤◌, List, length, map, All, Contains, None, Some}
+use Rattle.std.specs.Prelude.{◌≡◌, ◌⊎◌, ℕ, ◌+◌, ◌≤◌, List, length, map, true, All, Contains, None, Some}
 use Rattle.std.specs.List.{filter_map}
 use Rattle.sha2.specs.Sha256.{sha256}
+use Rattle.flowfile_record.specs.Shared.{AreShared, is_stored, own_bytes}
 use Rattle.flowfile_record.specs.Stored.{Kept}
 use Rattle.flowfile_record.specs.declared.TheConstants.{CONTENT_MAX}
 use Rattle.flowfile_record.specs.declared.change.Settled.{Settled}
+use Rattle.flowfile_record.specs.declared.stored.Fresh.TheVariants.{Bytes}
 use Rattle.flowfile_record.specs.declared.stored.Placed.{Placed}
 use Rattle.content_repo.specs.Slots.{HasRoom}
 use Rattle.content_repo.specs.declared.slot_set.TheConstants.{SLOTS}
@@ -19,9 +21,9 @@ use Rattle.store_core.specs.declared.prepared.SettledExpiry.{SettledExpiry}
 
 -- ---- what may be handed in
 
--- the contents that aren't in the store yet, by place
+-- the contents that aren't in the store yet, by place; one that several files share is there once
 abbrev pub fresh_contents_of : List Placed → List (List ℕ)
-fresh_contents_of placed = filter_map (λ p. p.fresh) placed
+fresh_contents_of placed = filter_map (λ p. own_bytes p.fresh) placed
 
 abbrev pub fresh_contents : Settled → List (List ℕ)
 fresh_contents s = fresh_contents_of s.placed
@@ -34,16 +36,18 @@ fresh_sizes s = fresh_sizes_of s.placed
 
 -- a content that isn't in the store yet has the size and the digest that its file says
 abbrev pub IsFresh : Placed → Type 0
-IsFresh p = (bytes : List ℕ) → p.fresh ≡ Some bytes
+IsFresh p = (bytes : List ℕ) → p.fresh ≡ Bytes bytes
     → (length bytes ≤ CONTENT_MAX) × (p.file.content.size ≡ length bytes) × (p.file.content.digest ≡ sha256 bytes)
 
--- A settled session whose entry fits but that it may pass a limit, and whose new contents are as its files say. Its
--- events are numbered behind the last one, and each has a block unless a number passes its limit.
+-- A settled session whose entry fits but that it may pass a limit, and whose new contents are as its files say; shared
+-- ones are those of earlier files. Its events are numbered behind the last one, and each has a block unless a number
+-- passes its limit.
 pub record MayChange (k : Kept) (s : Settled) : Type 0 where
   pub settles : MaySettle k s
   pub numbered : AreNumberedFrom (k.last_event + 1) s.events
   pub events : numbers_limit (session_applied k (session_of k s)) ≡ None → All HasBlock s.events
   pub fresh : All IsFresh s.placed
+  pub shared : AreShared s.placed
 
 -- Files of a connection may expire: their entry fits. Their events are numbered behind the last one, and each has a
 -- block unless a number passes its limit.
@@ -52,9 +56,9 @@ pub record MayExpire (k : Kept) (e : SettledExpiry) : Type 0 where
   pub numbered : AreNumberedFrom (k.last_event + 1) e.settled.events
   pub events : numbers_limit (session_applied k (session_of k e.settled)) ≡ None → All HasBlock e.settled.events
 
--- each placed file without a new content has that of a live file
+-- each placed file whose content is in the store has that of a live file
 abbrev pub IsOldLive : StoreState → Placed → Type 0
-IsOldLive store p = p.fresh ≡ None → Contains (live_in store) p.file.content
+IsOldLive store p = is_stored p.fresh ≡ true → Contains (live_in store) p.file.content
 
 abbrev pub HasLiveContents : StoreState → Settled → Type 0
 HasLiveContents store s = All (IsOldLive store) s.placed

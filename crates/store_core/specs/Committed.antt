@@ -1,20 +1,21 @@
 -- A change that is on its way into the store, and what its commit leaves.
-use Rattle.std.specs.Prelude.{◌≡◌, ◌⊎◌, ℕ, ◌+◌, ◌≤◌, length, All, Ok}
+use Rattle.std.specs.Prelude.{◌≡◌, ◌⊎◌, ℕ, ◌+◌, ◌≤◌, length, map, All, Ok}
 use Rattle.disk_trait.specs.Files.{Files}
 use Rattle.disk_trait.specs.Images.{Since}
 use Rattle.flowfile_record.specs.Stored.{Kept}
 use Rattle.flowfile_record.specs.declared.change.Change.TheVariants as change
 use Rattle.flowfile_record.specs.declared.change.Settled.{Settled}
-use Rattle.record_codec.specs.Placeless.{placeless_entry}
+use Rattle.record_codec.specs.Placeless.{placeless_active, placeless_entry}
 use Rattle.record_codec.specs.declared.entry.LogEntry.{LogEntry}
 use Rattle.content_repo.specs.Claims.{content_in}
 use Rattle.kept_state.specs.Applied.{applied}
-use Rattle.kept_state.specs.Changes.{entry_of, expiry_entry, no_files, MayExpireAs}
+use Rattle.kept_state.specs.Changes.{entry_of, expiry_entry, no_files, placed_in, record_of, MayExpireAs}
 use Rattle.machine_model.specs.Changing.{state_after}
 use Rattle.machine_model.specs.State.{State}
 use Rattle.prov_store.specs.State.{HasBlock, IsAppended, NumberedEvents}
 use Rattle.store_core.specs.Change.{MayChange, IsWithinLimits}
 use Rattle.store_core.specs.Flow.{flow_in}
+use Rattle.store_core.specs.Placing.{ReferAlike}
 use Rattle.store_core.specs.State.{stands_for}
 use Rattle.store_core.specs.Store.{StoreState, kept_by, EachStandsFor, Holds}
 
@@ -68,12 +69,20 @@ pub record IsAllOrNothing {D : Type 0} (held : D → Files) (moment : D → ℕ)
       (stands_for (flow_in (kept_by s_old)) s_old.lot c ≡ Ok state)
       ⊎ (stands_for (flow_in (kept_by s_old)) s_old.lot c ≡ Ok (state_after (content_in (held old)) state p.settled)))
 
--- A commit is acknowledged: the disk's present moment is told, the events are the store's, and whatever a stop may leave
--- stands for the state with the change.
+-- What is kept has the placed files, those that share a content refer to the same bytes of the same claim.
+pub record KeepsShared (settled : Settled) (old new : StoreState) : Type 0 where
+  pub entry : LogEntry
+  pub kept : kept_by new ≡ applied no_files (kept_by old) entry
+  pub placed : map placeless_active (placed_in entry) ≡ map placeless_active (map record_of settled.placed)
+  pub alike : ReferAlike settled.placed (placed_in entry)
+
+-- A commit is acknowledged: the disk's present moment is told, the events are the store's, files share their contents, and
+-- whatever a stop may leave stands for the state with the change.
 pub record IsAcknowledged {D : Type 0} (held : D → Files) (moment_of : D → ℕ) (images : D → ℕ → Files → Type 0)
     (s_old s_new : StoreState) (settled : Settled) (old new : D) (told : ℕ) : Type 0 where
   pub moment : told ≡ moment_of new
   pub events : IsAppended settled.events s_old.events s_new.events
+  pub shared : KeepsShared settled s_old s_new
   pub states : (state : State) → EachStandsFor (flow_in (kept_by s_old)) s_old.lot state (images old (moment_of old))
       → EachStandsFor (flow_in (kept_by s_old)) s_old.lot (state_after (content_in (held old)) state settled)
       (images new (moment_of new))

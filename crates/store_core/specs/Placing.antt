@@ -1,11 +1,13 @@
 -- What a change has ahead of the log: its contents, as they are placed and given up, and its events.
-use Rattle.std.specs.Prelude.{◌≡◌, ℕ, ◌+◌, ◌<◌, ◌≤◌, IsTrue, Bool, List, [], ◌∷◌, ◌++◌, length, take, map, All, None, Some, Ok, option_map}
+use Rattle.std.specs.Prelude.{◌≡◌, ℕ, ◌+◌, ◌<◌, ◌≤◌, IsTrue, Bool, true, List, [], ◌∷◌, ◌++◌, length, take, map, slice_get, All, Some, Ok, option_map}
 use Rattle.std.specs.List.{filter_map}
 use Rattle.std.specs.List.{AllZip}
 use Rattle.disk_trait.specs.Files.{Files}
+use Rattle.flowfile_record.specs.Shared.{AreShared, is_stored}
 use Rattle.flowfile_record.specs.declared.content.ContentRef.{ContentRef}
 use Rattle.flowfile_record.specs.declared.event.Event.{Event}
 use Rattle.flowfile_record.specs.declared.stored.ActiveFile.{ActiveFile}
+use Rattle.flowfile_record.specs.declared.stored.Fresh.TheVariants.{Bytes, As}
 use Rattle.flowfile_record.specs.declared.stored.Placed.{Placed}
 use Rattle.record_codec.specs.ActiveFile.{active}
 use Rattle.record_codec.specs.declared.entry.LogEntry.{LogEntry}
@@ -40,38 +42,59 @@ pub record GrowsAhead (slots : List Slot) (known : EventsState) (old new : Files
   pub claims : GrowsBehind slots old mid
   pub events : EventsGrow known mid new
 
--- The placed file as it is recorded: a new content stands in its claim, an old one where it stood.
+-- The placed file as it is recorded: a new content stands in its claim, one that is in the store where it stood. Where a
+-- shared one stands see `ReferAlike`.
 pub record IsPlacedAs (tells : Bool) (slots : List Slot) (files : Files) (p : Placed) (a : ActiveFile) : Type 0 where
   pub file : a ≡ at_content a.file.content (active p.connection p.file)
-  pub old : p.fresh ≡ None → a.file.content ≡ p.file.content
+  pub old : is_stored p.fresh ≡ true → a.file.content ≡ p.file.content
   pub size : a.file.content.size ≡ p.file.content.size
   pub digest : a.file.content.digest ≡ p.file.content.digest
   pub named : IsNamed a.file.content
   pub within : end_of a.file.content ≤ size_of slots a.file.content.slot
-  pub stands : IsTrue tells → (bytes : List ℕ) → p.fresh ≡ Some bytes → content_in files a.file.content ≡ bytes
+  pub stands : IsTrue tells → (bytes : List ℕ) → p.fresh ≡ Bytes bytes → content_in files a.file.content ≡ bytes
 
 -- these files are recorded, one for each placed one
 abbrev pub ArePlaced : (tells : Bool) → List Slot → Files → List Placed → List ActiveFile → Type 0
 ArePlaced tells slots files = AllZip (IsPlacedAs tells slots files)
 
+-- where the contents of files stand, by place
+abbrev pub references_of : List ActiveFile → List ContentRef
+references_of files = map (λ a. a.file.content) files
+
+-- a file that shares the content of an earlier one refers to the same bytes of the same claim
+abbrev pub ReferAlike : List Placed → List ActiveFile → Type 0
+ReferAlike placed recorded =
+    (place of : ℕ) (p : Placed) → slice_get placed place ≡ Some p → p.fresh ≡ As of
+    → slice_get (references_of recorded) place ≡ slice_get (references_of recorded) of
+
 -- The contents of these files are held once more, and claims only grow.
 pub record HoldsMore (files : List ActiveFile) (old new : List Slot) : Type 0 where
-  pub counts : (k : ℕ) → count_of new k ≡ count_of old k + references_to k (map (λ a. a.file.content) files)
+  pub counts : (k : ℕ) → count_of new k ≡ count_of old k + references_to k (references_of files)
   pub held : held_in new ≡ held_in old + length files
   pub sizes : (k : ℕ) → size_of old k ≤ size_of new k
 
--- This file's content may be placed: a new one is as its file says and finds a slot, an old one is held.
+-- The content that a file shares may be placed: the entry has it at the place of the original, as this file says it, and
+-- it is held.
+pub record MayShare (slots : List Slot) (files : List ActiveFile) (p : Placed) (of : ℕ) : Type 0 where
+  pub at : ContentRef
+  pub there : slice_get (references_of files) of ≡ Some at
+  pub held : IsHeldIn slots at
+  pub size : at.size ≡ p.file.content.size
+  pub digest : at.digest ≡ p.file.content.digest
+
+-- This file's content may be placed: a new one is as its file says and finds a slot, one in the store is held.
 pub record MayPlaceOne (slots : List Slot) (p : Placed) : Type 0 where
   pub fresh : IsFresh p
   pub room : HasRoom slots (fresh_sizes_of (p ∷ []))
-  pub old : p.fresh ≡ None → IsHeldIn slots p.file.content
+  pub old : is_stored p.fresh ≡ true → IsHeldIn slots p.file.content
   pub few : held_in slots < HELD_MAX
 
 -- so may each of these, one after the other
 pub record MayPlace (slots : List Slot) (placed : List Placed) : Type 0 where
   pub fresh : All IsFresh placed
   pub room : HasRoom slots (fresh_sizes_of placed)
-  pub old : All (λ p. p.fresh ≡ None → IsHeldIn slots p.file.content) placed
+  pub old : All (λ p. is_stored p.fresh ≡ true → IsHeldIn slots p.file.content) placed
+  pub shared : AreShared placed
   pub few : held_in slots + length placed ≤ HELD_MAX
 
 -- the file stands at this place, without its new content
@@ -85,6 +108,7 @@ pub record PlacesOne (tells : Bool) (files : Files) (place : ℕ) (p : Placed) (
     (before after : LogEntry) : Type 0 where
   pub recorded : ActiveFile
   pub placed : IsPlacedAs tells new files p recorded
+  pub shared : (of : ℕ) → p.fresh ≡ As of → slice_get (references_of (placed_in before)) of ≡ Some recorded.file.content
   pub holds : HoldsMore (recorded ∷ []) old new
   pub room : (sizes : List ℕ) → HasRoom old (fresh_sizes_of (p ∷ []) ++ sizes) → HasRoom new sizes
   pub entry : (front back : List ActiveFile) → length front ≡ place → placed_in before ≡ front ++ record_of p ∷ back
@@ -94,6 +118,7 @@ pub record PlacesOne (tells : Bool) (files : Files) (place : ℕ) (p : Placed) (
 pub record PlacesAll (tells : Bool) (files : Files) (all : List Placed) (old new : List Slot) (after : LogEntry)
     : Type 0 where
   pub placed : ArePlaced tells new files all (placed_in after)
+  pub shared : ReferAlike all (placed_in after)
   pub holds : HoldsMore (placed_in after) old new
 
 -- These events stand behind those of before, and nothing behind them.

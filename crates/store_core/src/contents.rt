@@ -1,17 +1,21 @@
-//! The contents of a change: each is written or held once more, and those of the files that go are given up.
-ghost use Rattle.std.specs.Prelude.{◌≡◌, ℕ, ◌+◌, ◌≤◌, length, map, IsTrue, IfOk, OnOk};
+//! The contents of a change: each is written once, each file that refers to it holds it once more, and those of the files
+//! that go are given up.
+ghost use Rattle.std.specs.Prelude.{◌≡◌, ℕ, ◌+◌, ◌<◌, ◌≤◌, Bool, length, map, IsTrue, IfOk, OnOk};
+ghost use Rattle.disk_trait.specs.Files.{Files};
 ghost use Rattle.disk_trait.specs.Images.{After, Since};
+ghost use Rattle.flowfile_record.specs.declared.stored.Fresh.TheVariants.{Bytes, As};
 ghost use Rattle.record_codec.specs.Placeless.{placeless_entry};
 ghost use Rattle.content_repo.specs.Claims.{HasSizes};
 ghost use Rattle.content_repo.specs.Errors.{RefusesOnFault};
 ghost use Rattle.content_repo.specs.Slots.{count_of, size_of, held_in, references_to};
+ghost use Rattle.content_repo.specs.declared.content.TheConstants.{HELD_MAX};
 ghost use Rattle.kept_state.specs.Changes.{placed_in, record_of};
 ghost use Rattle.store_core.specs.Change.{fresh_contents_of};
-ghost use Rattle.store_core.specs.Placing.{contents_of, GrowsBehind, MayPlace, MayPlaceOne, IsRecordedAt, PlacesOne, PlacesAll};
+ghost use Rattle.store_core.specs.Placing.{contents_of, GrowsBehind, MayPlace, MayPlaceOne, MayShare, IsRecordedAt, PlacesOne, PlacesAll};
 
 use content_repo::{Content, ContentError};
 use disk_trait::Disk;
-use flowfile_record::{ActiveList, ContentRef, Placed};
+use flowfile_record::{ActiveList, ContentRef, Fresh, Placed};
 use kept_state::PreparedEntry;
 use std::alloc::{AllocError, Global};
 
@@ -21,14 +25,15 @@ pub(crate) fn fresh_sizes(alloc: Global, placed: &[Placed]) -> Result<Vec<u64>, 
 {
     let mut sizes = Vec::new(alloc);
     for one in placed {
-        if let Some(bytes) = &one.fresh {
+        if let Fresh::Bytes(bytes) = &one.fresh {
             sizes.push(bytes.len())?;
         }
     }
     Ok(sizes)
 }
 
-/// Places the contents of these files, which an entry records: a new one is written, and each is held once more.
+/// Places the contents of these files, which an entry records: a new one is written, and each is held once more. One that
+/// several files share is written for the first of them.
 pub(crate) fn place_contents<D: Disk>(
     contents: &mut Content,
     disk: &mut D,
@@ -62,6 +67,7 @@ fn place_content<D: Disk>(
 ) -> Result<(), ContentError>
     requires recorded { IsRecordedAt place one.now (placed_in entry.old) }
     requires may { MayPlaceOne contents.old one.now }
+    requires shared { (of : ℕ) → one.now.fresh ≡ As of → MayShare contents.old (placed_in entry.old) one.now of }
     requires sizes { IsTrue D.tells → HasSizes contents.old (D.held disk.old) }
     ensures placed { OnOk result
         (PlacesOne D.tells (D.held disk.new) place one.now contents.old contents.new entry.old entry.new) }
@@ -72,13 +78,68 @@ fn place_content<D: Disk>(
         (After (GrowsBehind contents.old) (D.images disk.old (D.moment disk.old))) }
     ensures refusal { RefusesOnFault result (D.faults disk.old) (D.faults disk.new) }
 {
-    let Some(bytes) = &one.fresh else {
-        contents.hold(&one.file.content);
-        return Ok(());
-    };
-    let at = contents.append(disk, bytes.as_slice(), one.file.content.digest)?;
+    match &one.fresh {
+        Fresh::Bytes(bytes) => write_content(contents, disk, entry, place, one, bytes.as_slice()),
+        Fresh::As(original) => {
+            share_content(contents, entry, place, *original, one);
+            Ok(())
+        }
+        Fresh::No | Fresh::Staged => {
+            contents.hold(&one.file.content);
+            Ok(())
+        }
+    }
+}
+
+// Writes the new content of the file that an entry records at a place.
+fn write_content<D: Disk>(
+    contents: &mut Content,
+    disk: &mut D,
+    entry: &mut PreparedEntry,
+    place: u64,
+    one: &Placed,
+    bytes: &[u8],
+) -> Result<(), ContentError>
+    requires new { one.now.fresh ≡ Bytes bytes.now }
+    requires recorded { IsRecordedAt place one.now (placed_in entry.old) }
+    requires may { MayPlaceOne contents.old one.now }
+    requires sizes { IsTrue D.tells → HasSizes contents.old (D.held disk.old) }
+    ensures placed { OnOk result
+        (PlacesOne D.tells (D.held disk.new) place one.now contents.old contents.new entry.old entry.new) }
+    ensures same { placeless_entry entry.new ≡ placeless_entry entry.old }
+    ensures sizes { OnOk result (IsTrue D.tells → HasSizes contents.new (D.held disk.new)) }
+    ensures held { IsTrue D.tells → GrowsBehind contents.old (D.held disk.old) (D.held disk.new) }
+    ensures images { Since D.moment D.images disk.old disk.new
+        (After (GrowsBehind contents.old) (D.images disk.old (D.moment disk.old))) }
+    ensures refusal { RefusesOnFault result (D.faults disk.old) (D.faults disk.new) }
+{
+    let at = contents.append(disk, bytes, one.file.content.digest)?;
     entry.set_content(place, at);
     Ok(())
+}
+
+// Gives the file that an entry records at a place the content of an earlier one, which is held once more.
+fn share_content(
+    contents: &mut Content,
+    entry: &mut PreparedEntry,
+    place: u64,
+    original: u32,
+    one: &Placed,
+)
+    requires shares { one.now.fresh ≡ As original }
+    requires recorded { IsRecordedAt place one.now (placed_in entry.old) }
+    requires may { MayShare contents.old (placed_in entry.old) one.now original }
+    requires few { held_in contents.old < HELD_MAX }
+    ensures placed { (tells : Bool) (files : Files)
+        → PlacesOne tells files place one.now contents.old contents.new entry.old entry.new }
+    ensures same { placeless_entry entry.new ≡ placeless_entry entry.old }
+    ensures sizes { (k : ℕ) → size_of contents.new k ≡ size_of contents.old k }
+{
+    let Some(at) = entry.content_at(u64::from(original)) else {
+        unreachable!()
+    };
+    contents.hold(&at);
+    entry.set_content(place, at);
 }
 
 /// Gives up the contents of the files of these numbers.

@@ -28,6 +28,12 @@ place_all-requires-clause-within c =
     let made = c.in_ok-files.ensures ∙ ap (ended_files (place_of c.args.setting.now) c.args.counters.next_number) c.into_vec.ensures in
     subst (All (λ (file : EndedFile). IsBodyWithin c.args.setting.now.sources.now file.worked.body)) (sym made) (all_within (place_of c.args.setting.now) c.args.counters.next_number c.args.outcome.files c.requires.within)
 
+pub place_all-requires-clause-few : goal.place_all-requires-clause-few
+place_all-requires-clause-few c =
+    let made = c.in_ok-files.ensures ∙ ap (ended_files (place_of c.args.setting.now) c.args.counters.next_number) c.into_vec.ensures in
+    let count = made_few (place_of c.args.setting.now) c.args.counters.next_number c.args.outcome.files c.in_ok-files.files.items made c.requires.few in
+    omega (arith, count, c.requires.few)
+
 pub place_all-requires-clause-numbers : goal.place_all-requires-clause-numbers
 place_all-requires-clause-numbers c =
     let made = c.in_ok-files.ensures ∙ ap (ended_files (place_of c.args.setting.now) c.args.counters.next_number) c.into_vec.ensures in

@@ -1,7 +1,7 @@
 use Rattle.std.proofs.Common.{refl, ◌∙◌, arith}
 use Rattle.store_core.proofs.Growing.{since_nothing_grows, since_grown, grows_nothing, grows_in_turn}
 use Rattle.disk_trait.proofs.Moments.{nothing}
-use Rattle.store_core.proofs.Placing.{placed_none, placed_next, placed_all, may_next, recorded_next}
+use Rattle.store_core.proofs.Placing.{placed_none, placed_next, placed_all, may_next, recorded_next, share_next}
 use Rattle.store_core.proofs.contents.place_contents.Goals as goal
 
 pub loop-place-init : goal.loop-place-init
@@ -24,6 +24,11 @@ place_content-requires-clause-may g c κs within =
     may_next g.D.Disk.tells c.args.placed.now c.args.contents.now c.loop-place.contents (g.D.Disk.held c.loop-place.disk) c.loop-place.entry c.loop-place.place c.index-placed-place.result
     c.loop-place-test.true c.index-placed-place.is c.requires.may c.loop-place.invariant.placed
 
+pub place_content-requires-clause-shared : goal.place_content-requires-clause-shared
+place_content-requires-clause-shared g c κs within =
+    share_next g.D.Disk.tells c.args.placed.now c.args.contents.now c.loop-place.contents (g.D.Disk.held c.loop-place.disk) c.loop-place.entry c.loop-place.place c.index-placed-place.result
+    c.loop-place-test.true c.index-placed-place.is c.requires.may c.loop-place.invariant.placed
+
 pub returns-in_err-place_content-clause-images : goal.returns-in_err-place_content-clause-images
 returns-in_err-place_content-clause-images g c =
     since_grown g.D.Disk.moment g.D.Disk.images c.args.contents.now c.loop-place.contents c.args.disk.now c.loop-place.disk c.place_content.new.disk
@@ -38,7 +43,7 @@ pub loop-place-preserved : goal.loop-place-preserved
 loop-place-preserved g c =
     let inv = c.loop-place.invariant in
     let next = placed_next g.D.Disk.tells c.args.placed.now c.args.contents.now c.loop-place.contents c.place_content.new.contents (g.D.Disk.held c.loop-place.disk) (g.D.Disk.held c.place_content.new.disk)
-    c.loop-place.entry c.place_content.new.entry c.loop-place.place c.index-placed-place.result c.loop-place-test.true c.index-placed-place.is inv.placed c.in_ok-place_content.ensures.placed c.place_content.ensures.held in
+    c.loop-place.entry c.place_content.new.entry c.loop-place.place c.index-placed-place.result c.requires.may.shared c.loop-place-test.true c.index-placed-place.is inv.placed c.in_ok-place_content.ensures.placed c.place_content.ensures.held in
     record {
       since =
           since_grown g.D.Disk.moment g.D.Disk.images c.args.contents.now c.loop-place.contents c.args.disk.now c.loop-place.disk c.place_content.new.disk

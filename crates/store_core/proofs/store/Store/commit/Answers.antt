@@ -20,7 +20,7 @@ use Rattle.store_core.specs.State.{stands_for}
 use Rattle.store_core.specs.Store.{StoreState, state_in, kept_by, IsWorking}
 use Rattle.store_core.proofs.Agreeing.{of_state}
 use Rattle.store_core.proofs.Commits.{may_place, recorded_first, entry_acts, entry_room, entry_frame}
-use Rattle.store_core.proofs.Outcomes.{has_placed, has_change, placed_images, placed_states, placed_alone, placed_claims, numbered_of, has_logged, may_give_up, logged_images, logged_alone, logged_claims, logged_states, acknowledged_state as state_of_acknowledged, acknowledged_kept, acknowledged_claims, acknowledged_works, events_counted}
+use Rattle.store_core.proofs.Outcomes.{has_placed, has_change, placed_images, placed_states, placed_alone, placed_claims, numbered_of, has_logged, may_give_up, logged_images, logged_alone, logged_claims, logged_states, acknowledged_state as state_of_acknowledged, acknowledged_kept, acknowledged_claims, acknowledged_works, events_counted, kept_shared}
 use Rattle.store_core.proofs.Whole.{ready_ahead}
 use Rattle.store_core.proofs.store.Store.commit.Goals as goal
 
@@ -457,5 +457,6 @@ returns-clause-acknowledged g c =
     record {
       moment = c.in-Ok-append.ensures.acknowledged.0;
       events = events_counted s c.args.self.now change c.args.prepared c.write_ahead.new.events c.self.view_is c.prepared.view_is c.requires.prepared c.in-Ok.ensures.events.appended;
+      shared = kept_shared tells held moment images now new p e old mid end number.0 slots has logged;
       states = λ state stands. state_of_acknowledged tells held moment images now new p e old mid end number.0 slots has logged state stands (c.in-Ok-append.ensures.added number.0 e number.1 framed);
     }
