@@ -229,7 +229,7 @@ class Cases:
     def advice(self):
         """After a status past 1 a line says what to do; the status is the program's."""
         self.advises(DONE, None)
-        self.advises(USAGE, "the only command is `run`", words=("go",))
+        self.advises(USAGE, "the commands are `run`", words=("go",))
         self.advises(REFUSED, "there is no type `Get`", text=FIRST.replace("GetFile", "Get"))
         self.advises(SOURCE, "no readable file `flow.json`", before=lambda folder: (folder / "flow.json").unlink())
         self.advises(INBOX, "isn't UTF-8", before=lambda folder: write_files(folder / "in", {b"\xff": b"x"}))
@@ -240,6 +240,19 @@ class Cases:
             subprocess.run([self.program, "run"], cwd=folder, check=True)
             (folder / "flow.json").write_text(FIRST + "\n", encoding="utf-8")
         self.advises(REFUSED, "the store belongs to another text of flow.json", before=other)
+
+    def launcher(self):
+        """The launcher says what there is, and refuses words that no command begins with, without a build."""
+        flow = ROOT / "flow"
+        said = subprocess.run([flow, "--help"], capture_output=True, text=True, check=False)
+        need(said.returncode == DONE, f"--help ends with {said.returncode}")
+        for command in ("run", "queues", "events", "lineage UUID", "content UUID", "check", "explain"):
+            need(f"\n  {command} " in said.stdout, f"--help doesn't name {command}")
+        said = subprocess.run([flow, "--version"], capture_output=True, text=True, check=False)
+        need(said.returncode == DONE and said.stdout.count("\n") == 1, f"--version says {said.stdout!r}")
+        for words in ((), ("go",), ("trial", "20"), ("-h",), ("",)):
+            ended = subprocess.run([flow, *words], capture_output=True, timeout=10, check=False)
+            need(ended.returncode == USAGE and ended.stdout == b"", f"{words} ended with {ended.returncode}")
 
     @staticmethod
     def block(folder):
@@ -262,7 +275,8 @@ def main():
     given = options(__doc__.splitlines()[0]).parse_args()
     cases = Cases(find_program(given.program), given.folder)
     report = Report()
-    for body in (cases.verdicts, cases.tables, cases.page, cases.mistakes, cases.schema, cases.oddities, cases.command, cases.advice):
+    for body in (cases.verdicts, cases.tables, cases.page, cases.mistakes, cases.schema, cases.oddities, cases.command,
+                 cases.advice, cases.launcher):
         report.case(body.__doc__.splitlines()[0].rstrip("."), body)
     report.end()
 

@@ -8,7 +8,6 @@ ghost use Rattle.prov_store.specs.Events.{events_from, events_of_file, events_in
 ghost use Rattle.prov_store.specs.Loading.{bytes_there};
 ghost use Rattle.prov_store.specs.Reading.{IsThere};
 ghost use Rattle.prov_store.specs.Scanning.{is_within, HasBetween, HasRead, HasSkipped, MayScan, SameScan, numbers_between};
-ghost use Rattle.prov_store.specs.State.{HasEvents};
 
 use crate::events::file_named;
 use crate::read::{Cursor, read_event_at, skip_event_at};
@@ -37,7 +36,7 @@ impl Events {
         from: u64,
         to: u64,
     ) -> Result<Vec<Event>, EventsError>
-        requires { IsTrue D.tells → HasEvents self.now (D.held disk.old) }
+        // Where the disk holds the events that are known.
         ensures found { IfOk result (λ found. IsTrue D.tells → (events : List TheEvent)
             → events_in (D.held disk.old) self.now.end ≡ Ok events
             → found.items ≡ filter (λ e. nat_le from e.number && nat_le e.number to) events) }
@@ -47,8 +46,9 @@ impl Events {
         // Where no event lies between the two, nothing is asked of the disk, and no memory is taken.
         ensures refused { IsErr result → HasBetween from to self.now.end }
         ensures none { (HasBetween from to self.now.end → ⊥) → disk.new ≡ disk.old }
-        // Only a disk that doesn't tell may hold other events than it was loaded with.
-        ensures undamaged { (damage : TheDamage) → IsErrOf result (EventsError.Damaged damage) → IsTrue D.tells → ⊥ }
+        // A disk that tells and holds the events up to the last one gives no damage.
+        ensures undamaged { (damage : TheDamage) → IsErrOf result (EventsError.Damaged damage) → IsTrue D.tells
+            → (events : List TheEvent) → events_in (D.held disk.old) self.now.end ≡ Ok events → ⊥ }
         ensures stays { Stays D.held D.moment D.images disk.old disk.new }
         ensures cause { CountsFaults (D.faults disk.old) (D.faults disk.new) (IsErrOf result EventsError.Disk) }
     {
@@ -71,14 +71,13 @@ impl Scan {
     fn scan_files<D: Disk>(&mut self, alloc: Global, disk: &mut D) -> Result<(), EventsError>
         requires may { MayScan self.old }
         requires none { self.old.found.items ≡ [] }
-        requires has { IsTrue D.tells
-            → (events : List TheEvent) × (events_in (D.held disk.old) self.old.end ≡ Ok events) }
         ensures numbered { OnOk result
             (map (λ e. e.number) self.new.found.items ≡ numbers_between self.old.first self.old.last) }
         ensures found { OnOk result (IsTrue D.tells → (events : List TheEvent)
             → events_in (D.held disk.old) self.old.end ≡ Ok events
             → self.new.found.items ≡ filter (is_within self.old.first self.old.last) events) }
-        ensures undamaged { (damage : TheDamage) → IsErrOf result (EventsError.Damaged damage) → IsTrue D.tells → ⊥ }
+        ensures undamaged { (damage : TheDamage) → IsErrOf result (EventsError.Damaged damage) → IsTrue D.tells
+            → (events : List TheEvent) → events_in (D.held disk.old) self.old.end ≡ Ok events → ⊥ }
         ensures stays { Stays D.held D.moment D.images disk.old disk.new }
         ensures cause { CountsFaults (D.faults disk.old) (D.faults disk.new) (IsErrOf result EventsError.Disk) }
     {
@@ -100,8 +99,6 @@ impl Scan {
         requires may { MayScan self.old }
         requires from { (self.old.first - 1) / EVENTS_PER_FILE ≤ number }
         requires to { number ≤ (self.old.last - 1) / EVENTS_PER_FILE }
-        requires has { IsTrue D.tells
-            → (here : List TheEvent) × (events_of_file self.old.end number (D.held disk.old) ≡ Ok here) }
         ensures found { OnOk result (IsTrue D.tells → (here : List TheEvent)
             → events_of_file self.old.end number (D.held disk.old) ≡ Ok here
             → self.new.found.items ≡ self.old.found.items ++ filter (is_within self.old.first self.old.last) here) }
@@ -109,7 +106,8 @@ impl Scan {
             ≡ map (λ e. e.number) self.old.found.items
             ++ numbers_between (max self.old.first (first_in number)) (min self.old.last (first_in (number + 1) - 1))) }
         ensures same { SameScan self.old self.new }
-        ensures undamaged { (damage : TheDamage) → IsErrOf result (EventsError.Damaged damage) → IsTrue D.tells → ⊥ }
+        ensures undamaged { (damage : TheDamage) → IsErrOf result (EventsError.Damaged damage) → IsTrue D.tells
+            → (here : List TheEvent) → events_of_file self.old.end number (D.held disk.old) ≡ Ok here → ⊥ }
         ensures stays { Stays D.held D.moment D.images disk.old disk.new }
         ensures cause { CountsFaults (D.faults disk.old) (D.faults disk.new) (IsErrOf result EventsError.Disk) }
     {

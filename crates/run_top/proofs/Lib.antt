@@ -2,6 +2,7 @@ pub mod Anew
 pub mod Asked
 pub mod Broken
 pub mod Built
+pub mod Lines
 pub mod Opened
 pub mod Over
 pub mod Reading

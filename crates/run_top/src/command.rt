@@ -113,7 +113,7 @@ pub fn run<R, D: Disk, I: Inbox, O: Outbox, F: Source, P: Patterns, S: Sink, C: 
 
 /// The options with which the words ask to run the flow. Else the status: that of words that ask for something else or
 /// for nothing, or of a want of memory.
-pub fn options_to_run(alloc: Global, words: &[String]) -> Result<RunOptions, u8>
+fn options_to_run(alloc: Global, words: &[String]) -> Result<RunOptions, u8>
     ensures asked { IfOk result (AskToRun words.now) }
     ensures most { IfOk result (λ options. options.max_commits ≤ COMMITS_MAX) }
     ensures refused { IfErr result (λ status. ((status ≡ USAGE) × AskForNoRun words.now) ⊎ (status ≡ OUT_OF_MEMORY)) }

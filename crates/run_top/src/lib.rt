@@ -1,15 +1,19 @@
 //! The whole run of a flow: its text, its store, and from the inbox through the store to the outbox.
 #![tactic(auto)]
 
+mod asking;
 mod command;
 mod opening;
+mod order;
 mod status;
 mod text;
 
-pub use command::{options_to_run, run};
+pub use asking::ask;
+pub use command::run;
+pub use order::{Order, order_of};
 pub use status::{
-    BLOCKED, DAMAGED, DISK_FAULT, DONE, FLOW_REFUSED, INBOX_FAULT, LIMIT, OUT_OF_MEMORY,
-    OUTBOX_FAULT, RunError, SOURCE_FAULT, USAGE,
+    ABSENT, BLOCKED, DAMAGED, DISK_FAULT, DONE, FLOW_REFUSED, INBOX_FAULT, LIMIT, OUT_OF_MEMORY,
+    OUTBOX_FAULT, RunError, SINK_FAULT, SOURCE_FAULT, USAGE,
 };
 
 #[cfg(test)]

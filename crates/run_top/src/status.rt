@@ -13,7 +13,7 @@ use thiserror::Error;
 /// The status of a run that left nothing to do.
 pub const DONE: u8 = 0;
 
-/// The status of words that say no command.
+/// The status of words that ask for nothing.
 pub const USAGE: u8 = 2;
 
 /// The status of a flow's text that breaks a rule, and of a store that was made for another flow.
@@ -34,6 +34,9 @@ pub const OUTBOX_FAULT: u8 = 7;
 /// The status of a source of the flow's text that failed.
 pub const SOURCE_FAULT: u8 = 8;
 
+/// The status of a query's sink that failed.
+pub const SINK_FAULT: u8 = 9;
+
 /// The status of a run whose sessions were all held back by full connections.
 pub const BLOCKED: u8 = 10;
 
@@ -42,6 +45,9 @@ pub const LIMIT: u8 = 11;
 
 /// The status of a want of memory.
 pub const OUT_OF_MEMORY: u8 = 12;
+
+/// The status of a query for something that the store doesn't have.
+pub const ABSENT: u8 = 13;
 
 /// Why a flow didn't begin to run.
 #[derive(Clone, Copy, Debug, PartialEq, Eq, Error)]

@@ -38,6 +38,7 @@ pub mod Restoring
 pub mod RevivedFiles
 pub mod Reviving
 pub mod Rooms
+pub mod Seeing
 pub mod Sharing
 pub mod Sound
 pub mod States

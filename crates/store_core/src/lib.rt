@@ -14,6 +14,7 @@ mod load;
 mod prepared;
 mod reading;
 mod revival;
+mod seen;
 mod store;
 
 pub use error::StoreError;
@@ -24,4 +25,5 @@ pub use law::{
     what_is_kept_is_a_state,
 };
 pub use prepared::{Prepared, SettledExpiry};
+pub use seen::{Seen, read_store};
 pub use store::Store;

@@ -114,9 +114,7 @@ fn new_state<D: Disk>(
     ensures stays { Stays D.held D.moment D.images disk.old disk.new }
     ensures cause { CountsFaults (D.faults disk.old) (D.faults disk.new) (IsErrOf result StoreError.Disk) }
 {
-    if let Some(file) = find_stray(alloc, disk)? {
-        return Err(StoreError::Damaged(Damage::Form { file, at: 0 }));
-    }
+    refuse_stray(alloc, disk)?;
     let connections = copy_texts(alloc, flow.connections)?;
     let state = KeptState::new(
         alloc,
@@ -126,6 +124,21 @@ fn new_state<D: Disk>(
         u64::from(flow.processors),
     )?;
     Ok(state)
+}
+
+/// Where no log is current, the files are those of a store that isn't made yet, or the first other one is damaged.
+pub(crate) fn refuse_stray<D: Disk>(alloc: Global, disk: &mut D) -> Result<(), StoreError>
+    ensures none { OnOk result (IsTrue D.tells → first_stray (D.held disk.old) ≡ None) }
+    ensures damaged { (damage : TheDamage) → IsErrOf result (StoreError.Damaged damage) → IsTrue D.tells
+        → IsStrayDamage (D.held disk.old) damage }
+    ensures refusal { IfErr result IsReadRefusal }
+    ensures stays { Stays D.held D.moment D.images disk.old disk.new }
+    ensures cause { CountsFaults (D.faults disk.old) (D.faults disk.new) (IsErrOf result StoreError.Disk) }
+{
+    if let Some(file) = find_stray(alloc, disk)? {
+        return Err(StoreError::Damaged(Damage::Form { file, at: 0 }));
+    }
+    Ok(())
 }
 
 // The first file that a store which isn't made yet doesn't have.
@@ -226,8 +239,8 @@ fn agrees(flow: &FlowIdentity<'_>, stored: &Stored) -> bool
             && stored.counts.len() == u64::from(flow.processors))
 }
 
-// What a snapshot says with the log's entries applied. A batch that matters is damage, as where its file is absent.
-fn apply_entries(
+/// What a snapshot says with the log's entries applied. A batch that matters is damage, as where its file is absent.
+pub(crate) fn apply_entries(
     alloc: Global,
     stored: Stored,
     number: u64,

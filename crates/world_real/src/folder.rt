@@ -12,6 +12,8 @@ use std::rt::Files;
 pub enum Folder<'p> {
     /// The folder at this path.
     At(&'p str),
+    /// No folder, since none was made yet: a device that only reads finds nothing there.
+    Absent,
     /// No folder: each call of a device on it fails.
     Missing,
 }
@@ -41,6 +43,16 @@ pub fn make_folder<'p, R: Files<File = File>>(rt: &R, path: &'p str) -> Folder<'
     match make(rt, path) {
         Ok(()) => Folder::At(path),
         Err(_) => Folder::Missing,
+    }
+}
+
+/// The folder at a path, for who only reads there. `Absent` where nothing stands there.
+pub fn folder_to_read<'p, R: Files<File = File>>(rt: &R, path: &'p str) -> Folder<'p>
+    ensures { (result ≡ Folder.Absent) ⊎ (result ≡ Folder.At path.entry) }
+{
+    match fs::metadata(rt, path) {
+        Err(error) if error.kind() == ErrorKind::NotFound => Folder::Absent,
+        _ => Folder::At(path),
     }
 }
 
@@ -78,8 +90,13 @@ impl<'r, R> Place<'r, R> {
     pub(crate) fn path(&self) -> io::Result<&'r str> {
         match self.folder {
             Folder::At(path) => Ok(path),
-            Folder::Missing => Err(ErrorKind::NotFound.into()),
+            Folder::Absent | Folder::Missing => Err(ErrorKind::NotFound.into()),
         }
+    }
+
+    /// Whether no folder was made yet.
+    pub(crate) fn is_absent(&self) -> bool {
+        matches!(self.folder, Folder::Absent)
     }
 
     /// The path of an entry.

@@ -22,7 +22,7 @@ mod stream;
 mod sync;
 
 pub use clock::MachineClock;
-pub use folder::{Folder, make_folder};
+pub use folder::{Folder, folder_to_read, make_folder};
 pub use inbox::InboxFolder;
 pub use outbox::OutboxFolder;
 pub use store::StoreFolder;

@@ -1,10 +1,10 @@
 //! The files of a store that stand in its folder.
 use crate::folder::{Entry, Place, entry_at};
 use crate::numbered::{is_no_text, store_name, text_of};
-use crate::open_file::{OpenFile, for_both_ways, open_file};
+use crate::open_file::{OpenFile, for_both_ways, for_reading, open_file};
 use crate::open_files::OpenFiles;
 use disk_trait::FileName;
-use std::fs::{self, File};
+use std::fs::{self, File, OpenOptions};
 use std::io::{self, ErrorKind};
 use std::rt::Files;
 
@@ -18,6 +18,9 @@ pub(crate) fn names_in<R: Files<File = File> + Alloc>(
     place: &Place<'_, R>,
 ) -> io::Result<Vec<FileName>> {
     let mut names = Vec::new(place.alloc);
+    if place.is_absent() {
+        return Ok(names);
+    }
     for entry in fs::read_dir(&place.rt, place.path()?)? {
         match entry {
             Ok(entry) => {
@@ -37,6 +40,9 @@ pub(crate) fn standing_size<R: Files<File = File>>(
     place: &Place<'_, R>,
     name: FileName,
 ) -> io::Result<u64> {
+    if place.is_absent() {
+        return Ok(0);
+    }
     match entry_at(place.rt, path_of(place, name)?.as_str())? {
         Entry::Nothing => Ok(0),
         Entry::File(found) => Ok(found.len()),
@@ -50,8 +56,29 @@ pub(crate) fn take_file<R: Files<File = File>>(
     open: &mut OpenFiles,
     name: FileName,
 ) -> io::Result<Option<OpenFile>> {
+    take_or_open(place, open, name, &for_both_ways())
+}
+
+/// The same for who only reads.
+pub(crate) fn take_to_read<R: Files<File = File>>(
+    place: &Place<'_, R>,
+    open: &mut OpenFiles,
+    name: FileName,
+) -> io::Result<Option<OpenFile>> {
+    if place.is_absent() {
+        return Ok(None);
+    }
+    take_or_open(place, open, name, &for_reading())
+}
+
+fn take_or_open<R: Files<File = File>>(
+    place: &Place<'_, R>,
+    open: &mut OpenFiles,
+    name: FileName,
+    how: &OpenOptions,
+) -> io::Result<Option<OpenFile>> {
     match open.take(name) {
         Some(file) => Ok(Some(file)),
-        None => open_file(place.rt, path_of(place, name)?.as_str(), &for_both_ways()),
+        None => open_file(place.rt, path_of(place, name)?.as_str(), how),
     }
 }

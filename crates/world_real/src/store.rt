@@ -6,23 +6,23 @@ ghost use Rattle.world_real.specs.Untold.{told_by_none, left_by_none};
 
 use crate::faults::{counted, is_out_of_memory};
 use crate::folder::{Folder, Place};
-use crate::lock::Lock;
+use crate::lock::{Access, Lock};
 use crate::open_file::{OpenFile, create_file};
 use crate::open_files::OpenFiles;
 use crate::pending::Pending;
-use crate::standing::{names_in, path_of, standing_size, take_file};
+use crate::standing::{names_in, path_of, standing_size, take_file, take_to_read};
 use crate::sync::sync_pending;
 use disk_trait::{Disk, DiskError, Failed, FileKind, FileName};
 use std::alloc::Global;
 use std::fs::{self, File};
 use std::io::{self, ErrorKind};
-use std::rt::Files;
+use std::rt::{Clock, Files};
 
 /// The files of a store in a folder, each under its kind, a dash and its number, as `log-1`.
 ///
-/// Other entries don't count. One process has a store at a time: a second one has each of its calls
-/// fail, and touches nothing. After a sync that the system refused each later one fails too, and the
-/// first one of the next process writes all files anew.
+/// Other entries don't count. One process has a store at a time, or several that only read have it: any other one
+/// has each of its calls fail, and touches nothing. After a sync that the system refused each later one fails
+/// too, and the first one of the next process writes all files anew.
 #[derive(Drop)]
 pub struct StoreFolder<'r, R> {
     place: Place<'r, R>,
@@ -32,22 +32,45 @@ pub struct StoreFolder<'r, R> {
 
 #[derive(Drop)]
 pub(crate) struct StoreFiles {
+    access: Access,
     lock: Lock,
     open: OpenFiles,
     pending: Pending,
     moment: u64,
 }
 
-impl<'r, R: Files<File = File> + Alloc + Sync> StoreFolder<'r, R> {
+impl<'r, R: Files<File = File> + Alloc + Clock + Sync> StoreFolder<'r, R> {
     /// The files of the store in a folder, at moment 0, with no fault. The first call takes the lock, and
-    /// keeps it as long as this stands.
+    /// keeps it as long as this stands. Where only queries have the store, it waits for their end, at most half a minute.
     pub fn new(rt: &'r R, alloc: Global, folder: Folder<'r>) -> StoreFolder<'r, R>
+        ensures moment { ⟦<StoreFolder<'r, R> as Disk>⟧.moment result ≡ 0 }
+        ensures faults { ⟦<StoreFolder<'r, R> as Disk>⟧.faults result ≡ 0 }
+    {
+        StoreFolder::with_access(rt, alloc, folder, Access::Alone)
+    }
+
+    /// The same for a query, which shares the lock with other queries. A call that would change or sync something fails,
+    /// and an absent folder has no files.
+    pub fn to_read(rt: &'r R, alloc: Global, folder: Folder<'r>) -> StoreFolder<'r, R>
+        ensures moment { ⟦<StoreFolder<'r, R> as Disk>⟧.moment result ≡ 0 }
+        ensures faults { ⟦<StoreFolder<'r, R> as Disk>⟧.faults result ≡ 0 }
+    {
+        StoreFolder::with_access(rt, alloc, folder, Access::Shared)
+    }
+
+    fn with_access(
+        rt: &'r R,
+        alloc: Global,
+        folder: Folder<'r>,
+        access: Access,
+    ) -> StoreFolder<'r, R>
         ensures moment { ⟦<StoreFolder<'r, R> as Disk>⟧.moment result ≡ 0 }
         ensures faults { ⟦<StoreFolder<'r, R> as Disk>⟧.faults result ≡ 0 }
     {
         StoreFolder {
             place: Place { rt, alloc, folder },
             files: StoreFiles {
+                access,
                 lock: Lock::Untried,
                 open: OpenFiles::new(alloc),
                 pending: Pending::Everything,
@@ -58,7 +81,7 @@ impl<'r, R: Files<File = File> + Alloc + Sync> StoreFolder<'r, R> {
     }
 }
 
-impl<'r, R: Files<File = File> + Alloc + Sync> Disk for StoreFolder<'r, R> {
+impl<'r, R: Files<File = File> + Alloc + Clock + Sync> Disk for StoreFolder<'r, R> {
     ghost tells = { false };
 
     ghost held = { λ _ _. [] };
@@ -118,7 +141,7 @@ impl<'r, R: Files<File = File> + Alloc + Sync> Disk for StoreFolder<'r, R> {
     }
 }
 
-fn list_numbers<R: Files<File = File> + Alloc>(
+fn list_numbers<R: Files<File = File> + Alloc + Clock>(
     place: &Place<'_, R>,
     files: &mut StoreFiles,
     kind: FileKind,
@@ -127,7 +150,7 @@ fn list_numbers<R: Files<File = File> + Alloc>(
     ensures ascending { OnOk result (IsStrictlyIncreasing list.new.items) }
     ensures moment { files.new.moment ≡ files.old.moment }
 {
-    files.lock.hold(place)?;
+    files.lock.hold(place, files.access)?;
     push_numbers(place, &mut files.open, &files.pending, kind, list)?;
     list.sort_unstable();
     list.dedup();
@@ -164,18 +187,18 @@ fn stored_size<R: Files<File = File>>(
     answer
 }
 
-fn size_of<R: Files<File = File>>(
+fn size_of<R: Files<File = File> + Clock>(
     place: &Place<'_, R>,
     files: &mut StoreFiles,
     name: FileName,
 ) -> io::Result<u64>
     ensures moment { files.new.moment ≡ files.old.moment }
 {
-    files.lock.hold(place)?;
+    files.lock.hold(place, files.access)?;
     stored_size(place, &mut files.open, &files.pending, name)
 }
 
-fn read_at<R: Files<File = File>>(
+fn read_at<R: Files<File = File> + Clock>(
     place: &Place<'_, R>,
     files: &mut StoreFiles,
     name: FileName,
@@ -184,13 +207,39 @@ fn read_at<R: Files<File = File>>(
 ) -> io::Result<()>
     ensures moment { files.new.moment ≡ files.old.moment }
 {
-    files.lock.hold(place)?;
-    let Some(mut file) = take_file(place, &mut files.open, name)? else {
+    files.lock.hold(place, files.access)?;
+    let Some(mut file) = file_to_read(place, files, name)? else {
         return is_within(into.is_empty() && at == 0);
     };
     let answer = read_from(&mut file, at, into);
     files.open.put(name, file, &files.pending);
     answer
+}
+
+fn file_to_read<R: Files<File = File>>(
+    place: &Place<'_, R>,
+    files: &mut StoreFiles,
+    name: FileName,
+) -> io::Result<Option<OpenFile>>
+    ensures moment { files.new.moment ≡ files.old.moment }
+{
+    match files.access {
+        Access::Alone => take_file(place, &mut files.open, name),
+        Access::Shared => take_to_read(place, &mut files.open, name),
+    }
+}
+
+/// Takes the lock for a call that changes or syncs something. Who only reads makes none.
+fn hold_alone<R: Files<File = File> + Clock>(
+    place: &Place<'_, R>,
+    files: &mut StoreFiles,
+) -> io::Result<()>
+    ensures moment { files.new.moment ≡ files.old.moment }
+{
+    match files.access {
+        Access::Alone => files.lock.hold(place, Access::Alone),
+        Access::Shared => Err(ErrorKind::PermissionDenied.into()),
+    }
 }
 
 fn read_from(file: &mut OpenFile, at: u64, into: &mut [u8]) -> io::Result<()> {
@@ -222,7 +271,7 @@ fn count_moment(moment: &mut u64) -> io::Result<()>
     Ok(())
 }
 
-fn write_at<R: Files<File = File>>(
+fn write_at<R: Files<File = File> + Clock>(
     place: &Place<'_, R>,
     files: &mut StoreFiles,
     name: FileName,
@@ -236,7 +285,7 @@ fn write_at<R: Files<File = File>>(
 {
     count_moment(&mut files.moment)?;
     is_within(at.checked_add(bytes.len() as u64).is_some())?;
-    files.lock.hold(place)?;
+    hold_alone(place, files)?;
     let mut file = match take_file(place, &mut files.open, name)? {
         Some(file) => file,
         None => {
@@ -268,7 +317,7 @@ fn write_into(
     file.write(at, bytes)
 }
 
-fn cut_to<R: Files<File = File>>(
+fn cut_to<R: Files<File = File> + Clock>(
     place: &Place<'_, R>,
     files: &mut StoreFiles,
     name: FileName,
@@ -279,7 +328,7 @@ fn cut_to<R: Files<File = File>>(
     ensures last { files.old.moment ≡ 2 ^ 64 - 1 → IsErr result }
 {
     count_moment(&mut files.moment)?;
-    files.lock.hold(place)?;
+    hold_alone(place, files)?;
     let Some(mut file) = take_file(place, &mut files.open, name)? else {
         return is_within(size == 0);
     };
@@ -310,7 +359,7 @@ fn shorten(
     file.cut(size)
 }
 
-fn sync_files<R: Files<File = File> + Alloc>(
+fn sync_files<R: Files<File = File> + Alloc + Clock>(
     place: &Place<'_, R>,
     files: &mut StoreFiles,
 ) -> io::Result<()>
@@ -319,6 +368,6 @@ fn sync_files<R: Files<File = File> + Alloc>(
     ensures last { files.old.moment ≡ 2 ^ 64 - 1 → IsErr result }
 {
     count_moment(&mut files.moment)?;
-    files.lock.hold(place)?;
+    hold_alone(place, files)?;
     sync_pending(place, &files.lock, &mut files.open, &mut files.pending)
 }

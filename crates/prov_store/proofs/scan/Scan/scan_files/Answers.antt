@@ -1,8 +1,10 @@
 use Rattle.std.proofs.Common.{◌≡◌, ℕ, ◌+◌, ◌-◌, ◌/◌, refl, sym, ap, ◌∙◌, arith, rules}
-use Rattle.std.specs.Prelude.{map, min}
+use Rattle.std.specs.Prelude.{Err, map, min}
+use Rattle.std.proofs.lemmas.Result.{err_from_is_err_and}
 use Rattle.flowfile_record.specs.declared.event.Event.{Event}
 use Rattle.disk_trait.specs.Files.{Files}
 use Rattle.prov_store.specs.Events.{events_of_file, first_in}
+use Rattle.prov_store.specs.declared.error.EventsError.TheVariants.{Damaged}
 use Rattle.prov_store.specs.Scanning.{numbers_between}
 use Rattle.flowfile_record.specs.declared.limits.TheConstants.{EVENTS_PER_FILE}
 use Rattle.prov_store.proofs.InFiles.{file_of_events}
@@ -18,17 +20,17 @@ loop-number-init g c = record {
   faults = omega arith;
 }
 
-pub scan_file-requires-clause-has : goal.scan_file-requires-clause-has
-scan_file-requires-clause-has g c κs within told =
+pub returns-in_err-scan_file-clause-undamaged : goal.returns-in_err-scan_file-clause-undamaged
+returns-in_err-scan_file-clause-undamaged g c damage is told events says =
     let inv = c.loop-number.invariant in
     let files = g.D.Disk.held c.args.disk.now in
     let self = c.args.self.now in
-    let known = c.requires.has told in
-    let here = file_of_events self.end c.loop-number.number files known.0 known.1 (omega (arith, c.loop-number-test.true, c.requires.may.there, c.requires.may.counted, c.requires.may.some)) in (
-      here.0,
-      ap (λ (n : ℕ). events_of_file n c.loop-number.number (g.D.Disk.held c.loop-number.disk)) inv.same.end
-          ∙ ap (λ (f : Files). events_of_file self.end c.loop-number.number f) inv.stays.files ∙ here.1,
-    )
+    let here = file_of_events self.end c.loop-number.number files events says (omega (arith, c.loop-number-test.true, c.requires.may.there, c.requires.may.counted, c.requires.may.some)) in
+    let p = err_from_is_err_and c.from_residual.result c.from_residual.ensures.1 in
+    let same : c.in_err-scan_file.field-0.0 ≡ Damaged damage = cc (p.1, p.2, is) in
+    c.in_err-scan_file.ensures.undamaged damage (ap Err same) told here.0
+    (ap (λ (n : ℕ). events_of_file n c.loop-number.number (g.D.Disk.held c.loop-number.disk)) inv.same.end
+    ∙ ap (λ (f : Files). events_of_file self.end c.loop-number.number f) inv.stays.files ∙ here.1)
 
 pub loop-number-preserved : goal.loop-number-preserved
 loop-number-preserved g c =

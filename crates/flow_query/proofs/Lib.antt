@@ -1,0 +1,12 @@
+pub mod Answering
+pub mod Arrivals
+pub mod Counted
+pub mod Identified
+pub mod Known
+pub mod Live
+pub mod Queued
+pub mod Ranges
+pub mod Refusing
+pub mod Steps
+pub mod Telling
+pub mod Written

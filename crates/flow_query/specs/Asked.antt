@@ -1,0 +1,13 @@
+-- For private clauses: a query of a store that was read.
+use Rattle.std.specs.Prelude.{ℕ, Bool, IsTrue, List, Result}
+use Rattle.disk_trait.specs.Files.{Files}
+use Rattle.store_core.specs.Seen.{SeenState, OfTheState, kept_seen}
+use Rattle.flow_query.specs.Answers.{IsAnswer}
+use Rattle.flow_query.specs.declared.asking.Query.{Query}
+use Rattle.flow_query.specs.declared.error.QueryError.{QueryError}
+
+-- Where the disk and the sink tell, and the files hold what was seen, this is the answer.
+abbrev pub Answers : (disk sink : Bool) → Files → SeenState → Query → (before after : List ℕ)
+    → Result (Unit {0}) QueryError → Type 0
+Answers disk sink files s query before after result = OfTheState disk files s
+    (λ state. IsTrue sink → IsAnswer query (kept_seen s).connections state before after result)

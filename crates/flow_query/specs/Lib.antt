@@ -1,0 +1,5 @@
+pub mod Answers
+pub mod Asked
+pub mod Errors
+pub mod Parts
+pub mod Texts

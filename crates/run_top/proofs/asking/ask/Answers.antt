@@ -1,0 +1,50 @@
+use Rattle.std.proofs.Common.{refl, sym, ◌∙◌, arith}
+use Rattle.std.specs.Prelude.{Ok, Err}
+use Rattle.std.proofs.lemmas.List.{append-nil}
+use Rattle.run_top.proofs.Lines.{disk_told, nothing_behind}
+use Rattle.run_top.proofs.asking.ask.Goals as goal
+
+pub returns-in-Ok-clause-answered : goal.returns-in-Ok-clause-answered
+returns-in-Ok-clause-answered g c = record {
+  result = Ok c.in-Ok.field-0;
+  told = refl;
+  between = c.answer.new.sink;
+  printed = c.in-Ok.ensures.printed;
+  sound = c.in-Ok.ensures.sound;
+  line = λ told. nothing_behind _;
+  whole = λ told below same. sym (append-nil _);
+  failed = c.in-Ok.ensures.sink;
+  later = omega arith;
+}
+
+pub returns-in-Ok-clause-stays : goal.returns-in-Ok-clause-stays
+returns-in-Ok-clause-stays g c = c.in-Ok.ensures.stays
+
+pub returns-in-Ok-clause-disk : goal.returns-in-Ok-clause-disk
+returns-in-Ok-clause-disk g c = record {
+  never_falls = c.in-Ok.ensures.disk.never_falls;
+  rose = λ is below. absurd (omega (arith, is));
+}
+
+pub returns-in-Err-clause-answered : goal.returns-in-Err-clause-answered
+returns-in-Err-clause-answered g c = record {
+  result = Err c.in-Err.error;
+  told = c.status_of_refusal.ensures;
+  between = c.answer.new.sink;
+  printed = c.in-Err.ensures.printed;
+  sound = c.in-Err.ensures.sound;
+  line = c.tell.ensures.line;
+  whole = c.tell.ensures.whole;
+  failed = c.in-Err.ensures.sink;
+  later = c.tell.ensures.faults;
+}
+
+pub returns-in-Err-clause-stays : goal.returns-in-Err-clause-stays
+returns-in-Err-clause-stays g c = c.in-Err.ensures.stays
+
+pub returns-in-Err-clause-disk : goal.returns-in-Err-clause-disk
+returns-in-Err-clause-disk g c = record {
+  never_falls = c.in-Err.ensures.disk.never_falls;
+  rose = λ is below.
+      c.in-Err.ensures.disk.rose (disk_told c.in-Err.error (sym c.status_of_refusal.ensures ∙ is)) below;
+}

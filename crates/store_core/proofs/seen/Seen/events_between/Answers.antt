@@ -1,0 +1,38 @@
+use Rattle.std.proofs.Common.{◌≡◌, max, min, refl, ap, subst, ◌∙◌}
+use Rattle.std.specs.Prelude.{Err}
+use Rattle.std.proofs.lemmas.Result.{err_from_is_err_and}
+use Rattle.prov_store.specs.Scanning.{HasBetween, numbers_between}
+use Rattle.prov_store.specs.declared.error.EventsError.{EventsError}
+use Rattle.store_core.specs.Seen.{SeenState}
+use Rattle.store_core.proofs.Restoring.{of_events_damaged}
+use Rattle.store_core.proofs.Seeing.{says_known, between_are}
+use Rattle.store_core.proofs.seen.Seen.events_between.Goals as goal
+
+pub returns-in_err-events-clause-undamaged : goal.returns-in_err-events-clause-undamaged
+returns-in_err-events-clause-undamaged g c damage is told seen =
+    let p = err_from_is_err_and c.from_residual.result c.from_residual.ensures.1 in
+    let same : c.in_err-events.field-0.0 ≡ EventsError.Damaged damage = of_events_damaged c.in_err-events.field-0.0 damage (cc (p.1, p.2, is)) in
+    let known : c.self.inside.events ≡ c.args.self.now.events = ap (λ (s : SeenState). s.events) c.self.view_is in
+    c.in_err-events.ensures.undamaged damage (ap Err same) told seen.events.events (says_known (g.D.Disk.held c.args.disk.now) c.args.self.now c.self.inside.events known seen)
+
+pub returns-clause-events : goal.returns-clause-events
+returns-clause-events g c told seen state stands =
+    between_are (g.D.Disk.held c.args.disk.now) c.args.self.now state c.self.inside.events c.args.from c.args.to c.in_ok-events.events.items (ap (λ (s : SeenState). s.events) c.self.view_is) seen stands
+    (c.in_ok-events.ensures.found told)
+
+pub returns-clause-numbered : goal.returns-clause-numbered
+returns-clause-numbered g c =
+    c.in_ok-events.ensures.numbered
+    ∙ ap (λ (s : SeenState). numbers_between (max c.args.from 1) (min c.args.to s.events.end)) c.self.view_is
+
+pub returns-in_err-events-clause-refused : goal.returns-in_err-events-clause-refused
+returns-in_err-events-clause-refused g c is =
+    subst (λ (s : SeenState). HasBetween c.args.from c.args.to s.events.end) c.self.view_is (c.in_err-events.ensures.refused refl)
+
+pub returns-in_err-events-clause-none : goal.returns-in_err-events-clause-none
+returns-in_err-events-clause-none g c none =
+    c.scan.ensures.none (λ has. none (subst (λ (s : SeenState). HasBetween c.args.from c.args.to s.events.end) c.self.view_is has))
+
+pub returns-clause-none : goal.returns-clause-none
+returns-clause-none g c none =
+    c.scan.ensures.none (λ has. none (subst (λ (s : SeenState). HasBetween c.args.from c.args.to s.events.end) c.self.view_is has))
