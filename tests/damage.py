@@ -85,6 +85,13 @@ def refusal(said):
     return None if said.flow == store_format.THE_FLOW.digest else REFUSED
 
 
+def refusal_line(said):
+    """How the line begins that a run prints of this refusal."""
+    if isinstance(said, Damage):
+        return f"damaged: {said.kind} {said.number} at {said.offset} ".encode()
+    return b"flow refused: rule 13 at /\n"
+
+
 def ends_as_said(program, parent, what, files):
     """Runs the program over these files. Whether they are opened."""
     said = state_of(files)
@@ -95,6 +102,7 @@ def ends_as_said(program, parent, what, files):
         ended = run(program, folder)
         if refused is not None:
             need(ended.status == refused, f"{what}: status {ended.status}, and the reader says {said}")
+            need(ended.said.startswith(refusal_line(said)), f"{what}: it printed {ended.said!r}, and the reader says {said}")
             need(photo(folder) == before, f"{what}: something was written")
             return False
         need(ended.status == DONE, f"{what}: status {ended.status}, and the reader says that it is sound")

@@ -9,6 +9,7 @@ import re
 import subprocess
 import sys
 
+import printed
 from support import (DONE, INBOX, OUTBOX, REFUSED, ROOT, SOURCE, USAGE, Report, find_program, need, options,
                      work_folder, write_files)
 
@@ -252,7 +253,7 @@ class Cases:
         need(said.returncode == DONE and said.stdout.count("\n") == 1, f"--version says {said.stdout!r}")
         for words in ((), ("go",), ("trial", "20"), ("-h",), ("",)):
             ended = subprocess.run([flow, *words], capture_output=True, timeout=10, check=False)
-            need(ended.returncode == USAGE and ended.stdout == b"", f"{words} ended with {ended.returncode}")
+            need((ended.returncode, ended.stdout) == (USAGE, printed.USAGE_LINE), f"{words} ended with {ended.returncode}")
 
     @staticmethod
     def block(folder):

@@ -10,6 +10,7 @@ import json
 import random
 import time
 
+import printed
 import store_format
 from flow_texts import flow, generator, kinds, let_go, put, queue, source, state_of, told
 from store_format import CLONE, CREATE, DROP, EXPIRED, RECEIVE, SEND, Expire, Writer
@@ -62,7 +63,11 @@ class Cases:
     def run(self, folder, status=DONE, *more):
         ended = run(self.program, folder, ("run", *more))
         need_status(ended, status)
-        need(ended.said == b"", f"it printed {ended.said!r}")
+        if status in (DONE, BLOCKED, LIMIT):
+            need(printed.is_end(ended.said, status, state_of(folder), printed.listed(folder)),
+                 f"it printed {ended.said!r}")
+        elif status in printed.LINES:
+            need(ended.said == printed.LINES[status], f"it printed {ended.said!r}")
         none_aside(folder)
         return ended
 

@@ -10,6 +10,7 @@ import signal
 import subprocess
 import time
 
+import printed
 import store_format
 from support import (DISK, DONE, INBOX, MARK, MARKER, MEMORY, OUTBOX, SOURCE, THE_TEXT, USAGE, Report, find_program,
                      names, need, need_status, new_folder, none_aside, options, parse_seeded, photo, put_flow,
@@ -36,7 +37,7 @@ class Cases:
         """The next run ends with 0, and `out` then holds these files and nothing else."""
         ended = self.run(folder)
         need_status(ended, DONE)
-        need(ended.said == b"", f"it printed {ended.said!r}")
+        need(ended.said == printed.summary(state_of(folder), printed.listed(folder)), f"it printed {ended.said!r}")
         need(names(folder / "out") == sorted(files), f"out holds {names(folder / 'out')[:8]}")
         need(read_files(folder / "out") == files, "a file of out has other bytes")
         need(waiting(folder) == [], "the store still holds a file")
@@ -252,7 +253,8 @@ class Cases:
                 (folder / part).mkdir()
             before = photo(folder)
             for said in words:
-                need_status(run(self.program, folder, said), USAGE)
+                ended = run(self.program, folder, said)
+                need((ended.status, ended.said) == (USAGE, printed.USAGE_LINE), f"{said}: {ended.status}, {ended.said!r}")
             need(photo(folder) == before, "something in the folder changed")
             self.delivers(folder, THREE)
 

@@ -9,17 +9,14 @@ import random
 import subprocess
 import time
 
+import printed
 import store_format
 from flow_texts import flow, generator, let_go, processor, queue, source
-from support import (DAMAGED, DISK, DONE, USAGE, Report, find_program, in_memory, names, need, need_status, new_folder,
+from support import (DAMAGED, DISK, DONE, SOURCE, USAGE, Report, find_program, in_memory, names, need, need_status, new_folder,
                      options, parse_seeded, run, work_folder, write_files)
 
 ABSENT, SINK = 13, 9
 
-KINDS = {store_format.CREATE: "CREATE", store_format.RECEIVE: "RECEIVE", store_format.FORK: "FORK",
-         store_format.JOIN: "JOIN", store_format.CLONE: "CLONE", store_format.CONTENT_MODIFIED: "CONTENT_MODIFIED",
-         store_format.ATTRIBUTES_MODIFIED: "ATTRIBUTES_MODIFIED", store_format.ROUTE: "ROUTE", store_format.SEND: "SEND",
-         store_format.DROP: "DROP", store_format.EXPIRED: "EXPIRE"}
 TELLS_KIN = (store_format.FORK, store_format.JOIN, store_format.CLONE)
 
 # Some stay in a merge that waits for more, some in a queue that is full, and some have gone out.
@@ -37,7 +34,7 @@ def expected_line(state, event):
     def uuids(files):
         return [store_format.uuid_of(state.store, number) for number in files]
     told = {"children": uuids(event.children), "component": event.component, "detail": event.detail,
-            "digest": event.digest.hex(), "event": event.number, "kind": KINDS[event.kind], "moment": event.moment,
+            "digest": event.digest.hex(), "event": event.number, "kind": printed.KINDS[event.kind], "moment": event.moment,
             "parents": uuids(event.parents), "size": event.size, "uuid": store_format.uuid_of(state.store, event.file)}
     return json.dumps(told, separators=(",", ":"), ensure_ascii=False) + "\n"
 
@@ -216,12 +213,37 @@ class Cases:
             need(ended.returncode == SINK, f"events into a closed pipe ended with {ended.returncode}")
             need(photo(folder) == before, "a query changed something")
 
+    def run_cant_print(self):
+        """A run whose output takes nothing ends with 9, and did all else; one that failed keeps its status."""
+        with work_folder(self.parent, WAITS) as told, work_folder(self.parent, WAITS) as untold:
+            for folder in (told, untold):
+                write_files(folder / "in", {f"{n}.txt": b"%d" % n for n in range(20)})
+            need_status(run(self.program, told), DONE)
+            with open("/dev/full", "wb") as full:
+                ended = subprocess.run([self.program, "run"], cwd=untold, stdout=full, stdin=subprocess.DEVNULL)
+            need(ended.returncode == SINK, f"a run into a full device ended with {ended.returncode}")
+            need([names(untold / part) for part in ("in", "out")] == [names(told / part) for part in ("in", "out")],
+                 "in and out aren't as behind a run that could print")
+            states = [store_format.state_of(store_format.files_in(folder / "store"), store_format.flow_of(WAITS))
+                      for folder in (told, untold)]
+            need(printed.summary(states[0], 0) == printed.summary(states[1], 0), "the stores have different states")
+            reader, writer = os.pipe()
+            os.close(reader)
+            ended = subprocess.run([self.program, "run"], cwd=untold, stdout=writer, stdin=subprocess.DEVNULL)
+            need(ended.returncode == SINK, f"a run into a closed pipe ended with {ended.returncode}")
+            (untold / "flow.json").unlink()
+            ended = subprocess.run([self.program, "run"], cwd=untold, stdout=writer, stdin=subprocess.DEVNULL)
+            os.close(writer)
+            need(ended.returncode == SOURCE, f"without a flow a run into a closed pipe ended with {ended.returncode}")
+            need_status(run(self.program, told), DONE)
+
     def other_words(self):
         with work_folder(self.parent, WAITS) as folder:
             one = store_format.uuid_of(1, 1)
             for words in (["queues", "x"], ["events", "--threads", "2"], ["check", "--"], ["content"], ["lineage"],
                           ["content", "x"], ["lineage", one, one], ["content", f"--uuid={one}"], ["Queues"], ["trial"]):
-                need_status(run(self.program, folder, words), USAGE)
+                ended = run(self.program, folder, words)
+                need((ended.status, ended.said) == (USAGE, printed.USAGE_LINE), f"{words}: {ended.status}, {ended.said!r}")
             need(names(folder) == ["flow.json"], "refused words made something")
 
     def many_events(self):
@@ -257,6 +279,7 @@ def main():
             ("a damaged store is told by its first damage, and left alone", cases.damaged),
             ("a query beside a run gets 5, queries share the store, and a run waits for them", cases.beside_a_run),
             ("an output that takes nothing: 9", cases.sink_fails),
+            ("a run whose output takes nothing: 9, and all else is done", cases.run_cant_print),
             ("words with too much or too little: 2", cases.other_words),
             ("events of 10,000 files take no more memory than those of 1,000", cases.many_events)):
         report.case(text, body)

@@ -1,6 +1,7 @@
 -- Which names are left, and the first that passes.
-use Rattle.std.proofs.Common.{◌≡◌, ◌≢◌, ℕ, zero, suc, Bool, true, false, cond, List, [], ◌∷◌, length, map, refl, sym, ap, ◌∙◌, arith}
+use Rattle.std.proofs.Common.{◌≡◌, ◌≢◌, ℕ, zero, suc, ◌+◌, ◌<◌, ◌≤◌, Bool, true, false, cond, not, filter, List, [], ◌∷◌, length, map, drop, refl, sym, ap, ◌∙◌, arith}
 use Rattle.std.specs.Prelude.{Some, find, slice_get, slice_set, bytes_eq}
+use Rattle.std.specs.List.{slice_index_or}
 use Rattle.std.proofs.lemmas.Option.{slice_get_within, get_or_from_slice_get}
 use Rattle.std.proofs.lemmas.Slice.Eq.{bytes_eq-Decides}
 use Rattle.machine_model.specs.Stepping.{without_name}
@@ -80,3 +81,50 @@ left-taken name (other ∷ names) (true ∷ taken) (suc place) distinct there le
 left-taken name (other ∷ names) (false ∷ taken) (suc place) distinct there left =
     let fails : bytes_eq other name ≡ false = differs other name (distinct-head other name names place distinct there) in
     rw fails (ap (λ rest. other ∷ rest) (left-taken name names taken place (distinct-tail other names distinct) there left))
+
+-- ---- how many are left
+
+-- the marks of names that aren't taken
+abbrev pub free : List Bool → List Bool
+free taken = filter not taken
+
+pub left-length : (names : List (List ℕ)) (taken : List Bool) → length taken ≡ length names → length (left_of names taken) ≡ length (free taken)
+left-length [] [] long = refl
+left-length [] (m ∷ taken) long = absurd (omega (arith, long))
+left-length (name ∷ names) [] long = absurd (omega (arith, long))
+left-length (name ∷ names) (true ∷ taken) long = left-length names taken (omega (arith, long))
+left-length (name ∷ names) (false ∷ taken) long = ap suc (left-length names taken (omega (arith, long)))
+
+pub free-few : (taken : List Bool) → length (free taken) ≤ length taken
+free-few [] = omega arith
+free-few (true ∷ taken) = omega (arith, free-few taken)
+free-few (false ∷ taken) = omega (arith, free-few taken)
+
+one-free : (m mark : Bool) (taken : List Bool) → mark ≡ m → length (free (m ∷ taken)) ≡ cond mark 0 1 + length (free taken)
+one-free true true taken is = omega arith
+one-free false false taken is = omega arith
+one-free true false taken is = cc
+one-free false true taken is = cc
+
+-- from one place on, and from behind it on
+free-next : (taken : List Bool) (i : ℕ) (mark : Bool) → i < length taken → slice_index_or taken i false ≡ mark → length (free (drop i taken)) ≡ cond mark 0 1 + length (free (drop (suc i) taken))
+free-next [] i mark within is = absurd (omega (arith, within))
+free-next (m ∷ taken) zero mark within is = one-free m mark taken (sym is)
+free-next (m ∷ taken) (suc i) mark within is = free-next taken i mark (omega (arith, within)) is
+
+pub free-step : (taken : List Bool) (i : ℕ) (mark : Bool) → i < length taken → slice_index_or taken i false ≡ mark → length (free (drop i taken)) ≡ cond mark 0 1 + length (free (drop (i + 1) taken))
+free-step taken i mark within is =
+    let next : suc i ≡ i + 1 = omega arith in
+    free-next taken i mark within is ∙ ap (λ n. cond mark 0 1 + length (free (drop n taken))) next
+
+pub none-free : (taken : List Bool) (i : ℕ) → length taken ≤ i → length (free (drop i taken)) ≡ 0
+none-free taken i past = ap (λ (l : List Bool). length (free l)) (drop-past taken i past)
+  where
+    drop-past : (taken : List Bool) (i : ℕ) → length taken ≤ i → drop i taken ≡ []
+    drop-past [] i past = drop-nil i
+      where
+        drop-nil : (i : ℕ) → drop {A = Bool} i [] ≡ []
+        drop-nil zero = refl
+        drop-nil (suc i) = refl
+    drop-past (m ∷ taken) zero past = absurd (omega (arith, past))
+    drop-past (m ∷ taken) (suc i) past = drop-past taken i (omega (arith, past))

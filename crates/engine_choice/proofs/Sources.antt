@@ -1,5 +1,5 @@
 -- The sources of a listing, by the places of their processors.
-use Rattle.std.proofs.Common.{◌≡◌, ◌⊎◌, inl, inr, ℕ, ◌<◌, ◌≤◌, Bool, true, false, List, [], ◌∷◌, length, replicate, refl, sym, ap, subst, ◌∙◌, arith}
+use Rattle.std.proofs.Common.{◌≡◌, ◌⊎◌, inl, inr, ℕ, ◌+◌, ◌^◌, ◌<◌, ◌≤◌, Bool, true, false, List, [], ◌∷◌, length, replicate, refl, sym, ap, subst, ◌∙◌, arith}
 use Rattle.std.specs.Prelude.{Option, Some, None, All, MatchOption, find, is_some, nat_lt, option_and_then, option_map, slice_get, slice_set, unwrap_or}
 use Rattle.std.specs.List.{slice_index_or}
 use Rattle.std.proofs.lemmas.Bool.{ltb-false, ltb-true}
@@ -100,11 +100,12 @@ left-at listing sound place processor source s there is e within =
     first-left (filter_of processor.kind) listing.names.items listing.taken.items s sound.marks (subst P e (source-at listing sound place processor source source there is)) within
 
 -- the fields with a name taken, and each source moved past it, are sound
-pub still-sound : (listing after : Inside) (place : ℕ) → IsSoundInside listing → after.flow ≡ listing.flow → after.names ≡ listing.names
+pub still-sound : (listing after : Inside) (place : ℕ) → IsSoundInside listing → after.flow ≡ listing.flow → after.names ≡ listing.names → after.too_large ≡ listing.too_large
     → after.taken.items ≡ slice_set listing.taken.items place true → length after.sources.items ≡ length listing.sources.items
     → ((k : ℕ) (was now : Option Source) → slice_get listing.sources.items k ≡ Some was → slice_get after.sources.items k ≡ Some now → StillSuits after.taken.items place was now)
     → IsSoundInside after
-still-sound listing after place sound flow names taken count moved = record {
+still-sound listing after place sound flow names large taken count moved = record {
+  few = let lengths : length after.names.items ≡ length listing.names.items = ap (λ v. length v.items) names in omega (arith, lengths, large, sound.few);
   marks = ap length taken ∙ length-set listing.taken.items place true ∙ sound.marks ∙ ap (λ v. length v.items) (sym names);
   distinct = let P : List (List ℕ) → Type 0 = AreDistinct in subst P (ap (λ v. v.items) (sym names)) sound.distinct;
   count = count ∙ sound.count ∙ ap (λ f. length f.now.processors) (sym flow);
@@ -134,27 +135,27 @@ all-left (name ∷ names) = ap (λ rest. name ∷ rest) (all-left names)
 
 -- ---- what taking a first name answers
 
-abbrev pub left_with : Flow → List (List ℕ) → Left
-left_with flow names = record { flow = flow; names = names }
+abbrev pub left_with : Flow → (too_large : ℕ) → List (List ℕ) → Left
+left_with flow too_large names = record { flow = flow; names = names; too_large = too_large }
 
 pub takes-none : (now : Left) (kind : Kind) → None ≡ first_passed kind now.names
-    → MatchOption (first_passed kind now.names) (now ≡ now) (λ name. now ≡ left_with now.flow (without_name now.names name))
+    → MatchOption (first_passed kind now.names) (now ≡ now) (λ name. now ≡ left_with now.flow now.too_large (without_name now.names name))
 takes-none now kind e =
-    let P : Option (List ℕ) → Type 0 = λ o. MatchOption o (now ≡ now) (λ name. now ≡ left_with now.flow (without_name now.names name)) in
+    let P : Option (List ℕ) → Type 0 = λ o. MatchOption o (now ≡ now) (λ name. now ≡ left_with now.flow now.too_large (without_name now.names name)) in
     let none : P None = refl in subst P e none
 
-pub takes-first : (now after : Left) (kind : Kind) (name : List ℕ) → Some name ≡ first_passed kind now.names → after ≡ left_with now.flow (without_name now.names name)
-    → MatchOption (first_passed kind now.names) (after ≡ now) (λ name. after ≡ left_with now.flow (without_name now.names name))
+pub takes-first : (now after : Left) (kind : Kind) (name : List ℕ) → Some name ≡ first_passed kind now.names → after ≡ left_with now.flow now.too_large (without_name now.names name)
+    → MatchOption (first_passed kind now.names) (after ≡ now) (λ name. after ≡ left_with now.flow now.too_large (without_name now.names name))
 takes-first now after kind name e is =
-    let P : Option (List ℕ) → Type 0 = λ o. MatchOption o (after ≡ now) (λ name. after ≡ left_with now.flow (without_name now.names name)) in
+    let P : Option (List ℕ) → Type 0 = λ o. MatchOption o (after ≡ now) (λ name. after ≡ left_with now.flow now.too_large (without_name now.names name)) in
     let here : P (Some name) = is in subst P e here
 
 -- the state behind it
-pub state-behind : (flow : Flow) (names : List (List ℕ)) (taken : List Bool) (place : ℕ) (now : Left) (name : List ℕ) → left_with flow (left_of names taken) ≡ now
+pub state-behind : (flow : Flow) (too_large : ℕ) (names : List (List ℕ)) (taken : List Bool) (place : ℕ) (now : Left) (name : List ℕ) → left_with flow too_large (left_of names taken) ≡ now
     → AreDistinct names → slice_get names place ≡ Some name → slice_get taken place ≡ Some false
-    → left_with flow (left_of names (slice_set taken place true)) ≡ left_with now.flow (without_name now.names name)
-state-behind flow names taken place now name view distinct there left =
-    ap (left_with flow) (left-taken name names taken place distinct there left) ∙ ap (λ s. left_with s.flow (without_name s.names name)) view
+    → left_with flow too_large (left_of names (slice_set taken place true)) ≡ left_with now.flow now.too_large (without_name now.names name)
+state-behind flow too_large names taken place now name view distinct there left =
+    ap (left_with flow too_large) (left-taken name names taken place distinct there left) ∙ ap (λ s. left_with s.flow s.too_large (without_name s.names name)) view
 
 -- ---- an element by its place
 

@@ -1,5 +1,5 @@
 -- The fields of a listing, and what they stand for.
-use Rattle.std.specs.Prelude.{◌≡◌, ℕ, ◌<◌, ◌≤◌, Bool, true, false, List, [], ◌∷◌, length, map, Option, None, Some, IfSome, slice_get, slice_set}
+use Rattle.std.specs.Prelude.{◌≡◌, ℕ, ◌+◌, ◌^◌, ◌<◌, ◌≤◌, Bool, true, false, List, [], ◌∷◌, length, map, Option, None, Some, IfSome, slice_get, slice_set}
 use Rattle.machine_model.specs.declared.flow.Processor.{Processor}
 use Rattle.machine_model.specs.declared.pattern.Pattern.{Pattern}
 use Rattle.machine_model.specs.Acting.{passes}
@@ -49,10 +49,16 @@ abbrev pub HasMarks : (count : ℕ) → Option Source → Type 0
 HasMarks count source = IfSome source (λ source. length source.passing.items ≡ count)
 
 abbrev pub state_in : Inside → Left
-state_in listing = record { flow = listing.flow.now; names = left_of listing.names.items listing.taken.items }
+state_in listing = record {
+  flow = listing.flow.now;
+  names = left_of listing.names.items listing.taken.items;
+  too_large = listing.too_large;
+}
 
--- what holds of the fields: a mark for each name, of which no two are the same, and a source for each processor
+-- What holds of the fields: a mark for each name, of which no two are the same, and a source for each processor. All
+-- names of the inbox can be counted.
 pub record IsSoundInside (listing : Inside) : Type 0 where
+  pub few : length listing.names.items + listing.too_large < 2 ^ 64
   pub marks : length listing.taken.items ≡ length listing.names.items
   pub distinct : AreDistinct listing.names.items
   pub count : length listing.sources.items ≡ length listing.flow.now.processors

@@ -7,10 +7,12 @@ use Rattle.machine_model.specs.declared.kind.Kind.TheVariants.{GetFile}
 use Rattle.machine_model.specs.declared.pattern.Pattern.{Pattern}
 use Rattle.machine_model.specs.Acting.{passes}
 
--- the names that are left, in their order, for the processors of this flow
+-- The names that are left, in their order, for the processors of this flow; and how many others the inbox has, whose
+-- files are too large.
 pub record Left : Type 0 where
   pub flow : Flow
   pub names : List (List ℕ)
+  pub too_large : ℕ
 
 -- each name stands once
 abbrev pub AreDistinct : List (List ℕ) → Type 0

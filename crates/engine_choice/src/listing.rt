@@ -1,5 +1,5 @@
 //! The names of an inbox that are left, and which of them each GetFile of a flow takes first.
-ghost use Rattle.std.specs.Prelude.{◌≡◌, ℕ, ◌<◌, ◌≤◌, Option, length, map, All, Some, MatchOption, IfOk, slice_get, option_map};
+ghost use Rattle.std.specs.Prelude.{◌≡◌, ℕ, ◌+◌, ◌^◌, ◌<◌, ◌≤◌, Option, length, map, All, Some, MatchOption, IfOk, slice_get, option_map};
 ghost use Rattle.machine_model.specs.declared.flow.Processor.{Processor};
 ghost use Rattle.machine_model.specs.Acting.{passes};
 ghost use Rattle.machine_model.specs.Stepping.{without_name};
@@ -12,12 +12,13 @@ use machine_model::{Filter, Flow, Kind, Pattern};
 use std::alloc::{AllocError, Global};
 use std::marker::Model;
 
-/// The names of an inbox that are left, in their order, for the processors of a flow. However many are taken one after
-/// another, each name is looked at once for each GetFile.
+/// The names of an inbox that are left, in their order, for the processors of a flow, and how many others it has, whose
+/// files are too large for any. However many are taken one after another, each name is looked at once for each GetFile.
 #[derive(Drop)]
 pub struct Listing<'f> {
     flow: &'f Flow,
     names: Vec<Name>,
+    too_large: u64,
     // Which of the names are taken.
     taken: Vec<bool>,
     // One for each GetFile, by the processors' places.
@@ -48,10 +49,17 @@ impl<'f> Model for Listing<'f> {
 }
 
 impl<'f> Listing<'f> {
-    /// All of these names are left.
-    pub fn new(alloc: Global, flow: &'f Flow, names: Vec<Name>) -> Result<Listing<'f>, AllocError>
-        requires { AreDistinct names.items }
-        ensures { IfOk result (λ listing. listing ≡ record { flow = flow.now; names = names.items }) }
+    /// All of these names are left, and so many others.
+    pub fn new(
+        alloc: Global,
+        flow: &'f Flow,
+        names: Vec<Name>,
+        too_large: u64,
+    ) -> Result<Listing<'f>, AllocError>
+        requires distinct { AreDistinct names.items }
+        requires few { length names.items + too_large < 2 ^ 64 }
+        ensures { IfOk result (λ listing. listing
+            ≡ record { flow = flow.now; names = names.items; too_large = too_large }) }
     {
         let taken = vec![in alloc; false; names.len()]?;
         let mut sources = Vec::new(alloc);
@@ -61,6 +69,7 @@ impl<'f> Listing<'f> {
         Ok(Listing {
             flow,
             names,
+            too_large,
             taken,
             sources,
         })
@@ -76,6 +85,19 @@ impl<'f> Listing<'f> {
             return None;
         };
         self.names.get(source.first)
+    }
+
+    /// How many names are left, those of files that are too large among them.
+    pub fn count_left(&self) -> u64
+        ensures { result ≡ length self.now.names + self.now.too_large }
+    {
+        let mut count = self.too_large;
+        for is_taken in self.taken.as_slice() {
+            if !is_taken {
+                count += 1;
+            }
+        }
+        count
     }
 
     /// Takes the name that a processor takes first, if there is one.

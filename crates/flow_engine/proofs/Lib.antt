@@ -2,6 +2,8 @@ mod AsRead
 pub mod Choosing
 mod Chosen
 pub mod Closing
+mod Counted
+mod Shown
 mod Commits
 mod ContentsRead
 mod Due

@@ -1,11 +1,15 @@
 -- What the disk holds once a store was closed.
-use Rattle.std.proofs.Common.{◌≡◌, ◌⊎◌, ⊎_elim, Bool, true, false, refl, sym, ◌∙◌, ap, subst}
+use Rattle.std.proofs.Common.{◌≡◌, ◌⊎◌, ⊎_elim, Bool, true, false, IsTrue, [], refl, sym, ◌∙◌, ap, subst}
 use Rattle.std.proofs.lemmas.Bool.{false≢true}
 use Rattle.std.specs.Prelude.{ℕ, ◌↔◌, Result, Ok, Err, IsErrOf}
 use Rattle.disk_trait.specs.Files.{Files}
 use Rattle.disk_trait.specs.Images.{Since}
+use Rattle.flowfile_record.specs.Stored.{Kept, kept_of}
+use Rattle.flowfile_wal.specs.Calls.{InEach}
+use Rattle.content_repo.specs.Claims.{content_in}
 use Rattle.machine_model.specs.declared.flow.Flow.{Flow}
-use Rattle.machine_model.specs.State.{State}
+use Rattle.machine_model.specs.State.{Machine, State}
+use Rattle.prov_store.specs.State.{counts_of}
 use Rattle.store_core.specs.Calls.{KeepsMeaning}
 use Rattle.store_core.specs.Flow as store
 use Rattle.store_core.specs.Flow.{flow_in}
@@ -14,8 +18,11 @@ use Rattle.store_core.specs.State.{stands_for}
 use Rattle.store_core.specs.Store.{EachStandsFor, IsKeptOn, IsTidy, StoreState, kept_by}
 use Rattle.store_core.specs.declared.error.StoreError.{StoreError}
 use Rattle.store_core.specs.declared.error.StoreError.TheVariants as refusal
-use Rattle.flow_run.specs.Run.{IsTidied}
+use Rattle.engine_core.specs.Expiring.{HaveContents}
+use Rattle.flow_run.specs.Run.{IsStateOf, IsTidied, StandsFor}
 use Rattle.flow_run.specs.Work.{IsAtWork}
+use Rattle.flow_engine.specs.Closing.{ShowsState}
+use Rattle.flow_engine.specs.declared.close.Closed.{Closed}
 
 -- a call that ended well met no fault
 still_works : {A : Type 0} (result : Result A StoreError) (s t : StoreState) (answer : A) → result ≡ Ok answer → s.failed ≡ false → (t.failed ≡ true) ↔ ((s.failed ≡ true) ⊎ IsErrOf result refusal.Disk) → t.failed ≡ false
@@ -51,3 +58,23 @@ module _ (flow : Flow) (tells : Bool) {D : Type 0} (held : D → Files) (moment 
       subst (λ (x : StoreState). Since moment images old new (λ files. stands_for (flow_in (kept_by x)) x.lot files ≡ Ok state)) same
       ((keeps (ap (λ (x : StoreState). x.failed) same ∙ work.works)).states state
       (subst (λ (x : StoreState). EachStandsFor (flow_in (kept_by x)) x.lot state (images old (moment old))) (sym same) stands))
+
+  -- it has in memory what the disk holds
+  pub works_inside : IsAtWork flow tells held moment images s old
+  works_inside = subst (λ (x : StoreState). IsAtWork flow tells held moment images x old) (sym same) work
+
+  -- what is handed over is the machine's state
+  pub shown_by_close : (m : Machine) (closed : Closed) → kept_of closed.state ≡ kept_by s → closed.events.counts ≡ s.events.counts → IsTrue tells → InEach (images old (moment old)) (StandsFor flow own.lot m)
+      → (IsTrue tells → (f : Flow) → IsAtWork f tells held moment images s old → (m : Machine) → InEach (images old (moment old)) (StandsFor f s.lot m) → IsStateOf m (content_in (held old)) (kept_by s))
+      → (IsTrue tells → (f : Flow) → IsAtWork f tells held moment images s old → (m : Machine) → InEach (images old (moment old)) (StandsFor f s.lot m) → s.events.counts ≡ counts_of m.state.events)
+      → (IsTrue tells → HaveContents (content_in (held old)) (kept_by s)) → (kept_by s).batches ≡ [] → ShowsState flow m closed
+  shown_by_close m closed state events telling stands tied counted read in_queues =
+      let inside : InEach (images old (moment old)) (StandsFor flow s.lot m) = subst (λ (x : StoreState). InEach (images old (moment old)) (StandsFor flow x.lot m)) (sym same) stands in
+      record {
+        flow_is = ap flow_in state ∙ works_inside.flow_is;
+        in_queues = ap (λ (k : Kept). k.batches) state ∙ in_queues;
+        contents = content_in (held old);
+        read = subst (HaveContents (content_in (held old))) (sym state) (read telling);
+        is = subst (IsStateOf m (content_in (held old))) (sym state) (tied telling flow works_inside m inside);
+        counts = events ∙ counted telling flow works_inside m inside;
+      }

@@ -36,6 +36,7 @@ same_run_on old mid new first second = record {
   flow = second.flow ∙ first.flow;
   most = second.most ∙ first.most;
   checkpoint = second.checkpoint ∙ first.checkpoint;
+  too_large = second.too_large ∙ first.too_large;
   lot = second.lot ∙ first.lot;
 }
 

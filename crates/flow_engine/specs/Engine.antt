@@ -37,9 +37,11 @@ abbrev pub AreTakeable : List NamedFile → List (List ℕ) → Type 0
 AreTakeable left names =
     All (λ name. IsSomeAnd (bytes_of left name) (λ bytes. length bytes ≤ CONTENT_MAX)) names
 
--- the run's constants stay: the flow, the journal's limit, how long a log may get, and the store's lot
+-- the run's constants stay: the flow, the journal's limit, how long a log may get, how many names of the inbox have files
+-- that are too large, and the store's lot
 pub record IsOfSameRun (old new : EngineState) : Type 0 where
   pub flow : new.flow ≡ old.flow
   pub most : new.most ≡ old.most
   pub checkpoint : new.checkpoint ≡ old.checkpoint
+  pub too_large : new.listing.too_large ≡ old.listing.too_large
   pub lot : new.store.lot ≡ old.store.lot

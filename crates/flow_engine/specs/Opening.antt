@@ -1,5 +1,5 @@
 -- An engine before its first step.
-use Rattle.std.specs.Prelude.{◌≡◌, ℕ, nat_le, Bool, false, IsTrue, List, [], Option, None, length}
+use Rattle.std.specs.Prelude.{◌≡◌, ℕ, ◌+◌, nat_le, Bool, false, IsTrue, List, [], Option, None, length}
 use Rattle.std.specs.Option.{option_map_or}
 use Rattle.flowfile_record.specs.NamedFile.{NamedFile, bytes_of}
 use Rattle.flowfile_record.specs.declared.TheConstants.{CONTENT_MAX}
@@ -31,8 +31,10 @@ pub record IsOpened (flow : Flow) (store : StoreState) (most checkpoint : ℕ) (
 abbrev pub fits_in : List NamedFile → List ℕ → Bool
 fits_in left name = option_map_or (λ bytes. nat_le (length bytes) CONTENT_MAX) (bytes_of left name) false
 
--- all that the machine may take of the files that were left is to come, and can be taken of those that are left now
+-- All that the machine may take of the files that were left is to come, and can be taken of those that are left now; the
+-- others are too large.
 pub record IsToCome (tells : Bool) (left now_left : List NamedFile) (e : EngineState) : Type 0 where
   pub coming : IsTrue tells → (state : State) (standing : List ℕ → Option (List ℕ))
       → coming_of (machine_at state left standing).world ≡ e.listing.names
   pub takeable : IsTrue tells → AreTakeable now_left e.listing.names
+  pub counted : IsTrue tells → length left ≡ length e.listing.names + e.listing.too_large

@@ -1,5 +1,5 @@
 //! What an engine has in memory.
-ghost use Rattle.std.specs.Prelude.{◌≡◌, ◌⊎◌, ◌-◌, ◌^◌, ◌<◌, filter, length, map, IfOk, IfErr, IsErrOf, IsTrue};
+ghost use Rattle.std.specs.Prelude.{◌≡◌, ◌⊎◌, ◌-◌, ◌^◌, ◌<◌, ◌≤◌, filter, length, map, IfOk, IfErr, IsErrOf, IsTrue};
 ghost use Rattle.disk_trait.specs.Faults.{CountsFaults};
 ghost use Rattle.flowfile_record.specs.NamedFile.{bytes_of};
 ghost use Rattle.world_io.specs.Inbox.{IsAscending};
@@ -86,9 +86,11 @@ impl<'f> Engine<'f> {
     {
         let mut names = Vec::new(alloc);
         inbox.list(&mut names)?;
+        let listed = names.len();
         let coming = names_that_fit(alloc, inbox, names)?;
+        let too_large = (listed - coming.len()) as u64;
         let queues = Queues::open(alloc, flow, store.state())?;
-        let listing = Listing::new(alloc, flow, coming)?;
+        let listing = Listing::new(alloc, flow, coming, too_large)?;
         Ok(Engine {
             flow,
             store,
@@ -129,6 +131,7 @@ fn names_that_fit<I: Inbox>(
     requires ascending { IsAscending names.items }
     ensures fit { IfOk result (λ coming. IsTrue I.tells
         → coming.items ≡ filter (fits_in (I.left inbox.old)) names.items) }
+    ensures few { IfOk result (λ coming. length coming.items ≤ length names.items) }
     ensures ascending { IfOk result (λ coming. IsAscending coming.items) }
     ensures left { I.left inbox.new ≡ I.left inbox.old }
     ensures kinds { IfErr result (λ error. (error ≡ EngineError.Inbox) ⊎ (error ≡ EngineError.Memory)) }

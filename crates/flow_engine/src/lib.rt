@@ -24,5 +24,5 @@ pub use done::{Done, work};
 pub use engine::Engine;
 pub use error::EngineError;
 pub use job::Job;
-pub use run::run_flow;
+pub use run::{Ran, run_flow};
 pub use tending::Tended;

@@ -1,11 +1,13 @@
 //! A flow runs over an opened store until nothing is left to do, and the store is closed.
-ghost use Rattle.std.specs.Prelude.{◌≡◌, ℕ, ◌-◌, ◌^◌, ◌<◌, List, [], OnOk, IfErr, IsTrue};
+ghost use Rattle.std.specs.Prelude.{◌≡◌, ℕ, ◌-◌, ◌^◌, ◌<◌, List, [], None, OnOk, IfErr, IfSome, IsTrue, MatchOption};
+ghost use Rattle.std.specs.Result.{result_ok};
 ghost use Rattle.machine_model.specs.Sound.{IsSound};
 ghost use Rattle.machine_model.specs.State.{State};
 ghost use Rattle.machine_model.specs.declared.journal.Entry.{Entry as TheEntry};
 ghost use Rattle.flow_run.specs.Going.{IsRunningAt};
 ghost use Rattle.flow_run.specs.Run.{HasRun, machine_at};
-ghost use Rattle.flow_run.specs.Ending.{EndsForCause, EndsShort};
+ghost use Rattle.flow_run.specs.Ending.{EndsForCause, EndsShort, IsFault};
+ghost use Rattle.flow_engine.specs.Closing.{Shows};
 ghost use Rattle.flow_engine.specs.Engine.{AreBuilt};
 ghost use Rattle.flow_engine.specs.Errors.{ended_by};
 ghost use Rattle.flow_run.specs.Work.{IsAtWork, WritesLog};
@@ -16,10 +18,17 @@ use crate::engine::Engine;
 use disk_trait::Disk;
 use engine_choice::Ending;
 use flow_run::{Ended, faults_end_a_run, run_ends};
-use machine_model::Flow;
+use machine_model::{Flow, names_are_lost_by_taking};
 use std::alloc::Global;
 use store_core::Store;
 use world_io::{Clock, Inbox, Outbox};
+
+/// How a run ended; and what it left, where its store was closed.
+#[derive(Drop)]
+pub struct Ran {
+    pub ended: Ended,
+    pub closed: Option<Closed>,
+}
 
 /// Runs a flow over a store of it that was opened: session after session until nothing is left to do, all of it is
 /// held back by full connections, or the journal has `most` entries. Then the store is closed. Where the log has
@@ -35,7 +44,7 @@ pub fn run_flow<D: Disk, I: Inbox, O: Outbox, C: Clock>(
     inbox: &mut I,
     outbox: &mut O,
     clock: &mut C,
-) -> Ended
+) -> Ran
     requires sound { IsSound flow.now }
     requires built { AreBuilt flow.now }
     requires most { most < 2 ^ 64 - 1 }
@@ -45,41 +54,59 @@ pub fn run_flow<D: Disk, I: Inbox, O: Outbox, C: Clock>(
         → IsRunningAt flow.now start (C.time clock.old) D.moment D.images store.lot
         (machine_at state (I.left inbox.old) (O.standing outbox.old)) first disk.old []
         (machine_at state (I.left inbox.old) (O.standing outbox.old)) (I.left inbox.old) (O.standing outbox.old)
-        → (journal : List TheEntry) × HasRun flow.now result start (C.time clock.new) D.tells D.held D.moment D.images
-        store.lot (machine_at state (I.left inbox.old) (O.standing outbox.old)) first disk.new (I.left inbox.new)
-        (O.standing outbox.new) journal }
+        → (journal : List TheEntry) × (ran : HasRun flow.now result.ended start (C.time clock.new) D.tells D.held
+        D.moment D.images store.lot (machine_at state (I.left inbox.old) (O.standing outbox.old)) first disk.new
+        (I.left inbox.new) (O.standing outbox.new) journal) × IfSome result.closed (Shows flow.now ran.reached) }
+    // The store was closed unless something failed.
+    ensures closed { MatchOption result.closed (IsFault result.ended) (λ closed. IsFault result.ended → ⊥) }
     // Whatever inbox and outbox tell.
-    ensures checkpointed { EndsShort D.moment D.images checkpoint result disk.new }
+    ensures checkpointed { EndsShort D.moment D.images checkpoint result.ended disk.new }
     ensures alone { WritesLog D.moment D.images store.log.number disk.old disk.new }
-    ensures why { EndsForCause result flow.now D.tells D.held D.moment D.images D.faults store.lot most
+    ensures why { EndsForCause result.ended flow.now D.tells D.held D.moment D.images D.faults store.lot most
         disk.old disk.new (I.faults inbox.old) (I.faults inbox.new) (O.faults outbox.old) (O.faults outbox.new) }
 {
+    names_are_lost_by_taking();
     faults_end_a_run::<D>();
     run_ends::<D>();
     let mut engine = match Engine::new(alloc, flow, store, most, checkpoint, inbox) {
         Ok(engine) => engine,
-        Err(error) => return error.ended(),
+        Err(error) => return fail(&error),
     };
     match engine.drive(alloc, disk, inbox, outbox, clock) {
-        Ok(Ending::Blocked(connection)) => ended_by(engine.close(disk), Ended::Blocked(connection)),
-        Ok(Ending::Quiet) => ended_by(engine.close(disk), Ended::Quiet),
+        Ok(Ending::Blocked(connection)) => leave(engine.close(disk), Ended::Blocked(connection)),
+        Ok(Ending::Quiet) => leave(engine.close(disk), Ended::Quiet),
         Ok(Ending::Rest { .. }) => unreachable!(),
         Err(error) => {
             let EngineError::Limit(limit) = error else {
-                return error.ended();
+                return fail(&error);
             };
-            ended_by(engine.close(disk), Ended::Limit(limit))
+            leave(engine.close(disk), Ended::Limit(limit))
         }
     }
 }
 
-// How a run ends whose store was to be closed at this end.
-fn ended_by(closed: Result<Closed, EngineError>, ended: Ended) -> Ended
-    ensures ok { OnOk closed (result ≡ ended) }
-    ensures err { IfErr closed (λ error. result ≡ ended_by error) }
+// What a run leaves that failed.
+fn fail(error: &EngineError) -> Ran
+    ensures ended { result.ended ≡ ended_by error.now }
+    ensures closed { result.closed ≡ None }
+{
+    Ran {
+        ended: error.ended(),
+        closed: None,
+    }
+}
+
+// What a run leaves whose store was to be closed at this end.
+fn leave(closed: Result<Closed, EngineError>, ended: Ended) -> Ran
+    ensures ok { OnOk closed (result.ended ≡ ended) }
+    ensures err { IfErr closed (λ error. result.ended ≡ ended_by error) }
+    ensures closed { result.closed ≡ result_ok closed }
 {
     match closed {
-        Ok(_) => ended,
-        Err(error) => error.ended(),
+        Ok(closed) => Ran {
+            ended,
+            closed: Some(closed),
+        },
+        Err(error) => fail(&error),
     }
 }

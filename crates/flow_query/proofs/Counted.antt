@@ -32,7 +32,7 @@ length-fold (f ∷ files) front =
     let rest = length-fold files (with_arrival front f) in
     omega arith
 
-length-queue : (contents : ContentRef → List ℕ) (files : List ActiveFile) (place : ℕ) → length (queue_of contents files place) ≡ many_at files place
+pub length-queue : (contents : ContentRef → List ℕ) (files : List ActiveFile) (place : ℕ) → length (queue_of contents files place) ≡ many_at files place
 length-queue contents files place =
     let listed = filter (λ (a : ActiveFile). a.connection == place) files in
     let all = length-fold (map (queued contents) listed) [] in

@@ -1,5 +1,5 @@
 -- Why a run of an engine ended, on any devices.
-use Rattle.std.specs.Prelude.{◌≡◌, ◌⊎◌, ℕ, ◌+◌, Bool}
+use Rattle.std.specs.Prelude.{◌≡◌, ◌⊎◌, ⊤, ℕ, ◌+◌, Bool}
 use Rattle.disk_trait.specs.Files.{Files}
 use Rattle.disk_trait.specs.Faults.{CountsFaults}
 use Rattle.disk_trait.specs.declared.damage.Damage.{Damage}
@@ -14,6 +14,11 @@ use Rattle.flow_run.specs.Work.{IsEndedByLimit, IsReadDamaged, IsShortOn}
 -- the journal has as many entries as it may
 abbrev pub journal_full : (most : ℕ) → Limit
 journal_full most = record { which = Journal; number = most; wanted = most + 1 }
+
+-- something failed
+abbrev pub IsFault : Ended → Type 0
+IsFault (ending.Fault cause) = ⊤
+IsFault _ = ⊥
 
 -- a store at work refused a change by the limit and then was closed, or the journal was full
 abbrev pub IsLimitMet : {D : Type 0} → Flow → (tells : Bool) → (D → Files) → (D → ℕ) → (D → ℕ → Files → Type 0)

@@ -20,6 +20,7 @@ use Rattle.machine_model.specs.Quiet.{quiet_but_for_swaps, blocked_but_for_swaps
 use Rattle.machine_model.specs.State.{Machine, QueuedFile, State}
 use Rattle.machine_model.specs.Stepping.{as_taken, session_after, step}
 use Rattle.machine_model.specs.Valid.{IsValid}
+use Rattle.prov_store.specs.State.{counts_of}
 use Rattle.store_core.specs.Calls.{SinceSync}
 use Rattle.store_core.specs.Flow.{flow_in}
 use Rattle.store_core.specs.Opened.{SameMeaning}
@@ -197,6 +198,12 @@ abbrev pub MemoryIsTheState : Type 0
 MemoryIsTheState = (flow : Flow) (s : StoreState) (files : Files) (m : Machine)
     → flow_in (kept_by s) ≡ identity_of flow → (kept_by s).last_event ≡ s.events.end
     → Holds s files → StandsFor flow s.lot m files → IsStateOf m (content_in files) (kept_by s)
+
+-- .. and it knows how many events of each kind the machine has
+abbrev pub MemoryCountsEvents : Type 0
+MemoryCountsEvents = (flow : Flow) (s : StoreState) (files : Files) (m : Machine)
+    → flow_in (kept_by s) ≡ identity_of flow → (kept_by s).last_event ≡ s.events.end
+    → Holds s files → StandsFor flow s.lot m files → s.events.counts ≡ counts_of m.state.events
 
 -- ---- what steps do to the world
 

@@ -1,5 +1,5 @@
 //! How a run of any flow begins, goes on and ends, each law as the contract of a function that does nothing.
-ghost use Rattle.flow_run.specs.Laws.{RunsBegin, OpenedRunsBegin, FailedOpeningsEnd, SteppedRunsGoOn, SparedRunsGoOn, NextStepsAreInTurn, FaultsEnd, DiskFaultsEnd, OutboxFaultsEnd, InboxFaultsEnd, QuietRunsEnd, BlockedRunsEnd, LimitedRunsEnd, MemoryIsTheState, TakingStepsLoseAFile, OtherStepsLoseNone, QueuesLeaveTheWorld, ReceivingSessionsLoseAFile, OtherSessionsLoseNone, SendingSessionsPutAFile, OtherSessionsPutNone, PutsSendTheTakenBytes};
+ghost use Rattle.flow_run.specs.Laws.{RunsBegin, OpenedRunsBegin, FailedOpeningsEnd, SteppedRunsGoOn, SparedRunsGoOn, NextStepsAreInTurn, FaultsEnd, DiskFaultsEnd, OutboxFaultsEnd, InboxFaultsEnd, QuietRunsEnd, BlockedRunsEnd, LimitedRunsEnd, MemoryIsTheState, MemoryCountsEvents, TakingStepsLoseAFile, OtherStepsLoseNone, QueuesLeaveTheWorld, ReceivingSessionsLoseAFile, OtherSessionsLoseNone, SendingSessionsPutAFile, OtherSessionsPutNone, PutsSendTheTakenBytes};
 
 use disk_trait::Disk;
 use machine_model::{names_are_lost_by_taking, replay_goes_on, states_stay_valid};
@@ -55,7 +55,8 @@ pub fn run_ends<D: Disk>()
 
 /// What a store has in memory is the state that the files stand for which hold it.
 pub fn memory_is_the_state()
-    ensures { MemoryIsTheState }
+    ensures kept { MemoryIsTheState }
+    ensures counted { MemoryCountsEvents }
 {
     what_is_kept_is_a_state();
     events_up_to_the_last_are_in_a_row();

@@ -1,4 +1,5 @@
 pub mod Anew
+pub mod Answers
 pub mod Asked
 pub mod Broken
 pub mod Built
@@ -8,7 +9,7 @@ pub mod Over
 pub mod Reading
 pub mod Short
 pub mod Started
-pub mod Statuses
 pub mod Texts
-pub mod Whole
+pub mod Runs
+pub mod Summed
 pub mod Writing

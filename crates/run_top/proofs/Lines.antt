@@ -4,12 +4,13 @@ use Rattle.std.specs.Prelude.{IsErrOf, Result, Err}
 use Rattle.std.proofs.lemmas.List.{append-nil}
 use Rattle.flow_query.specs.declared.error.QueryError.{QueryError}
 use Rattle.flow_query.specs.declared.error.QueryError.TheVariants.{Absent, Disk, Sink, Damaged, Memory}
-use Rattle.run_top.specs.Asking.{HasLine, status_of_refusal}
+use Rattle.run_top.specs.Asking.{status_of_refusal}
+use Rattle.run_top.specs.Printing.{IsLine}
 use Rattle.run_top.specs.declared.status.TheConstants.{DISK_FAULT}
 
 -- where no line is due, none was printed
-pub nothing_behind : (before : List ℕ) → HasLine [] before before
-nothing_behind before = ([], ([], refl), sym (append-nil before))
+pub nothing_behind : {S : Type 0} (faults : S → ℕ) (written : S → List ℕ) (sink : S) → IsLine faults written [] sink sink
+nothing_behind faults written sink = record { front = ([], ([], refl), sym (append-nil (written sink))); whole = λ below same. sym (append-nil (written sink)) }
 
 disk_refusal : (error : QueryError) → status_of_refusal error ≡ DISK_FAULT → error ≡ Disk
 disk_refusal Absent is = absurd (omega arith)

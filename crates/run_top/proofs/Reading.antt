@@ -1,6 +1,7 @@
 -- How a text is read piece by piece.
 use Rattle.std.proofs.Common.{◌≡◌, ℕ, ◌≤◌, List, [], ◌++◌, length, take, sym, ◌∙◌, ap, arith, append_assoc}
 use Rattle.std.proofs.lemmas.List.{append-nil, take_all, take-append-le}
+use Rattle.std.specs.Prelude.{Err, Result}
 use Rattle.disk_trait.specs.Faults.{CountsFaults}
 
 -- one piece more
@@ -24,3 +25,6 @@ faults_in_turn a b c first then to = record {
   never_falls = let later = then.never_falls in omega arith;
   rose = λ failed small. let later = then.rose (to failed) small in omega arith;
 }
+
+pub err_is : {A E : Type 0} {a b : E} → ◌≡◌ {A = Result A E} (Err a) (Err b) → a ≡ b
+err_is is = cc

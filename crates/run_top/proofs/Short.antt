@@ -1,63 +1,44 @@
 -- How long the log is where a run ends with nothing left to do, or with all of it held back.
-use Rattle.std.proofs.Common.{◌≡◌, ◌⊎◌, inl, inr, ℕ, refl, sym, ◌∙◌, arith}
+use Rattle.std.proofs.Common.{◌≡◌, ◌⊎◌, inl, inr, ⊎_elim, ℕ, sym, ◌∙◌, subst}
 use Rattle.disk_trait.specs.Files.{Files}
 use Rattle.flow_run.specs.Ending as flow_run
 use Rattle.flow_run.specs.declared.ended.Ended.{Ended}
 use Rattle.flow_run.specs.declared.ended.Ended.TheVariants as ending
-use Rattle.flow_run.specs.declared.ended.Fault.{Fault}
 use Rattle.flow_run.specs.declared.ended.Fault.TheVariants as fault
+use Rattle.run_top.specs.Opening.{IsOfStore}
 use Rattle.run_top.specs.Run.{EndsShort}
-use Rattle.run_top.specs.Status.{status_of, status_of_end, status_of_fault}
-use Rattle.run_top.specs.declared.status.RunError.{RunError}
-use Rattle.run_top.specs.declared.status.TheConstants.{BLOCKED, DONE}
+use Rattle.run_top.specs.Status.{answer_of_end}
+use Rattle.run_top.specs.declared.answer.Answer.{Answer}
+use Rattle.run_top.specs.declared.answer.Answer.TheVariants.{Done, Blocked, Sink}
 
--- no fault and no error has such a status
-abbrev AtRest : ℕ → Type 0
-AtRest status = (status ≡ DONE) ⊎ (status ≡ BLOCKED)
+abbrev AtRest : Answer → Type 0
+AtRest answer = (answer ≡ Done) ⊎ ((place : ℕ) × (answer ≡ Blocked place))
 
-no_error : (e : RunError) → AtRest (status_of e) → ⊥
-no_error RunError.Source (inl is) = omega arith
-no_error RunError.Source (inr is) = omega arith
-no_error (RunError.Refused rule) (inl is) = omega arith
-no_error (RunError.Refused rule) (inr is) = omega arith
-no_error RunError.OtherFlow (inl is) = omega arith
-no_error RunError.OtherFlow (inr is) = omega arith
-no_error (RunError.Damaged damage) (inl is) = omega arith
-no_error (RunError.Damaged damage) (inr is) = omega arith
-no_error RunError.Disk (inl is) = omega arith
-no_error RunError.Disk (inr is) = omega arith
-no_error RunError.Memory (inl is) = omega arith
-no_error RunError.Memory (inr is) = omega arith
+-- no answer of an opening does
+no_opening : (a : Answer) → IsOfStore a → AtRest a → ⊥
+no_opening a store (inl is) = subst IsOfStore is store
+no_opening a store (inr is) = subst IsOfStore is.1 store
 
-no_fault : (cause : Fault) → AtRest (status_of_fault cause) → ⊥
-no_fault fault.Disk (inl is) = omega arith
-no_fault fault.Disk (inr is) = omega arith
-no_fault fault.Inbox (inl is) = omega arith
-no_fault fault.Inbox (inr is) = omega arith
-no_fault fault.Outbox (inl is) = omega arith
-no_fault fault.Outbox (inr is) = omega arith
-no_fault (fault.Damaged damage) (inl is) = omega arith
-no_fault (fault.Damaged damage) (inr is) = omega arith
-no_fault fault.Memory (inl is) = omega arith
-no_fault fault.Memory (inr is) = omega arith
+no_sink : (a : Answer) → a ≡ Sink → AtRest a → ⊥
+no_sink a sink (inl is) = cc (sink, is)
+no_sink a sink (inr is) = cc (sink, is.1)
 
-rests : (ended : Ended) → AtRest (status_of_end ended) → (ended ≡ ending.Quiet) ⊎ ((place : ℕ) × (ended ≡ ending.Blocked place))
+rests : (ended : Ended) → AtRest (answer_of_end ended) → (ended ≡ ending.Quiet) ⊎ ((place : ℕ) × (ended ≡ ending.Blocked place))
 rests ending.Quiet rest = inl refl
 rests (ending.Blocked place) rest = inr (place, refl)
-rests (ending.Limit limit) (inl is) = absurd (omega arith)
-rests (ending.Limit limit) (inr is) = absurd (omega arith)
-rests (ending.Fault cause) rest = absurd (no_fault cause rest)
-
-same_rest : (status other : ℕ) → status ≡ other → AtRest status → AtRest other
-same_rest status other is (inl done) = inl (sym is ∙ done)
-same_rest status other is (inr blocked) = inr (sym is ∙ blocked)
+rests (ending.Limit limit) rest = absurd (⊎_elim (λ is. cc) (λ is. cc (is.1)) rest)
+rests (ending.Fault fault.Disk) rest = absurd (⊎_elim (λ is. cc) (λ is. cc (is.1)) rest)
+rests (ending.Fault fault.Inbox) rest = absurd (⊎_elim (λ is. cc) (λ is. cc (is.1)) rest)
+rests (ending.Fault fault.Outbox) rest = absurd (⊎_elim (λ is. cc) (λ is. cc (is.1)) rest)
+rests (ending.Fault (fault.Damaged damage)) rest = absurd (⊎_elim (λ is. cc) (λ is. cc (is.1)) rest)
+rests (ending.Fault fault.Memory) rest = absurd (⊎_elim (λ is. cc) (λ is. cc (is.1)) rest)
 
 module _ {D : Type 0} (moment : D → ℕ) (images : D → ℕ → Files → Type 0) (checkpoint : ℕ) (new : D) where
-  pub not_begun : (status : ℕ) (error : RunError) → status ≡ status_of error → EndsShort status moment images checkpoint new
-  not_begun status error is rest = absurd (no_error error (same_rest status (status_of error) is rest))
+  pub not_begun : (answer : Answer) → IsOfStore answer → EndsShort answer moment images checkpoint new
+  not_begun answer store rest = absurd (no_opening answer store rest)
 
-  pub has_ended : (status : ℕ) (ended : Ended) → status ≡ status_of_end ended → flow_run.EndsShort moment images checkpoint ended new → EndsShort status moment images checkpoint new
-  has_ended status ended is short rest = short (rests ended (same_rest status (status_of_end ended) is rest))
+  pub has_ended : (ended : Ended) → flow_run.EndsShort moment images checkpoint ended new → EndsShort (answer_of_end ended) moment images checkpoint new
+  has_ended ended short rest = short (rests ended rest)
 
-  pub is_status : (status other : ℕ) → status ≡ other → EndsShort other moment images checkpoint new → EndsShort status moment images checkpoint new
-  is_status status other is short rest = short (same_rest status other is rest)
+  pub not_shown : (answer : Answer) → answer ≡ Sink → EndsShort answer moment images checkpoint new
+  not_shown answer is rest = absurd (no_sink answer is rest)

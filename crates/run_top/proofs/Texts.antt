@@ -15,9 +15,10 @@ use Rattle.flow_definition.specs.declared.rule.Rule.{Rule}
 use Rattle.flow_definition.specs.declared.rule.Rule.TheVariants.{TooMany}
 use Rattle.flow_definition.specs.Looks.{items_at}
 use Rattle.flow_definition.specs.Made.{AreMade}
+use Rattle.flow_definition.specs.Patterns.{HasRisen, Told}
 use Rattle.flow_definition.specs.Reading.{IsFlowOf}
 use Rattle.flow_definition.specs.Rules.{Path}
-use Rattle.flow_definition.specs.Verdict.{Accepts, IsAnswer, IsAnswerBehind, IsAnswerTo, IsSettled, Refuses, first_behind, object_in}
+use Rattle.flow_definition.specs.Verdict.{Accepts, IsAnswer, IsAnswerBehind, IsAnswerTo, IsSettled, IsTold, IsToldIn, Refuses, first_behind, object_in}
 use Rattle.flow_definition.specs.Walk.{first_of, first_rules}
 use Rattle.run_top.specs.Text.{IsRead, IsRefused}
 
@@ -92,12 +93,27 @@ front_answer R rest answer is = by (nat_lt TEXT_MAX (length rest)) refl
         let most : length rest ≤ TEXT_MAX = ltb-false TEXT_MAX (length rest) small in
         subst (λ (b : List ℕ). IsAnswer R b answer) (take_all (TEXT_MAX + 1) rest (omega (arith, most))) is
 
-pub is_refused : (R : Type 0) (tells : Bool) (rest bytes : List ℕ) (rule : Rule) (place : List ℕ) → (IsTrue tells → bytes ≡ take (TEXT_MAX + 1) rest) → IsAnswer R bytes (Err (error.Rule rule place)) → IsRefused R tells rest
-is_refused R true rest bytes rule place front answer = record {
+-- .. and the builder tells the same of it
+front_told : (before now : Told) (rest : List ℕ) (answer : Result Flow FlowError) → IsTold before now (take (TEXT_MAX + 1) rest) answer → IsTold before now rest answer
+front_told before now rest answer is = by (nat_lt TEXT_MAX (length rest)) refl
+  where
+    by : (b : Bool) → nat_lt TEXT_MAX (length rest) ≡ b → IsTold before now rest answer
+    by true long = subst (λ (b : Bool). MatchBool b (Unit {0}) ((top : Data) → object_in rest ≡ Some top → IsToldIn before now top answer)) (sym long) tt
+    by false small =
+        let most : length rest ≤ TEXT_MAX = ltb-false TEXT_MAX (length rest) small in
+        subst (λ (b : List ℕ). IsTold before now b answer) (take_all (TEXT_MAX + 1) rest (omega (arith, most))) is
+
+pub is_refused : (before now : Told) (tells : Bool) (rest bytes : List ℕ) (rule : Rule) (place : List ℕ) → (IsTrue tells → bytes ≡ take (TEXT_MAX + 1) rest)
+    → IsAnswer (HasRisen before.count now.count) bytes (Err (error.Rule rule place)) → IsTold before now bytes (Err (error.Rule rule place)) → IsRefused before now tells rest rule place
+is_refused before now true rest bytes rule place front answer told = record {
   bytes = rest;
-  whole = λ told. refl;
-  rule = rule;
-  place = place;
-  answer = front_answer R rest (Err (error.Rule rule place)) (subst (λ (b : List ℕ). IsAnswer R b (Err (error.Rule rule place))) (front refl) answer);
+  whole = λ yes. refl;
+  answer = front_answer (HasRisen before.count now.count) rest (Err (error.Rule rule place)) (subst (λ (b : List ℕ). IsAnswer (HasRisen before.count now.count) b (Err (error.Rule rule place))) (front refl) answer);
+  told = front_told before now rest (Err (error.Rule rule place)) (subst (λ (b : List ℕ). IsTold before now b (Err (error.Rule rule place))) (front refl) told);
 }
-is_refused R false rest bytes rule place front answer = record { bytes = bytes; whole = λ told. absurd (cc); rule = rule; place = place; answer = answer }
+is_refused before now false rest bytes rule place front answer told = record { bytes = bytes; whole = λ yes. absurd (cc); answer = answer; told = told }
+
+-- .. also where the rule and the place are given otherwise
+pub is_refused_so : (before now : Told) (tells : Bool) (rest : List ℕ) (rule other : Rule) (place elsewhere : List ℕ) → rule ≡ other → place ≡ elsewhere → IsRefused before now tells rest rule place → IsRefused before now tells rest other elsewhere
+is_refused_so before now tells rest rule other place elsewhere rule_is place_is refused =
+    subst (λ (r : Rule). IsRefused before now tells rest r elsewhere) rule_is (subst (λ (p : List ℕ). IsRefused before now tells rest rule p) place_is refused)

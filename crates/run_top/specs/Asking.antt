@@ -8,13 +8,13 @@ use Rattle.store_core.specs.Kept.{kept_in}
 use Rattle.store_core.specs.Seen.{no_flow}
 use Rattle.store_core.specs.State.{stands_for}
 use Rattle.flow_report.specs.Texts.{damage_text, text_of}
-use Rattle.flow_report.specs.Writing.{IsFront}
 use Rattle.flow_report.specs.declared.line.Line.TheVariants as line
 use Rattle.flow_query.specs.Answers.{IsAnswer, IsSoundAnswer}
 use Rattle.flow_query.specs.declared.asking.Query.{Query}
 use Rattle.flow_query.specs.declared.asking.Query.TheVariants as query
 use Rattle.flow_query.specs.declared.error.QueryError.{QueryError}
 use Rattle.flow_query.specs.declared.error.QueryError.TheVariants.{Absent, Disk, Sink, Damaged, Memory}
+use Rattle.run_top.specs.Printing.{IsLine}
 use Rattle.run_top.specs.declared.status.TheConstants.{DONE, DAMAGED, DISK_FAULT, SINK_FAULT, OUT_OF_MEMORY, ABSENT}
 
 abbrev pub status_of_refusal : QueryError → ℕ
@@ -46,15 +46,6 @@ abbrev pub line_behind : Query → Result (Unit {0}) QueryError → List ℕ
 line_behind query (Ok _) = []
 line_behind query (Err error) = refusal_line query error
 
--- behind what stood there stands the line, or what the sink took of it
-abbrev pub HasLine : (line before after : List ℕ) → Type 0
-HasLine line before after = (part : List ℕ) × IsFront part line × (after ≡ before ++ part)
-
--- all of it, unless the fault count rose, or stands at its type's end
-abbrev pub HasWholeLine : {S : Type 0} → (faults : S → ℕ) → (written : S → List ℕ) → (line : List ℕ) → (old new : S) → Type 0
-HasWholeLine faults written line old new =
-    faults new < 2 ^ 64 - 1 → faults new ≡ faults old → written new ≡ written old ++ line
-
 -- Between the two moments of the sink stands a third: up to it the answer was printed, and from it on its line.
 pub record HasAnswered {S : Type 0} (query : Query) (status : ℕ) (disk_tells sink_tells : Bool) (files : Files)
     (written : S → List ℕ) (faults : S → ℕ) (old new : S) : Type 0 where
@@ -65,8 +56,6 @@ pub record HasAnswered {S : Type 0} (query : Query) (status : ℕ) (disk_tells s
       → (state : State) → stands_for no_flow 0 files ≡ Ok state
       → IsAnswer query kept.connections state (written old) (written between) result
   pub sound : IsTrue disk_tells → IsSoundAnswer files old between result
-  pub line : IsTrue sink_tells → HasLine (line_behind query result) (written between) (written new)
-  -- it is there as a whole, unless the sink failed
-  pub whole : IsTrue sink_tells → HasWholeLine faults written (line_behind query result) between new
+  pub line : IsTrue sink_tells → IsLine faults written (line_behind query result) between new
   pub failed : CountsFaults (faults old) (faults between) (IsErrOf result Sink)
   pub later : faults between ≤ faults new

@@ -1,8 +1,7 @@
 -- What opening a flow's store leaves, and why it may not be opened.
-use Rattle.std.specs.Prelude.{◌≡◌, ◌⊎◌, ℕ, Bool, List, IsTrue, Result, Ok, Err, IsErrOf}
+use Rattle.std.specs.Prelude.{◌≡◌, ◌⊎◌, ⊤, ℕ, Bool, List, IsTrue, Result, Ok, Err, IsErrOf}
 use Rattle.disk_trait.specs.Files.{Files}
 use Rattle.disk_trait.specs.Images.{Since}
-use Rattle.disk_trait.specs.declared.damage.Damage.{Damage}
 use Rattle.flowfile_record.specs.Stored.{Kept}
 use Rattle.machine_model.specs.declared.flow.Flow.{Flow}
 use Rattle.machine_model.specs.State.{State}
@@ -12,9 +11,8 @@ use Rattle.store_core.specs.Kept.{kept_in}
 use Rattle.store_core.specs.Opened.{IsOfOther, SameMeaning}
 use Rattle.store_core.specs.State.{stands_for}
 use Rattle.engine_core.specs.Committing.{identity_of}
-use Rattle.run_top.specs.declared.status.RunError.{RunError}
-use Rattle.run_top.specs.declared.status.RunError.TheVariants.{Disk, Memory}
-use Rattle.run_top.specs.declared.status.TheConstants.{FLOW_REFUSED, DAMAGED}
+use Rattle.run_top.specs.declared.answer.Answer.{Answer}
+use Rattle.run_top.specs.declared.answer.Answer.TheVariants.{OtherFlow, Damaged, Disk, Memory}
 
 -- the files stand for this state, and it is one of the flow
 pub record IsOfFlow (flow : Flow) (lot : ℕ) (files : Files) (state : State) : Type 0 where
@@ -23,32 +21,40 @@ pub record IsOfFlow (flow : Flow) (lot : ℕ) (files : Files) (state : State) : 
   pub keeps : kept_in (identity_of flow) lot files ≡ Ok kept
   pub is : kept.flow ≡ flow.digest
 
--- the statuses of files that stand for no state, and of those of another flow's store
-abbrev pub IsShutStatus : store.Flow → (lot : ℕ) → Files → (status : ℕ) → Type 0
-IsShutStatus flow lot files status =
-    ((status ≡ DAMAGED) × ((damage : Damage) × (stands_for flow lot files ≡ Err damage)))
-    ⊎ ((status ≡ FLOW_REFUSED) × ((digest : List ℕ) × IsOfOther flow lot digest files))
+-- an answer that the opening of a store gives
+abbrev pub IsOfStore : Answer → Type 0
+IsOfStore OtherFlow = ⊤
+IsOfStore (Damaged damage) = ⊤
+IsOfStore Disk = ⊤
+IsOfStore Memory = ⊤
+IsOfStore _ = ⊥
+
+-- it tells what files have that stand for no state, or that they are another flow's
+abbrev pub IsShutAnswer : store.Flow → (lot : ℕ) → Files → Answer → Type 0
+IsShutAnswer flow lot files (Damaged damage) = stands_for flow lot files ≡ Err damage
+IsShutAnswer flow lot files OtherFlow = (digest : List ℕ) × IsOfOther flow lot digest files
+IsShutAnswer flow lot files _ = ⊥
 
 -- Damage or another flow was told: on a disk that tells, the files are so. On any disk they are as before, and of the
 -- calls that change something there was one sync.
-pub record IsToldBy {D : Type 0} (flow : store.Flow) (status : ℕ) (tells : Bool) (held : D → Files) (moment : D → ℕ)
+pub record IsToldBy {D : Type 0} (flow : store.Flow) (answer : Answer) (tells : Bool) (held : D → Files) (moment : D → ℕ)
     (lot : ℕ) (old new : D) : Type 0 where
-  pub found : IsTrue tells → IsShutStatus flow lot (held old) status
+  pub found : IsTrue tells → IsShutAnswer flow lot (held old) answer
   pub unwritten : IsUnwritten held moment old new
 
 -- Its first sync failed, which is told, or memory was wanting before it: whatever is left is one of the images of
 -- before.
 pub record IsUnopened {D A : Type 0} (moment : D → ℕ) (images : D → ℕ → Files → Type 0) (old new : D)
-    (result : Result A RunError) : Type 0 where
+    (result : Result A Answer) : Type 0 where
   pub told : IsErrOf result Disk ⊎ (IsErrOf result Memory × (new ≡ old))
   pub left : Since moment images old new (images old (moment old))
 
 abbrev pub Opens : {D A : Type 0} → store.Flow → (D → ℕ) → (D → ℕ → Files → Type 0) → (lot : ℕ) → Files
-    → (old new : D) → Result A RunError → Type 0
+    → (old new : D) → Result A Answer → Type 0
 Opens flow moment images lot files old new result =
     SinceSync moment images old new (SameMeaning flow lot files) ⊎ IsUnopened moment images old new result
 
 abbrev pub IsLeftUnwritten : {D A : Type 0} → (D → Files) → (D → ℕ) → (D → ℕ → Files → Type 0) → (old new : D)
-    → Result A RunError → Type 0
+    → Result A Answer → Type 0
 IsLeftUnwritten held moment images old new result =
     IsUnwritten held moment old new ⊎ IsUnopened moment images old new result

@@ -1,51 +1,85 @@
 -- What a run promises.
-use Rattle.std.specs.Prelude.{◌≡◌, ◌⊎◌, ℕ, ◌+◌, ◌≤◌, Bool, true, List, Option, Some}
+use Rattle.std.specs.Prelude.{◌≡◌, ◌⊎◌, ⊤, ℕ, ◌+◌, ◌≤◌, Bool, List, IfSome, IsTrue, Option, Some, Result, Ok, Err}
 use Rattle.disk_trait.specs.Faults.{CountsFaults}
 use Rattle.disk_trait.specs.Files.{Files}
 use Rattle.disk_trait.specs.Images.{Since}
+use Rattle.disk_trait.specs.declared.damage.Damage.{Damage}
 use Rattle.disk_trait.specs.declared.file_name.FileName.{FileName}
 use Rattle.flowfile_record.specs.NamedFile.{NamedFile}
 use Rattle.flowfile_wal.specs.Current.{current_number}
 use Rattle.kept_state.specs.declared.limit.Limit.{Limit}
 use Rattle.machine_model.specs.declared.flow.Flow.{Flow}
 use Rattle.machine_model.specs.declared.journal.Entry.{Entry}
-use Rattle.machine_model.specs.State.{Machine}
+use Rattle.machine_model.specs.State.{Machine, State}
 use Rattle.store_core.specs.Calls.{SinceSync, IsUnwritten}
 use Rattle.store_core.specs.Flow as store
-use Rattle.store_core.specs.Opened.{SameMeaning}
+use Rattle.store_core.specs.Opened.{IsShut, SameMeaning}
 use Rattle.store_core.specs.Touched.{IsOfLog, OnlyShortens, log_opened}
 use Rattle.engine_core.specs.Committing.{identity_of}
-use Rattle.flow_run.specs.Ending.{IsLimitMet}
-use Rattle.flow_run.specs.Run.{HasRun}
+use Rattle.flow_definition.specs.Patterns.{Told}
+use Rattle.flow_definition.specs.declared.rule.Rule.{Rule}
+use Rattle.flow_words.specs.declared.command.RunOptions.{RunOptions}
+use Rattle.flow_run.specs.Ending.{IsFault, IsLimitMet}
+use Rattle.flow_run.specs.Run.{HasRun, machine_at}
 use Rattle.flow_run.specs.Work.{IsReadDamaged, IsShortOn, MayWriteFrom}
 use Rattle.flow_run.specs.declared.ended.Ended.{Ended}
 use Rattle.flow_run.specs.declared.ended.Ended.TheVariants as ending
-use Rattle.run_top.specs.Opening.{IsShutStatus, IsToldBy}
-use Rattle.run_top.specs.Status.{status_of_end}
-use Rattle.run_top.specs.Text.{IsRead, IsRefused}
-use Rattle.run_top.specs.declared.status.TheConstants.{DONE, FLOW_REFUSED, DAMAGED, DISK_FAULT, INBOX_FAULT, OUTBOX_FAULT, SOURCE_FAULT, BLOCKED, LIMIT, OUT_OF_MEMORY}
+use Rattle.flow_run.specs.declared.ended.Fault.{Fault}
+use Rattle.flow_engine.specs.Closing.{Shows}
+use Rattle.flow_engine.specs.declared.run.Ran.{Ran}
+use Rattle.run_top.specs.Opening.{IsOfFlow, IsShutAnswer, IsToldBy}
+use Rattle.run_top.specs.Printing.{IsLine, IsPrinted, IsRefusal, end_text, refusal_line}
+use Rattle.run_top.specs.Status.{answer_of_end, answer_of_fault}
+use Rattle.run_top.specs.Text.{IsOfText, IsRefused}
+use Rattle.run_top.specs.declared.answer.Answer.{Answer}
+use Rattle.run_top.specs.declared.answer.Answer.TheVariants.{Done, Usage, Refused, OtherFlow, Damaged, Disk, Inbox, Outbox, Source, Sink, Blocked, Memory, Absent}
+use Rattle.run_top.specs.declared.answer.Answer.TheVariants.{Limit as Limited}
 
 -- ---- a flow has run
 
--- The flow has run from one time of the clock to another, with this journal, and how it ended tells the status. Where
--- the journal's limit ended it, that is `most`.
-pub record EndsWith {D : Type 0} (flow : Flow) (status start time : ℕ) (tells : Bool) (held : D → Files)
+-- The flow has run from one time of the clock to another, with this journal, and ended so. Where the journal's limit
+-- ended it, that is `most`.
+pub record EndsWith {D : Type 0} (flow : Flow) (ended : Ended) (start time : ℕ) (tells : Bool) (held : D → Files)
     (moment : D → ℕ) (images : D → ℕ → Files → Type 0) (lot most : ℕ) (opened : Machine) (old new : D) (left : List NamedFile)
     (standing : List ℕ → Option (List ℕ)) : Type 0 where
-  pub ended : Ended
-  pub told : status ≡ status_of_end ended
   pub journal : List Entry
   pub ran : HasRun flow ended start time tells held moment images lot opened old new left standing journal
   pub limited : (limit : Limit) → ended ≡ ending.Limit limit
       → IsLimitMet flow tells held moment images lot (moment old + 1) most limit new
 
--- .. and it is a flow of the text
-pub record HasRunText {D : Type 0} (text : List ℕ) (status start time : ℕ) (tells : Bool) (held : D → Files)
+-- a run has ended so, and where its store was closed what it left is what the machine reached
+pub record HasEnded {D : Type 0} (flow : Flow) (ran : Ran) (start time : ℕ) (tells : Bool) (held : D → Files)
     (moment : D → ℕ) (images : D → ℕ → Files → Type 0) (lot most : ℕ) (opened : Machine) (old new : D) (left : List NamedFile)
     (standing : List ℕ → Option (List ℕ)) : Type 0 where
-  pub flow : Flow
-  pub read : IsRead true text flow
-  pub ends : EndsWith flow status start time tells held moment images lot most opened old new left standing
+  pub ends : EndsWith flow ran.ended start time tells held moment images lot most opened old new left standing
+  pub shows : IfSome ran.closed (Shows flow ends.ran.reached)
+
+-- behind its first sync the opening of the store failed, which ended a run that has done nothing
+pub record HasFailed {D : Type 0} (flow : Flow) (answer : Answer) (start time : ℕ) (tells : Bool) (held : D → Files)
+    (moment : D → ℕ) (images : D → ℕ → Files → Type 0) (lot most : ℕ) (opened : Machine) (old new : D) (left : List NamedFile)
+    (standing : List ℕ → Option (List ℕ)) : Type 0 where
+  pub cause : Fault
+  pub told : answer ≡ answer_of_fault cause
+  pub ends : EndsWith flow (ending.Fault cause) start time tells held moment images lot most opened old new left standing
+
+-- the end is told, or where the store was closed that its text couldn't be printed
+abbrev pub IsToldAs : Ended → Answer → Type 0
+IsToldAs ended answer = (answer ≡ answer_of_end ended) ⊎ ((answer ≡ Sink) × (IsFault ended → ⊥))
+
+-- what is told of a run, or in place of one
+abbrev pub IsShownAs : Result Ran Answer → Answer → Type 0
+IsShownAs (Ok ran) answer = IsToldAs ran.ended answer
+IsShownAs (Err instead) answer = answer ≡ instead
+
+-- It has ended and told so. Unless something failed, the text of the end was printed.
+pub record HasShownEnd {D : Type 0} (flow : Flow) (answer : Answer) (start time : ℕ) (tells : Bool) (held : D → Files)
+    (moment : D → ℕ) (images : D → ℕ → Files → Type 0) (lot most : ℕ) (opened : Machine) (old new : D) (left : List NamedFile)
+    (standing : List ℕ → Option (List ℕ)) (sink_tells : Bool) (before after : List ℕ) : Type 0 where
+  pub ended : Ended
+  pub told : IsToldAs ended answer
+  pub ends : EndsWith flow ended start time tells held moment images lot most opened old new left standing
+  pub printed : (IsFault ended → ⊥) → IsTrue sink_tells
+      → IsPrinted answer (end_text flow ended ends.ran.reached) before after
 
 -- ---- where nothing was done
 
@@ -57,43 +91,38 @@ pub record IsUntouched {D I O : Type 0} (disk_old disk_new : D) (inbox_old inbox
   pub outbox : outbox_new ≡ outbox_old
 
 -- There was no flow to run: the source of its text failed, the text breaks a rule, or memory was wanting.
-pub record IsNotRead {D I O : Type 0} (status : ℕ) (Risen : Type 0) (tells : Bool) (text : List ℕ)
-    (disk_old disk_new : D) (inbox_old inbox_new : I) (outbox_old outbox_new : O) : Type 0 where
-  pub told : (status ≡ SOURCE_FAULT) ⊎ (status ≡ OUT_OF_MEMORY)
-      ⊎ ((status ≡ FLOW_REFUSED) × IsRefused Risen tells text)
+pub record IsNotRead {D I O S : Type 0} (answer : Answer) (before now : Told) (tells : Bool) (text : List ℕ)
+    (sink_tells : Bool) (written : S → List ℕ) (sink_faults : S → ℕ)
+    (disk_old disk_new : D) (inbox_old inbox_new : I) (outbox_old outbox_new : O) (sink_old sink_new : S) : Type 0 where
+  pub told : IsOfText answer
+  pub refused : (rule : Rule) (place : List ℕ) → answer ≡ Refused rule place
+      → IsRefused before now tells text rule place
   pub untouched : IsUntouched disk_old disk_new inbox_old inbox_new outbox_old outbox_new
+  pub line : IsTrue sink_tells → IsLine sink_faults written (refusal_line answer) sink_old sink_new
 
 -- Nothing was done: the opening's first sync failed, and the disk's fault is told, or memory was wanting before it.
-pub record IsNotOpened {D I O : Type 0} (status : ℕ) (moment : D → ℕ) (images : D → ℕ → Files → Type 0) (old new : D)
+pub record IsNotOpened {D I O : Type 0} (answer : Answer) (moment : D → ℕ) (images : D → ℕ → Files → Type 0) (old new : D)
     (inbox_old inbox_new : I) (outbox_old outbox_new : O) : Type 0 where
-  pub told : (status ≡ DISK_FAULT) ⊎ ((status ≡ OUT_OF_MEMORY) × (new ≡ old))
+  pub told : (answer ≡ Disk) ⊎ ((answer ≡ Memory) × (new ≡ old))
   pub since : Since moment images old new (images old (moment old))
   pub inbox : inbox_new ≡ inbox_old
   pub outbox : outbox_new ≡ outbox_old
 
--- the run didn't begin: the opening's first sync failed, or there was no flow to run
-abbrev pub HasNotBegun : {D I O : Type 0} → (status : ℕ) → (D → ℕ) → (D → ℕ → Files → Type 0) → (Risen : Type 0)
-    → (tells : Bool) → (text : List ℕ) → (old new : D) → (inbox_old inbox_new : I) → (outbox_old outbox_new : O)
-    → Type 0
-HasNotBegun status moment images Risen tells text old new inbox_old inbox_new outbox_old outbox_new =
-    IsNotOpened status moment images old new inbox_old inbox_new outbox_old outbox_new
-    ⊎ IsNotRead status Risen tells text old new inbox_old inbox_new outbox_old outbox_new
-
 -- What may not be opened is left so: what the disk holds is as before, of the calls that change something there was the
 -- opening's first sync alone, and from behind it on whatever a stop may leave means the same.
-pub record IsLeftShut {D I O : Type 0} (flow : store.Flow) (status : ℕ) (held : D → Files) (moment : D → ℕ)
+pub record IsLeftShut {D I O : Type 0} (flow : store.Flow) (answer : Answer) (held : D → Files) (moment : D → ℕ)
     (images : D → ℕ → Files → Type 0) (lot : ℕ) (old new : D) (inbox_old inbox_new : I) (outbox_old outbox_new : O)
     : Type 0 where
-  pub told : IsShutStatus flow lot (held old) status ⊎ (status ≡ DISK_FAULT) ⊎ (status ≡ OUT_OF_MEMORY)
+  pub told : IsShutAnswer flow lot (held old) answer ⊎ (answer ≡ Disk) ⊎ (answer ≡ Memory)
   pub since : SinceSync moment images old new (SameMeaning flow lot (held old))
   pub unwritten : IsUnwritten held moment old new
   pub inbox : inbox_new ≡ inbox_old
   pub outbox : outbox_new ≡ outbox_old
 
 -- that was told
-pub record IsToldShut {D I O : Type 0} (flow : store.Flow) (status : ℕ) (tells : Bool) (held : D → Files)
+pub record IsToldShut {D I O : Type 0} (flow : store.Flow) (answer : Answer) (tells : Bool) (held : D → Files)
     (moment : D → ℕ) (lot : ℕ) (old new : D) (inbox_old inbox_new : I) (outbox_old outbox_new : O) : Type 0 where
-  pub told : IsToldBy flow status tells held moment lot old new
+  pub told : IsToldBy flow answer tells held moment lot old new
   pub inbox : inbox_new ≡ inbox_old
   pub outbox : outbox_new ≡ outbox_old
 
@@ -111,16 +140,16 @@ WritesAlone moment images files old new = SinceSync moment images old new (OnlyS
 
 -- where nothing was left to do, or all of it was held back, checkpoints were made: whatever a stop may leave has a
 -- short log
-abbrev pub EndsShort : {D : Type 0} → (status : ℕ) → (D → ℕ) → (D → ℕ → Files → Type 0) → (checkpoint : ℕ) → (new : D)
+abbrev pub EndsShort : {D : Type 0} → Answer → (D → ℕ) → (D → ℕ → Files → Type 0) → (checkpoint : ℕ) → (new : D)
     → Type 0
-EndsShort status moment images checkpoint new =
-    (status ≡ DONE) ⊎ (status ≡ BLOCKED) → IsShortOn moment images checkpoint new
+EndsShort answer moment images checkpoint new =
+    (answer ≡ Done) ⊎ ((place : ℕ) × (answer ≡ Blocked place)) → IsShortOn moment images checkpoint new
 
 -- it has written so
-pub record HasWritten {D : Type 0} (status : ℕ) (moment : D → ℕ) (images : D → ℕ → Files → Type 0) (files : Files)
+pub record HasWritten {D : Type 0} (answer : Answer) (moment : D → ℕ) (images : D → ℕ → Files → Type 0) (files : Files)
     (checkpoint : ℕ) (old new : D) : Type 0 where
   pub alone : WritesAlone moment images files old new
-  pub short : EndsShort status moment images checkpoint new
+  pub short : EndsShort answer moment images checkpoint new
 
 -- a live content was read behind the opening's first sync, and that told damage
 pub record IsToldByRead {D : Type 0} (flow : Flow) (tells : Bool) (held : D → Files) (moment : D → ℕ)
@@ -128,38 +157,68 @@ pub record IsToldByRead {D : Type 0} (flow : Flow) (tells : Bool) (held : D → 
   pub opened : moment old + 1 ≤ moment new
   pub read : IsReadDamaged flow tells held moment images lot new
 
--- a limit was met behind the opening's first sync
+-- this limit was met behind the opening's first sync
 pub record IsLimited {D : Type 0} (flow : Flow) (tells : Bool) (held : D → Files) (moment : D → ℕ)
-    (images : D → ℕ → Files → Type 0) (lot most : ℕ) (old new : D) : Type 0 where
+    (images : D → ℕ → Files → Type 0) (lot most : ℕ) (limit : Limit) (old new : D) : Type 0 where
   pub opened : moment old + 1 ≤ moment new
-  pub limit : Limit
   pub met : IsLimitMet flow tells held moment images lot (moment old + 1) most limit new
 
 -- ---- causes
 
--- the statuses of a flow that was read
-abbrev pub IsOfRun : (status : ℕ) → Type 0
-IsOfRun status =
-    (status ≡ DONE) ⊎ (status ≡ FLOW_REFUSED) ⊎ (status ≡ DAMAGED) ⊎ (status ≡ DISK_FAULT) ⊎ (status ≡ INBOX_FAULT)
-    ⊎ (status ≡ OUTBOX_FAULT) ⊎ (status ≡ BLOCKED) ⊎ (status ≡ LIMIT) ⊎ (status ≡ OUT_OF_MEMORY)
+-- the answers of a flow that was read
+abbrev pub IsOfRun : Answer → Type 0
+IsOfRun Usage = ⊥
+IsOfRun (Refused rule place) = ⊥
+IsOfRun Source = ⊥
+IsOfRun Absent = ⊥
+IsOfRun _ = ⊤
 
--- The status of a flow that was read has its cause: the store that stands is another flow's, its files or a content
--- that was read are damaged, or a limit was met.
-pub record HasCause {D I O : Type 0} (flow : Flow) (status : ℕ) (tells : Bool) (held : D → Files) (moment : D → ℕ)
+-- The answer of a flow that was read has its cause: the store that stands is another flow's, its files or a content that
+-- was read are damaged, or the limit was met.
+pub record HasCause {D I O : Type 0} (flow : Flow) (answer : Answer) (tells : Bool) (held : D → Files) (moment : D → ℕ)
     (images : D → ℕ → Files → Type 0) (lot most : ℕ) (old new : D) (inbox_old inbox_new : I) (outbox_old outbox_new : O)
     : Type 0 where
-  pub one_of : IsOfRun status
-  pub refused : status ≡ FLOW_REFUSED
-      → IsToldShut (identity_of flow) status tells held moment lot old new inbox_old inbox_new outbox_old outbox_new
-  pub damaged : status ≡ DAMAGED
-      → IsToldShut (identity_of flow) status tells held moment lot old new inbox_old inbox_new outbox_old outbox_new
+  pub one_of : IsOfRun answer
+  pub other_flow : answer ≡ OtherFlow
+      → IsToldShut (identity_of flow) answer tells held moment lot old new inbox_old inbox_new outbox_old outbox_new
+  pub damaged : (damage : Damage) → answer ≡ Damaged damage
+      → IsToldShut (identity_of flow) answer tells held moment lot old new inbox_old inbox_new outbox_old outbox_new
       ⊎ IsToldByRead flow tells held moment images lot old new
-  pub limited : status ≡ LIMIT → IsLimited flow tells held moment images lot most old new
+  pub limited : (limit : Limit) → answer ≡ Limited limit → IsLimited flow tells held moment images lot most limit old new
 
--- A device's fault count never falls, and its status is answered only where the count rose, or stands at its type's
--- end.
-pub record CountsEachFault (status : ℕ) (disk_old disk_new inbox_old inbox_new outbox_old outbox_new : ℕ)
+-- A device's fault count never falls, and its fault is told only where the count rose, or stands at its type's end.
+pub record CountsEachFault (answer : Answer) (disk_old disk_new inbox_old inbox_new outbox_old outbox_new : ℕ)
     : Type 0 where
-  pub disk : CountsFaults disk_old disk_new (status ≡ DISK_FAULT)
-  pub inbox : CountsFaults inbox_old inbox_new (status ≡ INBOX_FAULT)
-  pub outbox : CountsFaults outbox_old outbox_new (status ≡ OUTBOX_FAULT)
+  pub disk : CountsFaults disk_old disk_new (answer ≡ Disk)
+  pub inbox : CountsFaults inbox_old inbox_new (answer ≡ Inbox)
+  pub outbox : CountsFaults outbox_old outbox_new (answer ≡ Outbox)
+
+-- ---- a run of a flow that was read
+
+-- What a run of the flow did to disk, inbox, outbox and sink.
+pub record Runs {D I O S : Type 0} (flow : Flow) (answer : Answer) (start time : ℕ) (lot : ℕ) (options : RunOptions)
+    (tells : Bool) (held : D → Files) (moment : D → ℕ) (images : D → ℕ → Files → Type 0) (old new : D)
+    (in_tells : Bool) (left : I → List NamedFile) (inbox_old inbox_new : I)
+    (out_tells : Bool) (standing : O → List ℕ → Option (List ℕ)) (outbox_old outbox_new : O)
+    (sink_tells : Bool) (written : S → List ℕ) (sink_faults : S → ℕ) (sink_old sink_new : S) : Type 0 where
+  -- Where the devices tell and the files stand for a state of the flow, there is a journal of which all that HasRun says
+  -- is true, whatever the answer, and its end was printed; or the store wasn't opened.
+  pub headline : IsTrue tells → IsTrue in_tells → IsTrue out_tells → (state : State) → IsOfFlow flow lot (held old) state
+      → HasShownEnd flow answer start time tells held moment images lot options.max_commits
+      (machine_at state (left inbox_old) (standing outbox_old)) old new (left inbox_new) (standing outbox_new) sink_tells
+      (written sink_old) (written sink_new)
+      ⊎ IsNotOpened answer moment images old new inbox_old inbox_new outbox_old outbox_new
+  -- Where the files stand for no state, or for one of another flow, the disk is synced once and nothing else is done,
+  -- whatever the answer; or the store wasn't opened.
+  pub shut : IsTrue tells → IsShut (identity_of flow) lot (held old)
+      → IsLeftShut (identity_of flow) answer held moment images lot old new inbox_old inbox_new outbox_old outbox_new
+      ⊎ IsNotOpened answer moment images old new inbox_old inbox_new outbox_old outbox_new
+  -- Whatever inbox and outbox tell: only claims, events, the log, later logs with their snapshots, and a new store's
+  -- snapshot are written, and where nothing is left to do or all of it is held back the log is short; or the store wasn't
+  -- opened.
+  pub alone : HasWritten answer moment images (held old) options.checkpoint old new
+      ⊎ IsNotOpened answer moment images old new inbox_old inbox_new outbox_old outbox_new
+  pub why : HasCause flow answer tells held moment images lot options.max_commits
+      old new inbox_old inbox_new outbox_old outbox_new
+  -- .. and behind any other answer than the end of a run whose store was closed stands its line
+  pub line : IsRefusal answer → IsTrue sink_tells → IsLine sink_faults written (refusal_line answer) sink_old sink_new

@@ -1,43 +1,54 @@
--- The statuses of how a run ends, and of why it didn't begin.
+-- What a command comes to, and its status.
 use Rattle.std.specs.Prelude.{ℕ, Result, Ok, Err}
+use Rattle.flow_engine.specs.declared.run.Ran.{Ran}
 use Rattle.flow_run.specs.declared.ended.Ended.{Ended}
 use Rattle.flow_run.specs.declared.ended.Ended.TheVariants as ending
 use Rattle.flow_run.specs.declared.ended.Fault.{Fault}
 use Rattle.flow_run.specs.declared.ended.Fault.TheVariants as fault
 use Rattle.store_core.specs.declared.error.StoreError.{StoreError}
 use Rattle.store_core.specs.declared.error.StoreError.TheVariants as store
-use Rattle.run_top.specs.declared.status.RunError.{RunError}
-use Rattle.run_top.specs.declared.status.RunError.TheVariants.{Source, Refused, OtherFlow, Damaged, Disk, Memory}
-use Rattle.run_top.specs.declared.status.TheConstants.{DONE, FLOW_REFUSED, DAMAGED, DISK_FAULT, INBOX_FAULT, OUTBOX_FAULT, SOURCE_FAULT, BLOCKED, LIMIT, OUT_OF_MEMORY}
+use Rattle.run_top.specs.declared.answer.Answer.{Answer}
+use Rattle.run_top.specs.declared.answer.Answer.TheVariants.{Done, Usage, Refused, OtherFlow, Damaged, Disk, Inbox, Outbox, Source, Sink, Blocked, Limit, Memory, Absent}
+use Rattle.run_top.specs.declared.status.TheConstants.{DONE, USAGE, FLOW_REFUSED, DAMAGED, DISK_FAULT, INBOX_FAULT, OUTBOX_FAULT, SOURCE_FAULT, SINK_FAULT, BLOCKED, LIMIT, OUT_OF_MEMORY, ABSENT}
 
-abbrev pub status_of : RunError → ℕ
-status_of Source = SOURCE_FAULT
-status_of (Refused rule) = FLOW_REFUSED
+abbrev pub status_of : Answer → ℕ
+status_of Done = DONE
+status_of Usage = USAGE
+status_of (Refused rule place) = FLOW_REFUSED
 status_of OtherFlow = FLOW_REFUSED
 status_of (Damaged damage) = DAMAGED
 status_of Disk = DISK_FAULT
+status_of Inbox = INBOX_FAULT
+status_of Outbox = OUTBOX_FAULT
+status_of Source = SOURCE_FAULT
+status_of Sink = SINK_FAULT
+status_of (Blocked connection) = BLOCKED
+status_of (Limit limit) = LIMIT
 status_of Memory = OUT_OF_MEMORY
+status_of Absent = ABSENT
 
-abbrev pub status_of_fault : Fault → ℕ
-status_of_fault fault.Disk = DISK_FAULT
-status_of_fault fault.Inbox = INBOX_FAULT
-status_of_fault fault.Outbox = OUTBOX_FAULT
-status_of_fault (fault.Damaged damage) = DAMAGED
-status_of_fault fault.Memory = OUT_OF_MEMORY
+-- ---- how a run ends
 
-abbrev pub status_of_end : Ended → ℕ
-status_of_end ending.Quiet = DONE
-status_of_end (ending.Blocked place) = BLOCKED
-status_of_end (ending.Limit limit) = LIMIT
-status_of_end (ending.Fault cause) = status_of_fault cause
+abbrev pub answer_of_fault : Fault → Answer
+answer_of_fault fault.Disk = Disk
+answer_of_fault fault.Inbox = Inbox
+answer_of_fault fault.Outbox = Outbox
+answer_of_fault (fault.Damaged damage) = Damaged damage
+answer_of_fault fault.Memory = Memory
 
--- the status of a run that ended so, or that didn't begin
-abbrev pub status_at : Result Ended RunError → ℕ
-status_at (Ok ended) = status_of_end ended
-status_at (Err error) = status_of error
+abbrev pub answer_of_end : Ended → Answer
+answer_of_end ending.Quiet = Done
+answer_of_end (ending.Blocked connection) = Blocked connection
+answer_of_end (ending.Limit limit) = Limit limit
+answer_of_end (ending.Fault cause) = answer_of_fault cause
+
+-- what a run comes to, or what came instead of it
+abbrev pub answer_at : Result Ran Answer → Answer
+answer_at (Ok ran) = answer_of_end ran.ended
+answer_at (Err answer) = answer
 
 -- what a refusal of the store to open means. No opening is refused by a limit
-abbrev pub error_of : StoreError → RunError
+abbrev pub error_of : StoreError → Answer
 error_of store.Disk = Disk
 error_of store.MustReopen = Disk
 error_of store.Memory = Memory

@@ -1,5 +1,5 @@
 -- What the words ask for.
-use Rattle.std.specs.Prelude.{◌≡◌, ℕ, List, Option, Some, None, Result, Ok, Err, String}
+use Rattle.std.specs.Prelude.{◌≡◌, List, Option, Some, None, Result, Ok, Err, String}
 use Rattle.std.specs.Option.{option_and_then}
 use Rattle.std.specs.declared.alloc.Global.{Global}
 use Rattle.flow_words.specs.Arguments.{texts}
@@ -10,7 +10,8 @@ use Rattle.flow_words.specs.declared.command.RunOptions.{RunOptions}
 use Rattle.flow_query.specs.declared.asking.Query.TheVariants as query
 use Rattle.run_top.specs.declared.order.Order.{Order}
 use Rattle.run_top.specs.declared.order.Order.TheVariants as order
-use Rattle.run_top.specs.declared.status.TheConstants.{USAGE}
+use Rattle.run_top.specs.declared.answer.Answer.{Answer}
+use Rattle.run_top.specs.declared.answer.Answer.TheVariants.{Usage}
 
 -- the words ask to run the flow with these options
 abbrev pub AskToRun : List (String Global) → RunOptions → Type 0
@@ -30,10 +31,10 @@ order_in Events = Some (order.Ask query.Events)
 order_in Check = Some (order.Ask query.Check)
 order_in (Trial count threads) = None
 
--- the status of words that ask for nothing stands in place of an order
-abbrev pub order_or_usage : Option Order → Result Order ℕ
+-- the answer to words that ask for nothing stands in place of an order
+abbrev pub order_or_usage : Option Order → Result Order Answer
 order_or_usage (Some order) = Ok order
-order_or_usage None = Err USAGE
+order_or_usage None = Err Usage
 
 abbrev pub AskFor : List (String Global) → Order → Type 0
 AskFor words order = option_and_then order_in (words_of (texts words)) ≡ Some order

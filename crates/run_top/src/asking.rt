@@ -2,13 +2,14 @@
 ghost use Rattle.std.specs.Prelude.{◌≡◌, ◌≤◌, IsTrue};
 ghost use Rattle.disk_trait.specs.Faults.{CountsFaults};
 ghost use Rattle.disk_trait.specs.Images.{Stays};
-ghost use Rattle.flow_report.specs.Texts.{text_of};
-ghost use Rattle.run_top.specs.Asking.{HasAnswered, HasLine, HasWholeLine, absent_line, refusal_line, status_of_refusal};
+ghost use Rattle.run_top.specs.Asking.{HasAnswered, absent_line, refusal_line, status_of_refusal};
+ghost use Rattle.run_top.specs.Printing.{IsLine};
 
+use crate::printing::tell_line;
 use crate::status::{ABSENT, DAMAGED, DISK_FAULT, DONE, OUT_OF_MEMORY, SINK_FAULT};
 use disk_trait::Disk;
 use flow_query::{Query, QueryError, answer};
-use flow_report::{Line, write_line};
+use flow_report::Line;
 use std::alloc::Global;
 use world_io::Sink;
 
@@ -32,8 +33,7 @@ pub fn ask<D: Disk, S: Sink>(alloc: Global, query: &Query, disk: &mut D, sink: &
 
 // Prints the line of a refusal, as far as the sink takes it.
 fn tell<S: Sink>(sink: &mut S, query: &Query, error: &QueryError)
-    ensures line { IsTrue S.tells → HasLine (refusal_line query.now error.now) (S.written sink.old) (S.written sink.new) }
-    ensures whole { IsTrue S.tells → HasWholeLine S.faults S.written (refusal_line query.now error.now) sink.old sink.new }
+    ensures line { IsTrue S.tells → IsLine S.faults S.written (refusal_line query.now error.now) sink.old sink.new }
     ensures faults { S.faults sink.old ≤ S.faults sink.new }
 {
     match error {
@@ -46,23 +46,13 @@ fn tell<S: Sink>(sink: &mut S, query: &Query, error: &QueryError)
 }
 
 fn tell_absent<S: Sink>(sink: &mut S, query: &Query)
-    ensures line { IsTrue S.tells → HasLine (absent_line query.now) (S.written sink.old) (S.written sink.new) }
-    ensures whole { IsTrue S.tells → HasWholeLine S.faults S.written (absent_line query.now) sink.old sink.new }
+    ensures line { IsTrue S.tells → IsLine S.faults S.written (absent_line query.now) sink.old sink.new }
     ensures faults { S.faults sink.old ≤ S.faults sink.new }
 {
     match query {
         Query::Lineage(id) | Query::Content(id) => tell_line(sink, &Line::Absent(*id)),
         Query::Queues | Query::Events | Query::Check => {}
     }
-}
-
-// What the sink doesn't take of a line is lost.
-fn tell_line<S: Sink>(sink: &mut S, line: &Line)
-    ensures line { IsTrue S.tells → HasLine (text_of line.now) (S.written sink.old) (S.written sink.new) }
-    ensures whole { IsTrue S.tells → HasWholeLine S.faults S.written (text_of line.now) sink.old sink.new }
-    ensures faults { S.faults sink.old ≤ S.faults sink.new }
-{
-    let _ = write_line(sink, line);
 }
 
 fn status_of_refusal(error: &QueryError) -> u8

@@ -1,5 +1,5 @@
 //! The command that the words say.
-ghost use Rattle.std.specs.Prelude.{◌≡◌, ◌⊎◌, ◌-◌, ◌^◌, ◌<◌, ◌≤◌, IfErr, IfOk, IsTrue};
+ghost use Rattle.std.specs.Prelude.{◌≡◌, ◌⊎◌, ◌-◌, ◌^◌, ◌<◌, ◌≤◌, Err, IfErr, IfOk, IsTrue, MatchOption};
 ghost use Rattle.disk_trait.specs.Faults.{CountsFaults};
 ghost use Rattle.flowfile_record.specs.Encoding.{IsDigest};
 ghost use Rattle.machine_model.specs.Sound.{IsSound};
@@ -7,24 +7,27 @@ ghost use Rattle.machine_model.specs.State.{State};
 ghost use Rattle.machine_model.specs.declared.flow.Flow.{Flow as TheFlow};
 ghost use Rattle.store_core.specs.Opened.{IsShut};
 ghost use Rattle.engine_core.specs.Committing.{identity_of};
-ghost use Rattle.flow_definition.specs.Patterns.{HasRisen};
+ghost use Rattle.flow_definition.specs.Patterns.{told};
+ghost use Rattle.flow_run.specs.Ending.{IsFault};
 ghost use Rattle.flow_run.specs.Run.{machine_at};
 ghost use Rattle.flow_engine.specs.Engine.{AreBuilt};
 ghost use Rattle.run_top.specs.Opening.{IsOfFlow};
-ghost use Rattle.run_top.specs.Run.{CountsEachFault, EndsWith, HasCause, HasNotBegun, HasRunText, HasWritten, IsLeftShut, IsNotOpened, IsNotRead, IsUntouched};
-ghost use Rattle.run_top.specs.Status.{status_at};
-ghost use Rattle.run_top.specs.Text.{IsBroken, IsFlowIn, IsRead};
+ghost use Rattle.run_top.specs.Printing.{IsLine, refusal_line};
+ghost use Rattle.run_top.specs.Run.{CountsEachFault, HasCause, HasEnded, HasFailed, HasWritten, IsLeftShut, IsNotOpened, IsNotRead, IsUntouched, Runs};
+ghost use Rattle.run_top.specs.Status.{answer_at, answer_of_end, status_of};
+ghost use Rattle.run_top.specs.Text.{IsBroken, IsRead};
+ghost use Rattle.run_top.specs.declared.answer.Answer.{Answer as TheAnswer};
 ghost use Rattle.flow_words.specs.declared.command.RunOptions.{RunOptions as TheOptions};
 ghost use Rattle.run_top.specs.Words.{AskForNoRun, AskToRun};
 
 use crate::opening::open;
-use crate::status::status_of_run;
+use crate::printing::{refuse, show};
 use crate::text::read;
-use crate::{OUT_OF_MEMORY, RunError, SOURCE_FAULT, USAGE};
+use crate::Answer;
 use disk_trait::Disk;
 use flow_definition::Patterns;
-use flow_engine::run_flow;
-use flow_run::{Ended, failed_openings_end_a_run, run_begins};
+use flow_engine::{Ran, run_flow};
+use flow_run::{failed_openings_end_a_run, run_begins};
 use flow_words::{COMMITS_MAX, Command, RunOptions, WordsError, read_words};
 use machine_model::Flow;
 use prov_store::events_up_to_the_last_are_in_a_row;
@@ -38,8 +41,11 @@ use world_io::{Clock, Gate, Inbox, Outbox, Sink, Source};
 /// the disk, or makes one, whose id is then the low 60 bits of the lot. Then the flow runs over it, session after
 /// session, until nothing is left to do, all of it is held back by full connections, or the journal has as many entries
 /// as `--max-commits` says. A log of as many entries as `--checkpoint` says is followed by a new one. The clock tells
-/// the moments of sessions. Whatever `--threads` says, one session runs at a time. A run prints nothing: the sink is
-/// left alone, and no gate is asked.
+/// the moments of sessions. Whatever `--threads` says, one session runs at a time, and no gate is asked.
+///
+/// At its end it prints a summary: how many files each connection has and how many bytes they have together, how many
+/// names of the inbox are left, and how many events of each kind the store has; and behind it what held the run back or
+/// ended it. Any other answer is printed as one line, as far as the sink takes it.
 pub fn run<R, D: Disk, I: Inbox, O: Outbox, F: Source, P: Patterns, S: Sink, C: Clock, G: Gate>(
     _rt: &R,
     alloc: Global,
@@ -54,79 +60,97 @@ pub fn run<R, D: Disk, I: Inbox, O: Outbox, F: Source, P: Patterns, S: Sink, C: 
     clock: &mut C,
     _gate: &G,
 ) -> u8
-    // The headline. Where the devices tell and the files stand for a state of the flow of the text, there is a journal
-    // of which all that HasRun says is true, whatever the status; or the run didn't begin.
-    ensures headline { IsTrue D.tells → IsTrue I.tells → IsTrue O.tells → IsTrue F.tells
-        → (options : TheOptions) → AskToRun words.now options
-        → (any : TheFlow) → IsFlowIn (F.rest flow.old) any → (state : State) → IsOfFlow any lot (D.held disk.old) state
-        → HasRunText (F.rest flow.old) result (C.time clock.old) (C.time clock.new) D.tells D.held D.moment D.images lot
-        options.max_commits (machine_at state (I.left inbox.old) (O.standing outbox.old))
-        disk.old disk.new (I.left inbox.new) (O.standing outbox.new)
-        ⊎ HasNotBegun result D.moment D.images (HasRisen (P.faults patterns.old) (P.faults patterns.new)) F.tells
-        (F.rest flow.old) disk.old disk.new inbox.old inbox.new outbox.old outbox.new }
+    // The status is that of an answer. A flow of the text was read, and this is what its run did; or none was, and
+    // nothing was done.
+    ensures asked { (options : TheOptions) → AskToRun words.now options
+        → (answer : TheAnswer) × (result ≡ status_of answer) × (((one : TheFlow) × IsRead F.tells (F.rest flow.old) one × Runs one answer (C.time clock.old) (C.time clock.new) lot options D.tells D.held D.moment D.images
+        disk.old disk.new I.tells I.left inbox.old inbox.new O.tells O.standing outbox.old outbox.new
+        S.tells S.written S.faults sink.old sink.new)
+        ⊎ IsNotRead answer (told P.faults P.refused patterns.old) (told P.faults P.refused patterns.new) F.tells
+        (F.rest flow.old) S.tells S.written S.faults
+        disk.old disk.new inbox.old inbox.new outbox.old outbox.new sink.old sink.new) }
 
-    // Where the files stand for no state, or for one of another flow, the disk is synced once and nothing else is done,
-    // whatever the status; or the run didn't begin.
-    ensures shut_left { IsTrue D.tells → IsTrue F.tells → (options : TheOptions) → AskToRun words.now options
-        → (any : TheFlow) → IsFlowIn (F.rest flow.old) any → IsShut (identity_of any) lot (D.held disk.old)
-        → IsLeftShut (identity_of any) result D.held D.moment D.images lot
-        disk.old disk.new inbox.old inbox.new outbox.old outbox.new
-        ⊎ HasNotBegun result D.moment D.images (HasRisen (P.faults patterns.old) (P.faults patterns.new)) F.tells
-        (F.rest flow.old) disk.old disk.new inbox.old inbox.new outbox.old outbox.new }
+    // Where the text breaks a rule, no flow was read.
+    ensures broken { (options : TheOptions) → AskToRun words.now options → IsTrue F.tells → IsBroken (F.rest flow.old)
+        → (answer : TheAnswer) × (result ≡ status_of answer) × IsNotRead answer (told P.faults P.refused patterns.old) (told P.faults P.refused patterns.new) F.tells
+        (F.rest flow.old) S.tells S.written S.faults
+        disk.old disk.new inbox.old inbox.new outbox.old outbox.new sink.old sink.new }
 
-    // Where the text breaks a rule, nothing is done.
-    ensures broken { IsTrue F.tells → (options : TheOptions) → AskToRun words.now options → IsBroken (F.rest flow.old)
-        → IsNotRead result (HasRisen (P.faults patterns.old) (P.faults patterns.new)) F.tells (F.rest flow.old)
-        disk.old disk.new inbox.old inbox.new outbox.old outbox.new }
+    // Words that ask for something else, or for nothing: nothing is done, and a line says so.
+    ensures usage { AskForNoRun words.now → (answer : TheAnswer) × (result ≡ status_of answer) × ((answer ≡ Answer.Usage) ⊎ (answer ≡ Answer.Memory))
+        × IsUntouched disk.old disk.new inbox.old inbox.new outbox.old outbox.new
+        × (flow.new ≡ flow.old) × (patterns.new ≡ patterns.old) × (clock.new ≡ clock.old)
+        × (IsTrue S.tells → IsLine S.faults S.written (refusal_line answer) sink.old sink.new) }
 
-    // Whatever inbox and outbox tell: only claims, events, the log, later logs with their snapshots, and a new store's
-    // snapshot are written, and with 0 and 10 the log is short; or the run didn't begin.
-    ensures written { (options : TheOptions) → AskToRun words.now options
-        → HasWritten result D.moment D.images (D.held disk.old) options.checkpoint disk.old disk.new
-        ⊎ HasNotBegun result D.moment D.images (HasRisen (P.faults patterns.old) (P.faults patterns.new)) F.tells
-        (F.rest flow.old) disk.old disk.new inbox.old inbox.new outbox.old outbox.new }
+    // A device's fault is told only where its count rose.
+    ensures faults { (answer : TheAnswer) × (result ≡ status_of answer) × CountsEachFault answer (D.faults disk.old) (D.faults disk.new)
+        (I.faults inbox.old) (I.faults inbox.new) (O.faults outbox.old) (O.faults outbox.new)
+        × CountsFaults (F.faults flow.old) (F.faults flow.new) (answer ≡ Answer.Source)
+        × CountsFaults (S.faults sink.old) (S.faults sink.new) (answer ≡ Answer.Sink) }
+{
+    let answer = answer_words(
+        alloc, words, lot, disk, inbox, outbox, flow, patterns, sink, clock,
+    );
+    answer.status()
+}
 
-    // Each status has its cause. Where a flow was read, the status tells how its run ended or why it wasn't opened.
-    ensures why { (options : TheOptions) → AskToRun words.now options
-        → ((one : TheFlow) × IsRead F.tells (F.rest flow.old) one
-        × HasCause one result D.tells D.held D.moment D.images lot options.max_commits
-        disk.old disk.new inbox.old inbox.new outbox.old outbox.new)
-        ⊎ IsNotRead result (HasRisen (P.faults patterns.old) (P.faults patterns.new)) F.tells (F.rest flow.old)
-        disk.old disk.new inbox.old inbox.new outbox.old outbox.new }
+// What the words come to.
+fn answer_words<D: Disk, I: Inbox, O: Outbox, F: Source, P: Patterns, S: Sink, C: Clock>(
+    alloc: Global,
+    words: &[String],
+    lot: u64,
+    disk: &mut D,
+    inbox: &mut I,
+    outbox: &mut O,
+    flow: &mut F,
+    patterns: &mut P,
+    sink: &mut S,
+    clock: &mut C,
+) -> Answer
+    ensures asked { (options : TheOptions) → AskToRun words.now options → (((one : TheFlow) × IsRead F.tells (F.rest flow.old) one × Runs one result (C.time clock.old) (C.time clock.new) lot options D.tells D.held D.moment D.images
+        disk.old disk.new I.tells I.left inbox.old inbox.new O.tells O.standing outbox.old outbox.new
+        S.tells S.written S.faults sink.old sink.new)
+        ⊎ IsNotRead result (told P.faults P.refused patterns.old) (told P.faults P.refused patterns.new) F.tells
+        (F.rest flow.old) S.tells S.written S.faults
+        disk.old disk.new inbox.old inbox.new outbox.old outbox.new sink.old sink.new) }
+    ensures broken { (options : TheOptions) → AskToRun words.now options → IsTrue F.tells → IsBroken (F.rest flow.old)
+        → IsNotRead result (told P.faults P.refused patterns.old) (told P.faults P.refused patterns.new) F.tells
+        (F.rest flow.old) S.tells S.written S.faults
+        disk.old disk.new inbox.old inbox.new outbox.old outbox.new sink.old sink.new }
+    ensures usage { AskForNoRun words.now → ((result ≡ Answer.Usage) ⊎ (result ≡ Answer.Memory))
+        × IsUntouched disk.old disk.new inbox.old inbox.new outbox.old outbox.new
+        × (flow.new ≡ flow.old) × (patterns.new ≡ patterns.old) × (clock.new ≡ clock.old)
+        × (IsTrue S.tells → IsLine S.faults S.written (refusal_line result) sink.old sink.new) }
     ensures faults { CountsEachFault result (D.faults disk.old) (D.faults disk.new)
         (I.faults inbox.old) (I.faults inbox.new) (O.faults outbox.old) (O.faults outbox.new)
-        × CountsFaults (F.faults flow.old) (F.faults flow.new) (result ≡ SOURCE_FAULT) }
-    ensures usage { AskForNoRun words.now → ((result ≡ USAGE) ⊎ (result ≡ OUT_OF_MEMORY))
-        × IsUntouched disk.old disk.new inbox.old inbox.new outbox.old outbox.new
-        × (flow.new ≡ flow.old) × (patterns.new ≡ patterns.old) × (clock.new ≡ clock.old) }
-
-    // What is printed to isn't called.
-    ensures unused { sink.new ≡ sink.old }
+        × CountsFaults (F.faults flow.old) (F.faults flow.new) (result ≡ Answer.Source)
+        × CountsFaults (S.faults sink.old) (S.faults sink.new) (result ≡ Answer.Sink) }
 {
     match options_to_run(alloc, words) {
         Ok(options) => run_text(
-            alloc, options, lot, disk, inbox, outbox, flow, patterns, clock,
+            alloc, options, lot, disk, inbox, outbox, flow, patterns, sink, clock,
         ),
-        Err(status) => status,
+        Err(answer) => refuse(sink, answer),
     }
 }
 
-/// The options with which the words ask to run the flow. Else the status: that of words that ask for something else or
-/// for nothing, or of a want of memory.
-fn options_to_run(alloc: Global, words: &[String]) -> Result<RunOptions, u8>
+/// The options with which the words ask to run the flow. Else why they don't: they ask for something else or for
+/// nothing, or memory was wanting.
+fn options_to_run(alloc: Global, words: &[String]) -> Result<RunOptions, Answer>
     ensures asked { IfOk result (AskToRun words.now) }
     ensures most { IfOk result (λ options. options.max_commits ≤ COMMITS_MAX) }
-    ensures refused { IfErr result (λ status. ((status ≡ USAGE) × AskForNoRun words.now) ⊎ (status ≡ OUT_OF_MEMORY)) }
+    ensures refused { IfErr result (λ answer. ((answer ≡ Answer.Usage) × AskForNoRun words.now)
+        ⊎ (answer ≡ Answer.Memory)) }
 {
     match read_words(alloc, words) {
         Ok(Command::Run(options)) => Ok(options),
-        Ok(_) | Err(WordsError::Usage) => Err(USAGE),
-        Err(WordsError::Memory) => Err(OUT_OF_MEMORY),
+        Ok(_) | Err(WordsError::Usage) => Err(Answer::Usage),
+        Err(WordsError::Memory) => Err(Answer::Memory),
     }
 }
 
-/// Runs the flow whose text the source has.
-fn run_text<D: Disk, I: Inbox, O: Outbox, F: Source, P: Patterns, C: Clock>(
+// Runs the flow whose text the source has.
+fn run_text<D: Disk, I: Inbox, O: Outbox, F: Source, P: Patterns, S: Sink, C: Clock>(
     alloc: Global,
     options: RunOptions,
     lot: u64,
@@ -135,51 +159,67 @@ fn run_text<D: Disk, I: Inbox, O: Outbox, F: Source, P: Patterns, C: Clock>(
     outbox: &mut O,
     flow: &mut F,
     patterns: &mut P,
+    sink: &mut S,
     clock: &mut C,
-) -> u8
+) -> Answer
     requires most { options.max_commits ≤ COMMITS_MAX }
-    ensures headline { IsTrue D.tells → IsTrue I.tells → IsTrue O.tells → IsTrue F.tells
-        → (any : TheFlow) → IsFlowIn (F.rest flow.old) any → (state : State) → IsOfFlow any lot (D.held disk.old) state
-        → HasRunText (F.rest flow.old) result (C.time clock.old) (C.time clock.new) D.tells D.held D.moment D.images lot
-        options.max_commits (machine_at state (I.left inbox.old) (O.standing outbox.old))
-        disk.old disk.new (I.left inbox.new) (O.standing outbox.new)
-        ⊎ HasNotBegun result D.moment D.images (HasRisen (P.faults patterns.old) (P.faults patterns.new)) F.tells
-        (F.rest flow.old) disk.old disk.new inbox.old inbox.new outbox.old outbox.new }
-    ensures shut_left { IsTrue D.tells → IsTrue F.tells
-        → (any : TheFlow) → IsFlowIn (F.rest flow.old) any → IsShut (identity_of any) lot (D.held disk.old)
-        → IsLeftShut (identity_of any) result D.held D.moment D.images lot
-        disk.old disk.new inbox.old inbox.new outbox.old outbox.new
-        ⊎ HasNotBegun result D.moment D.images (HasRisen (P.faults patterns.old) (P.faults patterns.new)) F.tells
-        (F.rest flow.old) disk.old disk.new inbox.old inbox.new outbox.old outbox.new }
-    ensures broken { IsTrue F.tells → IsBroken (F.rest flow.old)
-        → IsNotRead result (HasRisen (P.faults patterns.old) (P.faults patterns.new)) F.tells (F.rest flow.old)
-        disk.old disk.new inbox.old inbox.new outbox.old outbox.new }
-    ensures written { HasWritten result D.moment D.images (D.held disk.old) options.checkpoint disk.old disk.new
-        ⊎ HasNotBegun result D.moment D.images (HasRisen (P.faults patterns.old) (P.faults patterns.new)) F.tells
-        (F.rest flow.old) disk.old disk.new inbox.old inbox.new outbox.old outbox.new }
-    ensures why { ((one : TheFlow) × IsRead F.tells (F.rest flow.old) one
-        × HasCause one result D.tells D.held D.moment D.images lot options.max_commits
-        disk.old disk.new inbox.old inbox.new outbox.old outbox.new)
-        ⊎ IsNotRead result (HasRisen (P.faults patterns.old) (P.faults patterns.new)) F.tells (F.rest flow.old)
-        disk.old disk.new inbox.old inbox.new outbox.old outbox.new }
+    ensures asked { (((one : TheFlow) × IsRead F.tells (F.rest flow.old) one × Runs one result (C.time clock.old) (C.time clock.new) lot options D.tells D.held D.moment D.images
+        disk.old disk.new I.tells I.left inbox.old inbox.new O.tells O.standing outbox.old outbox.new
+        S.tells S.written S.faults sink.old sink.new)
+        ⊎ IsNotRead result (told P.faults P.refused patterns.old) (told P.faults P.refused patterns.new) F.tells
+        (F.rest flow.old) S.tells S.written S.faults
+        disk.old disk.new inbox.old inbox.new outbox.old outbox.new sink.old sink.new) }
+    ensures broken { IsTrue F.tells → IsBroken (F.rest flow.old) → IsNotRead result (told P.faults P.refused patterns.old) (told P.faults P.refused patterns.new) F.tells
+        (F.rest flow.old) S.tells S.written S.faults
+        disk.old disk.new inbox.old inbox.new outbox.old outbox.new sink.old sink.new }
     ensures faults { CountsEachFault result (D.faults disk.old) (D.faults disk.new)
         (I.faults inbox.old) (I.faults inbox.new) (O.faults outbox.old) (O.faults outbox.new)
-        × CountsFaults (F.faults flow.old) (F.faults flow.new) (result ≡ SOURCE_FAULT) }
+        × CountsFaults (F.faults flow.old) (F.faults flow.new) (result ≡ Answer.Source)
+        × CountsFaults (S.faults sink.old) (S.faults sink.new) (result ≡ Answer.Sink) }
 {
     match read(alloc, flow, patterns) {
-        Ok(flow) => status_of_run(run_over(
-            alloc,
-            &flow,
-            lot,
-            options.max_commits,
-            options.checkpoint,
-            disk,
-            inbox,
-            outbox,
-            clock,
-        )),
-        Err(error) => error.status(),
+        Ok(flow) => run_read(
+            alloc, &flow, options, lot, disk, inbox, outbox, sink, clock,
+        ),
+        Err(answer) => refuse(sink, answer),
     }
+}
+
+// Runs a flow that was read, and prints how that ended.
+fn run_read<D: Disk, I: Inbox, O: Outbox, S: Sink, C: Clock>(
+    alloc: Global,
+    flow: &Flow,
+    options: RunOptions,
+    lot: u64,
+    disk: &mut D,
+    inbox: &mut I,
+    outbox: &mut O,
+    sink: &mut S,
+    clock: &mut C,
+) -> Answer
+    requires sound { IsSound flow.now }
+    requires built { AreBuilt flow.now }
+    requires digest { IsDigest flow.now.digest }
+    requires most { options.max_commits ≤ COMMITS_MAX }
+    ensures runs { Runs flow.now result (C.time clock.old) (C.time clock.new) lot options D.tells D.held D.moment D.images
+        disk.old disk.new I.tells I.left inbox.old inbox.new O.tells O.standing outbox.old outbox.new
+        S.tells S.written S.faults sink.old sink.new }
+    ensures faults { CountsEachFault result (D.faults disk.old) (D.faults disk.new)
+        (I.faults inbox.old) (I.faults inbox.new) (O.faults outbox.old) (O.faults outbox.new)
+        × CountsFaults (S.faults sink.old) (S.faults sink.new) (result ≡ Answer.Sink) }
+{
+    let run = run_over(
+        alloc,
+        flow,
+        lot,
+        options.max_commits,
+        options.checkpoint,
+        disk,
+        inbox,
+        outbox,
+        clock,
+    );
+    show(sink, flow, run)
 }
 
 /// Opens the store of a flow, and runs the flow over it, until the journal has `most` entries at the latest, with a
@@ -194,31 +234,44 @@ pub(crate) fn run_over<D: Disk, I: Inbox, O: Outbox, C: Clock>(
     inbox: &mut I,
     outbox: &mut O,
     clock: &mut C,
-) -> Result<Ended, RunError>
+) -> Result<Ran, Answer>
     requires sound { IsSound flow.now }
     requires built { AreBuilt flow.now }
     requires digest { IsDigest flow.now.digest }
     requires most { most < 2 ^ 64 - 1 }
-    ensures headline { IsTrue D.tells → IsTrue I.tells → IsTrue O.tells
+    ensures ran { IfOk result (λ ran. IsTrue D.tells → IsTrue I.tells → IsTrue O.tells
         → (state : State) → IsOfFlow flow.now lot (D.held disk.old) state
-        → EndsWith flow.now (status_at result) (C.time clock.old) (C.time clock.new) D.tells D.held D.moment D.images lot most
+        → HasEnded flow.now ran (C.time clock.old) (C.time clock.new) D.tells D.held D.moment D.images lot most
+        (machine_at state (I.left inbox.old) (O.standing outbox.old))
+        disk.old disk.new (I.left inbox.new) (O.standing outbox.new)) }
+    ensures closed { IfOk result (λ ran. MatchOption ran.closed (IsFault ran.ended)
+        (λ closed. IsFault ran.ended → ⊥)) }
+    ensures failed { IfErr result (λ answer. IsTrue D.tells
+        → (state : State) → IsOfFlow flow.now lot (D.held disk.old) state
+        → HasFailed flow.now answer (C.time clock.old) (C.time clock.new) D.tells D.held D.moment D.images lot most
         (machine_at state (I.left inbox.old) (O.standing outbox.old))
         disk.old disk.new (I.left inbox.new) (O.standing outbox.new)
-        ⊎ IsNotOpened (status_at result) D.moment D.images disk.old disk.new inbox.old inbox.new outbox.old outbox.new }
-    ensures shut_left { IsTrue D.tells → IsShut (identity_of flow.now) lot (D.held disk.old)
-        → IsLeftShut (identity_of flow.now) (status_at result) D.held D.moment D.images lot
+        ⊎ IsNotOpened answer D.moment D.images disk.old disk.new inbox.old inbox.new outbox.old outbox.new) }
+    ensures shut { IsTrue D.tells → IsShut (identity_of flow.now) lot (D.held disk.old)
+        → (answer : TheAnswer) × (result ≡ Err answer)
+        × (IsLeftShut (identity_of flow.now) answer D.held D.moment D.images lot
         disk.old disk.new inbox.old inbox.new outbox.old outbox.new
-        ⊎ IsNotOpened (status_at result) D.moment D.images disk.old disk.new inbox.old inbox.new outbox.old outbox.new }
-    ensures written { HasWritten (status_at result) D.moment D.images (D.held disk.old) checkpoint disk.old disk.new
-        ⊎ IsNotOpened (status_at result) D.moment D.images disk.old disk.new
-        inbox.old inbox.new outbox.old outbox.new }
-    ensures why { HasCause flow.now (status_at result) D.tells D.held D.moment D.images lot most
+        ⊎ IsNotOpened answer D.moment D.images disk.old disk.new inbox.old inbox.new outbox.old outbox.new) }
+    ensures alone { IfOk result (λ ran. HasWritten (answer_of_end ran.ended) D.moment D.images (D.held disk.old)
+        checkpoint disk.old disk.new) }
+    ensures barely { IfErr result (λ answer. HasWritten answer D.moment D.images (D.held disk.old) checkpoint
+        disk.old disk.new
+        ⊎ IsNotOpened answer D.moment D.images disk.old disk.new inbox.old inbox.new outbox.old outbox.new) }
+    ensures why { HasCause flow.now (answer_at result) D.tells D.held D.moment D.images lot most
         disk.old disk.new inbox.old inbox.new outbox.old outbox.new }
-    ensures faults { CountsEachFault (status_at result) (D.faults disk.old) (D.faults disk.new)
+    ensures faults { CountsEachFault (answer_at result) (D.faults disk.old) (D.faults disk.new)
         (I.faults inbox.old) (I.faults inbox.new) (O.faults outbox.old) (O.faults outbox.new) }
 {
     failed_openings_end_a_run::<D>();
-    let store = open(alloc, lot, disk, flow)?;
+    let store = match open(alloc, lot, disk, flow) {
+        Ok(store) => store,
+        Err(answer) => return Err(answer),
+    };
     run_begins::<D>();
     what_is_kept_is_a_state();
     events_up_to_the_last_are_in_a_row();

@@ -9,11 +9,10 @@ ghost use Rattle.store_core.specs.Calls.{SinceSync};
 ghost use Rattle.store_core.specs.Opened.{IsShut};
 ghost use Rattle.store_core.specs.Touched.{Revives, log_opened};
 ghost use Rattle.engine_core.specs.Committing.{identity_of};
-ghost use Rattle.flow_definition.specs.declared.rule.Rule.{Rule as TheRule};
 ghost use Rattle.flow_run.specs.Work.{IsAtWork};
-ghost use Rattle.run_top.specs.Opening.{IsLeftUnwritten, IsToldBy, IsUnopened, Opens};
+ghost use Rattle.run_top.specs.Opening.{IsLeftUnwritten, IsOfStore, IsToldBy, IsUnopened, Opens};
 
-use crate::{DAMAGED, FLOW_REFUSED, RunError};
+use crate::Answer;
 use disk_trait::Disk;
 use engine_core::connection_ids;
 use machine_model::Flow;
@@ -26,7 +25,7 @@ pub(crate) fn open<D: Disk>(
     lot: u64,
     disk: &mut D,
     flow: &Flow,
-) -> Result<Store, RunError>
+) -> Result<Store, Answer>
     requires sound { IsSound flow.now }
     requires digest { IsDigest flow.now.digest }
     ensures opened { IfOk result (λ store. IsAtWork flow.now D.tells D.held D.moment D.images store disk.new
@@ -41,13 +40,12 @@ pub(crate) fn open<D: Disk>(
     ensures open { IfOk result (λ store. IsTrue D.tells → IsShut (identity_of flow.now) lot (D.held disk.old) → ⊥) }
     ensures shut { IsTrue D.tells → IsShut (identity_of flow.now) lot (D.held disk.old)
         → IsLeftUnwritten D.held D.moment D.images disk.old disk.new result }
-    ensures damaged { (damage : TheDamage) → IsErrOf result (RunError.Damaged damage)
-        → IsToldBy (identity_of flow.now) DAMAGED D.tells D.held D.moment lot disk.old disk.new }
-    ensures other_flow { IsErrOf result RunError.OtherFlow
-        → IsToldBy (identity_of flow.now) FLOW_REFUSED D.tells D.held D.moment lot disk.old disk.new }
-    ensures kinds { IfErr result (λ error. (error ≡ RunError.Source → ⊥)
-        × ((rule : TheRule) → error ≡ RunError.Refused rule → ⊥)) }
-    ensures cause { CountsFaults (D.faults disk.old) (D.faults disk.new) (IsErrOf result RunError.Disk) }
+    ensures damaged { (damage : TheDamage) → IsErrOf result (Answer.Damaged damage)
+        → IsToldBy (identity_of flow.now) (Answer.Damaged damage) D.tells D.held D.moment lot disk.old disk.new }
+    ensures other_flow { IsErrOf result Answer.OtherFlow
+        → IsToldBy (identity_of flow.now) Answer.OtherFlow D.tells D.held D.moment lot disk.old disk.new }
+    ensures kinds { IfErr result IsOfStore }
+    ensures cause { CountsFaults (D.faults disk.old) (D.faults disk.new) (IsErrOf result Answer.Disk) }
 {
     let ids = connection_ids(alloc, flow)?;
     let identity = FlowIdentity {

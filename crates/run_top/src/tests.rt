@@ -39,6 +39,9 @@ const FLOW: &str = r#"{
   ]
 }"#;
 
+// What its run prints, behind which one file came and went.
+const PRINTED: &str = "connection arrived 0 0\ninbox 0\nevent RECEIVE 1\nevent SEND 1\nevent DROP 1\n";
+
 // What a stop leaves of what wasn't synced.
 const PICKS: [Pick; 4] = [Pick::Old, Pick::New, Pick::Torn(1), Pick::Torn(0x5a5a)];
 
@@ -74,9 +77,9 @@ fn may_be_told(world: World, moment: u64, times: u64) -> bool {
     }
 }
 
-// Runs the flow over the disk in this world. Whether it was done, with the file in the outbox and nothing left in the
-// inbox.
-fn delivers(alloc: Global, disk: &mut MemoryDisk, world: World) -> Result<bool, Fail> {
+// Runs the flow over the disk in this world. What it printed, where it was done, with the file in the outbox and nothing
+// left in the inbox.
+fn delivers(alloc: Global, disk: &mut MemoryDisk, world: World) -> Result<Option<Vec<u8>>, Fail> {
     let name = Name::read(alloc, "a.txt")?;
     let mut files = Vec::new(alloc);
     if let World::InTheInbox = world {
@@ -107,7 +110,18 @@ fn delivers(alloc: Global, disk: &mut MemoryDisk, world: World) -> Result<bool, 
         &FreeGate,
     );
     let stands = outbox.count() == 1 && outbox.standing(&name) == Some(b"hi".as_slice());
-    Ok(status == DONE && stands && inbox.files_left().is_empty())
+    if status == DONE && stands && inbox.files_left().is_empty() {
+        return Ok(Some(sink.written().to_vec(alloc)?));
+    }
+    Ok(None)
+}
+
+// What a run prints that leaves nothing behind, where the file came and went so often.
+fn summary_of(alloc: Global, times: u64) -> Result<String, Fail> {
+    Ok(format!(
+        in alloc;
+        "connection arrived 0 0\ninbox 0\nevent RECEIVE {times}\nevent SEND {times}\nevent DROP {times}\n"
+    )?)
 }
 
 // The events of the disk, as many as there are from 3 to 7.
@@ -147,11 +161,15 @@ fn runs_again(alloc: Global, disk: &MemoryDisk, pick: Pick) -> Result<u32, Fail>
         for world in [World::InTheInbox, World::InTheStore, World::InTheOutbox] {
             if may_stand(world, moment) {
                 let mut left = disk.stopped(moment, pick)?;
-                if !delivers(alloc, &mut left, world)? {
+                let Some(printed) = delivers(alloc, &mut left, world)? else {
                     return Err("a stop that a run doesn't mend")?;
-                }
-                if !may_be_told(world, moment, times_told(alloc, &mut left)?) {
+                };
+                let times = times_told(alloc, &mut left)?;
+                if !may_be_told(world, moment, times) {
                     return Err("events that aren't those of the two runs")?;
+                }
+                if printed.as_slice() != summary_of(alloc, times)?.as_bytes() {
+                    return Err("a summary of another state")?;
                 }
                 runs = runs.saturating_add(1);
             }
@@ -259,7 +277,7 @@ fn goes_on(
     let mut inbox = MemoryInbox::new(Vec::new(alloc), Vec::new(alloc));
     let mut outbox = MemoryOutbox::new(Vec::new(alloc), Vec::new(alloc));
     let mut clock = MemoryClock::new(1000, 0);
-    let ended = run_over(
+    let ran = run_over(
         alloc,
         flow,
         0,
@@ -269,8 +287,11 @@ fn goes_on(
         &mut inbox,
         &mut outbox,
         &mut clock,
-    )?;
-    Ok((ended, outbox.count() as u64))
+    );
+    match ran {
+        Ok(ran) => Ok((ran.ended, outbox.count() as u64)),
+        Err(_) => Err("a store that can't be opened")?,
+    }
 }
 
 // Opens the store of a run, which so many files went through, and has the flow run on to its end. The last log has no
@@ -347,7 +368,10 @@ fn goes_by_logs(alloc: Global, run: LoggedRun, picks: &[Pick]) -> Result<(), Fai
 fn wherever_a_run_stops_the_next_one_delivers_the_file(rt: HostRuntime) -> Result<(), Fail> {
     let alloc = rt.alloc();
     let mut disk = MemoryDisk::new(Vec::new(alloc));
-    assert!(rt; delivers(alloc, &mut disk, World::InTheInbox)?);
+    let Some(printed) = delivers(alloc, &mut disk, World::InTheInbox)? else {
+        return Err("a run that doesn't deliver the file")?;
+    };
+    assert_eq!(rt; printed.as_slice(), PRINTED.as_bytes());
     let mut left = disk.stopped(disk.moment(), Pick::New)?;
     let events = Events::load(alloc, &mut left, 3)?.scan(alloc, &mut left, 1, 3)?;
     assert_eq!(rt; events.len(), 3);

@@ -1,11 +1,11 @@
 //! Reading the text of a flow from its source.
-ghost use Rattle.std.specs.Prelude.{◌≡◌, ◌⊎◌, ◌+◌, ◌≤◌, ◌<◌, [], ◌++◌, true, false, take, length, IsTrue, IsErr, IsErrOf, IfOk, IfErr};
+ghost use Rattle.std.specs.Prelude.{◌≡◌, ◌⊎◌, ℕ, ◌+◌, ◌≤◌, ◌<◌, List, [], ◌++◌, true, false, take, length, IsTrue, IsErr, IsErrOf, IfOk, IfErr};
 ghost use Rattle.disk_trait.specs.Faults.{CountsFaults};
-ghost use Rattle.flow_definition.specs.Patterns.{HasRisen};
+ghost use Rattle.flow_definition.specs.Patterns.{told};
 ghost use Rattle.flow_definition.specs.declared.rule.Rule.{Rule as TheRule};
-ghost use Rattle.run_top.specs.Text.{IsBroken, IsRead, IsRefused};
+ghost use Rattle.run_top.specs.Text.{IsBroken, IsOfText, IsRead, IsRefused};
 
-use crate::RunError;
+use crate::Answer;
 use flow_definition::{FlowError, Patterns, TEXT_MAX, read_flow};
 use machine_model::Flow;
 use std::alloc::Global;
@@ -19,28 +19,31 @@ pub(crate) fn read<F: Source, P: Patterns>(
     alloc: Global,
     source: &mut F,
     patterns: &mut P,
-) -> Result<Flow, RunError>
+) -> Result<Flow, Answer>
     ensures accepted { IfOk result (IsRead F.tells (F.rest source.old)) }
-    ensures refused { (rule : TheRule) → IsErrOf result (RunError.Refused rule)
-        → IsRefused (HasRisen (P.faults patterns.old) (P.faults patterns.new)) F.tells (F.rest source.old) }
+    ensures refused { (rule : TheRule) (place : List ℕ) → IsErrOf result (Answer.Refused rule place)
+        → IsRefused (told P.faults P.refused patterns.old) (told P.faults P.refused patterns.new) F.tells
+        (F.rest source.old) rule place }
     ensures broken { IsTrue F.tells → IsBroken (F.rest source.old) → IsErr result }
-    ensures kinds { IfErr result (λ error. (error ≡ RunError.Source) ⊎ (error ≡ RunError.Memory)
-        ⊎ ((rule : TheRule) × (error ≡ RunError.Refused rule))) }
-    ensures cause { CountsFaults (F.faults source.old) (F.faults source.new) (IsErrOf result RunError.Source) }
+    ensures kinds { IfErr result IsOfText }
+    ensures cause { CountsFaults (F.faults source.old) (F.faults source.new) (IsErrOf result Answer.Source) }
 {
-    let text = read_text(alloc, source)?;
+    let text = match read_text(alloc, source) {
+        Ok(text) => text,
+        Err(answer) => return Err(answer),
+    };
     match read_flow(alloc, text.as_slice(), patterns) {
         Ok(flow) => Ok(flow),
-        Err(FlowError::Rule { rule, .. }) => Err(RunError::Refused(rule)),
-        Err(FlowError::Memory) => Err(RunError::Memory),
+        Err(FlowError::Rule { rule, place }) => Err(Answer::Refused { rule, place }),
+        Err(FlowError::Memory) => Err(Answer::Memory),
     }
 }
 
 // Reads a source to its end, or to one byte more than a text may have.
-fn read_text<F: Source>(alloc: Global, source: &mut F) -> Result<Vec<u8>, RunError>
+fn read_text<F: Source>(alloc: Global, source: &mut F) -> Result<Vec<u8>, Answer>
     ensures text { IfOk result (λ text. IsTrue F.tells → text.items ≡ take (TEXT_MAX + 1) (F.rest source.old)) }
-    ensures kinds { IfErr result (λ error. (error ≡ RunError.Source) ⊎ (error ≡ RunError.Memory)) }
-    ensures cause { CountsFaults (F.faults source.old) (F.faults source.new) (IsErrOf result RunError.Source) }
+    ensures kinds { IfErr result (λ error. (error ≡ Answer.Source) ⊎ (error ≡ Answer.Memory)) }
+    ensures cause { CountsFaults (F.faults source.old) (F.faults source.new) (IsErrOf result Answer.Source) }
 {
     let most = TEXT_MAX as usize + 1;
     let mut text = Vec::new(alloc);
@@ -60,18 +63,18 @@ fn read_more<F: Source>(
     source: &mut F,
     piece: &mut [u8],
     text: &mut Vec<u8>,
-) -> Result<bool, RunError>
+) -> Result<bool, Answer>
     requires { 0 < length piece.old }
     ensures text { IfOk result (λ more. IsTrue F.tells
         → text.old.items ++ F.rest source.old ≡ text.new.items ++ F.rest source.new) }
     ensures longer { IfOk result (λ more. more ≡ true → length text.old.items < length text.new.items) }
     ensures within { IfOk result (λ more. length text.new.items ≤ length text.old.items + length piece.old) }
     ensures end { IfOk result (λ more. more ≡ false → IsTrue F.tells → F.rest source.new ≡ []) }
-    ensures kinds { IfErr result (λ error. (error ≡ RunError.Source) ⊎ (error ≡ RunError.Memory)) }
-    ensures cause { CountsFaults (F.faults source.old) (F.faults source.new) (IsErrOf result RunError.Source) }
+    ensures kinds { IfErr result (λ error. (error ≡ Answer.Source) ⊎ (error ≡ Answer.Memory)) }
+    ensures cause { CountsFaults (F.faults source.old) (F.faults source.new) (IsErrOf result Answer.Source) }
 {
     let Ok(count) = source.read(piece) else {
-        return Err(RunError::Source);
+        return Err(Answer::Source);
     };
     text.extend_from_slice(&piece[..count])?;
     Ok(count > 0)

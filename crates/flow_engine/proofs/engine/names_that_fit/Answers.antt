@@ -1,4 +1,4 @@
-use Rattle.std.proofs.Common.{arith, ◌≡◌, ◌<◌, [], ◌∷◌, ◌++◌, List, ℕ, refl, sym, ◌∙◌, ap, subst}
+use Rattle.std.proofs.Common.{arith, ◌≡◌, ◌<◌, [], ◌∷◌, ◌++◌, List, ℕ, length, refl, sym, ◌∙◌, ap, subst}
 use Rattle.std.specs.Prelude.{filter, IsSome}
 use Rattle.std.specs.List.{AllByRecursion}
 use Rattle.std.specs.Vec.Iter.{into_iter_items}
@@ -19,6 +19,7 @@ loop-name-init g c =
       fit = λ told. ap (λ (l : List (List ℕ)). l ++ filter (fits_in left) items) none ∙ ap (filter (fits_in left)) gives;
       ascending = subst (λ (l : List (List ℕ)). IsAscending (l ++ items)) (sym none) (subst IsAscending (sym gives) c.requires.ascending);
       there = λ told. subst (λ (l : List (List ℕ)). AllByRecursion (λ (n : List ℕ). IsSome (bytes_of left n)) l) (sym (gives ∙ c.requires.listed told)) (all_found left);
+      few = omega (arith, ap length none, ap length gives);
       left = refl;
       faults = omega arith;
     }
@@ -37,6 +38,7 @@ loop-name-preserved g c =
           ∙ is_larger c.in-Ok.size CONTENT_MAX larger);
       ascending = ascends_but c.loop-name.coming.items c.in-Some.name rest (subst (λ (l : List (List ℕ)). IsAscending (c.loop-name.coming.items ++ l)) next c.loop-name.invariant.ascending);
       there = λ told. (subst (λ (l : List (List ℕ)). AllByRecursion (λ (n : List ℕ). IsSome (bytes_of left n)) l) next (c.loop-name.invariant.there told)).1;
+      few = omega (arith, c.loop-name.invariant.few, ap length next);
       left = c.size.ensures.left ∙ c.loop-name.invariant.left;
       faults = omega (arith, c.loop-name.invariant.faults, c.size.ensures.cause.never_falls);
     }

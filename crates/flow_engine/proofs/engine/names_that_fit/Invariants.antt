@@ -1,4 +1,4 @@
-use Rattle.std.proofs.Common.{◌≡◌, ◌≤◌, ◌++◌, IsTrue}
+use Rattle.std.proofs.Common.{◌≡◌, ◌+◌, ◌≤◌, ◌++◌, IsTrue, length}
 use Rattle.std.specs.Prelude.{filter, IsSome}
 use Rattle.std.specs.List.{AllByRecursion}
 use Rattle.std.specs.Vec.Iter.{into_iter_items}
@@ -13,6 +13,7 @@ invariant-loop-name g l = record {
       ≡ filter (fits_in (g.I.Inbox.left l.fn.inbox)) l.fn.names.items;
   ascending : IsAscending (l.coming.items ++ into_iter_items l.name-iterator);
   there : IsTrue g.I.Inbox.tells → AllByRecursion (λ name. IsSome (bytes_of (g.I.Inbox.left l.fn.inbox) name)) (into_iter_items l.name-iterator);
+  few : length l.coming.items + length (into_iter_items l.name-iterator) ≤ length l.fn.names.items;
   left : g.I.Inbox.left l.inbox ≡ g.I.Inbox.left l.fn.inbox;
   faults : g.I.Inbox.faults l.fn.inbox ≤ g.I.Inbox.faults l.inbox;
 }

@@ -19,6 +19,7 @@ use Rattle.flow_engine.proofs.Closing.{IsNoLimit, begun, by_damage, closes_block
 use Rattle.flow_engine.proofs.Turning.{damaged_by, each_counts_after}
 use Rattle.flow_engine.proofs.Short.{ends_by_error, ends_short}
 use Rattle.flow_run.proofs.Writing.{same_log, writes_in_turn, writes_none, writes_on}
+use Rattle.flow_engine.proofs.Shown.{closes_or_fails, fails_to_open, fails_to_run, none_shown, run_shows}
 use Rattle.flow_engine.proofs.Writes.{writes_by_close}
 use Rattle.flow_engine.proofs.run.run_flow.Goals as goal
 
@@ -29,8 +30,12 @@ returns-in-Err-clause-headline g c telling in_telling out_telling state first st
     let standing = g.O.Outbox.standing c.args.outbox.now in (
       [],
       not_opened D.tells D.held D.moment D.images c.faults_end_a_run.ensures.between c.args.flow.now c.args.store.lot start (g.C.Clock.time c.args.clock.now) (machine_at state left standing) first c.args.disk.now left
-          (g.I.Inbox.left c.new.new.inbox) standing c.in-Err.error c.ended.result c.in-Err.ensures.kinds c.ended.ensures c.new.ensures.left run,
+          (g.I.Inbox.left c.new.new.inbox) standing c.in-Err.error c.fail.result.ended c.in-Err.ensures.kinds c.fail.ensures.ended c.new.ensures.left run,
+      none_shown c.args.flow.now c.fail.result.closed _ c.fail.ensures.closed,
     )
+
+pub returns-in-Err-clause-closed : goal.returns-in-Err-clause-closed
+returns-in-Err-clause-closed g c = fails_to_open c.fail.result.closed c.fail.result.ended c.in-Err.error c.fail.ensures.closed c.fail.ensures.ended c.in-Err.ensures.kinds
 
 pub returns-in-Ok-Blocked-clause-headline : goal.returns-in-Ok-Blocked-clause-headline
 returns-in-Ok-Blocked-clause-headline g c telling in_telling out_telling state first start run =
@@ -50,19 +55,28 @@ returns-in-Ok-Blocked-clause-headline g c telling in_telling out_telling state f
     (c.in-Ok.ensures.listed.coming in_telling state standing) run in
     let end = subst (λ (a : Ending). IsEnded D.moment D.images e opened first start time c.drive.new.disk now_left now_standing a) c.in-Ok-Blocked.field-0-is
     (c.in-Ok-Blocked.ensures.ended telling in_telling out_telling opened first start (g.C.Clock.time c.args.clock.now) (omega arith) begins) in
-    let closes = closes_so c.close.result e.failed c.ended_by.result (ended.Blocked c.in-Ok-Blocked.connection) (IsTrue D.tells → IsTidied e.flow e.store.lot (D.held c.close.new.disk)) works c.ended_by.ensures.ok c.ended_by.ensures.err (IfOk-weaker c.close.result _ _ (λ closed is_closed. is_closed.tidied) c.close.ensures.closed)
-    c.close.ensures.refusal.reopen c.close.ensures.refusal.kinds in (
-      e.journal,
+    let closes = closes_so c.close.result e.failed c.leave.result.ended (ended.Blocked c.in-Ok-Blocked.connection) (IsTrue D.tells → IsTidied e.flow e.store.lot (D.held c.close.new.disk)) works c.leave.ensures.ok c.leave.ensures.err (IfOk-weaker c.close.result _ _ (λ closed is_closed. is_closed.tidied) c.close.ensures.closed)
+    c.close.ensures.refusal.reopen c.close.ensures.refusal.kinds in
+    let ran =
       closes_blocked D.tells D.held D.moment D.images c.faults_end_a_run.ensures.between e flow c.args.store.lot (c.drive.ensures.same.flow ∙ is.flow_is) (c.drive.ensures.same.lot ∙ ap (λ (t : StoreState). t.lot) is.store_is)
-          (c.in-Ok-Blocked.ensures.work.flow_is ∙ ap identity_of (sym c.drive.ensures.same.flow)) opened first c.drive.new.disk c.close.new.disk now_left now_standing start time c.ended_by.result (c.close.ensures.states works)
-          (laws.held_is_left c.close.new.disk telling) c.close.result c.run_ends.ensures.blocked c.in-Ok-Blocked.connection end closes telling,
+          (c.in-Ok-Blocked.ensures.work.flow_is ∙ ap identity_of (sym c.drive.ensures.same.flow)) opened first c.drive.new.disk c.close.new.disk now_left now_standing start time c.leave.result.ended (c.close.ensures.states works)
+          (laws.held_is_left c.close.new.disk telling) c.close.result c.run_ends.ensures.blocked c.in-Ok-Blocked.connection end closes telling in (
+      e.journal,
+      ran,
+      run_shows c.names_are_lost_by_taking.ensures.one_step D.tells D.held D.moment D.images flow c.in-Ok.engine e state left now_left standing now_standing first c.drive.new.disk c.close.new.disk start time end.reached ran.reached
+          c.close.result c.leave.result.closed (c.drive.ensures.same.flow ∙ is.flow_is) c.drive.ensures.same.too_large (c.in-Ok.ensures.listed.coming in_telling state standing) (c.in-Ok.ensures.listed.counted in_telling) end.to ran.ran.replays
+          c.leave.ensures.closed c.close.ensures.closed c.close.ensures.shows telling,
     )
+
+pub returns-in-Ok-Blocked-clause-closed : goal.returns-in-Ok-Blocked-clause-closed
+returns-in-Ok-Blocked-clause-closed g c =
+    closes_or_fails c.close.result c.leave.result.ended (ended.Blocked c.in-Ok-Blocked.connection) c.leave.result.closed c.leave.ensures.closed c.leave.ensures.ok c.leave.ensures.err c.close.ensures.refusal.kinds (λ fault. fault)
 
 pub returns-in-Ok-Blocked-clause-checkpointed : goal.returns-in-Ok-Blocked-clause-checkpointed
 returns-in-Ok-Blocked-clause-checkpointed g c =
     let e : EngineState = c.drive.new.self in
     let works : e.failed ≡ false = works_behind c.drive.result e.failed c.in-Ok-Blocked.field-0 c.in-Ok-Blocked.is c.drive.ensures.failed in
-    ends_short g.D.Disk.moment g.D.Disk.images c.args.checkpoint e.checkpoint c.ended_by.result c.drive.new.disk c.close.new.disk (c.drive.ensures.same.checkpoint ∙ c.in-Ok.ensures.opened.checkpoint_is)
+    ends_short g.D.Disk.moment g.D.Disk.images c.args.checkpoint e.checkpoint c.leave.result.ended c.drive.new.disk c.close.new.disk (c.drive.ensures.same.checkpoint ∙ c.in-Ok.ensures.opened.checkpoint_is)
     c.in-Ok-Blocked.ensures.short (c.close.ensures.short works)
 
 pub returns-in-Ok-Blocked-clause-alone : goal.returns-in-Ok-Blocked-clause-alone
@@ -90,19 +104,28 @@ returns-in-Ok-Quiet-clause-headline g c telling in_telling out_telling state fir
     (c.in-Ok.ensures.listed.coming in_telling state standing) run in
     let end = subst (λ (a : Ending). IsEnded D.moment D.images e opened first start time c.drive.new.disk now_left now_standing a) c.in-Ok-Quiet.field-0-is
     (c.in-Ok-Quiet.ensures.ended telling in_telling out_telling opened first start (g.C.Clock.time c.args.clock.now) (omega arith) begins) in
-    let closes = closes_so c.close-in-Ok-Quiet.result e.failed c.ended_by-in-Ok-Quiet.result ended.Quiet (IsTrue D.tells → IsTidied e.flow e.store.lot (D.held c.close-in-Ok-Quiet.new.disk)) works c.ended_by-in-Ok-Quiet.ensures.ok c.ended_by-in-Ok-Quiet.ensures.err (IfOk-weaker c.close-in-Ok-Quiet.result _ _ (λ closed is_closed. is_closed.tidied) c.close-in-Ok-Quiet.ensures.closed)
-    c.close-in-Ok-Quiet.ensures.refusal.reopen c.close-in-Ok-Quiet.ensures.refusal.kinds in (
-      e.journal,
+    let closes = closes_so c.close-in-Ok-Quiet.result e.failed c.leave-in-Ok-Quiet.result.ended ended.Quiet (IsTrue D.tells → IsTidied e.flow e.store.lot (D.held c.close-in-Ok-Quiet.new.disk)) works c.leave-in-Ok-Quiet.ensures.ok c.leave-in-Ok-Quiet.ensures.err (IfOk-weaker c.close-in-Ok-Quiet.result _ _ (λ closed is_closed. is_closed.tidied) c.close-in-Ok-Quiet.ensures.closed)
+    c.close-in-Ok-Quiet.ensures.refusal.reopen c.close-in-Ok-Quiet.ensures.refusal.kinds in
+    let ran =
       closes_quiet D.tells D.held D.moment D.images c.faults_end_a_run.ensures.between e flow c.args.store.lot (c.drive.ensures.same.flow ∙ is.flow_is) (c.drive.ensures.same.lot ∙ ap (λ (t : StoreState). t.lot) is.store_is)
-          (c.in-Ok-Quiet.ensures.work.flow_is ∙ ap identity_of (sym c.drive.ensures.same.flow)) opened first c.drive.new.disk c.close-in-Ok-Quiet.new.disk now_left now_standing start time c.ended_by-in-Ok-Quiet.result (c.close-in-Ok-Quiet.ensures.states works)
-          (laws.held_is_left c.close-in-Ok-Quiet.new.disk telling) c.close-in-Ok-Quiet.result c.run_ends.ensures.quiet end closes telling,
+          (c.in-Ok-Quiet.ensures.work.flow_is ∙ ap identity_of (sym c.drive.ensures.same.flow)) opened first c.drive.new.disk c.close-in-Ok-Quiet.new.disk now_left now_standing start time c.leave-in-Ok-Quiet.result.ended (c.close-in-Ok-Quiet.ensures.states works)
+          (laws.held_is_left c.close-in-Ok-Quiet.new.disk telling) c.close-in-Ok-Quiet.result c.run_ends.ensures.quiet end closes telling in (
+      e.journal,
+      ran,
+      run_shows c.names_are_lost_by_taking.ensures.one_step D.tells D.held D.moment D.images flow c.in-Ok.engine e state left now_left standing now_standing first c.drive.new.disk c.close-in-Ok-Quiet.new.disk start time end.reached ran.reached
+          c.close-in-Ok-Quiet.result c.leave-in-Ok-Quiet.result.closed (c.drive.ensures.same.flow ∙ is.flow_is) c.drive.ensures.same.too_large (c.in-Ok.ensures.listed.coming in_telling state standing) (c.in-Ok.ensures.listed.counted in_telling) end.to ran.ran.replays
+          c.leave-in-Ok-Quiet.ensures.closed c.close-in-Ok-Quiet.ensures.closed c.close-in-Ok-Quiet.ensures.shows telling,
     )
+
+pub returns-in-Ok-Quiet-clause-closed : goal.returns-in-Ok-Quiet-clause-closed
+returns-in-Ok-Quiet-clause-closed g c =
+    closes_or_fails c.close-in-Ok-Quiet.result c.leave-in-Ok-Quiet.result.ended (ended.Quiet) c.leave-in-Ok-Quiet.result.closed c.leave-in-Ok-Quiet.ensures.closed c.leave-in-Ok-Quiet.ensures.ok c.leave-in-Ok-Quiet.ensures.err c.close-in-Ok-Quiet.ensures.refusal.kinds (λ fault. fault)
 
 pub returns-in-Ok-Quiet-clause-checkpointed : goal.returns-in-Ok-Quiet-clause-checkpointed
 returns-in-Ok-Quiet-clause-checkpointed g c =
     let e : EngineState = c.drive.new.self in
     let works : e.failed ≡ false = works_behind c.drive.result e.failed c.in-Ok-Quiet.field-0 c.in-Ok-Quiet.is c.drive.ensures.failed in
-    ends_short g.D.Disk.moment g.D.Disk.images c.args.checkpoint e.checkpoint c.ended_by-in-Ok-Quiet.result c.drive.new.disk c.close-in-Ok-Quiet.new.disk (c.drive.ensures.same.checkpoint ∙ c.in-Ok.ensures.opened.checkpoint_is)
+    ends_short g.D.Disk.moment g.D.Disk.images c.args.checkpoint e.checkpoint c.leave-in-Ok-Quiet.result.ended c.drive.new.disk c.close-in-Ok-Quiet.new.disk (c.drive.ensures.same.checkpoint ∙ c.in-Ok.ensures.opened.checkpoint_is)
     c.in-Ok-Quiet.ensures.short (c.close-in-Ok-Quiet.ensures.short works)
 
 pub returns-in-Ok-Quiet-clause-alone : goal.returns-in-Ok-Quiet-clause-alone
@@ -140,13 +163,22 @@ returns-in-Limit-clause-headline g c telling in_telling out_telling state first 
     let e0 : EngineState = c.in-Ok.engine in
     let work = works_on D.tells D.held D.moment D.images e0.flow e0.most limit e.store c.drive.new.disk (c.drive.ensures.why.limited limit was) in
     let stop = c.drive.ensures.stopped (Limit limit) was telling in_telling out_telling opened first start (g.C.Clock.time c.args.clock.now) (omega arith) begins in
-    let closes = closes_so c.close-in-Err-drive.result e.failed c.ended_by-in-Err-drive.result (ended.Limit limit) (IsTrue D.tells → IsTidied e.flow e.store.lot (D.held c.close-in-Err-drive.new.disk)) works c.ended_by-in-Err-drive.ensures.ok c.ended_by-in-Err-drive.ensures.err (IfOk-weaker c.close-in-Err-drive.result _ _ (λ closed is_closed. is_closed.tidied) c.close-in-Err-drive.ensures.closed)
-    c.close-in-Err-drive.ensures.refusal.reopen c.close-in-Err-drive.ensures.refusal.kinds in (
-      e.journal,
+    let closes = closes_so c.close-in-Err-drive.result e.failed c.leave-in-Err-drive.result.ended (ended.Limit limit) (IsTrue D.tells → IsTidied e.flow e.store.lot (D.held c.close-in-Err-drive.new.disk)) works c.leave-in-Err-drive.ensures.ok c.leave-in-Err-drive.ensures.err (IfOk-weaker c.close-in-Err-drive.result _ _ (λ closed is_closed. is_closed.tidied) c.close-in-Err-drive.ensures.closed)
+    c.close-in-Err-drive.ensures.refusal.reopen c.close-in-Err-drive.ensures.refusal.kinds in
+    let ran =
       closes_limited D.tells D.held D.moment D.images c.faults_end_a_run.ensures.between e flow c.args.store.lot (c.drive.ensures.same.flow ∙ is.flow_is) (c.drive.ensures.same.lot ∙ ap (λ (t : StoreState). t.lot) is.store_is)
-          (work.flow_is ∙ ap identity_of (sym c.drive.ensures.same.flow)) opened first c.drive.new.disk c.close-in-Err-drive.new.disk now_left now_standing start time c.ended_by-in-Err-drive.result (c.close-in-Err-drive.ensures.states works)
-          (laws.held_is_left c.close-in-Err-drive.new.disk telling) c.close-in-Err-drive.result c.run_ends.ensures.limited limit stop closes telling,
+          (work.flow_is ∙ ap identity_of (sym c.drive.ensures.same.flow)) opened first c.drive.new.disk c.close-in-Err-drive.new.disk now_left now_standing start time c.leave-in-Err-drive.result.ended (c.close-in-Err-drive.ensures.states works)
+          (laws.held_is_left c.close-in-Err-drive.new.disk telling) c.close-in-Err-drive.result c.run_ends.ensures.limited limit stop closes telling in (
+      e.journal,
+      ran,
+      run_shows c.names_are_lost_by_taking.ensures.one_step D.tells D.held D.moment D.images flow c.in-Ok.engine e state left now_left standing now_standing first c.drive.new.disk c.close-in-Err-drive.new.disk start time stop.reached ran.reached
+          c.close-in-Err-drive.result c.leave-in-Err-drive.result.closed (c.drive.ensures.same.flow ∙ is.flow_is) c.drive.ensures.same.too_large (c.in-Ok.ensures.listed.coming in_telling state standing) (c.in-Ok.ensures.listed.counted in_telling) stop.to ran.ran.replays
+          c.leave-in-Err-drive.ensures.closed c.close-in-Err-drive.ensures.closed c.close-in-Err-drive.ensures.shows telling,
     )
+
+pub returns-in-Limit-clause-closed : goal.returns-in-Limit-clause-closed
+returns-in-Limit-clause-closed g c =
+    closes_or_fails c.close-in-Err-drive.result c.leave-in-Err-drive.result.ended (ended.Limit c.in-Limit.limit) c.leave-in-Err-drive.result.closed c.leave-in-Err-drive.ensures.closed c.leave-in-Err-drive.ensures.ok c.leave-in-Err-drive.ensures.err c.close-in-Err-drive.ensures.refusal.kinds (λ fault. fault)
 
 pub returns-in-Limit-clause-alone : goal.returns-in-Limit-clause-alone
 returns-in-Limit-clause-alone g c =
@@ -163,12 +195,12 @@ returns-in-Limit-clause-why g c =
     let is = c.in-Ok.ensures.opened in
     let was = c.in-Err-drive.is ∙ ap Err c.in-Limit.is in
     let works : e.failed ≡ false = works_at_limit c.drive.result e.failed c.in-Limit.limit was c.drive.ensures.failed in
-    let closes = closes_so c.close-in-Err-drive.result e.failed c.ended_by-in-Err-drive.result (ended.Limit c.in-Limit.limit) (IsTrue D.tells → IsTidied e.flow e.store.lot (D.held c.close-in-Err-drive.new.disk)) works c.ended_by-in-Err-drive.ensures.ok c.ended_by-in-Err-drive.ensures.err
+    let closes = closes_so c.close-in-Err-drive.result e.failed c.leave-in-Err-drive.result.ended (ended.Limit c.in-Limit.limit) (IsTrue D.tells → IsTidied e.flow e.store.lot (D.held c.close-in-Err-drive.new.disk)) works c.leave-in-Err-drive.ensures.ok c.leave-in-Err-drive.ensures.err
     (IfOk-weaker c.close-in-Err-drive.result _ _ (λ closed is_closed. is_closed.tidied) c.close-in-Err-drive.ensures.closed) c.close-in-Err-drive.ensures.refusal.reopen c.close-in-Err-drive.ensures.refusal.kinds in
     record {
       limited = λ limit so.
           limit_met D.tells D.held D.moment D.images c.args.flow.now e0.flow c.args.store.lot (D.moment c.args.disk.now) c.args.most e0.most c.in-Limit.limit limit e.store c.drive.new.disk c.close-in-Err-drive.new.disk
-          (limit_of c.ended_by-in-Err-drive.result c.in-Limit.limit limit (wanted_or_disk c.close-in-Err-drive.result c.ended_by-in-Err-drive.result (ended.Limit c.in-Limit.limit) (IsTrue D.tells → IsTidied e.flow e.store.lot (D.held c.close-in-Err-drive.new.disk)) closes) so) is.flow_is is.most_is
+          (limit_of c.leave-in-Err-drive.result.ended c.in-Limit.limit limit (wanted_or_disk c.close-in-Err-drive.result c.leave-in-Err-drive.result.ended (ended.Limit c.in-Limit.limit) (IsTrue D.tells → IsTidied e.flow e.store.lot (D.held c.close-in-Err-drive.new.disk)) closes) so) is.flow_is is.most_is
           (c.drive.ensures.same.lot ∙ ap (λ (t : StoreState). t.lot) is.store_is) c.drive.ensures.alone.later (c.drive.ensures.why.limited c.in-Limit.limit was) c.close-in-Err-drive.ensures.alone;
       damaged = search rules;
       faults_counted = search rules;
@@ -182,8 +214,8 @@ returns-in_default g c =
     let e : EngineState = c.drive.new.self in
     let error : EngineError = c.in-Err-drive.error in
     let none : IsNoLimit error = λ limit is_limit. c.in_default.not-Limit limit is_limit in
-    let end : Ended = c.ended-in_default.result in
-    let so : end ≡ ended_by error = c.ended-in_default.ensures in
+    let end : Ended = c.fail-in_default.result.ended in
+    let so : end ≡ ended_by error = c.fail-in_default.ensures.ended in
     record {
       headline = λ telling in_telling out_telling state first start run.
           let left : List NamedFile = g.I.Inbox.left c.args.inbox.now in
@@ -200,7 +232,9 @@ returns-in_default g c =
                 (run_of c.args.flow.now e.flow (ended_by error) start time D.tells D.held D.moment D.images c.args.store.lot e.store.lot opened first c.drive.new.disk now_left now_standing e.journal
                 (c.drive.ensures.same.flow ∙ is.flow_is) (c.drive.ensures.same.lot ∙ ap (λ (t : StoreState). t.lot) is.store_is)
                 (has_ended D.tells D.held D.moment D.images e opened first c.drive.new.disk now_left now_standing start time error none stop)),
+            none_shown c.args.flow.now c.fail-in_default.result.closed _ c.fail-in_default.ensures.closed,
           );
+      closed = fails_to_run c.fail-in_default.result.closed end error c.fail-in_default.ensures.closed so none;
       checkpointed = ends_by_error D.moment D.images c.args.checkpoint error end c.drive.new.disk so;
       alone =
           writes_on D.moment D.images c.args.store.log.number e0.store.log.number c.args.disk.now c.args.disk.now c.drive.new.disk (same_log c.args.store.log.number e0.store.log.number (ap (λ (t : StoreState). t.log.number) is.store_is))

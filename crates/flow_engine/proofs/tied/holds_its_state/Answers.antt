@@ -15,8 +15,24 @@ returns-clause-tied g c telling flow work m each =
     let held = g.D.Disk.held disk in
     let laws = g.met.D.Disk g.world.𝓛 g.world.𝓜 g.world.𝓡 ((λ s x. x), (λ x. x), (λ x. x), λ x. x) in
     let left = laws.held_is_left disk telling in
-    c.memory_is_the_state.ensures flow c.args.store.now held m work.flow_is
+    c.memory_is_the_state.ensures.kept flow c.args.store.now held m work.flow_is
     (c.state-stored.ensures.last_event work.works) (work.kept.holds work.works held left) (each held left)
+
+pub returns-clause-counted : goal.returns-clause-counted
+returns-clause-counted g c telling flow work m each =
+    let disk = c.args.disk.now in
+    let held = g.D.Disk.held disk in
+    let laws = g.met.D.Disk g.world.𝓛 g.world.𝓜 g.world.𝓡 ((λ s x. x), (λ x. x), (λ x. x), λ x. x) in
+    let left = laws.held_is_left disk telling in
+    c.memory_is_the_state.ensures.counted flow c.args.store.now held m work.flow_is
+    (c.state-stored.ensures.last_event work.works) (work.kept.holds work.works held left) (each held left)
+
+pub returns-clause-read : goal.returns-clause-read
+returns-clause-read g c telling =
+    let laws = g.met.D.Disk g.world.𝓛 g.world.𝓜 g.world.𝓡 ((λ s x. x), (λ x. x), (λ x. x), λ x. x) in
+    let work = c.requires.1 in
+    let held = g.D.Disk.held c.args.disk.now in
+    c.held_contents_are_read.ensures c.args.store.now held (work.kept.holds work.works held (laws.held_is_left c.args.disk.now telling))
 
 pub returns-clause-valid : goal.returns-clause-valid
 returns-clause-valid g c flow work contents events row =

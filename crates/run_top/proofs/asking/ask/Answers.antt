@@ -1,6 +1,5 @@
 use Rattle.std.proofs.Common.{refl, sym, ◌∙◌, arith}
 use Rattle.std.specs.Prelude.{Ok, Err}
-use Rattle.std.proofs.lemmas.List.{append-nil}
 use Rattle.run_top.proofs.Lines.{disk_told, nothing_behind}
 use Rattle.run_top.proofs.asking.ask.Goals as goal
 
@@ -11,8 +10,7 @@ returns-in-Ok-clause-answered g c = record {
   between = c.answer.new.sink;
   printed = c.in-Ok.ensures.printed;
   sound = c.in-Ok.ensures.sound;
-  line = λ told. nothing_behind _;
-  whole = λ told below same. sym (append-nil _);
+  line = λ told. nothing_behind _ _ _;
   failed = c.in-Ok.ensures.sink;
   later = omega arith;
 }
@@ -34,7 +32,6 @@ returns-in-Err-clause-answered g c = record {
   printed = c.in-Err.ensures.printed;
   sound = c.in-Err.ensures.sound;
   line = c.tell.ensures.line;
-  whole = c.tell.ensures.whole;
   failed = c.in-Err.ensures.sink;
   later = c.tell.ensures.faults;
 }

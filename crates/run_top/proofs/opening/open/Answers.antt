@@ -1,8 +1,12 @@
-use Rattle.std.proofs.Common.{◌≡◌, ◌∙◌, refl, ap}
+use Rattle.std.proofs.Common.{◌≡◌, ◌∙◌, refl, sym, ap, subst}
 use Rattle.std.proofs.lemmas.Result.{err_from_is_err_and}
-use Rattle.std.specs.Prelude.{Err}
+use Rattle.std.specs.Prelude.{Err, IfErr, Result}
+use Rattle.store_core.specs.Store.{StoreState as Store}
 use Rattle.store_core.specs.declared.error.StoreError.TheVariants as StoreError
 use Rattle.run_top.specs.Status.{error_of}
+use Rattle.run_top.specs.Opening.{IsOfStore}
+use Rattle.run_top.specs.declared.answer.Answer.{Answer}
+use Rattle.run_top.proofs.Answers.{of_store}
 use Rattle.run_top.proofs.Anew.{anew_is_consistent, identity_is}
 use Rattle.run_top.proofs.Opened.{damage_of, other_of, shut_stays, told_damage, told_other}
 use Rattle.run_top.proofs.opening.open.Goals as goal
@@ -10,6 +14,13 @@ use Rattle.run_top.proofs.opening.open.Goals as goal
 pub load-requires-after_bounds : goal.load-requires-after_bounds
 load-requires-after_bounds g c κs within =
     anew_is_consistent c.args.flow.now c.args.lot c.requires.sound c.requires.digest _ (identity_is c.args.flow.now _ _ _ refl c.in_ok-ids.ensures c.len.ensures)
+
+pub returns-in_err-store-clause-kinds : goal.returns-in_err-store-clause-kinds
+returns-in_err-store-clause-kinds g c =
+    let error = c.in_err-store.field-0.0 in
+    let p = err_from_is_err_and c.from_residual-in_err-store.result c.from_residual-in_err-store.ensures.1 in
+    let fails : c.from_residual-in_err-store.result ≡ Err (error_of error) = cc (p.1, p.2) in
+    subst (λ (r : Result Store Answer). IfErr r IsOfStore) (sym fails) (of_store error)
 
 pub returns-in_err-store-clause-shut : goal.returns-in_err-store-clause-shut
 returns-in_err-store-clause-shut g c =

@@ -39,7 +39,7 @@ pub invariant_of-self : goal.invariant_of-self
 invariant_of-self c =
     let count : length c.move_past.new.sources ≡ length c.self.inside.sources.items = c.move_past.auto.sources ∙ ap length c.deref_mut.ensures.value in
     let items = with_items_is c.self.inside.sources c.move_past.new.sources (count ∙ sym c.self.inside.sources.ok.0) in
-    still-sound c.self.inside _ c.in-Some.source.first c.self.invariant refl refl refl (ap length items ∙ count)
+    still-sound c.self.inside _ c.in-Some.source.first c.self.invariant refl refl refl refl (ap length items ∙ count)
     (λ k was now there there_now.
     let earlier = ap (λ l. slice_get l k) c.deref_mut.ensures.value ∙ there in
     let P : List Bool → Type 0 = λ taken. StillSuits taken c.in-Some.source.first was now in
@@ -56,4 +56,4 @@ returns c p there =
     let first = a-first c.self.inside c.self.invariant c.args.processor p c.index.result.now c.in-Some.source at is c.in-Some.is in
     let left = left-at c.self.inside c.self.invariant c.args.processor p c.index.result.now c.in-Some.source at is c.in-Some.is within in
     takes-first c.args.self.now _ p.kind name (sym named ∙ first ∙ ap (λ s. first_passed p.kind s.names) c.self.view_is)
-    (state-behind c.self.inside.flow.now c.self.inside.names.items c.self.inside.taken.items place c.args.self.now name c.self.view_is c.self.invariant.distinct named left)
+    (state-behind c.self.inside.flow.now c.self.inside.too_large c.self.inside.names.items c.self.inside.taken.items place c.args.self.now name c.self.view_is c.self.invariant.distinct named left)

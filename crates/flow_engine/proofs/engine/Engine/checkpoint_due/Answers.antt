@@ -24,7 +24,7 @@ returns-in_err-checkpoint-clause-stopped g c error is opened first start time le
     let i = c.self.inside in
     let e : EngineState = record { flow = i.flow.now; store = i.store; queues = i.queues; listing = i.listing; last = i.last; journal = i.journal.items; most = i.most; checkpoint = i.checkpoint; since_reclaim = i.since_reclaim; failed = i.has_failed; tended = i.tended } in
     let f : EngineState = record e { store = c.checkpoint.new.store; tended = None } in
-    let same : IsOfSameRun e f = record { flow = refl; most = refl; checkpoint = refl; lot = c.checkpoint.ensures.same.1 } in
+    let same : IsOfSameRun e f = record { flow = refl; most = refl; checkpoint = refl; too_large = refl; lot = c.checkpoint.ensures.same.1 } in
     let work = subst (λ (u : EngineState). IsAtWork u.flow tells held moment images u.store old) (sym c.self.view_is) c.requires.work in
     let p = err_from_is_err_and c.from_residual.result c.from_residual.ensures.1 in
     let told : c.in_err-checkpoint.field-0.0 ≡ error = cc (p.1, p.2, is) in
@@ -48,7 +48,7 @@ returns-in_err-checkpoint-clause-goes_on g c well opened first start time left s
     let i = c.self.inside in
     let e : EngineState = record { flow = i.flow.now; store = i.store; queues = i.queues; listing = i.listing; last = i.last; journal = i.journal.items; most = i.most; checkpoint = i.checkpoint; since_reclaim = i.since_reclaim; failed = i.has_failed; tended = i.tended } in
     let f : EngineState = record e { store = c.checkpoint.new.store; tended = None } in
-    let same : IsOfSameRun e f = record { flow = refl; most = refl; checkpoint = refl; lot = c.checkpoint.ensures.same.1 } in
+    let same : IsOfSameRun e f = record { flow = refl; most = refl; checkpoint = refl; too_large = refl; lot = c.checkpoint.ensures.same.1 } in
     let work = subst (λ (u : EngineState). IsAtWork u.flow tells held moment images u.store old) (sym c.self.view_is) c.requires.work in
     runs_spared tells held moment images e f same opened first old new start time left standing c.run_goes_on.ensures.spared time (omega arith) refl refl refl
     (λ m stands. c.checkpoint.ensures.spared i.flow.now m work stands)
@@ -65,7 +65,7 @@ returns-clause-goes_on g c well opened first start time left standing run =
     let i = c.self.inside in
     let e : EngineState = record { flow = i.flow.now; store = i.store; queues = i.queues; listing = i.listing; last = i.last; journal = i.journal.items; most = i.most; checkpoint = i.checkpoint; since_reclaim = i.since_reclaim; failed = i.has_failed; tended = i.tended } in
     let f : EngineState = record e { store = c.checkpoint.new.store; tended = None } in
-    let same : IsOfSameRun e f = record { flow = refl; most = refl; checkpoint = refl; lot = c.checkpoint.ensures.same.1 } in
+    let same : IsOfSameRun e f = record { flow = refl; most = refl; checkpoint = refl; too_large = refl; lot = c.checkpoint.ensures.same.1 } in
     let work = subst (λ (u : EngineState). IsAtWork u.flow tells held moment images u.store old) (sym c.self.view_is) c.requires.work in
     runs_spared tells held moment images e f same opened first old new start time left standing c.run_goes_on.ensures.spared time (omega arith) refl refl refl
     (λ m stands. c.checkpoint.ensures.spared i.flow.now m work stands)

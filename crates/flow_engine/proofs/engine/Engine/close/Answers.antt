@@ -1,8 +1,15 @@
-use Rattle.std.proofs.Common.{◌≡◌, false, ap, rules, sym, ◌∙◌}
+use Rattle.std.proofs.Common.{◌≡◌, ◌+◌, false, length, ap, rules, sym, ◌∙◌}
+use Rattle.store_core.specs.Store.{kept_by}
 use Rattle.flow_engine.specs.Engine.{EngineState}
 use Rattle.flow_engine.proofs.Short.{still_short}
-use Rattle.flow_engine.proofs.Tidied.{stand_still, tidied}
+use Rattle.flow_engine.proofs.Tidied.{shown_by_close, stand_still, tidied, works_inside}
 use Rattle.flow_engine.proofs.engine.Engine.close.Goals as goal
+
+pub holds_its_state-requires : goal.holds_its_state-requires
+holds_its_state-requires g c =
+    let D = g.D.Disk in
+    let works : c.args.self.failed ≡ false = sym (ap (λ (x : EngineState). x.failed) c.self.view_is) ∙ c.if-has_failed.false in
+    (search rules, (c.args.self.flow, works_inside c.args.self.flow D.tells D.held D.moment D.images c.self.inside.store c.args.self.store (ap (λ (x : EngineState). x.store) c.self.view_is) c.args.disk.now c.args.disk.now (c.requires.work works)))
 
 pub returns-in_default-clause-states : goal.returns-in_default-clause-states
 returns-in_default-clause-states g c works =
@@ -25,11 +32,21 @@ returns-clause-closed g c =
     let works : c.args.self.failed ≡ false = sym (ap (λ (x : EngineState). x.failed) c.self.view_is) ∙ c.if-has_failed.false in
     record {
       journal = search rules;
+      state = c.into_state.ensures ∙ c.close.ensures.state.0 ∙ ap (λ (x : EngineState). kept_by x.store) c.self.view_is;
+      left = c.count_left.ensures ∙ ap (λ (x : EngineState). length x.listing.names + x.listing.too_large) c.self.view_is;
+      events = c.event_counts-events.ensures ∙ ap (λ (x : EngineState). x.store.events.counts) c.self.view_is;
       synced = search rules;
       tidied = λ telling.
           tidied c.args.self.flow D.tells D.held D.moment D.images c.self.inside.store c.args.self.store (ap (λ (x : EngineState). x.store) c.self.view_is) c.args.disk.now c.close.new.disk (c.requires.work works) c.close.result c.close.new.self
           c.in-Ok.field-0 c.in-Ok.is c.close.ensures.refusal.failed c.close.ensures.state.0 c.close.ensures.state.1 c.close.ensures.kept (laws.held_is_left c.close.new.disk telling) (c.in-Ok.ensures.tidy telling);
     }
+
+pub returns-clause-shows : goal.returns-clause-shows
+returns-clause-shows g c telling m stands =
+    let D = g.D.Disk in
+    let works : c.args.self.failed ≡ false = sym (ap (λ (x : EngineState). x.failed) c.self.view_is) ∙ c.if-has_failed.false in
+    shown_by_close c.args.self.flow D.tells D.held D.moment D.images c.self.inside.store c.args.self.store (ap (λ (x : EngineState). x.store) c.self.view_is) c.args.disk.now c.args.disk.now (c.requires.work works) m _ (c.into_state.ensures ∙ c.close.ensures.state.0) c.event_counts-events.ensures
+    telling stands c.holds_its_state.ensures.tied c.holds_its_state.ensures.counted c.holds_its_state.ensures.read c.holds_its_state.ensures.kept.1
 
 pub returns-clause-short : goal.returns-clause-short
 returns-clause-short g c works =

@@ -60,7 +60,7 @@ returns-then-entries-self-clause-stopped g c error is telling opened first start
     let sizes = c.what_is_kept_is_seen.ensures.sizes i.store (held disk) (c.holds_its_state.ensures.held telling) in
     let count : c.entries.result ≡ length i.journal.items = c.entries.ensures ∙ ap (λ (u : EngineState). length u.journal) (sym c.self.view_is) in
     let full : length e.journal ≡ e.most = omega (arith, count, c.if-entries-self.true, ready.entries) in
-    let limited = stops_limited tells held moment images e e (record { flow = refl; most = refl; checkpoint = refl; lot = refl }) opened first disk disk start time left standing
+    let limited = stops_limited tells held moment images e e (record { flow = refl; most = refl; checkpoint = refl; too_large = refl; lot = refl }) opened first disk disk start time left standing
     (Expire expiry.connection expiry.numbers c.args.moment) (journal_full i.most) by
     (λ m stands. due_comes c.what_is_kept_is_seen.ensures.seen c.due_expiries_may_expire.ensures i.flow.now (kept_by i.store) expiry.connection expiry.numbers c.args.moment c.holds_its_state.ensures.kept.0 c.holds_its_state.ensures.kept.1
     ready.work.flow_is kept (content_in (held disk)) m sizes (c.holds_its_state.ensures.tied telling i.flow.now ready.work m stands))
@@ -119,7 +119,7 @@ returns-in_err-expired-clause-goes_on g c well telling opened first start time l
     let i = c.self.inside in
     let e : EngineState = record { flow = i.flow.now; store = i.store; queues = i.queues; listing = i.listing; last = i.last; journal = i.journal.items; most = i.most; checkpoint = i.checkpoint; since_reclaim = i.since_reclaim; failed = i.has_failed; tended = i.tended } in
     let f : EngineState = record e { store = c.expire-expired.new.store; queues = c.expire-expired.new.queues; journal = c.note.new.journal.items; tended = None } in
-    let same : IsOfSameRun e f = record { flow = refl; most = refl; checkpoint = refl; lot = c.expire-expired.ensures.same.0 } in
+    let same : IsOfSameRun e f = record { flow = refl; most = refl; checkpoint = refl; too_large = refl; lot = c.expire-expired.ensures.same.0 } in
     let expiry = c.in-Some.expiry in
     let one = Expire expiry.connection expiry.numbers c.args.moment in
     let noted : c.note.new.journal.items ≡ journaled c.expire-expired.result c.in_ok-step.step c.reserve.new.self.items = c.note.ensures in
@@ -145,7 +145,7 @@ returns-in_err-expired-clause-idle g c well none telling opened first start time
     let i = c.self.inside in
     let e : EngineState = record { flow = i.flow.now; store = i.store; queues = i.queues; listing = i.listing; last = i.last; journal = i.journal.items; most = i.most; checkpoint = i.checkpoint; since_reclaim = i.since_reclaim; failed = i.has_failed; tended = i.tended } in
     let f : EngineState = record e { store = c.expire-expired.new.store; queues = c.expire-expired.new.queues; journal = c.note.new.journal.items; tended = None } in
-    let same : IsOfSameRun e f = record { flow = refl; most = refl; checkpoint = refl; lot = c.expire-expired.ensures.same.0 } in
+    let same : IsOfSameRun e f = record { flow = refl; most = refl; checkpoint = refl; too_large = refl; lot = c.expire-expired.ensures.same.0 } in
     let expiry = c.in-Some.expiry in
     let one = Expire expiry.connection expiry.numbers c.args.moment in
     let noted : c.note.new.journal.items ≡ journaled c.expire-expired.result c.in_ok-step.step c.reserve.new.self.items = c.note.ensures in
@@ -171,7 +171,7 @@ returns-in_err-expired-clause-stopped g c error is telling opened first start ti
     let i = c.self.inside in
     let e : EngineState = record { flow = i.flow.now; store = i.store; queues = i.queues; listing = i.listing; last = i.last; journal = i.journal.items; most = i.most; checkpoint = i.checkpoint; since_reclaim = i.since_reclaim; failed = i.has_failed; tended = i.tended } in
     let f : EngineState = record e { store = c.expire-expired.new.store; queues = c.expire-expired.new.queues; journal = c.note.new.journal.items; tended = None } in
-    let same : IsOfSameRun e f = record { flow = refl; most = refl; checkpoint = refl; lot = c.expire-expired.ensures.same.0 } in
+    let same : IsOfSameRun e f = record { flow = refl; most = refl; checkpoint = refl; too_large = refl; lot = c.expire-expired.ensures.same.0 } in
     let ready = subst (λ (u : EngineState). IsReady tells held moment images u old) (sym c.self.view_is) c.requires.ready in
     let expiry = c.in-Some.expiry in
     let due : due_expiry i.flow.now (queue_seen i.queues) c.args.moment ≡ Some (expiry.connection, expiry.numbers)
@@ -209,7 +209,7 @@ returns-in_err-expired-clause-cut_off g c is =
     let i = c.self.inside in
     let e : EngineState = record { flow = i.flow.now; store = i.store; queues = i.queues; listing = i.listing; last = i.last; journal = i.journal.items; most = i.most; checkpoint = i.checkpoint; since_reclaim = i.since_reclaim; failed = i.has_failed; tended = i.tended } in
     let f : EngineState = record e { store = c.expire-expired.new.store; queues = c.expire-expired.new.queues; journal = c.note.new.journal.items; tended = None } in
-    let same : IsOfSameRun e f = record { flow = refl; most = refl; checkpoint = refl; lot = c.expire-expired.ensures.same.0 } in
+    let same : IsOfSameRun e f = record { flow = refl; most = refl; checkpoint = refl; too_large = refl; lot = c.expire-expired.ensures.same.0 } in
     let ready = subst (λ (u : EngineState). IsReady tells held moment images u old) (sym c.self.view_is) c.requires.ready in
     let expiry = c.in-Some.expiry in
     let due : due_expiry i.flow.now (queue_seen i.queues) c.args.moment ≡ Some (expiry.connection, expiry.numbers)
@@ -256,7 +256,7 @@ returns-clause-goes_on g c well telling opened first start time left standing by
     let i = c.self.inside in
     let e : EngineState = record { flow = i.flow.now; store = i.store; queues = i.queues; listing = i.listing; last = i.last; journal = i.journal.items; most = i.most; checkpoint = i.checkpoint; since_reclaim = i.since_reclaim; failed = i.has_failed; tended = i.tended } in
     let f : EngineState = record e { store = c.expire-expired.new.store; queues = c.expire-expired.new.queues; journal = c.note.new.journal.items; since_reclaim = c.saturating_add-self-inside.result; tended = None } in
-    let same : IsOfSameRun e f = record { flow = refl; most = refl; checkpoint = refl; lot = c.expire-expired.ensures.same.0 } in
+    let same : IsOfSameRun e f = record { flow = refl; most = refl; checkpoint = refl; too_large = refl; lot = c.expire-expired.ensures.same.0 } in
     let ready = subst (λ (u : EngineState). IsReady tells held moment images u old) (sym c.self.view_is) c.requires.ready in
     let expiry = c.in-Some.expiry in
     let due : due_expiry i.flow.now (queue_seen i.queues) c.args.moment ≡ Some (expiry.connection, expiry.numbers)
@@ -290,7 +290,7 @@ returns-clause-expired g c is =
     let i = c.self.inside in
     let e : EngineState = record { flow = i.flow.now; store = i.store; queues = i.queues; listing = i.listing; last = i.last; journal = i.journal.items; most = i.most; checkpoint = i.checkpoint; since_reclaim = i.since_reclaim; failed = i.has_failed; tended = i.tended } in
     let f : EngineState = record e { store = c.expire-expired.new.store; queues = c.expire-expired.new.queues; journal = c.note.new.journal.items; since_reclaim = c.saturating_add-self-inside.result; tended = None } in
-    let same : IsOfSameRun e f = record { flow = refl; most = refl; checkpoint = refl; lot = c.expire-expired.ensures.same.0 } in
+    let same : IsOfSameRun e f = record { flow = refl; most = refl; checkpoint = refl; too_large = refl; lot = c.expire-expired.ensures.same.0 } in
     let ready = subst (λ (u : EngineState). IsReady tells held moment images u old) (sym c.self.view_is) c.requires.ready in
     let expiry = c.in-Some.expiry in
     let due : due_expiry i.flow.now (queue_seen i.queues) c.args.moment ≡ Some (expiry.connection, expiry.numbers)

@@ -1,4 +1,5 @@
-use Rattle.std.proofs.Common.{◌≡◌, List, ℕ, filter, refl, sym, ◌∙◌, ap, subst}
+use Rattle.std.proofs.Common.{◌≡◌, List, ℕ, arith, filter, length, refl, sym, ◌∙◌, ap, subst}
+use Rattle.std.proofs.lemmas.List.{length-map}
 use Rattle.flowfile_record.specs.NamedFile.{NamedFile}
 use Rattle.flowfile_record.specs.Stored.{Kept}
 use Rattle.engine_choice.specs.Listing.{AreDistinct, Left}
@@ -8,8 +9,8 @@ use Rattle.flow_engine.specs.Opening.{fits_in}
 use Rattle.flow_engine.proofs.Fitting.{ascending_differ, fitting_takeable}
 use Rattle.flow_engine.proofs.engine.Engine.new.Goals as goal
 
-pub new-requires : goal.new-requires
-new-requires g c = ascending_differ c.in_ok-coming.coming.items c.in_ok-coming.ensures.ascending
+pub new-requires-clause-distinct : goal.new-requires-clause-distinct
+new-requires-clause-distinct g c = ascending_differ c.in_ok-coming.coming.items c.in_ok-coming.ensures.ascending
 
 pub returns-clause-opened : goal.returns-clause-opened
 returns-clause-opened g c =
@@ -43,4 +44,8 @@ returns-clause-listed g c = record {
       let are : c.in_ok-listing.listing.names ≡ filter (fits_in listed) names = ap (λ (l : Left). l.names) c.in_ok-listing.ensures ∙ c.in_ok-coming.ensures.fit told in
       subst (AreTakeable (g.I.Inbox.left c.names_that_fit.new.inbox)) (sym are)
       (subst (λ (l : List NamedFile). AreTakeable l (filter (fits_in listed) names)) (sym c.names_that_fit.ensures.left) (fitting_takeable listed names));
+  counted = λ told.
+      let listed : length c.list.new.names.items ≡ length (g.I.Inbox.left c.args.inbox.now) = ap length (c.in_ok-list.ensures.listed told) ∙ length-map (g.I.Inbox.left c.args.inbox.now) (λ (file : NamedFile). file.name) in
+      let names : length c.in_ok-listing.listing.names ≡ length c.in_ok-coming.coming.items = ap (λ (l : Left). length l.names) c.in_ok-listing.ensures in
+      omega (arith, listed, names, ap (λ (l : Left). l.too_large) c.in_ok-listing.ensures, c.in_ok-coming.ensures.few);
 }

@@ -19,7 +19,7 @@ returns-in_err-reclaimed-clause-stopped g c is opened first start time left stan
     let i = c.self.inside in
     let e : EngineState = record { flow = i.flow.now; store = i.store; queues = i.queues; listing = i.listing; last = i.last; journal = i.journal.items; most = i.most; checkpoint = i.checkpoint; since_reclaim = i.since_reclaim; failed = i.has_failed; tended = i.tended } in
     let f : EngineState = record e { store = c.reclaim.new.store; tended = None } in
-    let same : IsOfSameRun e f = record { flow = refl; most = refl; checkpoint = refl; lot = c.reclaim.ensures.same.1 } in
+    let same : IsOfSameRun e f = record { flow = refl; most = refl; checkpoint = refl; too_large = refl; lot = c.reclaim.ensures.same.1 } in
     let work = subst (λ (u : EngineState). IsAtWork u.flow tells held moment images u.store old) (sym c.self.view_is) c.requires.work in
     stops_spared tells held moment images e f same opened first old new start time left standing c.faults_end_a_run.ensures.between EngineError.Disk fault.Disk refl refl
     (λ m stands. c.reclaim.ensures.spared i.flow.now m work stands)
@@ -40,7 +40,7 @@ returns-clause-goes_on g c well opened first start time left standing run =
     let i = c.self.inside in
     let e : EngineState = record { flow = i.flow.now; store = i.store; queues = i.queues; listing = i.listing; last = i.last; journal = i.journal.items; most = i.most; checkpoint = i.checkpoint; since_reclaim = i.since_reclaim; failed = i.has_failed; tended = i.tended } in
     let f : EngineState = record e { store = c.reclaim.new.store; since_reclaim = 0; tended = None } in
-    let same : IsOfSameRun e f = record { flow = refl; most = refl; checkpoint = refl; lot = c.reclaim.ensures.same.1 } in
+    let same : IsOfSameRun e f = record { flow = refl; most = refl; checkpoint = refl; too_large = refl; lot = c.reclaim.ensures.same.1 } in
     let work = subst (λ (u : EngineState). IsAtWork u.flow tells held moment images u.store old) (sym c.self.view_is) c.requires.work in
     runs_spared tells held moment images e f same opened first old new start time left standing c.run_goes_on.ensures.spared time (omega arith) refl refl refl
     (λ m stands. c.reclaim.ensures.spared i.flow.now m work stands)
