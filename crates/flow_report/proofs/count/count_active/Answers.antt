@@ -1,0 +1,17 @@
+use Rattle.std.proofs.Common.{◌≡◌, ◌==◌, ◌^◌, length, refl, arith, rules}
+use Rattle.flow_report.proofs.Counting.{count-step, sum-step, bound-step}
+use Rattle.flow_report.proofs.count.count_active.Goals as goal
+
+pub loop-active-preserved : goal.loop-active-preserved
+loop-active-preserved c =
+    let inv = c.loop-active.invariant in
+    let x = c.in-Some.active.now in
+    let here = x.connection == c.args.place in
+    record {
+      next = search rules;
+      finite = search rules;
+      files = count-step (λ active. active.connection == c.args.place) x c.loop-active.active-iterator c.next.new.self here _ _ _ c.in-Some.ensures.steps refl c.with-count.ensures.files inv.files;
+      bytes = sum-step (λ active. active.connection == c.args.place) (λ active. active.file.content.size) x c.loop-active.active-iterator c.next.new.self here _ _ _ c.in-Some.ensures.steps refl c.with-count.ensures.bytes inv.bytes;
+      few = omega (arith, bound-step x c.loop-active.active-iterator c.next.new.self here _ 1 _ (length c.args.files.now.items) 1 c.in-Some.ensures.steps (omega arith) c.with-count.ensures.files (omega (arith, inv.few)));
+      fits = bound-step x c.loop-active.active-iterator c.next.new.self here _ _ _ _ (2 ^ 64) c.in-Some.ensures.steps (omega arith) c.with-count.ensures.bytes inv.fits;
+    }
