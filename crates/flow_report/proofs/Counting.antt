@@ -7,7 +7,7 @@ use Rattle.std.proofs.lemmas.List.Sums.{sum_by-cons}
 -- one item more, that may be among them
 sum-more : {X : Type 0} (p : X → Bool) (f : X → ℕ) (x : X) (rest : List X) (b : Bool) → b ≡ p x → sum_by f (filter p (x ∷ rest)) ≡ cond b (f x) 0 + sum_by f (filter p rest)
 sum-more p f x rest true is = ap (λ (c : Bool). sum_by f (cond c (x ∷ filter p rest) (filter p rest))) (sym is) ∙ sum_by-cons f x (filter p rest)
-sum-more p f x rest false is = ap (λ (c : Bool). sum_by f (cond c (x ∷ filter p rest) (filter p rest))) (sym is)
+sum-more p f x rest false is = ap (λ (c : Bool). sum_by f (cond c (x ∷ filter p rest) (filter p rest))) (sym is) ∙ omega arith
 
 count-more : {X : Type 0} (p : X → Bool) (x : X) (rest : List X) (b : Bool) → b ≡ p x → length (filter p (x ∷ rest)) ≡ cond b 1 0 + length (filter p rest)
 count-more p x rest true is = ap (λ (c : Bool). length (cond c (x ∷ filter p rest) (filter p rest))) (sym is) ∙ omega arith

@@ -138,7 +138,9 @@ writes-all-lines f xs i b b' past so_far = writes-named _ _ b b' (Ok tt) (ap (fl
 
 -- the item at a place, with its place
 item-at : {X : Type 0} (xs : List X) (i : ℕ) (x : X) → i < length xs → x ≡ get_or xs i x → get_or (enumerate_from 0 xs) i (i, x) ≡ (i, x)
-item-at xs i x within is = get_or-enumerate_from 0 xs i (i, x) within ∙ ap (λ (y : _). (i, y)) (sym is)
+item-at {X} xs i x within is =
+    let here : 0 + i ≡ i = omega arith in
+    get_or-enumerate_from 0 xs i (i, x) within ∙ ap (λ (n : ℕ). (n, get_or xs i x)) here ∙ ap (λ (y : X). (i, y)) (sym is)
 
 pub place-more : {X : Type 0} (f : ℕ × X → List ℕ) (xs : List X) (i : ℕ) (x : X) (b b' b'' : List ℕ) → i < length xs → x ≡ get_or xs i x
     → Writes (flat_map f (take i (enumerate_from 0 xs))) b b' (Ok tt) → Writes (f (i, x)) b' b'' (Ok tt) → Writes (flat_map f (take (i + 1) (enumerate_from 0 xs))) b b'' (Ok tt)

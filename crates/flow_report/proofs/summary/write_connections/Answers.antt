@@ -16,7 +16,7 @@ loop-place-init g c = record { written = λ tells. writes-nothing _; faults = om
 pub loop-place-preserved : goal.loop-place-preserved
 loop-place-preserved g c = record {
   written = λ tells.
-      place-more (line_at (kept_of c.args.state.now)) c.args.connections.now c.loop-place.place c.connection-item.result _ _ _ c.loop-place-test.true c.connection-item.is
+      place-more (line_at (kept_of c.args.state.now)) c.args.connections.now c.loop-place.place c.index-connections-place.result _ _ _ c.loop-place-test.true c.index-connections-place.is
       (c.loop-place.invariant.written tells) (c.in_ok-write_connection.ensures.written tells);
   faults = omega (arith, c.loop-place.invariant.faults, c.write_connection.ensures.cause.never_falls);
 }
@@ -24,7 +24,7 @@ loop-place-preserved g c = record {
 pub returns-in_err-write_connection-clause-written : goal.returns-in_err-write_connection-clause-written
 returns-in_err-write_connection-clause-written g c = λ tells. let p = err_from_is_err_and c.from_residual.result c.from_residual.ensures.1 in
     rw p.1
-    (place-failed (line_at (kept_of c.args.state.now)) c.args.connections.now c.loop-place.place c.connection-item.result _ _ _ _ c.loop-place-test.true c.connection-item.is
+    (place-failed (line_at (kept_of c.args.state.now)) c.args.connections.now c.loop-place.place c.index-connections-place.result _ _ _ _ c.loop-place-test.true c.index-connections-place.is
     (c.loop-place.invariant.written tells) (c.in_err-write_connection.ensures.written tells))
 
 pub returns-clause-written : goal.returns-clause-written

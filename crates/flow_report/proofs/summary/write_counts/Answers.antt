@@ -2,6 +2,7 @@ use Rattle.std.proofs.lemmas.Result.{err_from_is_err_and}
 use Rattle.std.proofs.Common.{ℕ, ◌-◌, List, get_or, arith}
 use Rattle.flowfile_record.specs.Events.{code_of}
 use Rattle.flowfile_record.specs.declared.event.EventKind.{EventKind}
+use Rattle.flowfile_record.specs.declared.event.EventKind.TheVariants.{Create}
 use Rattle.flow_report.specs.Summary.{count_text, kinds}
 use Rattle.flow_report.proofs.Writing.{writes-nothing, writes-more, writes-more-failed, writes-all-lines}
 use Rattle.flow_report.proofs.summary.write_counts.Goals as goal
@@ -14,7 +15,7 @@ loop-kind-init g c = record { written = λ tells. writes-nothing _; faults = ome
 
 pub loop-kind-preserved : goal.loop-kind-preserved
 loop-kind-preserved g c = record {
-  written = λ tells. writes-more (line_for c.args.events.now.counts) kinds c.loop-kind.kind-index _ _ _ _ c.loop-kind-test.true (c.loop-kind.invariant.written tells) ?;
+  written = λ tells. writes-more (line_for c.args.events.now.counts) kinds c.loop-kind.kind-index Create _ _ _ c.loop-kind-test.true (c.loop-kind.invariant.written tells) (let w = c.in_ok-write_count.ensures.written tells in ?);
   faults = omega (arith, c.loop-kind.invariant.faults, c.write_count.ensures.cause.never_falls);
 }
 
