@@ -49,7 +49,11 @@ pub fn write_summary<S: Sink>(
 }
 
 // Writes the line of each connection.
-fn write_connections<S: Sink>(sink: &mut S, connections: &[Connection], state: &Stored) -> Result<(), Failed>
+fn write_connections<S: Sink>(
+    sink: &mut S,
+    connections: &[Connection],
+    state: &Stored,
+) -> Result<(), Failed>
     ensures written { IsTrue S.tells → Writes (connections_text connections.now (kept_of state.now))
         (S.written sink.old) (S.written sink.new) result }
     ensures cause { CountsFaults (S.faults sink.old) (S.faults sink.new) (IsErr result) }
@@ -61,7 +65,12 @@ fn write_connections<S: Sink>(sink: &mut S, connections: &[Connection], state: &
 }
 
 // Writes the line of the connection at a place.
-fn write_connection<S: Sink>(sink: &mut S, connection: &Connection, place: usize, state: &Stored) -> Result<(), Failed>
+fn write_connection<S: Sink>(
+    sink: &mut S,
+    connection: &Connection,
+    place: usize,
+    state: &Stored,
+) -> Result<(), Failed>
     ensures written { IsTrue S.tells → Writes
         (connection_text connection.now.id (files_in place (kept_of state.now)) (bytes_in place (kept_of state.now)))
         (S.written sink.old) (S.written sink.new) result }
@@ -102,6 +111,11 @@ fn write_count<S: Sink>(sink: &mut S, kind: EventKind, count: u64) -> Result<(),
     }
     write_parts(
         sink,
-        &[Part::Text("event "), Part::Text(word_of_event(kind)), Part::Text(" "), Part::Number(count)],
+        &[
+            Part::Text("event "),
+            Part::Text(word_of_event(kind)),
+            Part::Text(" "),
+            Part::Number(count),
+        ],
     )
 }

@@ -39,12 +39,7 @@ const CASES: [Case; 3] = [
     Case {
         connections: &["in", "é", "out"],
         files: &[(0, 5), (2, 0), (0, 7), (1, u64::MAX), (3, 9), (65_535, 9)],
-        batches: &[
-            (0, 10_000, 3),
-            (1, 2, 1),
-            (1, 1, u64::MAX),
-            (3, 8, 8),
-        ],
+        batches: &[(0, 10_000, 3), (1, 2, 1), (1, 1, u64::MAX), (3, 8, 8)],
         left: u64::MAX,
         counts: [1, 2, 3, 4, 5, 6, 7, 8, 9, 10, 11, u64::MAX],
         text: "connection in 10002 15\nconnection é 4 36893488147419103231\nconnection out 1 0\ninbox 18446744073709551615\nevent CREATE 1\nevent RECEIVE 2\nevent FORK 3\nevent JOIN 4\nevent CLONE 5\nevent CONTENT_MODIFIED 6\nevent ATTRIBUTES_MODIFIED 7\nevent ROUTE 8\nevent SEND 9\nevent DROP 10\nevent EXPIRE 11\nevent REPLAY 18446744073709551615\n",
