@@ -1,7 +1,8 @@
 -- What puts one behind the other leave.
-use Rattle.std.proofs.Common.{◌≡◌, ℕ, ◌+◌, ◌<◌, ◌≤◌, List, [], ◌∷◌, ◌++◌, length, take, drop, get_or, Result, Ok, Err, refl, sym, ap, ◌∙◌, subst, append_assoc, OnOk}
-use Rattle.std.specs.List.{flat_map}
+use Rattle.std.proofs.Common.{◌≡◌, ℕ, ◌+◌, ◌<◌, ◌≤◌, List, [], ◌∷◌, ◌++◌, length, take, drop, get_or, Result, Ok, Err, refl, sym, ap, ◌∙◌, subst, append_assoc, OnOk, arith}
+use Rattle.std.specs.List.{enumerate_from, flat_map}
 use Rattle.std.proofs.lemmas.List.{append-nil, take_all, take_more, take-append-drop}
+use Rattle.std.proofs.lemmas.List.FromFn.{length-enumerate_from, get_or-enumerate_from}
 use Rattle.disk_trait.specs.declared.file_name.Failed.{Failed}
 use Rattle.flow_report.specs.Writing.{Puts, Writes}
 
@@ -116,3 +117,43 @@ writes-failed s t b b' e one =
 
 pub writes-named : (s t b b' : List ℕ) (result : Result (Unit {0}) Failed) → s ≡ t → Writes s b b' result → Writes t b b' result
 writes-named s t b b' result same = subst (λ (l : List ℕ). Writes l b b' result) same
+
+-- one line more
+pub writes-more : {X : Type 0} (f : X → List ℕ) (xs : List X) (i : ℕ) (d : X) (b b' b'' : List ℕ) → i < length xs → Writes (flat_map f (take i xs)) b b' (Ok tt)
+    → Writes (f (get_or xs i d)) b' b'' (Ok tt) → Writes (flat_map f (take (i + 1) xs)) b b'' (Ok tt)
+writes-more f xs i d b b' b'' within so_far more = writes-named _ _ b b'' (Ok tt) (texts-more f xs i d within) (writes-then _ _ b b' b'' (Ok tt) so_far more)
+
+-- a line failed
+pub writes-more-failed : {X : Type 0} (f : X → List ℕ) (xs : List X) (i : ℕ) (d : X) (b b' b'' : List ℕ) (e : Failed) → i < length xs → Writes (flat_map f (take i xs)) b b' (Ok tt)
+    → Writes (f (get_or xs i d)) b' b'' (Err e) → Writes (flat_map f xs) b b'' (Err e)
+writes-more-failed f xs i d b b' b'' e within so_far more =
+    let here = writes-named _ _ b b'' (Err e) (texts-more f xs i d within) (writes-then _ _ b b' b'' (Err e) so_far more) in
+    writes-named _ _ b b'' (Err e) (texts-whole f xs (i + 1)) (writes-failed (flat_map f (take (i + 1) xs)) (flat_map f (drop (i + 1) xs)) b b'' e here)
+
+-- all lines
+pub writes-all-lines : {X : Type 0} (f : X → List ℕ) (xs : List X) (i : ℕ) (b b' : List ℕ) → length xs ≤ i → Writes (flat_map f (take i xs)) b b' (Ok tt) → Writes (flat_map f xs) b b' (Ok tt)
+writes-all-lines f xs i b b' past so_far = writes-named _ _ b b' (Ok tt) (ap (flat_map f) (take_all i xs past)) so_far
+
+-- ---- lines of places and items
+
+-- the item at a place, with its place
+item-at : {X : Type 0} (xs : List X) (i : ℕ) (x : X) → i < length xs → x ≡ get_or xs i x → get_or (enumerate_from 0 xs) i (i, x) ≡ (i, x)
+item-at {X} xs i x within is =
+    let here : 0 + i ≡ i = omega arith in
+    get_or-enumerate_from 0 xs i (i, x) within ∙ ap (λ (n : ℕ). (n, get_or xs i x)) here ∙ ap (λ (y : X). (i, y)) (sym is)
+
+pub place-more : {X : Type 0} (f : ℕ × X → List ℕ) (xs : List X) (i : ℕ) (x : X) (b b' b'' : List ℕ) → i < length xs → x ≡ get_or xs i x
+    → Writes (flat_map f (take i (enumerate_from 0 xs))) b b' (Ok tt) → Writes (f (i, x)) b' b'' (Ok tt) → Writes (flat_map f (take (i + 1) (enumerate_from 0 xs))) b b'' (Ok tt)
+place-more f xs i x b b' b'' within is so_far more =
+    writes-more f (enumerate_from 0 xs) i (i, x) b b' b'' (omega (arith, within, length-enumerate_from 0 xs)) so_far
+    (writes-named _ _ b' b'' (Ok tt) (ap f (sym (item-at xs i x within is))) more)
+
+pub place-failed : {X : Type 0} (f : ℕ × X → List ℕ) (xs : List X) (i : ℕ) (x : X) (b b' b'' : List ℕ) (e : Failed) → i < length xs → x ≡ get_or xs i x
+    → Writes (flat_map f (take i (enumerate_from 0 xs))) b b' (Ok tt) → Writes (f (i, x)) b' b'' (Err e) → Writes (flat_map f (enumerate_from 0 xs)) b b'' (Err e)
+place-failed f xs i x b b' b'' e within is so_far more =
+    writes-more-failed f (enumerate_from 0 xs) i (i, x) b b' b'' e (omega (arith, within, length-enumerate_from 0 xs)) so_far
+    (writes-named _ _ b' b'' (Err e) (ap f (sym (item-at xs i x within is))) more)
+
+pub places-all : {X : Type 0} (f : ℕ × X → List ℕ) (xs : List X) (i : ℕ) (b b' : List ℕ) → length xs ≤ i
+    → Writes (flat_map f (take i (enumerate_from 0 xs))) b b' (Ok tt) → Writes (flat_map f (enumerate_from 0 xs)) b b' (Ok tt)
+places-all f xs i b b' past so_far = writes-all-lines f (enumerate_from 0 xs) i b b' (omega (arith, past, length-enumerate_from 0 xs)) so_far

@@ -3,3 +3,4 @@ pub mod Events
 pub mod Words
 pub mod Writing
 pub mod Parts
+pub mod Summary

@@ -1,5 +1,5 @@
 -- For private clauses: the text of a line's parts.
-use Rattle.std.specs.Prelude.{ℕ, List, ◌++◌, decimal}
+use Rattle.std.specs.Prelude.{ℕ, ◌+◌, List, ◌++◌, decimal}
 use Rattle.std.specs.List.{flat_map}
 use Rattle.hex.specs.Hex.{encode_lower}
 use Rattle.json.specs.Print.{quoted}
@@ -15,6 +15,7 @@ use Rattle.flow_report.specs.declared.part.Part.TheVariants as part
 abbrev pub part_text : Part → List ℕ
 part_text (part.Text text) = text.now
 part_text (part.Number number) = decimal number
+part_text (part.Sum one other) = decimal (one + other)
 part_text (part.Uuid id) = uuid_text id.now
 part_text (part.Digest digest) = encode_lower digest.now
 part_text (part.Quoted text) = quoted text.now

@@ -1,5 +1,5 @@
 //! Bytes of a line that are gathered before they go to a sink.
-ghost use Rattle.std.specs.Prelude.{◌≡◌, [], decimal, IsTrue, IsErr, OnOk};
+ghost use Rattle.std.specs.Prelude.{◌≡◌, ◌+◌, [], decimal, IsTrue, IsErr, OnOk};
 ghost use Rattle.disk_trait.specs.Faults.{CountsFaults};
 ghost use Rattle.flow_report.specs.Words.{uuid_text};
 ghost use Rattle.flow_report.specs.Writing.{Puts};
@@ -44,6 +44,26 @@ impl Held {
             // More bytes than are ever held.
             Err(_) => write_bytes(sink, bytes),
         }
+    }
+
+    /// Puts the sum of two numbers in decimal. It may have a bit more than they have.
+    pub(crate) fn put_sum<S: Sink>(
+        &mut self,
+        sink: &mut S,
+        one: u128,
+        other: u128,
+    ) -> Result<(), Failed>
+        ensures put { IsTrue S.tells → Puts (decimal (one + other)) (S.written sink.old) self.old.bytes.items
+            (S.written sink.new) self.new.bytes.items result }
+        ensures cause { CountsFaults (S.faults sink.old) (S.faults sink.new) (IsErr result) }
+    {
+        let ones = one % 10 + other % 10;
+        let tens = one / 10 + other / 10 + ones / 10;
+        if tens == 0 {
+            return self.put_number(sink, ones);
+        }
+        self.put_number(sink, tens)?;
+        self.put_number(sink, ones % 10)
     }
 
     /// Puts a number in decimal.

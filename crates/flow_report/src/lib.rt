@@ -4,14 +4,17 @@
 #![tactic(auto)]
 
 mod bytes;
+mod count;
 mod event;
 mod held;
 mod line;
 mod part;
 mod quoting;
+mod summary;
 #[cfg(test)]
 mod tests;
 mod words;
 
 pub use bytes::write_bytes;
 pub use line::{KinWord, Line, write_line};
+pub use summary::write_summary;

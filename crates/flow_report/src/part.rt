@@ -16,6 +16,8 @@ use world_io::Sink;
 pub(crate) enum Part<'a> {
     Text(&'a str),
     Number(u64),
+    /// The sum of two numbers.
+    Sum(u128, u128),
     Uuid(&'a Uuid),
     Digest(&'a [u8; DIGEST_SIZE]),
     /// A text in quotation marks, as in JSON.
@@ -50,6 +52,7 @@ fn put_part<S: Sink>(held: &mut Held, sink: &mut S, part: &Part) -> Result<(), F
     match *part {
         Part::Text(text) => held.put(sink, text.as_bytes()),
         Part::Number(number) => held.put_number(sink, u128::from(number)),
+        Part::Sum(one, other) => held.put_sum(sink, one, other),
         Part::Uuid(id) => held.put_uuid(sink, id),
         Part::Digest(digest) => held.put(sink, &text_of_digest(digest)),
         Part::Quoted(text) => held.put_quoted(sink, text.as_bytes()),

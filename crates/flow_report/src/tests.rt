@@ -1,6 +1,8 @@
 //! What each line says, and what is written where a sink fails or takes a byte at a time.
 ghost use Rattle.std.specs.Prelude.{false, []};
 
+mod summaries;
+
 use crate::{KinWord, Line, write_line};
 use disk_trait::{Damage, Failed, FileKind, FileName};
 use flowfile_record::{Event, EventKind, Numbers, Text, uuid_of};
