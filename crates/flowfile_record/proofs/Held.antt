@@ -71,11 +71,12 @@ module _ (pairs : List Pair) (key value : List ℕ) (place : ℕ) where
   same_key : (pair : Pair) → IsAt (slice_cmp nat_cmp) (map key_and_value pairs) key place → place < length pairs → pair ≡ get_or pairs place pair → pair.key ≡ key
   same_key pair is lt read = key_at order same key_and_value pairs key place pair is read
 
-  pub put_over : (pair : Pair) → IsAt (slice_cmp nat_cmp) (map key_and_value pairs) key place → place < length pairs → pair ≡ get_or pairs place pair → map key_and_value (set pairs place (record { key = pair.key; value = value })) ≡ put (slice_cmp nat_cmp) key value (map key_and_value pairs)
-  put_over pair is lt read = put_there order same key_and_value pairs key place pair _ value is read refl
+  pub put_over : (pair new : Pair) → IsAt (slice_cmp nat_cmp) (map key_and_value pairs) key place → place < length pairs → pair ≡ get_or pairs place pair → key_and_value new ≡ (key, value) → map key_and_value (set pairs place new) ≡ put (slice_cmp nat_cmp) key value (map key_and_value pairs)
+  put_over pair new is lt read made =
+      put_there order same key_and_value pairs key place pair new value is read (made ∙ ap (λ (k : List ℕ). (k, value)) (sym (same_key pair is lt read)))
 
-  pub put_new : IsGap (slice_cmp nat_cmp) (map key_and_value pairs) key place → map key_and_value (insert pairs place (record { key = key; value = value })) ≡ put (slice_cmp nat_cmp) key value (map key_and_value pairs)
-  put_new is = put_between order same key_and_value pairs key place _ value is refl
+  pub put_new : (new : Pair) → IsGap (slice_cmp nat_cmp) (map key_and_value pairs) key place → key_and_value new ≡ (key, value) → map key_and_value (insert pairs place new) ≡ put (slice_cmp nat_cmp) key value (map key_and_value pairs)
+  put_new new is made = put_between order same key_and_value pairs key place new value is made
 
   pub size_over : (pair : Pair) → IsAt (slice_cmp nat_cmp) (map key_and_value pairs) key place → place < length pairs → pair ≡ get_or pairs place pair → sum_by pair_size (put (slice_cmp nat_cmp) key value (map key_and_value pairs)) + length pair.value ≡ sum_by pair_size (map key_and_value pairs) + length value
   size_over pair is lt read =

@@ -13,10 +13,14 @@ ghost use Rattle.flowfile_record.specs.HeldPairs.{key_and_value};
 ghost use Rattle.flowfile_record.specs.Places.{IsAt, IsGap};
 ghost use Rattle.flowfile_record.specs.OptionalText.{same_text};
 
+#[cfg(test)]
+mod tests;
+
 use crate::Text;
 use std::alloc::{AllocError, AllocFailed, Global};
 use std::cmp::Ordering;
 use std::marker::Model;
+use std::sync::Arc;
 use thiserror::Error;
 
 /// The greatest encoded size of a flow file's attributes, in bytes.
@@ -30,11 +34,17 @@ pub const KEY_MAX: u64 = 255;
 #[derive(Debug, Drop)]
 pub struct Attributes {
     // Ascending by the bytes of the keys.
-    pairs: Vec<Pair>,
+    pairs: Vec<SharedPair>,
     size: u64,
 }
 
-#[derive(Clone, Debug, PartialEq, Drop)]
+// A pair that copies of the attributes have in common. It never changes: a put over it makes another.
+#[derive(Debug, Drop)]
+struct SharedPair {
+    pair: Arc<Pair>,
+}
+
+#[derive(Debug, Drop)]
 struct Pair {
     key: Text,
     value: Text,
@@ -94,7 +104,7 @@ impl Attributes {
         ensures limits { IsWithinLimits self.now }
     {
         match place_of(&self.pairs, key) {
-            Ok(place) => Some(self.pairs[place].value.as_str()),
+            Ok(place) => Some(self.pairs[place].value()),
             Err(_) => None,
         }
     }
@@ -118,7 +128,7 @@ impl Attributes {
         ensures limits { IsWithinLimits self.now }
     {
         match self.pairs.get(place as usize) {
-            Some(pair) => Some((pair.key.as_str(), pair.value.as_str())),
+            Some(pair) => Some((pair.key(), pair.value())),
             None => None,
         }
     }
@@ -216,7 +226,7 @@ impl Attributes {
         self.pairs == other.pairs
     }
 
-    /// A copy of these attributes.
+    /// A copy of these attributes, which shares their texts.
     pub fn copy(&self) -> Result<Attributes, AllocError>
         ensures { IfOk result (λ copy. copy ≡ self.now) }
     {
@@ -233,16 +243,71 @@ pub const COUNT_SIZE: u64 = 2;
 
 pub const PAIR_SIZE: u64 = 6;
 
-impl Pair {
+impl Model for SharedPair {
+    ghost use Rattle.std.specs.Arc.{arc_value};
+    ghost use Rattle.flowfile_record.specs.declared.attributes.Pair.{Pair};
+
+    ghost Value = { Pair };
+
+    ghost view = { λ shared. arc_value shared.pair };
+}
+
+impl Clone for SharedPair {
+    ghost is_clone = { λ shared copy. copy ≡ shared };
+
+    fn clone(&self) -> Result<SharedPair, AllocError> {
+        let pair = Arc::try_clone(&self.pair)?;
+        Ok(SharedPair { pair })
+    }
+}
+
+impl PartialEq for SharedPair {
+    ghost use Rattle.std.specs.Prelude.{bytes_eq};
+    ghost use Rattle.std.specs.Cmp.{partial_equiv_from_equiv, on_per, and_per};
+    ghost use Rattle.std.specs.Cmp.Lexicographic.{nat_list_eq_equiv};
+
+    ghost eq = { λ pair other. bytes_eq pair.key other.key && bytes_eq pair.value other.value };
+
+    ghost laws = { and_per
+        (on_per (λ pair. pair.key) (partial_equiv_from_equiv nat_list_eq_equiv))
+        (on_per (λ pair. pair.value) (partial_equiv_from_equiv nat_list_eq_equiv)) };
+
+    fn eq(&self, other: &SharedPair) -> bool {
+        self.key() == other.key() && self.value() == other.value()
+    }
+}
+
+impl SharedPair {
+    fn new(alloc: Global, key: &str, value: &str) -> Result<SharedPair, AllocError>
+        ensures { IfOk result (λ pair. key_and_value pair ≡ (key.now, value.now)) }
+    {
+        let key = Text::from_str(alloc, key)?;
+        let value = Text::from_str(alloc, value)?;
+        let pair = Arc::new(alloc, Pair { key, value })?;
+        Ok(SharedPair { pair })
+    }
+
+    fn key(&self) -> &str
+        ensures { result.now ≡ self.now.key }
+    {
+        self.pair.key.as_str()
+    }
+
+    fn value(&self) -> &str
+        ensures { result.now ≡ self.now.value }
+    {
+        self.pair.value.as_str()
+    }
+
     fn size(&self) -> u64
         requires { pair_size (key_and_value self.now) ≤ ATTRIBUTES_MAX }
         ensures { result ≡ pair_size (key_and_value self.now) }
     {
-        PAIR_SIZE + self.key.as_str().len() as u64 + self.value.as_str().len() as u64
+        PAIR_SIZE + self.key().len() as u64 + self.value().len() as u64
     }
 }
 
-fn size_of_all(pairs: &[Pair]) -> u64
+fn size_of_all(pairs: &[SharedPair]) -> u64
     requires { sum_by pair_size (each key_and_value pairs.now) + COUNT_SIZE ≤ ATTRIBUTES_MAX }
     ensures { result ≡ sum_by pair_size (each key_and_value pairs.now) + COUNT_SIZE }
 {
@@ -254,20 +319,26 @@ fn size_of_all(pairs: &[Pair]) -> u64
 }
 
 // Where the pair of a key stands, or where it would.
-fn place_of(pairs: &[Pair], key: &str) -> Result<usize, usize>
+fn place_of(pairs: &[SharedPair], key: &str) -> Result<usize, usize>
     requires { IsTrue (is_sorted (slice_cmp nat_cmp) (each key_and_value pairs.now)) }
     ensures found { IfOk result (IsAt (slice_cmp nat_cmp) (each key_and_value pairs.now) key.now) }
     ensures absent { IfErr result (IsGap (slice_cmp nat_cmp) (each key_and_value pairs.now) key.now) }
 {
     pairs.binary_search_by(
-        |pair: &Pair| -> Ordering
+        |pair: &SharedPair| -> Ordering
             ensures { result ≡ slice_cmp nat_cmp pair.now.key key.entry.now }
-        { pair.key.as_str().cmp(key) },
+        { pair.key().cmp(key) },
     )
 }
 
 // The encoded size with a value under a key, whose place `place_of` gave.
-fn size_with(pairs: &[Pair], size: u64, place: Result<usize, usize>, key: &str, value: &str) -> u64
+fn size_with(
+    pairs: &[SharedPair],
+    size: u64,
+    place: Result<usize, usize>,
+    key: &str,
+    value: &str,
+) -> u64
     requires size_is { size ≡ sum_by pair_size (each key_and_value pairs.now) + COUNT_SIZE }
     requires size_within { size ≤ ATTRIBUTES_MAX }
     requires key_within { length key.now ≤ KEY_MAX }
@@ -277,14 +348,14 @@ fn size_with(pairs: &[Pair], size: u64, place: Result<usize, usize>, key: &str, 
         (put (slice_cmp nat_cmp) key.now value.now (each key_and_value pairs.now)) + COUNT_SIZE }
 {
     match place {
-        Ok(place) => size - pairs[place].value.as_str().len() as u64 + value.len() as u64,
+        Ok(place) => size - pairs[place].value().len() as u64 + value.len() as u64,
         Err(_) => size + PAIR_SIZE + key.len() as u64 + value.len() as u64,
     }
 }
 
 // Puts a value under a key, whose place `place_of` gave.
 fn store(
-    pairs: &mut Vec<Pair>,
+    pairs: &mut Vec<SharedPair>,
     place: Result<usize, usize>,
     key: &str,
     value: &str,
@@ -297,34 +368,31 @@ fn store(
         else each key_and_value pairs.old.items) }
 {
     let alloc = *pairs.allocator();
-    let value = Text::from_str(alloc, value)?;
+    let pair = SharedPair::new(alloc, key, value)?;
     match place {
-        Ok(place) => pairs[place].value = value,
-        Err(place) => {
-            let key = Text::from_str(alloc, key)?;
-            pairs.insert(place, Pair { key, value })?;
-        }
+        Ok(place) => pairs[place] = pair,
+        Err(place) => pairs.insert(place, pair)?,
     }
     Ok(())
 }
 
 // Keeps the pairs that stand in the attributes.
-fn keep_standing_in(pairs: &mut Vec<Pair>, attributes: &Attributes)
+fn keep_standing_in(pairs: &mut Vec<SharedPair>, attributes: &Attributes)
     ensures { pairs.new.items
         ≡ filter (λ pair. same_text (Some pair.value) (map.get attributes.now pair.key)) pairs.old.items }
 {
     pairs.retain(
-        |pair: &Pair| -> bool
+        |pair: &SharedPair| -> bool
             ensures { result ≡ same_text (Some pair.now.value) (map.get attributes.entry.now pair.now.key) }
         { stands_in(pair, attributes) },
     );
 }
 
-fn stands_in(pair: &Pair, attributes: &Attributes) -> bool
+fn stands_in(pair: &SharedPair, attributes: &Attributes) -> bool
     ensures { result ≡ same_text (Some pair.now.value) (map.get attributes.now pair.now.key) }
 {
-    match attributes.get(pair.key.as_str()) {
-        Some(value) => pair.value.as_str() == value,
+    match attributes.get(pair.key()) {
+        Some(value) => pair.value() == value,
         None => false,
     }
 }

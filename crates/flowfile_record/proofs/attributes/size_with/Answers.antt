@@ -6,7 +6,7 @@ pub overflow_sub-result : goal.overflow_sub-result
 overflow_sub-result c =
     let is = rw c.in-Ok.is at c.requires.found in
     let le = size_within c.args.pairs.now c.in-Ok.place c.index-pairs-place.result (in_pairs _ _ _ is) c.index-pairs-place.is in
-    let long : length c.as_str.result.now ≡ length c.index-pairs-place.result.value = cc in
+    let long : length c.value.result.now ≡ length c.index-pairs-place.result.value = cc in
     omega arith
 
 pub returns-in-Ok : goal.returns-in-Ok
@@ -14,7 +14,7 @@ returns-in-Ok c =
     let is = rw c.in-Ok.is at c.requires.found in
     let le = size_within c.args.pairs.now c.in-Ok.place c.index-pairs-place.result (in_pairs _ _ _ is) c.index-pairs-place.is in
     let over = size_over c.args.pairs.now c.args.key.now c.args.value.now c.in-Ok.place c.index-pairs-place.result is (in_pairs _ _ _ is) c.index-pairs-place.is in
-    let long : length c.as_str.result.now ≡ length c.index-pairs-place.result.value = cc in
+    let long : length c.value.result.now ≡ length c.index-pairs-place.result.value = cc in
     omega arith
 
 pub returns-in-Err : goal.returns-in-Err

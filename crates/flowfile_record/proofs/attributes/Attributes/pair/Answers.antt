@@ -9,7 +9,7 @@ returns-in-Some-clause-pair c =
     let pair = c.in-Some.pair.now in
     let lt = rw c.deref.ensures.value at c.in-Some.ensures.lookup.3.0 in
     let read = rw c.deref.ensures.value at c.in-Some.ensures.lookup.1 in
-    let texts : ◌≡◌ {A = Option (List ℕ × List ℕ)} (Some (c.as_str.result.now, c.as_str-in-Some.result.now)) (Some (pair.key, pair.value)) = λ i. Some (c.as_str.ensures.text i, c.as_str-in-Some.ensures.text i) in
+    let texts : ◌≡◌ {A = Option (List ℕ × List ℕ)} (Some (c.key.result.now, c.value.result.now)) (Some (pair.key, pair.value)) = λ i. Some (c.key.ensures i, c.value.ensures i) in
     texts ∙ pair_at _ _ c.args.place pair c.self.invariant lt read ∙ ap (λ these. slice_get (entries these) c.args.place) c.self.view_is
 
 pub returns-in-Some-clause-limits : goal.returns-in-Some-clause-limits

@@ -4,7 +4,7 @@ use Rattle.std.specs.FinMap.{is_sorted}
 use Rattle.flowfile_record.specs.declared.numbered_list.Slot.{Slot}
 use Rattle.flowfile_record.specs.NumberedItems.{item_of, with_item}
 use Rattle.flowfile_record.specs.Slots.{number_and_item, items_of}
-use Rattle.flowfile_record.proofs.Numbers.{slots_within, slots_ascend, items-put, slots-put}
+use Rattle.flowfile_record.proofs.Numbers.{items-put, slots-put}
 use Rattle.flowfile_record.proofs.numbered_list.NumberedList.put.Goals as goal
 
 pub place_of-place-requires : goal.place_of-place-requires
