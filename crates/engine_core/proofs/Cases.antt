@@ -61,7 +61,7 @@ pub record IsSettled (c : Case) : Type 0 where
   pub consistent : IsConsistent c.k
   pub batches : c.k.batches ≡ []
   pub settles : Settles c.flow c.given (counters_of c.k) c.ended c.settled
-  pub tells : TellsOf c.given c.ended c.settled
+  pub tells : TellsOf c.given (counters_of c.k) c.ended c.settled
   pub records : RecordsAll c.flow c.given (counters_of c.k) c.ended c.settled
   pub moment : c.given.moment < 2 ^ 64
   pub received : length (unwrap_or c.given.file []) ≤ NAME_MAX
@@ -115,7 +115,7 @@ pub record IsTyped (c : Case) : Type 0 where
 
 -- what is settled over the counters of what is stored, which is what is kept
 pub settled_over : (c : Case) (stored : Kept) → stored ≡ c.k → IsSound c.flow → flow_in c.k ≡ identity_of c.flow → MayCommit c.flow c.given c.k c.ended → IsConsistent c.k → c.k.batches ≡ []
-    → Settles c.flow c.given (counters_of stored) c.ended c.settled → TellsOf c.given c.ended c.settled → RecordsAll c.flow c.given (counters_of stored) c.ended c.settled
+    → Settles c.flow c.given (counters_of stored) c.ended c.settled → TellsOf c.given (counters_of stored) c.ended c.settled → RecordsAll c.flow c.given (counters_of stored) c.ended c.settled
     → IsTyped c → KeptIsValid → LiveFilesAreQueued → IsSettled c
 settled_over c stored same sound identity may consistent batches settles tells records typed valid queued = record {
   sound = sound;
@@ -124,7 +124,7 @@ settled_over c stored same sound identity may consistent batches settles tells r
   consistent = consistent;
   batches = batches;
   settles = subst (λ (l : Kept). Settles c.flow c.given (counters_of l) c.ended c.settled) same settles;
-  tells = tells;
+  tells = subst (λ (l : Kept). TellsOf c.given (counters_of l) c.ended c.settled) same tells;
   records = subst (λ (l : Kept). RecordsAll c.flow c.given (counters_of l) c.ended c.settled) same records;
   moment = typed.moment;
   received = typed.received;

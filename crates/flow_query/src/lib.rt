@@ -13,6 +13,8 @@ mod lineage;
 mod lines;
 mod queues;
 mod seen;
+#[cfg(test)]
+mod tests;
 mod told;
 mod waiting;
 

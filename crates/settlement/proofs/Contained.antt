@@ -1,9 +1,9 @@
 -- That what is placed has its content.
-use Rattle.std.proofs.Common.{◌≡◌, inl, inr, ℕ, zero, suc, ◌+◌, ◌<◌, List, [], ◌∷◌, ◌++◌, map, length, refl, sym, subst, arith}
+use Rattle.std.proofs.Common.{◌≡◌, inl, inr, ℕ, zero, suc, ◌+◌, ◌<◌, List, [], ◌∷◌, ◌++◌, map, length, refl, sym, subst, ◌∙◌, arith}
 use Rattle.std.specs.Prelude.{All, IfOk, Ok, Err, Result, zip}
 use Rattle.std.proofs.lemmas.List.{length-map}
 use Rattle.std.proofs.lemmas.List.Elements.{All-cons, All-head, All-nil, All-tail}
-use Rattle.flowfile_record.specs.Outcome.{IsBodyOver, IsWorked}
+use Rattle.flowfile_record.specs.Outcome.{AreInTurn, IsBodyOver, IsWorked}
 use Rattle.flowfile_record.specs.declared.change.Settled.{Settled}
 use Rattle.flowfile_record.specs.declared.flow_file.FlowFile.{FlowFile}
 use Rattle.flowfile_record.specs.declared.stored.Placed.{Placed}
@@ -21,7 +21,7 @@ use Rattle.settlement.specs.Contents.{content_in, fresh_in, kept_content}
 use Rattle.settlement.specs.Ending.{EndingPlace, ended_file, ended_files}
 use Rattle.settlement.specs.Handed.{MaySettle, sizes_of}
 use Rattle.settlement.specs.Placing.{Newcomer, PlacingFrom, arrived, first_of, firsts, further, placed_from, returned, returning, wanted}
-use Rattle.settlement.specs.TellsOf.{HasContent, IsContentBy, TellsOf}
+use Rattle.settlement.specs.TellsOf.{BringsNoneAsClone, HasContent, IsContentBy, TellsOf}
 use Rattle.settlement.specs.Whole.{place_in, placing_at, settled_in}
 use Rattle.settlement.specs.declared.counters.Counters.{Counters}
 use Rattle.settlement.specs.declared.file.EndedFile.{EndedFile}
@@ -29,6 +29,7 @@ use Rattle.settlement.specs.declared.file.Goes.{Goes}
 use Rattle.settlement.specs.declared.file.Goes.TheVariants.{Queues, Returns, Drops, Leaves}
 use Rattle.settlement.specs.declared.handed.Ended.{Ended}
 use Rattle.settlement.proofs.Clones.{all-shared, all_clones, as_newcomers, before_clones, clones-hold, clones_from, clones_in}
+use Rattle.settlement.proofs.Once.{placed-bring}
 
 -- a file has its content: bytes of its own with their size and digest, or that of a taken file
 abbrev Holds : List FlowFile → List Source → EndedFile → Type 0
@@ -97,11 +98,11 @@ returned_hold at [] hold = tt
 returned_hold at (file ∷ files) hold =
     each-append (HasContent at.taken) (returning at file file.goes) (returned at files) (returning_holds at file file.goes hold.0) (returned_hold at files hold.1)
 
-all_of : (taken : List FlowFile) (placed : List Placed) → Each (HasContent taken) placed → All (HasContent taken) placed
-all_of taken [] hold = All-nil (HasContent taken)
-all_of taken (one ∷ placed) hold = All-cons (HasContent taken) one placed hold.0 (all_of taken placed hold.1)
+all_of : (P : Placed → Type 0) (placed : List Placed) → Each P placed → All P placed
+all_of P [] hold = All-nil P
+all_of P (one ∷ placed) hold = All-cons P one placed hold.0 (all_of P placed hold.1)
 
-pub settled-tells : (flow : Flow) (given : Given) (counters : Counters) (ended : Ended) (processor : Processor) → MaySettle flow counters ended → TellsOf given ended (settled_in flow given counters ended processor)
+pub settled-tells : (flow : Flow) (given : Given) (counters : Counters) (ended : Ended) (processor : Processor) → MaySettle flow counters ended → TellsOf given counters ended (settled_in flow given counters ended processor)
 settled-tells flow given counters ended processor may =
     let at = place_in flow given counters ended processor in
     let from = placing_at at ended.connection counters.next_arrival in
@@ -115,17 +116,20 @@ settled-tells flow given counters ended processor may =
     let clones : Each (HasContent ended.taken) (clones_in from first files)
     = clones-hold ended.taken (returned from files ++ arrived from first files) (before_clones from files) (clones_in from first files) (as_newcomers from first files) (all_clones from first files)
     (placed_hold ended.taken ended.sources (counters.next_arrival + length (firsts files)) (clones_from first (wanted files)) (clones_hold ended.taken ended.sources first (wanted files) (wanted_hold ended.taken ended.sources files hold))) in
+    let in_turn : AreInTurn 0 (length (map (λ (file : FlowFile). file.number) ended.taken)) ended.outcome.files
+    = subst (λ n. AreInTurn 0 n ended.outcome.files) (length-map ended.taken (λ (file : FlowFile). file.content.size) ∙ sym (length-map ended.taken (λ (file : FlowFile). file.number))) may.outcome.in_turn in
     record {
       processor = refl;
       moment = refl;
       gone = refl;
-      contents = all_of ended.taken (returned from files ++ arrived from first files)
+      contents = all_of (HasContent ended.taken) (returned from files ++ arrived from first files)
           (each-append (HasContent ended.taken) (returned from files) (arrived from first files) (returned_hold from files hold)
           (each-append (HasContent ended.taken) (placed_from ended.sources counters.next_arrival (firsts files)) _ news clones));
       shared = all-shared from first files;
+      clones = all_of (BringsNoneAsClone counters ended) (returned from files ++ arrived from first files) (placed-bring counters ended at from refl in_turn);
     }
 
 pub if-tells : {E : Type 0} (flow : Flow) (given : Given) (counters : Counters) (ended : Ended) (processor : Processor) (result : Result Settled E) → MaySettle flow counters ended
-    → IfOk result (λ settled. settled ≡ settled_in flow given counters ended processor) → IfOk result (TellsOf given ended)
-if-tells flow given counters ended processor (Ok settled) may is = subst (TellsOf given ended) (sym is) (settled-tells flow given counters ended processor may)
+    → IfOk result (λ settled. settled ≡ settled_in flow given counters ended processor) → IfOk result (TellsOf given counters ended)
+if-tells flow given counters ended processor (Ok settled) may is = subst (TellsOf given counters ended) (sym is) (settled-tells flow given counters ended processor may)
 if-tells flow given counters ended processor (Err error) may is = is

@@ -12,6 +12,7 @@ pub mod Listing
 pub mod Lookups
 pub mod MadeFiles
 pub mod NameRoom
+pub mod Once
 pub mod Placed
 pub mod AddedEvents
 pub mod Queues

@@ -33,7 +33,7 @@ pub fn settle(
 ) -> Result<Settled, AllocError>
     requires { MaySettle flow.now counters ended }
     ensures settles { IfOk result (Settles flow.now given.now counters ended) }
-    ensures tells { IfOk result (TellsOf given.now ended) }
+    ensures tells { IfOk result (TellsOf given.now counters ended) }
     ensures records { IfOk result (RecordsAll flow.now given.now counters ended) }
 {
     let processor = &flow.processors.as_slice()[usize::from(ended.processor)];

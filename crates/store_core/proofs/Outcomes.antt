@@ -28,7 +28,7 @@ use Rattle.store_core.specs.Change.{HasLiveContents}
 use Rattle.store_core.specs.Committed.{PreparedChange, IsPrepared, HasChange, HoldsEither, KeepsShared}
 use Rattle.store_core.specs.Touched.{ClaimsGrow, MayTouch, TouchesOnly}
 use Rattle.store_core.specs.Flow.{flow_in}
-use Rattle.store_core.specs.Placing.{contents_of, GrowsAhead, AddsEvents, ArePlaced, HoldsMore, PlacesAll, ReferAlike}
+use Rattle.store_core.specs.Placing.{contents_of, GrowsAhead, AddsEvents, ArePlaced, HoldsMore, IsPlacedAs, PlacesAll, ReferAlike}
 use Rattle.store_core.specs.State.{stands_for}
 use Rattle.store_core.specs.Store.{StoreState, IsWorking, IsKeptOn, EachStandsFor, Holds, kept_by}
 use Rattle.store_core.proofs.Agreeing.{of_state}
@@ -36,6 +36,8 @@ use Rattle.store_core.proofs.Appending.{GrowingClaims, claims_ahead, claims_logg
 use Rattle.store_core.proofs.Commits.{entry_acts, referred_gone, events_beside_log, working_after}
 use Rattle.store_core.proofs.EventsStay.{same_events}
 use Rattle.store_core.proofs.Following.{Follows, follows_ahead, state_following}
+use Rattle.store_core.proofs.Sharing.{zip_wider}
+use Rattle.flowfile_record.specs.Shared.{is_stored}
 use Rattle.store_core.proofs.States.{IsSame, state_added}
 use Rattle.store_core.proofs.Whole.{IsAdded, is_added, since_ahead_holds, since_ahead_touches, since_either, since_holds, since_touches, holds_new, kept_added}
 
@@ -252,6 +254,8 @@ module _ {D : Type 0} (tells : Bool) (held : D → Files) (moment : D → ℕ) (
         kept = logged.kept;
         placed = ap (map placeless_active) is.puts ∙ is.placed;
         alike = logged.placed.shared;
+        stays = zip_wider (IsPlacedAs tells slots (held mid)) (λ (q : Placed) (a : ActiveFile). is_stored q.fresh ≡ true → a.file.content ≡ q.file.content) p.settled.placed (placed_in e)
+            (λ q a r. r.old) logged.placed.placed;
       }
 
   -- once the log has answered

@@ -1,5 +1,7 @@
 -- A change that is on its way into the store, and what its commit leaves.
-use Rattle.std.specs.Prelude.{◌≡◌, ◌⊎◌, ℕ, ◌+◌, ◌≤◌, length, map, All, Ok}
+use Rattle.std.specs.Prelude.{◌≡◌, ◌⊎◌, ℕ, ◌+◌, ◌≤◌, true, length, map, All, Ok}
+use Rattle.std.specs.List.{AllZip}
+use Rattle.flowfile_record.specs.Shared.{is_stored}
 use Rattle.disk_trait.specs.Files.{Files}
 use Rattle.disk_trait.specs.Images.{Since}
 use Rattle.flowfile_record.specs.Stored.{Kept}
@@ -69,12 +71,15 @@ pub record IsAllOrNothing {D : Type 0} (held : D → Files) (moment : D → ℕ)
       (stands_for (flow_in (kept_by s_old)) s_old.lot c ≡ Ok state)
       ⊎ (stands_for (flow_in (kept_by s_old)) s_old.lot c ≡ Ok (state_after (content_in (held old)) state p.settled)))
 
--- What is kept has the placed files, those that share a content refer to the same bytes of the same claim.
+-- What is kept has the placed files: those that share a content refer to the same bytes of the same claim, and a
+-- content that is in the store stays where it is.
 pub record KeepsShared (settled : Settled) (old new : StoreState) : Type 0 where
   pub entry : LogEntry
   pub kept : kept_by new ≡ applied no_files (kept_by old) entry
   pub placed : map placeless_active (placed_in entry) ≡ map placeless_active (map record_of settled.placed)
   pub alike : ReferAlike settled.placed (placed_in entry)
+  pub stays : AllZip (λ p a. is_stored p.fresh ≡ true → a.file.content ≡ p.file.content) settled.placed
+      (placed_in entry)
 
 -- A commit is acknowledged: the disk's present moment is told, the events are the store's, files share their contents, and
 -- whatever a stop may leave stands for the state with the change.
