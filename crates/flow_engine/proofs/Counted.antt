@@ -1,6 +1,6 @@
 -- How many names of the inbox are left: those to come, and those of files that are too large, which no step takes.
 use Rattle.std.proofs.Common.{◌≡◌, ℕ, suc, ◌+◌, Bool, true, false, cond, not, List, [], ◌∷◌, map, length, filter, refl, sym, ap, ◌∙◌, subst, arith}
-use Rattle.std.specs.Prelude.{◌||◌, bytes_eq, nat_le, is_none, Option, Some, None, IfSome, option_and_then, option_map, slice_get}
+use Rattle.std.specs.Prelude.{◌||◌, ◌&&◌, bytes_eq, find, nat_le, is_none, is_some, Option, Some, None, IfSome, option_and_then, slice_get, slice_index}
 use Rattle.std.specs.Option.{option_map_or}
 use Rattle.std.proofs.lemmas.Bool.{and_parts}
 use Rattle.std.proofs.lemmas.List.{length-map}
@@ -14,13 +14,13 @@ use Rattle.machine_model.specs.declared.journal.Step.{Step}
 use Rattle.machine_model.specs.declared.journal.Step.TheVariants.{Expire, SwapOut, SwapIn, Age}
 use Rattle.machine_model.specs.declared.journal.Step.TheVariants as entry
 use Rattle.machine_model.specs.declared.kind.Kind.{Kind}
-use Rattle.machine_model.specs.declared.kind.Kind.TheVariants.{GetFile}
-use Rattle.machine_model.specs.Acting.{act, passes}
+use Rattle.machine_model.specs.declared.kind.Kind.TheVariants.{GetFile, GenerateFlowFile, PutFile}
+use Rattle.machine_model.specs.Acting.{passes}
 use Rattle.machine_model.specs.Kinds.{take_rule_of, is_among}
 use Rattle.machine_model.specs.Laws.{LosesNames, StepsLoseNames, received_name, names_of_step}
 use Rattle.machine_model.specs.State.{QueuedFile, Machine, State, World}
-use Rattle.machine_model.specs.Stepping.{step, replay, session_step, session_of, session_after, after_session, taken_files, given_at, given_in, as_taken, may_get, same_world}
-use Rattle.machine_model.proofs.Options.{if_and_then, if_at, if_map, if_weaker}
+use Rattle.machine_model.specs.Stepping.{step, replay, session_step, session_of, after_session, taken_files, given_at, given_in, is_there, may_generate, may_get, same_bool}
+use Rattle.machine_model.proofs.Options.{if_and_then, if_at, if_weaker, if_when}
 use Rattle.engine_choice.specs.Choice.{coming_of, fits}
 use Rattle.flow_run.specs.Run.{machine_at}
 
@@ -52,13 +52,15 @@ given_fits : (kind : Kind) (place : ℕ) (state : State) (world : World) (taken 
 given_fits (GetFile filter) place state world taken given = by_name given.file
   where
     by_test : (name : List ℕ) (found : Given) (b : Bool) → may_get filter world name ≡ b → IfSome (cond b (Some found) None) (λ _. AllFit world (name ∷ []))
-    by_test name found true may = one_fits world name (and_parts _ (fits world name) (and_parts _ _ may).1).1
+    by_test name found true may = one_fits world name (and_parts (is_some (find (bytes_eq name) world.left) && passes filter name) (fits world name) may).1
     by_test name found false may = tt
 
-    by_name : (file : Option (List ℕ)) → IfSome (option_and_then (λ name. cond (may_get filter world name) (Some (record given { bytes = _ })) None) file) (λ _. AllFit world (received_name (GetFile filter) file))
+    by_name : (file : Option (List ℕ)) → IfSome (option_and_then (λ name. cond (may_get filter world name) (Some (record given { bytes = bytes_of world.inbox name })) None) file) (λ _. AllFit world (received_name (GetFile filter) file))
     by_name None = tt
-    by_name (Some name) = by_test name _ (may_get filter world name) refl
-given_fits _ place state world taken given = always _ (none_fit world)
+    by_name (Some name) = by_test name (record given { bytes = bytes_of world.inbox name }) (may_get filter world name) refl
+given_fits (GenerateFlowFile count text) place state world taken given = if_when (may_generate count (slice_index state.counts place) given.index) given (λ (_ : Given). AllFit world []) (λ _. none_fit world)
+given_fits (PutFile conflict) place state world taken given = if_when (same_bool given.there (is_there world taken)) given (λ (_ : Given). AllFit world []) (λ _. none_fit world)
+given_fits _ place state world taken given = none_fit world
 
 given_at_fits : (kind : Kind) (place : ℕ) (state : State) (world : World) (taken : List QueuedFile) (moment : ℕ) (given : Given)
     → IfSome (option_and_then (given_in kind place state world taken) (given_at moment given)) (λ _. AllFit world (received_name kind given.file))
@@ -77,7 +79,7 @@ session_fits flow machine place numbers moment given processor =
     if_and_then (λ taken. option_and_then (λ given. after_session machine (session_of flow machine place processor taken given)) (givens taken))
     (taken_files flow machine.state place (take_rule_of processor.kind) numbers moment) P (λ taken taken_is.
     if_and_then (λ given. after_session machine (session_of flow machine place processor taken given)) (givens taken) P (λ found found_is.
-    always _ (if_at (givens taken) found (λ _. AllFit machine.world (received_name processor.kind given.file)) found_is (given_at_fits processor.kind place machine.state machine.world taken moment given))))
+    always (after_session machine (session_of flow machine place processor taken found)) (if_at (givens taken) found (λ _. AllFit machine.world (received_name processor.kind given.file)) found_is (given_at_fits processor.kind place machine.state machine.world taken moment given))))
 
 named_fits : (flow : Flow) (machine : Machine) (processor : ℕ) (numbers : List ℕ) (moment : ℕ) (given : Given) (found : Option Processor)
     → IfSome (option_and_then (session_step flow machine processor numbers moment given) found)
@@ -87,25 +89,22 @@ named_fits flow machine processor numbers moment given (Some found) = session_fi
 
 step_fits : (flow : Flow) (machine : Machine) (one : Step) → IfSome (step flow machine one) (λ _. AllFit machine.world (names_of_step flow one))
 step_fits flow machine (entry.Session processor numbers moment given) = named_fits flow machine processor numbers moment given (slice_get flow.processors processor)
-step_fits flow machine (Expire place numbers moment) = always _ (none_fit machine.world)
-step_fits flow machine (SwapOut place numbers batch) = always _ (none_fit machine.world)
-step_fits flow machine (SwapIn place batch) = always _ (none_fit machine.world)
-step_fits flow machine (Age line) = always _ (none_fit machine.world)
+step_fits flow machine (Expire place numbers moment) = always (step flow machine (Expire place numbers moment)) (none_fit machine.world)
+step_fits flow machine (SwapOut place numbers batch) = always (step flow machine (SwapOut place numbers batch)) (none_fit machine.world)
+step_fits flow machine (SwapIn place batch) = always (step flow machine (SwapIn place batch)) (none_fit machine.world)
+step_fits flow machine (Age line) = always (step flow machine (Age line)) (none_fit machine.world)
 
 -- ---- so they stay
 
 large_stay : (p : List ℕ → Bool) (taken names : List (List ℕ)) → ((name : List ℕ) → is_among name taken ≡ true → p name ≡ true)
     → filter (λ name. not (p name)) (filter (λ name. not (is_among name taken)) names) ≡ filter (λ name. not (p name)) names
 large_stay p taken [] fit = refl
-large_stay p taken (name ∷ names) fit = by_test (is_among name taken) refl
+large_stay p taken (name ∷ names) fit = by_test (is_among name taken) refl (large_stay p taken names fit)
   where
-    rest : filter (λ n. not (p n)) (filter (λ n. not (is_among n taken)) names) ≡ filter (λ n. not (p n)) names
-    rest = large_stay p taken names fit
-
-    by_test : (b : Bool) → is_among name taken ≡ b
+    by_test : (b : Bool) → is_among name taken ≡ b → filter (λ n. not (p n)) (filter (λ n. not (is_among n taken)) names) ≡ filter (λ n. not (p n)) names
         → filter (λ n. not (p n)) (cond (not b) (name ∷ filter (λ n. not (is_among n taken)) names) (filter (λ n. not (is_among n taken)) names)) ≡ filter (λ n. not (p n)) (name ∷ names)
-    by_test true is = rw (fit name is) rest
-    by_test false is = ap (λ (l : List (List ℕ)). cond (not (p name)) (name ∷ l) l) rest
+    by_test true is rest = rw (fit name is) rest
+    by_test false is rest = ap (λ (l : List (List ℕ)). cond (not (p name)) (name ∷ l) l) rest
 
 step_keeps : StepsLoseNames → (flow : Flow) (machine : Machine) (one : Step) → IfSome (step flow machine one) (λ after. large_in after.world ≡ large_in machine.world)
 step_keeps law flow machine one = both (step flow machine one) (law flow machine one) (step_fits flow machine one)
@@ -130,14 +129,12 @@ replay_keeps law flow machine (first ∷ steps) =
 -- those that pass a test, and the others
 both_counted : (p : List ℕ → Bool) (names : List (List ℕ)) → length names ≡ length (filter p names) + length (filter (λ name. not (p name)) names)
 both_counted p [] = refl
-both_counted p (name ∷ names) = by_test (p name)
+both_counted p (name ∷ names) = by_test (p name) (both_counted p names)
   where
-    rest : length names ≡ length (filter p names) + length (filter (λ n. not (p n)) names)
-    rest = both_counted p names
-
-    by_test : (b : Bool) → suc (length names) ≡ length (cond b (name ∷ filter p names) (filter p names)) + length (cond (not b) (name ∷ filter (λ n. not (p n)) names) (filter (λ n. not (p n)) names))
-    by_test true = omega (arith, rest)
-    by_test false = omega (arith, rest)
+    by_test : (b : Bool) → length names ≡ length (filter p names) + length (filter (λ n. not (p n)) names)
+        → suc (length names) ≡ length (cond b (name ∷ filter p names) (filter p names)) + length (cond (not b) (name ∷ filter (λ n. not (p n)) names) (filter (λ n. not (p n)) names))
+    by_test true rest = omega (arith, rest)
+    by_test false rest = omega (arith, rest)
 
 -- Behind a replay as many names are left as are still to come, and those that were too large at the start.
 pub all_counted : StepsLoseNames → (flow : Flow) (state : State) (left : List NamedFile) (standing : List ℕ → Option (List ℕ)) (steps : List Step) (reached : Machine) (listed coming : List (List ℕ)) (large : ℕ)

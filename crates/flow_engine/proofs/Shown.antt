@@ -1,5 +1,5 @@
 -- What a run hands over whose store was closed: the machine's state, or nothing where something failed.
-use Rattle.std.proofs.Common.{◌≡◌, ◌⊎◌, inl, inr, ⊎_elim, ℕ, ◌+◌, Bool, IsTrue, List, length, sym, ap, ◌∙◌, subst}
+use Rattle.std.proofs.Common.{◌≡◌, ◌⊎◌, inl, inr, ⊎_elim, ℕ, ◌+◌, Bool, IsTrue, List, length, refl, sym, ap, ◌∙◌, subst}
 use Rattle.std.specs.Prelude.{Option, Some, None, Result, Ok, Err, IfErr, IfOk, IfSome, MatchOption, OnOk}
 use Rattle.std.specs.Result.{result_ok}
 use Rattle.disk_trait.specs.Files.{Files}
