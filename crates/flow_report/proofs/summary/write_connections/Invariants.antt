@@ -1,4 +1,4 @@
-use Rattle.std.proofs.Common.{ℕ, ◌≤◌, Ok, take, IsTrue}
+use Rattle.std.proofs.Common.{◌≤◌, Ok, take, IsTrue}
 use Rattle.std.specs.List.{enumerate_from, flat_map}
 use Rattle.flowfile_record.specs.Stored.{kept_of}
 use Rattle.flow_report.specs.Summary.{bytes_in, files_in}

@@ -1,4 +1,4 @@
-use Rattle.std.proofs.Common.{ℕ, ◌-◌, ◌≤◌, Ok, take, get_or, IsTrue}
+use Rattle.std.proofs.Common.{◌-◌, ◌≤◌, Ok, take, get_or, IsTrue}
 use Rattle.std.specs.List.{flat_map}
 use Rattle.flowfile_record.specs.Events.{code_of}
 use Rattle.flow_report.specs.Summary.{count_text, kinds}
