@@ -1,5 +1,5 @@
 -- What a run of a flow that was read did, and what was printed of it.
-use Rattle.std.proofs.Common.{◌≡◌, ◌⊎◌, inl, inr, ⊎_elim, ℕ, Bool, List, refl, sym, ap, ◌∙◌, subst, arith}
+use Rattle.std.proofs.Common.{◌≡◌, ◌⊎◌, inl, inr, ⊎_elim, ℕ, ◌≤◌, Bool, List, refl, sym, ap, ◌∙◌, subst, arith}
 use Rattle.std.specs.Prelude.{IfErr, IfOk, IfSome, IsTrue, MatchOption, None, Option, Some, Result, Ok, Err}
 use Rattle.disk_trait.specs.Faults.{CountsFaults}
 use Rattle.disk_trait.specs.Files.{Files}
@@ -78,8 +78,8 @@ module _ {D I O S : Type 0} (flow : Flow) (answer : Answer) (start time lot : �
   abbrev LeftShut : Answer → Type 0
   LeftShut a = IsLeftShut (identity_of flow) a held moment images lot old new inbox_old inbox_new outbox_old outbox_new
 
-  abbrev Ended : Ran → State → Type 0
-  Ended ran state = HasEnded flow ran start time tells held moment images lot options.max_commits (Opened state) old new (left inbox_new) (standing outbox_new)
+  abbrev EndedBy : Ran → State → Type 0
+  EndedBy ran state = HasEnded flow ran start time tells held moment images lot options.max_commits (Opened state) old new (left inbox_new) (standing outbox_new)
 
   abbrev Failed : Answer → State → Type 0
   Failed a state = HasFailed flow a start time tells held moment images lot options.max_commits (Opened state) old new (left inbox_new) (standing outbox_new)
@@ -91,12 +91,12 @@ module _ {D I O S : Type 0} (flow : Flow) (answer : Answer) (start time lot : �
   Line = IsRefusal answer → IsTrue sink_tells → IsLine sink_faults written (refusal_line answer) sink_old sink_new
 
   -- its store was opened
-  ran_runs : (ran : Ran) → (IsTrue tells → IsTrue in_tells → IsTrue out_tells → (state : State) → IsOfFlow flow lot (held old) state → Ended ran state)
+  ran_runs : (ran : Ran) → (IsTrue tells → IsTrue in_tells → IsTrue out_tells → (state : State) → IsOfFlow flow lot (held old) state → EndedBy ran state)
       → MatchOption ran.closed (IsFault ran.ended) (λ closed. IsFault ran.ended → ⊥) → (IsTrue tells → IsShut (identity_of flow) lot (held old) → ⊥)
       → Written (answer_of_end ran.ended) → Caused (answer_of_end ran.ended) → IsToldAs ran.ended answer
       → IfSome ran.closed (λ closed. IsTrue sink_tells → IsPrinted answer (closing_text flow ran.ended closed) (written sink_old) (written sink_new)) → Line
       → Runs flow answer start time lot options tells held moment images old new in_tells left inbox_old inbox_new out_tells standing outbox_old outbox_new sink_tells written sink_faults sink_old sink_new
-  ran_runs ran ended closes open alone why told printed line = record {
+  ran_runs ran ended closes fits alone why told printed line = record {
     headline = λ disk_told in_told out_told state of.
         let ends = ended disk_told in_told out_told state of in
         inl (record {
@@ -105,7 +105,7 @@ module _ {D I O S : Type 0} (flow : Flow) (answer : Answer) (start time lot : �
           ends = ends.ends;
           printed = printed_at flow answer ran.ended ends.ends.ran.reached ran.closed sink_tells (written sink_old) (written sink_new) closes ends.shows printed;
         });
-    shut = λ disk_told shut. absurd (open disk_told shut);
+    shut = λ disk_told shut. absurd (fits disk_told shut);
     alone = inl (⊎_elim
         (λ (is : answer ≡ answer_of_end ran.ended). subst Written (sym is) alone)
         (λ (sink : (answer ≡ Sink) × (IsFault ran.ended → ⊥)). record { alone = alone.alone; short = not_shown moment images options.checkpoint new answer sink.0 })
@@ -138,20 +138,20 @@ module _ {D I O S : Type 0} (flow : Flow) (answer : Answer) (start time lot : �
   }
 
   pub runs : (run : Result Ran Answer)
-      → IfOk run (λ ran. IsTrue tells → IsTrue in_tells → IsTrue out_tells → (state : State) → IsOfFlow flow lot (held old) state → Ended ran state)
+      → IfOk run (λ ran. IsTrue tells → IsTrue in_tells → IsTrue out_tells → (state : State) → IsOfFlow flow lot (held old) state → EndedBy ran state)
       → IfOk run (λ ran. MatchOption ran.closed (IsFault ran.ended) (λ closed. IsFault ran.ended → ⊥))
       → IfErr run (λ a. IsTrue tells → (state : State) → IsOfFlow flow lot (held old) state → Failed a state ⊎ Unopened a)
-      → (IsTrue tells → IsShut (identity_of flow) lot (held old) → (a : Answer) × ((run ≡ Err a) × (LeftShut a ⊎ Unopened a)))
+      → (IsTrue tells → IsShut (identity_of flow) lot (held old) → (a : Answer) × (run ≡ Err a) × (LeftShut a ⊎ Unopened a))
       → IfOk run (λ ran. Written (answer_of_end ran.ended)) → IfErr run (λ a. Written a ⊎ Unopened a) → Caused (answer_at run) → IsShownAs run answer
       → IfOk run (λ ran. IfSome ran.closed (λ closed. IsTrue sink_tells → IsPrinted answer (closing_text flow ran.ended closed) (written sink_old) (written sink_new))) → Line
       → Runs flow answer start time lot options tells held moment images old new in_tells left inbox_old inbox_new out_tells standing outbox_old outbox_new sink_tells written sink_faults sink_old sink_new
   runs (Ok ran) ended closes failed shut alone barely why told printed line =
       ran_runs ran ended closes (λ disk_told shut_is. not_err (shut disk_told shut_is)) alone why told printed line
     where
-      not_err : (a : Answer) × ((◌≡◌ {A = Result Ran Answer} (Ok ran) (Err a)) × (LeftShut a ⊎ Unopened a)) → ⊥
-      not_err is = cc (is.1.0)
+      not_err : (a : Answer) × (◌≡◌ {A = Result Ran Answer} (Ok ran) (Err a)) × (LeftShut a ⊎ Unopened a) → ⊥
+      not_err is = cc (is.1)
   runs (Err instead) ended closes failed shut alone barely why told printed line =
       refused_runs instead failed (λ disk_told shut_is. same (shut disk_told shut_is)) barely why told line
     where
-      same : (a : Answer) × ((◌≡◌ {A = Result Ran Answer} (Err instead) (Err a)) × (LeftShut a ⊎ Unopened a)) → LeftShut instead ⊎ Unopened instead
-      same is = let one : is.0 ≡ instead = cc (is.1.0) in subst (λ (a : Answer). LeftShut a ⊎ Unopened a) one is.1.1
+      same : (a : Answer) × (◌≡◌ {A = Result Ran Answer} (Err instead) (Err a)) × (LeftShut a ⊎ Unopened a) → LeftShut instead ⊎ Unopened instead
+      same is = let one : is.0 ≡ instead = cc (is.1) in subst (λ (a : Answer). LeftShut a ⊎ Unopened a) one is.2

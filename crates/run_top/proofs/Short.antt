@@ -1,5 +1,5 @@
 -- How long the log is where a run ends with nothing left to do, or with all of it held back.
-use Rattle.std.proofs.Common.{◌≡◌, ◌⊎◌, inl, inr, ⊎_elim, ℕ, sym, ◌∙◌, subst}
+use Rattle.std.proofs.Common.{◌≡◌, ◌⊎◌, inl, inr, ⊎_elim, ℕ, refl, subst}
 use Rattle.disk_trait.specs.Files.{Files}
 use Rattle.flow_run.specs.Ending as flow_run
 use Rattle.flow_run.specs.declared.ended.Ended.{Ended}

@@ -32,7 +32,6 @@ use Rattle.run_top.specs.Printing.{closing_text, count_of, end_line, end_text, m
 
 -- ---- the bytes of a queue
 
-
 bytes_with : (q : QueuedFile) (queue : List QueuedFile) → content_bytes (with_arrival queue q) ≡ length q.bytes + content_bytes queue
 bytes_with q [] = sum_by-cons (λ (x : QueuedFile). length x.bytes) q []
 bytes_with q (x ∷ queue) =

@@ -83,8 +83,8 @@ count_of events kind = length (filter (λ event. code_of event.kind == code_of k
 abbrev pub machine_summary : Flow → Machine → List ℕ
 machine_summary flow m =
     flat_map queue_line (zip flow.connections m.state.queues)
-    ++ line_of (codes "inbox " ∷ decimal (length m.world.left) ∷ [])
-    ++ flat_map (λ kind. count_text kind (count_of m.state.events kind)) kinds
+    ++ (line_of (codes "inbox " ∷ decimal (length m.world.left) ∷ [])
+    ++ flat_map (λ kind. count_text kind (count_of m.state.events kind)) kinds)
 
 -- the text of a run that ended so, at this machine
 abbrev pub end_text : Flow → Ended → Machine → List ℕ

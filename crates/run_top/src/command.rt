@@ -11,7 +11,7 @@ ghost use Rattle.flow_definition.specs.Patterns.{told};
 ghost use Rattle.flow_run.specs.Ending.{IsFault};
 ghost use Rattle.flow_run.specs.Run.{machine_at};
 ghost use Rattle.flow_engine.specs.Engine.{AreBuilt};
-ghost use Rattle.run_top.specs.Opening.{IsOfFlow};
+ghost use Rattle.run_top.specs.Opening.{IsOfFlow, IsOfStore};
 ghost use Rattle.run_top.specs.Printing.{IsLine, refusal_line};
 ghost use Rattle.run_top.specs.Run.{CountsEachFault, HasCause, HasEnded, HasFailed, HasWritten, IsLeftShut, IsNotOpened, IsNotRead, IsUntouched, Runs};
 ghost use Rattle.run_top.specs.Status.{answer_at, answer_of_end, status_of};
@@ -20,10 +20,10 @@ ghost use Rattle.run_top.specs.declared.answer.Answer.{Answer as TheAnswer};
 ghost use Rattle.flow_words.specs.declared.command.RunOptions.{RunOptions as TheOptions};
 ghost use Rattle.run_top.specs.Words.{AskForNoRun, AskToRun};
 
+use crate::Answer;
 use crate::opening::open;
 use crate::printing::{refuse, show};
 use crate::text::read;
-use crate::Answer;
 use disk_trait::Disk;
 use flow_definition::Patterns;
 use flow_engine::{Ran, run_flow};
@@ -178,9 +178,7 @@ fn run_text<D: Disk, I: Inbox, O: Outbox, F: Source, P: Patterns, S: Sink, C: Cl
         × CountsFaults (S.faults sink.old) (S.faults sink.new) (result ≡ Answer.Sink) }
 {
     match read(alloc, flow, patterns) {
-        Ok(flow) => run_read(
-            alloc, &flow, options, lot, disk, inbox, outbox, sink, clock,
-        ),
+        Ok(flow) => run_read(alloc, &flow, options, lot, disk, inbox, outbox, sink, clock),
         Err(answer) => refuse(sink, answer),
     }
 }
@@ -246,6 +244,7 @@ pub(crate) fn run_over<D: Disk, I: Inbox, O: Outbox, C: Clock>(
         disk.old disk.new (I.left inbox.new) (O.standing outbox.new)) }
     ensures closed { IfOk result (λ ran. MatchOption ran.closed (IsFault ran.ended)
         (λ closed. IsFault ran.ended → ⊥)) }
+    ensures refused { IfErr result IsOfStore }
     ensures failed { IfErr result (λ answer. IsTrue D.tells
         → (state : State) → IsOfFlow flow.now lot (D.held disk.old) state
         → HasFailed flow.now answer (C.time clock.old) (C.time clock.new) D.tells D.held D.moment D.images lot most

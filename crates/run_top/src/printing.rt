@@ -1,9 +1,10 @@
 //! What is printed of an answer.
-ghost use Rattle.std.specs.Prelude.{◌≡◌, ◌≤◌, IfOk, IfSome, IsErr, IsTrue, MatchOption};
+ghost use Rattle.std.specs.Prelude.{◌≡◌, ◌≤◌, IfErr, IfOk, IfSome, IsErr, IsTrue, MatchOption};
 ghost use Rattle.disk_trait.specs.Faults.{CountsFaults};
 ghost use Rattle.flow_report.specs.Texts.{text_of};
 ghost use Rattle.flow_report.specs.Writing.{Writes};
 ghost use Rattle.flow_run.specs.Ending.{IsFault};
+ghost use Rattle.run_top.specs.Opening.{IsOfStore};
 ghost use Rattle.run_top.specs.Printing.{IsLine, IsPrinted, IsRefusal, closing_text, connection_at, end_line, limit_word, refusal_line, refused_line};
 ghost use Rattle.run_top.specs.Run.{IsShownAs, IsToldAs};
 ghost use Rattle.run_top.specs.Status.{status_of};
@@ -58,6 +59,7 @@ pub(crate) fn tell_line<S: Sink>(sink: &mut S, line: &Line)
 /// Prints what a run came to, or why there was none, and gives the answer.
 pub(crate) fn show<S: Sink>(sink: &mut S, flow: &Flow, run: Result<Ran, Answer>) -> Answer
     requires closed { IfOk run (λ ran. MatchOption ran.closed (IsFault ran.ended) (λ closed. IsFault ran.ended → ⊥)) }
+    requires refused { IfErr run IsOfStore }
     ensures told { IsShownAs run result }
     ensures printed { IfOk run (λ ran. IfSome ran.closed (λ closed. IsTrue S.tells
         → IsPrinted result (closing_text flow.now ran.ended closed) (S.written sink.old) (S.written sink.new))) }
@@ -122,8 +124,10 @@ fn write_closed<S: Sink>(
         (S.written sink.new) result }
     ensures cause { CountsFaults (S.faults sink.old) (S.faults sink.new) (IsErr result) }
 {
-    write_summary(sink, flow, &closed.state, closed.left, &closed.events)?;
-    write_end(sink, flow, ended)
+    match write_summary(sink, flow, &closed.state, closed.left, &closed.events) {
+        Ok(()) => write_end(sink, flow, ended),
+        Err(failed) => Err(failed),
+    }
 }
 
 // Prints what held a run back or ended it.

@@ -40,7 +40,8 @@ const FLOW: &str = r#"{
 }"#;
 
 // What its run prints, behind which one file came and went.
-const PRINTED: &str = "connection arrived 0 0\ninbox 0\nevent RECEIVE 1\nevent SEND 1\nevent DROP 1\n";
+const PRINTED: &str =
+    "connection arrived 0 0\ninbox 0\nevent RECEIVE 1\nevent SEND 1\nevent DROP 1\n";
 
 // What a stop leaves of what wasn't synced.
 const PICKS: [Pick; 4] = [Pick::Old, Pick::New, Pick::Torn(1), Pick::Torn(0x5a5a)];
@@ -118,8 +119,7 @@ fn delivers(alloc: Global, disk: &mut MemoryDisk, world: World) -> Result<Option
 
 // What a run prints that leaves nothing behind, where the file came and went so often.
 fn summary_of(alloc: Global, times: u64) -> Result<String, Fail> {
-    Ok(format!(
-        in alloc;
+    Ok(format!(in alloc;
         "connection arrived 0 0\ninbox 0\nevent RECEIVE {times}\nevent SEND {times}\nevent DROP {times}\n"
     )?)
 }

@@ -58,9 +58,9 @@ returns-in-Ok-Blocked-clause-headline g c telling in_telling out_telling state f
     let closes = closes_so c.close.result e.failed c.leave.result.ended (ended.Blocked c.in-Ok-Blocked.connection) (IsTrue D.tells → IsTidied e.flow e.store.lot (D.held c.close.new.disk)) works c.leave.ensures.ok c.leave.ensures.err (IfOk-weaker c.close.result _ _ (λ closed is_closed. is_closed.tidied) c.close.ensures.closed)
     c.close.ensures.refusal.reopen c.close.ensures.refusal.kinds in
     let ran =
-      closes_blocked D.tells D.held D.moment D.images c.faults_end_a_run.ensures.between e flow c.args.store.lot (c.drive.ensures.same.flow ∙ is.flow_is) (c.drive.ensures.same.lot ∙ ap (λ (t : StoreState). t.lot) is.store_is)
-          (c.in-Ok-Blocked.ensures.work.flow_is ∙ ap identity_of (sym c.drive.ensures.same.flow)) opened first c.drive.new.disk c.close.new.disk now_left now_standing start time c.leave.result.ended (c.close.ensures.states works)
-          (laws.held_is_left c.close.new.disk telling) c.close.result c.run_ends.ensures.blocked c.in-Ok-Blocked.connection end closes telling in (
+    closes_blocked D.tells D.held D.moment D.images c.faults_end_a_run.ensures.between e flow c.args.store.lot (c.drive.ensures.same.flow ∙ is.flow_is) (c.drive.ensures.same.lot ∙ ap (λ (t : StoreState). t.lot) is.store_is)
+    (c.in-Ok-Blocked.ensures.work.flow_is ∙ ap identity_of (sym c.drive.ensures.same.flow)) opened first c.drive.new.disk c.close.new.disk now_left now_standing start time c.leave.result.ended (c.close.ensures.states works)
+    (laws.held_is_left c.close.new.disk telling) c.close.result c.run_ends.ensures.blocked c.in-Ok-Blocked.connection end closes telling in (
       e.journal,
       ran,
       run_shows c.names_are_lost_by_taking.ensures.one_step D.tells D.held D.moment D.images flow c.in-Ok.engine e state left now_left standing now_standing first c.drive.new.disk c.close.new.disk start time end.reached ran.reached
@@ -107,9 +107,9 @@ returns-in-Ok-Quiet-clause-headline g c telling in_telling out_telling state fir
     let closes = closes_so c.close-in-Ok-Quiet.result e.failed c.leave-in-Ok-Quiet.result.ended ended.Quiet (IsTrue D.tells → IsTidied e.flow e.store.lot (D.held c.close-in-Ok-Quiet.new.disk)) works c.leave-in-Ok-Quiet.ensures.ok c.leave-in-Ok-Quiet.ensures.err (IfOk-weaker c.close-in-Ok-Quiet.result _ _ (λ closed is_closed. is_closed.tidied) c.close-in-Ok-Quiet.ensures.closed)
     c.close-in-Ok-Quiet.ensures.refusal.reopen c.close-in-Ok-Quiet.ensures.refusal.kinds in
     let ran =
-      closes_quiet D.tells D.held D.moment D.images c.faults_end_a_run.ensures.between e flow c.args.store.lot (c.drive.ensures.same.flow ∙ is.flow_is) (c.drive.ensures.same.lot ∙ ap (λ (t : StoreState). t.lot) is.store_is)
-          (c.in-Ok-Quiet.ensures.work.flow_is ∙ ap identity_of (sym c.drive.ensures.same.flow)) opened first c.drive.new.disk c.close-in-Ok-Quiet.new.disk now_left now_standing start time c.leave-in-Ok-Quiet.result.ended (c.close-in-Ok-Quiet.ensures.states works)
-          (laws.held_is_left c.close-in-Ok-Quiet.new.disk telling) c.close-in-Ok-Quiet.result c.run_ends.ensures.quiet end closes telling in (
+    closes_quiet D.tells D.held D.moment D.images c.faults_end_a_run.ensures.between e flow c.args.store.lot (c.drive.ensures.same.flow ∙ is.flow_is) (c.drive.ensures.same.lot ∙ ap (λ (t : StoreState). t.lot) is.store_is)
+    (c.in-Ok-Quiet.ensures.work.flow_is ∙ ap identity_of (sym c.drive.ensures.same.flow)) opened first c.drive.new.disk c.close-in-Ok-Quiet.new.disk now_left now_standing start time c.leave-in-Ok-Quiet.result.ended (c.close-in-Ok-Quiet.ensures.states works)
+    (laws.held_is_left c.close-in-Ok-Quiet.new.disk telling) c.close-in-Ok-Quiet.result c.run_ends.ensures.quiet end closes telling in (
       e.journal,
       ran,
       run_shows c.names_are_lost_by_taking.ensures.one_step D.tells D.held D.moment D.images flow c.in-Ok.engine e state left now_left standing now_standing first c.drive.new.disk c.close-in-Ok-Quiet.new.disk start time end.reached ran.reached
@@ -166,9 +166,9 @@ returns-in-Limit-clause-headline g c telling in_telling out_telling state first 
     let closes = closes_so c.close-in-Err-drive.result e.failed c.leave-in-Err-drive.result.ended (ended.Limit limit) (IsTrue D.tells → IsTidied e.flow e.store.lot (D.held c.close-in-Err-drive.new.disk)) works c.leave-in-Err-drive.ensures.ok c.leave-in-Err-drive.ensures.err (IfOk-weaker c.close-in-Err-drive.result _ _ (λ closed is_closed. is_closed.tidied) c.close-in-Err-drive.ensures.closed)
     c.close-in-Err-drive.ensures.refusal.reopen c.close-in-Err-drive.ensures.refusal.kinds in
     let ran =
-      closes_limited D.tells D.held D.moment D.images c.faults_end_a_run.ensures.between e flow c.args.store.lot (c.drive.ensures.same.flow ∙ is.flow_is) (c.drive.ensures.same.lot ∙ ap (λ (t : StoreState). t.lot) is.store_is)
-          (work.flow_is ∙ ap identity_of (sym c.drive.ensures.same.flow)) opened first c.drive.new.disk c.close-in-Err-drive.new.disk now_left now_standing start time c.leave-in-Err-drive.result.ended (c.close-in-Err-drive.ensures.states works)
-          (laws.held_is_left c.close-in-Err-drive.new.disk telling) c.close-in-Err-drive.result c.run_ends.ensures.limited limit stop closes telling in (
+    closes_limited D.tells D.held D.moment D.images c.faults_end_a_run.ensures.between e flow c.args.store.lot (c.drive.ensures.same.flow ∙ is.flow_is) (c.drive.ensures.same.lot ∙ ap (λ (t : StoreState). t.lot) is.store_is)
+    (work.flow_is ∙ ap identity_of (sym c.drive.ensures.same.flow)) opened first c.drive.new.disk c.close-in-Err-drive.new.disk now_left now_standing start time c.leave-in-Err-drive.result.ended (c.close-in-Err-drive.ensures.states works)
+    (laws.held_is_left c.close-in-Err-drive.new.disk telling) c.close-in-Err-drive.result c.run_ends.ensures.limited limit stop closes telling in (
       e.journal,
       ran,
       run_shows c.names_are_lost_by_taking.ensures.one_step D.tells D.held D.moment D.images flow c.in-Ok.engine e state left now_left standing now_standing first c.drive.new.disk c.close-in-Err-drive.new.disk start time stop.reached ran.reached
