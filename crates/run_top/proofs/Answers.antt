@@ -1,10 +1,9 @@
 -- What each answer says of how a run ended, or why there was none.
-use Rattle.std.proofs.Common.{◌≡◌, ◌⊎◌, inl, inr, ⊎_elim, ℕ, List, refl, sym, ap, subst}
+use Rattle.std.proofs.Common.{◌≡◌, ◌⊎◌, ⊎_elim, ℕ, List, refl, sym, ap, subst}
 use Rattle.disk_trait.specs.declared.damage.Damage.{Damage as TheDamage}
 use Rattle.kept_state.specs.declared.limit.Limit.{Limit as TheLimit}
 use Rattle.store_core.specs.declared.error.StoreError.{StoreError}
 use Rattle.flow_definition.specs.declared.rule.Rule.{Rule}
-use Rattle.flow_run.specs.Ending.{IsFault}
 use Rattle.flow_run.specs.declared.ended.Ended.{Ended}
 use Rattle.flow_run.specs.declared.ended.Ended.TheVariants as ending
 use Rattle.flow_run.specs.declared.ended.Fault.{Fault}
@@ -14,7 +13,7 @@ use Rattle.run_top.specs.Run.{IsOfRun}
 use Rattle.run_top.specs.Status.{answer_of_end, answer_of_fault, error_of}
 use Rattle.run_top.specs.Text.{IsOfText}
 use Rattle.run_top.specs.declared.answer.Answer.{Answer}
-use Rattle.run_top.specs.declared.answer.Answer.TheVariants.{Done, Usage, Refused, OtherFlow, Damaged, Disk, Inbox, Outbox, Source, Sink, Blocked, Limit, Memory, Absent}
+use Rattle.run_top.specs.declared.answer.Answer.TheVariants.{Refused, OtherFlow, Damaged, Disk, Inbox, Outbox, Source, Sink, Limit, Memory}
 
 -- ---- no flow was read
 

@@ -1,11 +1,8 @@
 -- What a run of a flow that was read did, and what was printed of it.
-use Rattle.std.proofs.Common.{◌≡◌, ◌⊎◌, inl, inr, ⊎_elim, ℕ, ◌≤◌, Bool, List, refl, sym, ap, ◌∙◌, subst, arith}
+use Rattle.std.proofs.Common.{◌≡◌, ◌⊎◌, inl, inr, ⊎_elim, ℕ, ◌≤◌, Bool, List, sym, ◌∙◌, subst}
 use Rattle.std.specs.Prelude.{IfErr, IfOk, IfSome, IsTrue, MatchOption, None, Option, Some, Result, Ok, Err}
-use Rattle.disk_trait.specs.Faults.{CountsFaults}
 use Rattle.disk_trait.specs.Files.{Files}
-use Rattle.disk_trait.specs.declared.damage.Damage.{Damage as TheDamage}
 use Rattle.flowfile_record.specs.NamedFile.{NamedFile}
-use Rattle.kept_state.specs.declared.limit.Limit.{Limit as TheLimit}
 use Rattle.machine_model.specs.declared.flow.Flow.{Flow}
 use Rattle.machine_model.specs.State.{Machine, State}
 use Rattle.store_core.specs.Opened.{IsShut}
@@ -23,8 +20,7 @@ use Rattle.run_top.specs.Printing.{IsLine, IsPrinted, IsRefusal, closing_text, e
 use Rattle.run_top.specs.Run.{CountsEachFault, HasCause, HasEnded, HasFailed, HasShownEnd, HasWritten, IsLeftShut, IsNotOpened, IsShownAs, IsToldAs, Runs}
 use Rattle.run_top.specs.Status.{answer_at, answer_of_end}
 use Rattle.run_top.specs.declared.answer.Answer.{Answer}
-use Rattle.run_top.specs.declared.answer.Answer.TheVariants.{OtherFlow, Damaged, Disk, Inbox, Outbox, Sink, Limit}
-use Rattle.run_top.proofs.Answers.{of_end}
+use Rattle.run_top.specs.declared.answer.Answer.TheVariants.{Sink}
 use Rattle.run_top.proofs.Short.{not_shown}
 use Rattle.run_top.proofs.Summed.{text_is}
 

@@ -1,5 +1,5 @@
 -- That the summary of what a run left is that of the machine's state.
-use Rattle.std.proofs.Common.{◌≡◌, ℕ, ◌+◌, ◌-◌, ◌==◌, Bool, true, false, cond, List, [], ◌∷◌, ◌++◌, length, map, refl, sym, ap, ◌∙◌, subst, inl, inr, arith}
+use Rattle.std.proofs.Common.{◌≡◌, ℕ, ◌+◌, ◌-◌, ◌==◌, Bool, true, false, cond, List, [], ◌∷◌, ◌++◌, length, map, refl, sym, ap, ◌∙◌, inl, inr, arith}
 use Rattle.std.specs.Prelude.{All, codes, decimal, filter, fold, nat_lt, slice_index}
 use Rattle.std.specs.List.{enumerate_from, flat_map, sum_by, zip}
 use Rattle.std.proofs.lemmas.Bool.{cases_Bool}
@@ -9,7 +9,6 @@ use Rattle.flowfile_record.specs.Events.{code_of}
 use Rattle.flowfile_record.specs.Stored.{Kept, kept_of}
 use Rattle.flowfile_record.specs.declared.content.ContentRef.{ContentRef}
 use Rattle.flowfile_record.specs.declared.event.Event.{Event}
-use Rattle.flowfile_record.specs.declared.event.EventKind.{EventKind}
 use Rattle.flowfile_record.specs.declared.stored.ActiveFile.{ActiveFile}
 use Rattle.flowfile_record.specs.declared.stored.SwapBatch.{SwapBatch}
 use Rattle.machine_model.specs.Changing.{with_arrival}
@@ -21,8 +20,8 @@ use Rattle.prov_store.specs.State.{counts_of}
 use Rattle.store_core.specs.Flow as store
 use Rattle.store_core.specs.State.{queue_of, queued}
 use Rattle.store_core.proofs.Sound.{unmap}
-use Rattle.engine_core.specs.Expiring.{HaveContents, IsContentOf}
-use Rattle.flow_report.specs.Summary.{active_in, batches_in, bytes_in, connections_text, count_text, files_in, kinds, summary}
+use Rattle.engine_core.specs.Expiring.{IsContentOf}
+use Rattle.flow_report.specs.Summary.{batches_in, bytes_in, connections_text, count_text, files_in, kinds, summary}
 use Rattle.flow_report.specs.Texts.{connection_text, line_of}
 use Rattle.flow_query.proofs.Counted.{length-queue}
 use Rattle.flow_run.specs.declared.ended.Ended.{Ended}

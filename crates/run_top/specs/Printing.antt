@@ -1,13 +1,11 @@
 -- What is printed of an answer, and behind a run of the state that it reached.
-use Rattle.std.specs.Prelude.{◌≡◌, ⊤, ℕ, ◌-◌, ◌^◌, ◌<◌, ◌==◌, List, [], ◌∷◌, ◌++◌, codes, decimal, filter, length, slice_get, if◌then◌else◌}
+use Rattle.std.specs.Prelude.{◌≡◌, ⊤, ℕ, ◌-◌, ◌^◌, ◌<◌, ◌==◌, List, [], ◌∷◌, ◌++◌, codes, decimal, filter, length, slice_get}
 use Rattle.std.specs.List.{flat_map, zip}
 use Rattle.std.specs.Option.{option_map_or}
-use Rattle.disk_trait.specs.declared.damage.Damage.{Damage}
 use Rattle.flowfile_record.specs.Events.{code_of}
 use Rattle.flowfile_record.specs.Stored.{kept_of}
 use Rattle.flowfile_record.specs.declared.event.Event.{Event}
 use Rattle.flowfile_record.specs.declared.event.EventKind.{EventKind}
-use Rattle.kept_state.specs.declared.limit.Limit.{Limit as TheLimit}
 use Rattle.kept_state.specs.declared.limit.Which.{Which}
 use Rattle.kept_state.specs.declared.limit.Which.TheVariants as which
 use Rattle.machine_model.specs.Files.{content_bytes}

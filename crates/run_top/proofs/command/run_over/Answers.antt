@@ -1,4 +1,4 @@
-use Rattle.std.proofs.Common.{◌≡◌, ◌∙◌, ⊎_elim, List, refl, ap, arith}
+use Rattle.std.proofs.Common.{◌∙◌, ⊎_elim, List, refl, ap, arith}
 use Rattle.std.specs.Prelude.{Err}
 use Rattle.flowfile_record.specs.NamedFile.{NamedFile}
 use Rattle.flow_run.specs.Run.{machine_at}
