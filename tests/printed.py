@@ -1,5 +1,4 @@
-"""What a run prints at its end, as the store's format and the folders say it, in this language: nothing of the program is
-used."""
+"""What a run prints at its end, as the store's format and the folders say it: nothing of the program is used."""
 
 import os
 import stat
@@ -8,8 +7,8 @@ import store_format
 
 KINDS = {store_format.CREATE: "CREATE", store_format.RECEIVE: "RECEIVE", store_format.FORK: "FORK",
          store_format.JOIN: "JOIN", store_format.CLONE: "CLONE", store_format.CONTENT_MODIFIED: "CONTENT_MODIFIED",
-         store_format.ATTRIBUTES_MODIFIED: "ATTRIBUTES_MODIFIED", store_format.ROUTE: "ROUTE", store_format.SEND: "SEND",
-         store_format.DROP: "DROP", store_format.EXPIRED: "EXPIRE"}
+         store_format.ATTRIBUTES_MODIFIED: "ATTRIBUTES_MODIFIED", store_format.ROUTE: "ROUTE",
+         store_format.SEND: "SEND", store_format.DROP: "DROP", store_format.EXPIRED: "EXPIRE"}
 
 USAGE_LINE = (b"usage: flow run, queues, events, lineage UUID, content UUID, check, trial N; "
               b"options --threads N --max-commits N --checkpoint N\n")

@@ -40,8 +40,8 @@ use Rattle.run_top.specs.declared.answer.Answer.TheVariants.{Limit as Limited}
 -- The flow has run from one time of the clock to another, with this journal, and ended so. Where the journal's limit
 -- ended it, that is `most`.
 pub record EndsWith {D : Type 0} (flow : Flow) (ended : Ended) (start time : ℕ) (tells : Bool) (held : D → Files)
-    (moment : D → ℕ) (images : D → ℕ → Files → Type 0) (lot most : ℕ) (opened : Machine) (old new : D) (left : List NamedFile)
-    (standing : List ℕ → Option (List ℕ)) : Type 0 where
+    (moment : D → ℕ) (images : D → ℕ → Files → Type 0) (lot most : ℕ) (opened : Machine) (old new : D)
+    (left : List NamedFile) (standing : List ℕ → Option (List ℕ)) : Type 0 where
   pub journal : List Entry
   pub ran : HasRun flow ended start time tells held moment images lot opened old new left standing journal
   pub limited : (limit : Limit) → ended ≡ ending.Limit limit
@@ -49,15 +49,15 @@ pub record EndsWith {D : Type 0} (flow : Flow) (ended : Ended) (start time : ℕ
 
 -- a run has ended so, and where its store was closed what it left is what the machine reached
 pub record HasEnded {D : Type 0} (flow : Flow) (ran : Ran) (start time : ℕ) (tells : Bool) (held : D → Files)
-    (moment : D → ℕ) (images : D → ℕ → Files → Type 0) (lot most : ℕ) (opened : Machine) (old new : D) (left : List NamedFile)
-    (standing : List ℕ → Option (List ℕ)) : Type 0 where
+    (moment : D → ℕ) (images : D → ℕ → Files → Type 0) (lot most : ℕ) (opened : Machine) (old new : D)
+    (left : List NamedFile) (standing : List ℕ → Option (List ℕ)) : Type 0 where
   pub ends : EndsWith flow ran.ended start time tells held moment images lot most opened old new left standing
   pub shows : IfSome ran.closed (Shows flow ends.ran.reached)
 
 -- behind its first sync the opening of the store failed, which ended a run that has done nothing
 pub record HasFailed {D : Type 0} (flow : Flow) (answer : Answer) (start time : ℕ) (tells : Bool) (held : D → Files)
-    (moment : D → ℕ) (images : D → ℕ → Files → Type 0) (lot most : ℕ) (opened : Machine) (old new : D) (left : List NamedFile)
-    (standing : List ℕ → Option (List ℕ)) : Type 0 where
+    (moment : D → ℕ) (images : D → ℕ → Files → Type 0) (lot most : ℕ) (opened : Machine) (old new : D)
+    (left : List NamedFile) (standing : List ℕ → Option (List ℕ)) : Type 0 where
   pub cause : Fault
   pub told : answer ≡ answer_of_fault cause
   pub ends : EndsWith flow (ending.Fault cause) start time tells held moment images lot most opened old new left standing
@@ -73,8 +73,8 @@ IsShownAs (Err instead) answer = answer ≡ instead
 
 -- It has ended and told so. Unless something failed, the text of the end was printed.
 pub record HasShownEnd {D : Type 0} (flow : Flow) (answer : Answer) (start time : ℕ) (tells : Bool) (held : D → Files)
-    (moment : D → ℕ) (images : D → ℕ → Files → Type 0) (lot most : ℕ) (opened : Machine) (old new : D) (left : List NamedFile)
-    (standing : List ℕ → Option (List ℕ)) (sink_tells : Bool) (before after : List ℕ) : Type 0 where
+    (moment : D → ℕ) (images : D → ℕ → Files → Type 0) (lot most : ℕ) (opened : Machine) (old new : D)
+    (left : List NamedFile) (standing : List ℕ → Option (List ℕ)) (sink_tells : Bool) (before after : List ℕ) : Type 0 where
   pub ended : Ended
   pub told : IsToldAs ended answer
   pub ends : EndsWith flow ended start time tells held moment images lot most opened old new left standing
@@ -173,8 +173,8 @@ IsOfRun Source = ⊥
 IsOfRun Absent = ⊥
 IsOfRun _ = ⊤
 
--- The answer of a flow that was read has its cause: the store that stands is another flow's, its files or a content that
--- was read are damaged, or the limit was met.
+-- The answer of a flow that was read has its cause: the store that stands is another flow's, its files or a content
+-- that was read are damaged, or the limit was met.
 pub record HasCause {D I O : Type 0} (flow : Flow) (answer : Answer) (tells : Bool) (held : D → Files) (moment : D → ℕ)
     (images : D → ℕ → Files → Type 0) (lot most : ℕ) (old new : D) (inbox_old inbox_new : I) (outbox_old outbox_new : O)
     : Type 0 where
@@ -201,8 +201,8 @@ pub record Runs {D I O S : Type 0} (flow : Flow) (answer : Answer) (start time :
     (in_tells : Bool) (left : I → List NamedFile) (inbox_old inbox_new : I)
     (out_tells : Bool) (standing : O → List ℕ → Option (List ℕ)) (outbox_old outbox_new : O)
     (sink_tells : Bool) (written : S → List ℕ) (sink_faults : S → ℕ) (sink_old sink_new : S) : Type 0 where
-  -- Where the devices tell and the files stand for a state of the flow, there is a journal of which all that HasRun says
-  -- is true, whatever the answer, and its end was printed; or the store wasn't opened.
+  -- Where the devices tell and the files stand for a state of the flow, there is a journal of which all that HasRun
+  -- says is true, whatever the answer, and its end was printed; or the store wasn't opened.
   pub headline : IsTrue tells → IsTrue in_tells → IsTrue out_tells → (state : State) → IsOfFlow flow lot (held old) state
       → HasShownEnd flow answer start time tells held moment images lot options.max_commits
       (machine_at state (left inbox_old) (standing outbox_old)) old new (left inbox_new) (standing outbox_new) sink_tells
@@ -214,8 +214,8 @@ pub record Runs {D I O S : Type 0} (flow : Flow) (answer : Answer) (start time :
       → IsLeftShut (identity_of flow) answer held moment images lot old new inbox_old inbox_new outbox_old outbox_new
       ⊎ IsNotOpened answer moment images old new inbox_old inbox_new outbox_old outbox_new
   -- Whatever inbox and outbox tell: only claims, events, the log, later logs with their snapshots, and a new store's
-  -- snapshot are written, and where nothing is left to do or all of it is held back the log is short; or the store wasn't
-  -- opened.
+  -- snapshot are written, and where nothing is left to do or all of it is held back the log is short; or the store
+  -- wasn't opened.
   pub alone : HasWritten answer moment images (held old) options.checkpoint old new
       ⊎ IsNotOpened answer moment images old new inbox_old inbox_new outbox_old outbox_new
   pub why : HasCause flow answer tells held moment images lot options.max_commits

@@ -63,7 +63,9 @@ pub fn run<R, D: Disk, I: Inbox, O: Outbox, F: Source, P: Patterns, S: Sink, C: 
     // The status is that of an answer. A flow of the text was read, and this is what its run did; or none was, and
     // nothing was done.
     ensures asked { (options : TheOptions) → AskToRun words.now options
-        → (answer : TheAnswer) × (result ≡ status_of answer) × (((one : TheFlow) × IsRead F.tells (F.rest flow.old) one × Runs one answer (C.time clock.old) (C.time clock.new) lot options D.tells D.held D.moment D.images
+        → (answer : TheAnswer) × (result ≡ status_of answer)
+        × (((one : TheFlow) × IsRead F.tells (F.rest flow.old) one
+        × Runs one answer (C.time clock.old) (C.time clock.new) lot options D.tells D.held D.moment D.images
         disk.old disk.new I.tells I.left inbox.old inbox.new O.tells O.standing outbox.old outbox.new
         S.tells S.written S.faults sink.old sink.new)
         ⊎ IsNotRead answer (told P.faults P.refused patterns.old) (told P.faults P.refused patterns.new) F.tells
@@ -72,18 +74,21 @@ pub fn run<R, D: Disk, I: Inbox, O: Outbox, F: Source, P: Patterns, S: Sink, C: 
 
     // Where the text breaks a rule, no flow was read.
     ensures broken { (options : TheOptions) → AskToRun words.now options → IsTrue F.tells → IsBroken (F.rest flow.old)
-        → (answer : TheAnswer) × (result ≡ status_of answer) × IsNotRead answer (told P.faults P.refused patterns.old) (told P.faults P.refused patterns.new) F.tells
+        → (answer : TheAnswer) × (result ≡ status_of answer)
+        × IsNotRead answer (told P.faults P.refused patterns.old) (told P.faults P.refused patterns.new) F.tells
         (F.rest flow.old) S.tells S.written S.faults
         disk.old disk.new inbox.old inbox.new outbox.old outbox.new sink.old sink.new }
 
     // Words that ask for something else, or for nothing: nothing is done, and a line says so.
-    ensures usage { AskForNoRun words.now → (answer : TheAnswer) × (result ≡ status_of answer) × ((answer ≡ Answer.Usage) ⊎ (answer ≡ Answer.Memory))
+    ensures usage { AskForNoRun words.now → (answer : TheAnswer) × (result ≡ status_of answer)
+        × ((answer ≡ Answer.Usage) ⊎ (answer ≡ Answer.Memory))
         × IsUntouched disk.old disk.new inbox.old inbox.new outbox.old outbox.new
         × (flow.new ≡ flow.old) × (patterns.new ≡ patterns.old) × (clock.new ≡ clock.old)
         × (IsTrue S.tells → IsLine S.faults S.written (refusal_line answer) sink.old sink.new) }
 
     // A device's fault is told only where its count rose.
-    ensures faults { (answer : TheAnswer) × (result ≡ status_of answer) × CountsEachFault answer (D.faults disk.old) (D.faults disk.new)
+    ensures faults { (answer : TheAnswer) × (result ≡ status_of answer)
+        × CountsEachFault answer (D.faults disk.old) (D.faults disk.new)
         (I.faults inbox.old) (I.faults inbox.new) (O.faults outbox.old) (O.faults outbox.new)
         × CountsFaults (F.faults flow.old) (F.faults flow.new) (answer ≡ Answer.Source)
         × CountsFaults (S.faults sink.old) (S.faults sink.new) (answer ≡ Answer.Sink) }
@@ -107,7 +112,9 @@ fn answer_words<D: Disk, I: Inbox, O: Outbox, F: Source, P: Patterns, S: Sink, C
     sink: &mut S,
     clock: &mut C,
 ) -> Answer
-    ensures asked { (options : TheOptions) → AskToRun words.now options → (((one : TheFlow) × IsRead F.tells (F.rest flow.old) one × Runs one result (C.time clock.old) (C.time clock.new) lot options D.tells D.held D.moment D.images
+    ensures asked { (options : TheOptions) → AskToRun words.now options
+        → (((one : TheFlow) × IsRead F.tells (F.rest flow.old) one
+        × Runs one result (C.time clock.old) (C.time clock.new) lot options D.tells D.held D.moment D.images
         disk.old disk.new I.tells I.left inbox.old inbox.new O.tells O.standing outbox.old outbox.new
         S.tells S.written S.faults sink.old sink.new)
         ⊎ IsNotRead result (told P.faults P.refused patterns.old) (told P.faults P.refused patterns.new) F.tells
@@ -163,13 +170,15 @@ fn run_text<D: Disk, I: Inbox, O: Outbox, F: Source, P: Patterns, S: Sink, C: Cl
     clock: &mut C,
 ) -> Answer
     requires most { options.max_commits ≤ COMMITS_MAX }
-    ensures asked { (((one : TheFlow) × IsRead F.tells (F.rest flow.old) one × Runs one result (C.time clock.old) (C.time clock.new) lot options D.tells D.held D.moment D.images
+    ensures asked { (((one : TheFlow) × IsRead F.tells (F.rest flow.old) one
+        × Runs one result (C.time clock.old) (C.time clock.new) lot options D.tells D.held D.moment D.images
         disk.old disk.new I.tells I.left inbox.old inbox.new O.tells O.standing outbox.old outbox.new
         S.tells S.written S.faults sink.old sink.new)
         ⊎ IsNotRead result (told P.faults P.refused patterns.old) (told P.faults P.refused patterns.new) F.tells
         (F.rest flow.old) S.tells S.written S.faults
         disk.old disk.new inbox.old inbox.new outbox.old outbox.new sink.old sink.new) }
-    ensures broken { IsTrue F.tells → IsBroken (F.rest flow.old) → IsNotRead result (told P.faults P.refused patterns.old) (told P.faults P.refused patterns.new) F.tells
+    ensures broken { IsTrue F.tells → IsBroken (F.rest flow.old)
+        → IsNotRead result (told P.faults P.refused patterns.old) (told P.faults P.refused patterns.new) F.tells
         (F.rest flow.old) S.tells S.written S.faults
         disk.old disk.new inbox.old inbox.new outbox.old outbox.new sink.old sink.new }
     ensures faults { CountsEachFault result (D.faults disk.old) (D.faults disk.new)
@@ -199,7 +208,8 @@ fn run_read<D: Disk, I: Inbox, O: Outbox, S: Sink, C: Clock>(
     requires built { AreBuilt flow.now }
     requires digest { IsDigest flow.now.digest }
     requires most { options.max_commits ≤ COMMITS_MAX }
-    ensures runs { Runs flow.now result (C.time clock.old) (C.time clock.new) lot options D.tells D.held D.moment D.images
+    ensures runs { Runs flow.now result (C.time clock.old) (C.time clock.new) lot options
+        D.tells D.held D.moment D.images
         disk.old disk.new I.tells I.left inbox.old inbox.new O.tells O.standing outbox.old outbox.new
         S.tells S.written S.faults sink.old sink.new }
     ensures faults { CountsEachFault result (D.faults disk.old) (D.faults disk.new)

@@ -132,7 +132,8 @@ fn write_closed<S: Sink>(
 
 // Prints what held a run back or ended it.
 fn write_end<S: Sink>(sink: &mut S, flow: &Flow, ended: Ended) -> Result<(), Failed>
-    ensures written { IsTrue S.tells → Writes (end_line flow.now ended) (S.written sink.old) (S.written sink.new) result }
+    ensures written { IsTrue S.tells
+        → Writes (end_line flow.now ended) (S.written sink.old) (S.written sink.new) result }
     ensures cause { CountsFaults (S.faults sink.old) (S.faults sink.new) (IsErr result) }
 {
     match ended {

@@ -78,8 +78,8 @@ fn may_be_told(world: World, moment: u64, times: u64) -> bool {
     }
 }
 
-// Runs the flow over the disk in this world. What it printed, where it was done, with the file in the outbox and nothing
-// left in the inbox.
+// Runs the flow over the disk in this world. What it printed, where it was done, with the file in the outbox and
+// nothing left in the inbox.
 fn delivers(alloc: Global, disk: &mut MemoryDisk, world: World) -> Result<Option<Vec<u8>>, Fail> {
     let name = Name::read(alloc, "a.txt")?;
     let mut files = Vec::new(alloc);
