@@ -238,7 +238,7 @@ class Cases:
 
         def other(folder):
             write_files(folder / "in", {"a": b""})
-            subprocess.run([self.program, "run"], cwd=folder, check=True)
+            subprocess.run([self.program, "run"], cwd=folder, check=True, stdout=subprocess.DEVNULL)
             (folder / "flow.json").write_text(FIRST + "\n", encoding="utf-8")
         self.advises(REFUSED, "the store belongs to another text of flow.json", before=other)
 

@@ -64,7 +64,7 @@ class Cases:
         ended = run(self.program, folder, ("run", *more))
         need_status(ended, status)
         if status in (DONE, BLOCKED, LIMIT):
-            need(printed.is_end(ended.said, status, state_of(folder), printed.listed(folder)),
+            need(printed.is_end(ended.said, status, state_of_written(folder), printed.listed(folder)),
                  f"it printed {ended.said!r}")
         elif status in printed.LINES:
             need(ended.said == printed.LINES[status], f"it printed {ended.said!r}")
@@ -541,7 +541,7 @@ def entries_now(folder):
 
 
 def state_of_written(folder):
-    """The state of a store that began with files of which no event tells that they came."""
+    """The state of a store, which may have begun with files of which no event tells that they came."""
     state = store_format.state_of(store_format.files_in(folder / "store"))
     need(not isinstance(state, store_format.Damage), f"the store is damaged: {state}")
     return state

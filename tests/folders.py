@@ -12,8 +12,8 @@ import time
 
 import printed
 import store_format
-from support import (DISK, DONE, INBOX, MARK, MARKER, MEMORY, OUTBOX, SOURCE, THE_TEXT, USAGE, Report, find_program,
-                     names, need, need_status, new_folder, none_aside, options, parse_seeded, photo, put_flow,
+from support import (DISK, DONE, INBOX, MARK, MARKER, MEMORY, OUTBOX, SINK, SOURCE, THE_TEXT, USAGE, Report,
+                     find_program, names, need, need_status, new_folder, none_aside, options, parse_seeded, photo, put_flow,
                      read_files, run, run_for, start, wait_for, work_folder, write_files)
 
 CONTENT_MAX = 16_777_216
@@ -352,12 +352,12 @@ class Cases:
         return ", ".join(f"{megabytes} MB: {status}" for megabytes, status in statuses.items())
 
     def streams_are_closed(self):
-        """Where the standard streams are closed, nothing of theirs lands in a file of ours."""
+        """Where the standard streams are closed the summary can't be printed, and it doesn't land in a file of ours."""
         with self.folder() as folder:
             write_files(folder / "in", THREE)
             status = subprocess.run(["sh", "-c", 'exec "$0" run <&- >&- 2>&-', self.program],
                                     cwd=folder).returncode
-            need(status == DONE, f"status {status}")
+            need(status == SINK, f"status {status}")
             need(read_files(folder / "out") == THREE, "out holds other files")
             self.delivers(folder, THREE)
 

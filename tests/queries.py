@@ -12,10 +12,8 @@ import time
 import printed
 import store_format
 from flow_texts import flow, generator, let_go, processor, queue, source
-from support import (DAMAGED, DISK, DONE, SOURCE, USAGE, Report, find_program, in_memory, names, need, need_status, new_folder,
-                     options, parse_seeded, run, work_folder, write_files)
-
-ABSENT, SINK = 13, 9
+from support import (ABSENT, DAMAGED, DISK, DONE, SINK, SOURCE, USAGE, Report, find_program, in_memory, names, need,
+                     need_status, new_folder, options, parse_seeded, run, work_folder, write_files)
 
 TELLS_KIN = (store_format.FORK, store_format.JOIN, store_format.CLONE)
 

@@ -19,7 +19,8 @@ import time
 ROOT = pathlib.Path(__file__).resolve().parent.parent
 
 # Statuses of the program. A text that is no flow and a store of another flow have the same.
-DONE, USAGE, REFUSED, DAMAGED, DISK, INBOX, OUTBOX, SOURCE, BLOCKED, LIMIT, MEMORY = 0, 2, 3, 4, 5, 6, 7, 8, 10, 11, 12
+DONE, USAGE, REFUSED, DAMAGED, DISK, INBOX, OUTBOX, SOURCE, SINK = 0, 2, 3, 4, 5, 6, 7, 8, 9
+BLOCKED, LIMIT, MEMORY, ABSENT = 10, 11, 12, 13
 
 # The text of the standard flow: get, a queue, put in place of what stands there.
 THE_TEXT = (ROOT / "examples" / "first" / "flow.json").read_bytes()
