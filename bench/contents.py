@@ -49,7 +49,7 @@ def written(program, parent, text, content):
         write_files(folder / "in", {"a": content})
         trace = folder / "trace"
         ended = subprocess.run(["strace", "-f", "-qq", "-y", "-e", "signal=none", "-e", "trace=write,pwrite64", "-o", trace,
-                                program, "run"], cwd=folder, stdin=subprocess.DEVNULL)
+                                program, "run"], cwd=folder, stdin=subprocess.DEVNULL, stdout=subprocess.DEVNULL)
         need(ended.returncode == DONE, f"status {ended.returncode} under strace")
         return sum(map(int, re.findall(r"write(?:64)?\(\d+<[^>]*/store/claim-\d+>.* = (\d+)$", trace.read_text(),
                                        re.MULTILINE)))

@@ -172,7 +172,7 @@ def traced(program, folder, *asked):
     """Runs the program under strace, and gives what that wrote."""
     trace = folder / "trace"
     command = ["strace", "-f", "-qq", "-e", "signal=none", *asked, "-o", trace, program, "run"]
-    ended = subprocess.run(command, cwd=folder, stdin=subprocess.DEVNULL)
+    ended = subprocess.run(command, cwd=folder, stdin=subprocess.DEVNULL, stdout=subprocess.DEVNULL)
     need(ended.returncode == DONE, f"status {ended.returncode} under strace")
     return trace.read_text()
 

@@ -41,7 +41,8 @@ def stopped_in(program, folder, path, call, when, change, then=signal.SIGCONT):
         on_path = [] if path is None else ["-P", path]
         child = subprocess.Popen(["strace", "-f", "-q", "-y", *on_path, "-e", f"trace={call},openat",
                                   "-e", f"inject={call}:signal=SIGSTOP:when={when}", "-o", trace, program, "run"],
-                                 cwd=folder, stdin=subprocess.DEVNULL, stderr=subprocess.DEVNULL)
+                                 cwd=folder, stdin=subprocess.DEVNULL, stdout=subprocess.DEVNULL,
+                                 stderr=subprocess.DEVNULL)
         process = wait_for_stop(child, trace)
         try:
             change(folder)
@@ -184,7 +185,7 @@ class Cases:
             write_files(folder / "in", files)
             ended = subprocess.run(["strace", "-f", "-qq", "-e", "trace=mkdir,mkdirat", "-e", "signal=none",
                                     "-o", aside / "trace", self.program, "run"], cwd=folder, check=False,
-                                   stdin=subprocess.DEVNULL, stderr=subprocess.DEVNULL)
+                                   stdin=subprocess.DEVNULL, stdout=subprocess.DEVNULL, stderr=subprocess.DEVNULL)
             need(ended.returncode == DONE, f"{sorted(files)}: status {ended.returncode}")
             self.holds(folder, files)
             return re.findall(r'"(out/[^"]*)".* = 0$', (aside / "trace").read_text(), re.MULTILINE)
@@ -340,7 +341,7 @@ class Cases:
             (folder / "out").mkdir()
             ended = subprocess.run(["strace", "-f", "-qq", "-y", "-P", path, "-e", "trace=statx", "-e", asked,
                                     "-o", aside / "trace", self.program, "run"], cwd=folder, check=False,
-                                   stdin=subprocess.DEVNULL, stderr=subprocess.DEVNULL)
+                                   stdin=subprocess.DEVNULL, stdout=subprocess.DEVNULL, stderr=subprocess.DEVNULL)
             need(ended.returncode == wanted, f"{asked} on {path}: status {ended.returncode}")
             if not left:
                 none_aside(folder)

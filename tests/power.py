@@ -36,7 +36,7 @@ def record(program, folder):
         trace = aside / "trace"
         subprocess.run(["strace", "-f", "-qq", "-xx", "-y", "-s", "1000000", "-e", "signal=none",
                         "-e", f"trace={CHANGING}", "-o", trace, program, "run"],
-                       cwd=folder, stdin=subprocess.DEVNULL, check=True)
+                       cwd=folder, stdin=subprocess.DEVNULL, stdout=subprocess.DEVNULL, check=True)
         lines = trace.read_text().splitlines()
     calls = [call for line in lines for call in read_call(line, os.fsencode(folder.resolve()))]
     need(calls, "the record is empty")

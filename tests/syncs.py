@@ -71,7 +71,8 @@ def traced(program, folder, *asked):
     with new_folder() as aside:
         trace = aside / "trace"
         child = subprocess.run(["strace", "-f", "-qq", "-y", "-e", "trace=fsync,fdatasync", "-e", "signal=none", *asked,
-                                "-o", trace, program, "run"], cwd=folder, stdin=subprocess.DEVNULL)
+                                "-o", trace, program, "run"], cwd=folder,
+                               stdin=subprocess.DEVNULL, stdout=subprocess.DEVNULL)
         top = os.path.realpath(folder)
         syncs = [(kind, PART.sub("part", os.path.relpath(path, top)))
                  for kind, path in re.findall(r"\b(fsync|fdatasync)\(\d+<(.*)>\)", trace.read_text())]
