@@ -66,17 +66,30 @@ embedded-tens = record {
 }
 
 lines-behind : ArePieces (codes "\nb\nc\n") (map byte (codes "\nb\nc\n")) []
-lines-behind =
-    (codes "b\nc\n", one-byte 10 refl _,
-    (codes "\nc\n", one-byte 98 refl _,
-    (codes "c\n", one-byte 10 refl _,
-    (codes "\n", one-byte 99 refl _,
-    ([], one-byte 10 refl _, refl)))))
+lines-behind = (
+  codes "b\nc\n",
+  one-byte 10 refl _,
+  (
+    codes "\nc\n",
+    one-byte 98 refl _,
+    (
+      codes "c\n",
+      one-byte 10 refl _,
+      (
+        codes "\n",
+        one-byte 99 refl _,
+        ([], one-byte 10 refl _, refl),
+      ),
+    ),
+  ),
+)
 
 custom-pieces : ArePieces custom_text (byte 97 ∷ embedded index ∷ map byte (codes "\nb\nc\n")) []
-custom-pieces =
-    (codes "${generate.index}\nb\nc\n", one-byte 97 refl _,
-    (codes "\nb\nc\n", (codes "${generate.index}", embedded-index, refl), lines-behind))
+custom-pieces = (
+  codes "${generate.index}\nb\nc\n",
+  one-byte 97 refl _,
+  (codes "\nb\nc\n", (codes "${generate.index}", embedded-index, refl), lines-behind),
+)
 
 pub custom-readable : IsReadable custom_text
 custom-readable = (joined (byte 97 ∷ embedded index ∷ map byte (codes "\nb\nc\n")), (omega arith, custom-pieces, tt))

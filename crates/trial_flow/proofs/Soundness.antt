@@ -15,9 +15,6 @@ use Rattle.trial_flow.specs.declared.trial.TheConstants.{TRIAL_MAX}
 none_twice : EachOnce []
 none_twice = λ i j d before within. absurd (omega (arith, within))
 
-flow_of : (count : ℕ) → (text tens : Expr) → (digest : List ℕ) → Flow
-flow_of count text tens digest = record { processors = processors count text tens; connections = connections; digest = digest }
-
 sound : (count : ℕ) → (text tens : Expr) → (digest : List ℕ) → count ≤ TRIAL_MAX → HasText text → HasText tens
     → IsSound (record { processors = processors count text tens; connections = connections; digest = digest })
 sound count text tens digest few has_text has_tens = record {
@@ -26,16 +23,23 @@ sound count text tens digest few has_text has_tens = record {
   processor_ids = refl;
   connection_ids = refl;
   processors = refl;
-  kinds = All-from_recursion (λ (processor : Processor). IsSoundKind processor.kind) _
-    (record { ranges = le-leb count 1_000_000 (omega (arith, few)); texts = has_text },
-    (record { ranges = refl; texts = All-from_recursion (λ (own : OwnExpression). HasText own.expression) _ (has_tens, tt) },
-    (record { ranges = refl; texts = tt },
-    (record { ranges = refl; texts = tt },
-    (record { ranges = refl; texts = tt }, tt)))));
+  kinds = All-from_recursion (λ (processor : Processor). IsSoundKind processor.kind) _ (
+    record { ranges = le-leb count 1_000_000 (omega (arith, few)); texts = has_text },
+    (
+      record { ranges = refl; texts = All-from_recursion (λ (own : OwnExpression). HasText own.expression) _ (has_tens, tt) },
+      (
+        record { ranges = refl; texts = tt },
+        (
+          record { ranges = refl; texts = tt },
+          (record { ranges = refl; texts = tt }, tt),
+        ),
+      ),
+    ),
+  );
   connections = refl;
   relationships = refl;
   prioritizers = All-from_recursion (λ (connection : Connection). EachOnce connection.order) _
-    (none_twice, (none_twice, (none_twice, (none_twice, (none_twice, tt)))));
+      (none_twice, (none_twice, (none_twice, (none_twice, (none_twice, tt)))));
 }
 
 pub trial-sound : (count : ℕ) → (flow : Flow) → count ≤ TRIAL_MAX → IsTrialFlow count flow → IsSound flow

@@ -10,9 +10,13 @@ use std::alloc::{AllocError, Global};
 
 // The places of the processors.
 const GENERATOR: u16 = 0;
+
 const ROUTER: u16 = 1;
+
 const SPLITTER: u16 = 2;
+
 const MERGER: u16 = 3;
+
 const PUTTER: u16 = 4;
 
 pub(crate) fn connections(alloc: Global) -> Result<ConnectionList, AllocError>

@@ -47,10 +47,12 @@ fn generator(alloc: Global, count: u32, custom_text: Expr) -> Result<Processor, 
 fn router(alloc: Global, tens: Expr) -> Result<Processor, AllocError>
     ensures { IfOk result (λ made. made ≡ router tens) }
 {
-    let own = vec![in alloc; OwnExpression {
-        name: Text::from_str(alloc, "tens")?,
-        expression: tens,
-    }]?;
+    let own = vec![in alloc;
+        OwnExpression {
+            name: Text::from_str(alloc, "tens")?,
+            expression: tens,
+        },
+    ]?;
     let kind = Kind::RouteOnAttribute {
         own: Sequence::from(own),
     };
