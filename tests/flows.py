@@ -8,6 +8,7 @@ are refused. Last, a flow with clones is killed at random moments and started ag
 import collections
 import json
 import random
+import shutil
 import time
 
 import printed
@@ -16,7 +17,7 @@ from flow_texts import flow, generator, kinds, let_go, put, queue, source, state
 from store_format import CLONE, CREATE, DROP, EXPIRED, RECEIVE, SEND, Expire, Writer
 from support import (BLOCKED, DAMAGED, DONE, LIMIT, REFUSED, SOURCE, THE_TEXT, USAGE, Report, find_program,
                      in_memory, names, need, need_status, new_folder, none_aside, options, parse_seeded, photo,
-                     put_flow, read_files, run, run_for, start, wait_for, work_folder, write_files)
+                     put_flow, read_files, run, run_for, start, unmarked_aside, wait_for, work_folder, write_files)
 
 STRATEGIES = ("replace", "ignore", "fail")
 
@@ -505,12 +506,15 @@ class Cases:
             return f"{kills} kills"
 
     def until_done(self, folder, check):
-        """Starts and kills until a run ends by itself. How often it was killed."""
+        """Starts and kills until a run ends by itself, and removes the folders that a kill left in `out` without their
+        marker, as a user would. How often it was killed."""
         kills, most = 0, self.pause
         while True:
             status = run_for(self.program, folder, random.uniform(0, most))
             if status is not None:
                 need(status == DONE, f"a start after {kills} kills ended with status {status}")
+                for name in unmarked_aside(folder / "out"):
+                    shutil.rmtree(folder / "out" / name)
                 return kills
             kills += 1
             most *= 1.03
