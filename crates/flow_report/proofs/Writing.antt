@@ -1,7 +1,7 @@
 -- What puts one behind the other leave.
-use Rattle.std.proofs.Common.{◌≡◌, ℕ, ◌+◌, ◌<◌, ◌≤◌, List, [], ◌∷◌, ◌++◌, length, take, drop, get_or, Result, Ok, Err, refl, sym, ap, ◌∙◌, subst, append_assoc, OnOk, arith}
+use Rattle.std.proofs.Common.{◌≡◌, ℕ, ◌+◌, ◌-◌, ◌<◌, ◌≤◌, List, [], ◌∷◌, ◌++◌, length, take, drop, get_or, Result, Ok, Err, refl, sym, ap, ◌∙◌, subst, append_assoc, OnOk, arith}
 use Rattle.std.specs.List.{enumerate_from, flat_map}
-use Rattle.std.proofs.lemmas.List.{append-nil, take_all, take_more, take-append-drop}
+use Rattle.std.proofs.lemmas.List.{append-nil, drop-drop, length-drop, length-take, take_all, take_more, take-append-drop}
 use Rattle.std.proofs.lemmas.List.FromFn.{length-enumerate_from, get_or-enumerate_from}
 use Rattle.disk_trait.specs.declared.file_name.Failed.{Failed}
 use Rattle.flow_report.specs.Writing.{Puts, Writes}
@@ -136,24 +136,47 @@ writes-all-lines f xs i b b' past so_far = writes-named _ _ b b' (Ok tt) (ap (fl
 
 -- ---- lines of places and items
 
--- the item at a place, with its place
-item-at : {X : Type 0} (xs : List X) (i : ℕ) (x : X) → i < length xs → x ≡ get_or xs i x → get_or (enumerate_from 0 xs) i (i, x) ≡ (i, x)
-item-at {X} xs i x within is =
-    let here : 0 + i ≡ i = omega arith in
-    get_or-enumerate_from 0 xs i (i, x) within ∙ ap (λ (n : ℕ). (n, get_or xs i x)) here ∙ ap (λ (y : X). (i, y)) (sym is)
+-- the item at a place, with its place behind the first
+item-at : {X : Type 0} (first : ℕ) (xs : List X) (i : ℕ) (x : X) → i < length xs → x ≡ get_or xs i x → get_or (enumerate_from first xs) i (first + i, x) ≡ (first + i, x)
+item-at {X} first xs i x within is = get_or-enumerate_from first xs i (first + i, x) within ∙ ap (λ (y : X). (first + i, y)) (sym is)
 
-pub place-more : {X : Type 0} (f : ℕ × X → List ℕ) (xs : List X) (i : ℕ) (x : X) (b b' b'' : List ℕ) → i < length xs → x ≡ get_or xs i x
-    → Writes (flat_map f (take i (enumerate_from 0 xs))) b b' (Ok tt) → Writes (f (i, x)) b' b'' (Ok tt) → Writes (flat_map f (take (i + 1) (enumerate_from 0 xs))) b b'' (Ok tt)
-place-more f xs i x b b' b'' within is so_far more =
-    writes-more f (enumerate_from 0 xs) i (i, x) b b' b'' (omega (arith, within, length-enumerate_from 0 xs)) so_far
-    (writes-named _ _ b' b'' (Ok tt) (ap f (sym (item-at xs i x within is))) more)
+pub place-more : {X : Type 0} (f : ℕ × X → List ℕ) (first : ℕ) (xs : List X) (i : ℕ) (x : X) (b b' b'' : List ℕ) → i < length xs → x ≡ get_or xs i x
+    → Writes (flat_map f (take i (enumerate_from first xs))) b b' (Ok tt) → Writes (f (first + i, x)) b' b'' (Ok tt) → Writes (flat_map f (take (i + 1) (enumerate_from first xs))) b b'' (Ok tt)
+place-more f first xs i x b b' b'' within is so_far more =
+    writes-more f (enumerate_from first xs) i (first + i, x) b b' b'' (omega (arith, within, length-enumerate_from first xs)) so_far
+    (writes-named _ _ b' b'' (Ok tt) (ap f (sym (item-at first xs i x within is))) more)
 
-pub place-failed : {X : Type 0} (f : ℕ × X → List ℕ) (xs : List X) (i : ℕ) (x : X) (b b' b'' : List ℕ) (e : Failed) → i < length xs → x ≡ get_or xs i x
-    → Writes (flat_map f (take i (enumerate_from 0 xs))) b b' (Ok tt) → Writes (f (i, x)) b' b'' (Err e) → Writes (flat_map f (enumerate_from 0 xs)) b b'' (Err e)
-place-failed f xs i x b b' b'' e within is so_far more =
-    writes-more-failed f (enumerate_from 0 xs) i (i, x) b b' b'' e (omega (arith, within, length-enumerate_from 0 xs)) so_far
-    (writes-named _ _ b' b'' (Err e) (ap f (sym (item-at xs i x within is))) more)
+pub place-failed : {X : Type 0} (f : ℕ × X → List ℕ) (first : ℕ) (xs : List X) (i : ℕ) (x : X) (b b' b'' : List ℕ) (e : Failed) → i < length xs → x ≡ get_or xs i x
+    → Writes (flat_map f (take i (enumerate_from first xs))) b b' (Ok tt) → Writes (f (first + i, x)) b' b'' (Err e) → Writes (flat_map f (enumerate_from first xs)) b b'' (Err e)
+place-failed f first xs i x b b' b'' e within is so_far more =
+    writes-more-failed f (enumerate_from first xs) i (first + i, x) b b' b'' e (omega (arith, within, length-enumerate_from first xs)) so_far
+    (writes-named _ _ b' b'' (Err e) (ap f (sym (item-at first xs i x within is))) more)
 
-pub places-all : {X : Type 0} (f : ℕ × X → List ℕ) (xs : List X) (i : ℕ) (b b' : List ℕ) → length xs ≤ i
-    → Writes (flat_map f (take i (enumerate_from 0 xs))) b b' (Ok tt) → Writes (flat_map f (enumerate_from 0 xs)) b b' (Ok tt)
-places-all f xs i b b' past so_far = writes-all-lines f (enumerate_from 0 xs) i b b' (omega (arith, past, length-enumerate_from 0 xs)) so_far
+pub places-all : {X : Type 0} (f : ℕ × X → List ℕ) (first : ℕ) (xs : List X) (i : ℕ) (b b' : List ℕ) → length xs ≤ i
+    → Writes (flat_map f (take i (enumerate_from first xs))) b b' (Ok tt) → Writes (flat_map f (enumerate_from first xs)) b b' (Ok tt)
+places-all f first xs i b b' past so_far = writes-all-lines f (enumerate_from first xs) i b b' (omega (arith, past, length-enumerate_from first xs)) so_far
+
+-- ---- lines of some places and of those behind them
+
+places-append : {X : Type 0} (first : ℕ) (xs ys : List X) → enumerate_from first (xs ++ ys) ≡ enumerate_from first xs ++ enumerate_from (first + length xs) ys
+places-append first [] ys = let here : first ≡ first + 0 = omega arith in ap (λ (n : ℕ). enumerate_from n ys) here
+places-append first (x ∷ xs) ys =
+    let behind : first + 1 + length xs ≡ first + length (x ∷ xs) = omega arith in
+    ap (λ (l : List _). (first, x) ∷ l) (places-append (first + 1) xs ys ∙ ap (λ (n : ℕ). enumerate_from (first + 1) xs ++ enumerate_from n ys) behind)
+
+-- those from a place on are those up to another and those from there on
+pub places-cut : {X : Type 0} (f : ℕ × X → List ℕ) (xs : List X) (first end : ℕ) → first ≤ end → end ≤ length xs
+    → flat_map f (enumerate_from first (drop first xs)) ≡ flat_map f (enumerate_from first (take (end - first) (drop first xs))) ++ flat_map f (enumerate_from end (drop end xs))
+places-cut f xs first end from within =
+    let part = take (end - first) (drop first xs) in
+    let long : first + length part ≡ end = omega (arith, from, within, length-take (end - first) (drop first xs), length-drop first xs) in
+    let place : first + (end - first) ≡ end = omega (arith, from) in
+    let behind : drop (end - first) (drop first xs) ≡ drop end xs = drop-drop (end - first) first xs ∙ ap (λ (n : ℕ). drop n xs) place in
+    let split : drop first xs ≡ part ++ drop end xs = sym (take-append-drop (end - first) (drop first xs)) ∙ ap (λ (l : List _). part ++ l) behind in
+    ap (λ (l : List _). flat_map f (enumerate_from first l)) split ∙ ap (flat_map f) (places-append first part (drop end xs))
+    ∙ texts-append f (enumerate_from first part) (enumerate_from (first + length part) (drop end xs))
+    ∙ ap (λ (n : ℕ). flat_map f (enumerate_from first part) ++ flat_map f (enumerate_from n (drop end xs))) long
+
+-- some lines more of the whole, of which these are left
+pub cut-more : (text part rest left whole : List ℕ) → left ≡ part ++ rest → text ++ left ≡ whole → (text ++ part) ++ rest ≡ whole
+cut-more text part rest left whole split so_far = append_assoc text part rest ∙ ap (λ (l : List ℕ). text ++ l) (sym split) ∙ so_far

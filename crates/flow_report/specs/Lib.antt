@@ -4,3 +4,4 @@ pub mod Words
 pub mod Writing
 pub mod Parts
 pub mod Summary
+pub mod Counts

@@ -1,8 +1,12 @@
-//! How many files a connection has, and how many bytes they have together.
-ghost use Rattle.std.specs.Prelude.{◌≡◌, ◌==◌, ◌+◌, ◌<◌, ◌^◌, filter, length, if◌then◌else◌};
+//! How many files the connections have, and how many bytes these have together.
+ghost use Rattle.std.specs.Prelude.{◌≡◌, ℕ, ◌==◌, ◌+◌, ◌<◌, ◌^◌, filter, length, if◌then◌else◌};
 ghost use Rattle.std.specs.List.{sum_by};
+ghost use Rattle.flow_report.specs.Counts.{bytes_at, files_at};
 
 use flowfile_record::{ActiveList, BatchList};
+
+/// How many connections are counted in one pass over the files.
+pub(crate) const COUNTED: usize = 1_024;
 
 /// How many files, and the sum of their contents' sizes in bytes.
 #[derive(Clone, Copy)]
@@ -11,52 +15,83 @@ pub(crate) struct Count {
     pub(crate) bytes: u128,
 }
 
-/// The active files of the connection at a place.
-pub(crate) fn count_active(files: &ActiveList, place: usize) -> Count
-    ensures files { result.files ≡ length (filter (λ active. active.connection == place) files.now.items) }
-    ensures bytes { result.bytes ≡ sum_by (λ active. active.file.content.size)
-        (filter (λ active. active.connection == place) files.now.items) }
+/// The counts of the connections at places that follow one another.
+#[derive(Drop)]
+pub(crate) struct Counts {
+    first: usize,
+    counts: [Count; COUNTED],
+}
+
+/// The active files of the connections from a place on.
+pub(crate) fn count_active(files: &ActiveList, first: usize) -> Counts
+    ensures files { (at : ℕ) → at < COUNTED → files_at result at
+        ≡ length (filter (λ active. active.connection == first + at) files.now.items) }
+    ensures bytes { (at : ℕ) → at < COUNTED → bytes_at result at ≡ sum_by (λ active. active.file.content.size)
+        (filter (λ active. active.connection == first + at) files.now.items) }
 {
     // There are fewer than 2^64, so that the sums fit.
     let _length = files.len();
-    let mut count = Count { files: 0, bytes: 0 };
+    let mut counts = Counts::new(first);
     for active in files.iter() {
-        let is_here = usize::from(active.connection) == place;
-        count = count.with(is_here, 1, active.file.content.size);
+        counts.add(active.connection, 1, active.file.content.size);
     }
-    count
+    counts
 }
 
-/// The swapped out files of the connection at a place.
-pub(crate) fn count_swapped(batches: &BatchList, place: usize) -> Count
-    ensures files { result.files ≡ sum_by (λ batch. batch.files)
-        (filter (λ batch. batch.connection == place) batches.now.items) }
-    ensures bytes { result.bytes ≡ sum_by (λ batch. batch.bytes)
-        (filter (λ batch. batch.connection == place) batches.now.items) }
+/// The swapped out files of the connections from a place on.
+pub(crate) fn count_swapped(batches: &BatchList, first: usize) -> Counts
+    ensures files { (at : ℕ) → at < COUNTED → files_at result at
+        ≡ sum_by (λ batch. batch.files) (filter (λ batch. batch.connection == first + at) batches.now.items) }
+    ensures bytes { (at : ℕ) → at < COUNTED → bytes_at result at
+        ≡ sum_by (λ batch. batch.bytes) (filter (λ batch. batch.connection == first + at) batches.now.items) }
 {
     let _length = batches.len();
-    let mut count = Count { files: 0, bytes: 0 };
+    let mut counts = Counts::new(first);
     for batch in batches.iter() {
-        let is_here = usize::from(batch.connection) == place;
-        count = count.with(is_here, batch.files, batch.bytes);
+        counts.add(batch.connection, batch.files, batch.bytes);
     }
-    count
+    counts
 }
 
-impl Count {
-    // With so many files and bytes more, if they are of the connection.
-    fn with(self, is_here: bool, files: u64, bytes: u64) -> Count
-        requires files { self.files + files < 2 ^ 128 }
-        requires bytes { self.bytes + bytes < 2 ^ 128 }
-        ensures files { result.files ≡ (if is_here then self.files + files else self.files) }
-        ensures bytes { result.bytes ≡ (if is_here then self.bytes + bytes else self.bytes) }
+impl Counts {
+    // Nothing yet, of the connections from a place on.
+    fn new(first: usize) -> Counts
+        ensures first { result.first ≡ first }
+        ensures files { (at : ℕ) → at < COUNTED → files_at result at ≡ 0 }
+        ensures bytes { (at : ℕ) → at < COUNTED → bytes_at result at ≡ 0 }
     {
-        if !is_here {
-            return self;
+        Counts {
+            first,
+            counts: [Count { files: 0, bytes: 0 }; COUNTED],
         }
-        Count {
-            files: self.files + u128::from(files),
-            bytes: self.bytes + u128::from(bytes),
+    }
+
+    // Counts so many files and bytes more of a connection, unless it stands before or behind those that are counted.
+    fn add(&mut self, connection: u16, files: u64, bytes: u64)
+        requires files { (at : ℕ) → at < COUNTED → files_at self.old at + files < 2 ^ 128 }
+        requires bytes { (at : ℕ) → at < COUNTED → bytes_at self.old at + bytes < 2 ^ 128 }
+        ensures first { self.new.first ≡ self.old.first }
+        ensures files { (at : ℕ) → at < COUNTED → files_at self.new at
+            ≡ (if connection == self.old.first + at then files_at self.old at + files else files_at self.old at) }
+        ensures bytes { (at : ℕ) → at < COUNTED → bytes_at self.new at
+            ≡ (if connection == self.old.first + at then bytes_at self.old at + bytes else bytes_at self.old at) }
+    {
+        let Some(at) = usize::from(connection).checked_sub(self.first) else {
+            return;
+        };
+        if at < COUNTED {
+            let count = &mut self.counts[at];
+            count.files += u128::from(files);
+            count.bytes += u128::from(bytes);
         }
+    }
+
+    /// The count of the connection at this place behind the first.
+    pub(crate) fn at(&self, at: usize) -> Count
+        requires { at < COUNTED }
+        ensures files { result.files ≡ files_at self.now at }
+        ensures bytes { result.bytes ≡ bytes_at self.now at }
+    {
+        self.counts[at]
     }
 }

@@ -1,12 +1,13 @@
 //! The summary of a run.
-ghost use Rattle.std.specs.Prelude.{◌≡◌, IsTrue, IsErr};
+ghost use Rattle.std.specs.Prelude.{◌≡◌, ◌+◌, ◌≤◌, length, IsTrue, IsErr};
 ghost use Rattle.disk_trait.specs.Faults.{CountsFaults};
 ghost use Rattle.flowfile_record.specs.Stored.{kept_of};
-ghost use Rattle.flow_report.specs.Summary.{bytes_in, connections_text, count_text, events_text, files_in, summary};
+ghost use Rattle.flow_report.specs.Counts.{lines_from};
+ghost use Rattle.flow_report.specs.Summary.{connections_text, count_text, events_text, summary};
 ghost use Rattle.flow_report.specs.Texts.{connection_text};
 ghost use Rattle.flow_report.specs.Writing.{Writes};
 
-use crate::count::{count_active, count_swapped};
+use crate::count::{COUNTED, Count, count_active, count_swapped};
 use crate::part::{Part, write_parts};
 use crate::words::word_of_event;
 use disk_trait::Failed;
@@ -58,26 +59,47 @@ fn write_connections<S: Sink>(
         (S.written sink.old) (S.written sink.new) result }
     ensures cause { CountsFaults (S.faults sink.old) (S.faults sink.new) (IsErr result) }
 {
-    for (place, connection) in connections.iter().enumerate() {
-        write_connection(sink, connection, place, state)?;
+    let mut first = 0;
+    while first < connections.len() {
+        let end = connections.len().min(first + COUNTED);
+        write_some(sink, &connections[first..end], first, state)?;
+        first = end;
     }
     Ok(())
 }
 
-// Writes the line of the connection at a place.
-fn write_connection<S: Sink>(
+// Writes the lines of connections, the first of which stands at a place of the flow, in one pass over the files.
+fn write_some<S: Sink>(
     sink: &mut S,
-    connection: &Connection,
-    place: usize,
+    connections: &[Connection],
+    first: usize,
     state: &Stored,
 ) -> Result<(), Failed>
-    ensures written { IsTrue S.tells → Writes
-        (connection_text connection.now.id (files_in place (kept_of state.now)) (bytes_in place (kept_of state.now)))
+    requires { length connections.now ≤ COUNTED }
+    ensures written { IsTrue S.tells → Writes (lines_from first connections.now (kept_of state.now))
         (S.written sink.old) (S.written sink.new) result }
     ensures cause { CountsFaults (S.faults sink.old) (S.faults sink.new) (IsErr result) }
 {
-    let active = count_active(&state.files, place);
-    let swapped = count_swapped(&state.batches, place);
+    let active = count_active(&state.files, first);
+    let swapped = count_swapped(&state.batches, first);
+    for (at, connection) in connections.iter().enumerate() {
+        write_connection(sink, connection, active.at(at), swapped.at(at))?;
+    }
+    Ok(())
+}
+
+// Writes the line of a connection that has these active and swapped out files.
+fn write_connection<S: Sink>(
+    sink: &mut S,
+    connection: &Connection,
+    active: Count,
+    swapped: Count,
+) -> Result<(), Failed>
+    ensures written { IsTrue S.tells → Writes
+        (connection_text connection.now.id (active.files + swapped.files) (active.bytes + swapped.bytes))
+        (S.written sink.old) (S.written sink.new) result }
+    ensures cause { CountsFaults (S.faults sink.old) (S.faults sink.new) (IsErr result) }
+{
     write_parts(
         sink,
         &[

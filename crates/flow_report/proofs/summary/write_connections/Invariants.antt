@@ -1,15 +1,18 @@
-use Rattle.std.proofs.Common.{◌≤◌, Ok, take, IsTrue}
-use Rattle.std.specs.List.{enumerate_from, flat_map}
+use Rattle.std.proofs.Common.{◌≡◌, ℕ, ◌-◌, ◌≤◌, List, ◌++◌, Ok, drop, length, IsTrue}
 use Rattle.flowfile_record.specs.Stored.{kept_of}
-use Rattle.flow_report.specs.Summary.{bytes_in, files_in}
-use Rattle.flow_report.specs.Texts.{connection_text}
+use Rattle.flow_report.specs.Counts.{lines_from}
+use Rattle.flow_report.specs.Summary.{connections_text}
 use Rattle.flow_report.specs.Writing.{Writes}
 use Rattle.flow_report.proofs.summary.write_connections.Given as goal
 
-abbrev pub invariant-loop-place : goal.invariant-loop-place
-invariant-loop-place g l = record {
-  written : IsTrue g.S.Sink.tells
-      → Writes (flat_map (λ at. connection_text at.1.id (files_in at.0 (kept_of l.state)) (bytes_in at.0 (kept_of l.state))) (take l.place (enumerate_from 0 l.connections)))
-      (g.S.Sink.written l.fn.sink) (g.S.Sink.written l.sink) (Ok tt);
+abbrev pub invariant-loop-first : goal.invariant-loop-first
+invariant-loop-first g l = record {
+  text : List ℕ;
+  whole : text ++ lines_from l.first (drop l.first l.connections) (kept_of l.state) ≡ connections_text l.connections (kept_of l.state);
+  within : l.first ≤ length l.connections;
+  written : IsTrue g.S.Sink.tells → Writes text (g.S.Sink.written l.fn.sink) (g.S.Sink.written l.sink) (Ok tt);
   faults : g.S.Sink.faults l.fn.sink ≤ g.S.Sink.faults l.sink;
 }
+
+abbrev pub decreases-loop-first : goal.decreases-loop-first
+decreases-loop-first g l = length l.connections - l.first
