@@ -10,3 +10,4 @@ pub mod Refusing
 pub mod Steps
 pub mod Telling
 pub mod Written
+pub mod OwnFlow

@@ -3,3 +3,4 @@ pub mod Asked
 pub mod Errors
 pub mod Parts
 pub mod Texts
+pub mod OwnFlow

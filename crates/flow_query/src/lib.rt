@@ -9,6 +9,7 @@ mod content;
 mod error;
 mod events;
 mod found;
+mod law;
 mod lineage;
 mod lines;
 mod queues;
@@ -20,3 +21,4 @@ mod waiting;
 
 pub use asking::{Query, answer};
 pub use error::QueryError;
+pub use law::a_query_sees_the_state_of_a_run;

@@ -1,4 +1,4 @@
-use Rattle.std.proofs.Common.{◌≡◌, ◌==◌, ◌+◌, ◌^◌, ℕ, ◌∙◌, length, ap, arith, rules}
+use Rattle.std.proofs.Common.{◌==◌, ◌+◌, ◌^◌, ℕ, ◌∙◌, length, ap, arith, rules}
 use Rattle.flow_report.specs.Counts.{bytes_at, files_at}
 use Rattle.flow_report.proofs.Counting.{count-step, sum-step, bound-step}
 use Rattle.flow_report.proofs.count.count_active.Goals as goal

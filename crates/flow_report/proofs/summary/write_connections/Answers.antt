@@ -1,5 +1,5 @@
 use Rattle.std.proofs.lemmas.Result.{err_from_is_err_and}
-use Rattle.std.proofs.Common.{◌≡◌, ℕ, ◌-◌, ◌≤◌, List, ◌++◌, take, drop, length, arith}
+use Rattle.std.proofs.Common.{ℕ, ◌-◌, ◌≤◌, List, ◌++◌, take, drop, length, arith}
 use Rattle.flowfile_record.specs.Stored.{Kept, kept_of}
 use Rattle.machine_model.specs.declared.flow.Connection.{Connection}
 use Rattle.flow_report.specs.Counts.{lines_from}
