@@ -62,8 +62,6 @@ none_yet : (news : List Waiting) → All (λ w. item_of arrival_of (arrival_of w
 none_yet [] = All-nil (λ w. item_of arrival_of (arrival_of w) [] ≡ None)
 none_yet (w ∷ news) = All-cons (λ v. item_of arrival_of (arrival_of v) [] ≡ None) w news refl (none_yet news)
 
--- the files of a connection are new to an empty list
-pub waiting_new : (files : List ActiveFile) (place : ℕ) (list items : List Waiting) → AreDistinctBy arrives files → list ≡ waiting_in files place → items ≡ [] → AreNew arrival_of list items
-waiting_new files place list items distinct is none =
-    let new = are_new (waiting_in files place) [] (distinct_in place files distinct) (none_yet (waiting_in files place)) in
-    subst (λ (l : List Waiting). AreNew arrival_of l items) (sym is) (subst (λ (l : List Waiting). AreNew arrival_of (waiting_in files place) l) (sym none) new)
+-- files of different arrivals are new to an empty list
+pub waiting_new : (list items : List Waiting) → AreDistinctBy arrival_of list → items ≡ [] → AreNew arrival_of list items
+waiting_new list items distinct none = subst (λ (l : List Waiting). AreNew arrival_of list l) (sym none) (are_new list [] distinct (none_yet list))

@@ -11,3 +11,4 @@ pub mod Steps
 pub mod Telling
 pub mod Written
 pub mod OwnFlow
+pub mod Listed

@@ -1,5 +1,6 @@
 -- For private clauses: what the parts of the program answer and leave.
-use Rattle.std.specs.Prelude.{◌≡◌, ◌⊎◌, ℕ, ◌==◌, Bool, true, List, [], ◌++◌, Contains, map, filter, length, Option, None, Some, Result, Ok, Err}
+use Rattle.std.specs.Prelude.{◌≡◌, ◌⊎◌, ℕ, ◌==◌, Bool, true, List, [], ◌++◌, Contains, map, filter, length, slice_index_or, Option, None, Some, Result, Ok, Err}
+use Rattle.std.specs.Global.{Vec}
 use Rattle.std.specs.List.{flat_map, sum_by, enumerate_from, filter_map}
 use Rattle.disk_trait.specs.declared.damage.Damage.{Damage}
 use Rattle.flowfile_record.specs.Identifier.{identifier}
@@ -89,6 +90,10 @@ waiting_of a = record { arrival = a.file.arrival; number = a.file.number; size =
 -- those of the files of a connection, as the files stand
 abbrev pub waiting_in : List ActiveFile → (place : ℕ) → List Waiting
 waiting_in files place = map waiting_of (filter (λ a. a.connection == place) files)
+
+-- what is listed at a place of lists
+abbrev pub listed_at : List (Vec Waiting) → (place : ℕ) → List Waiting
+listed_at lists place = slice_index_or (map (λ list. list.items) lists) place []
 
 -- .. and by arrival
 abbrev pub waiting_at : List ActiveFile → (place : ℕ) → List Waiting

@@ -9,7 +9,7 @@ ghost use Rattle.flow_query.specs.Parts.{IsPrinted, IsSinkOrMemory, lines_text};
 ghost use Rattle.flow_query.specs.declared.asking.Query.TheVariants as query;
 
 use crate::QueryError;
-use crate::waiting::{queue_of, write_queue};
+use crate::waiting::{lists_of, queue_of, take_list, write_queue};
 use flowfile_record::Stored;
 use std::alloc::Global;
 use store_core::Seen;
@@ -32,7 +32,7 @@ pub(crate) fn show_queues<S: Sink>(
     }
 }
 
-// Holds the files of one queue at a time.
+// Holds what is said of each file, and the order of the files of one queue at a time.
 fn write_queues<S: Sink>(alloc: Global, stored: &Stored, sink: &mut S) -> Result<(), QueryError>
     requires { IsConsistent (kept_of stored.now) }
     ensures written { IsTrue S.tells → IsPrinted (lines_text (kept_of stored.now)) (S.written sink.old)
@@ -40,8 +40,11 @@ fn write_queues<S: Sink>(alloc: Global, stored: &Stored, sink: &mut S) -> Result
     ensures refusal { IfErr result IsSinkOrMemory }
     ensures sink { CountsFaults (S.faults sink.old) (S.faults sink.new) (IsErrOf result QueryError.Sink) }
 {
-    for (place, id) in stored.connections.as_slice().iter().enumerate() {
-        let queue = queue_of(alloc, &stored.files, place)?;
+    let ids = stored.connections.as_slice();
+    let mut lists = lists_of(alloc, &stored.files, ids.len())?;
+    for (place, id) in ids.iter().enumerate() {
+        let waiting = take_list(alloc, &mut lists, place);
+        let queue = queue_of(alloc, waiting)?;
         write_queue(sink, stored.store, id.as_str(), &queue)?;
     }
     Ok(())

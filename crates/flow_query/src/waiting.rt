@@ -1,14 +1,15 @@
-//! The files of one queue.
-ghost use Rattle.std.specs.Prelude.{◌≡◌, ◌<◌, ◌^◌, IfOk, IsErr, IsTrue};
+//! The files of queues.
+ghost use Rattle.std.specs.Prelude.{◌≡◌, ℕ, ◌<◌, ◌^◌, ◌++◌, ◌∷◌, [], vec_len, OnOk, IfOk, IsErr, IsTrue};
 ghost use Rattle.std.specs.List.{flat_map, sum_by};
 ghost use Rattle.disk_trait.specs.Faults.{CountsFaults};
+ghost use Rattle.flowfile_record.specs.NumberedItems.{with_items};
 ghost use Rattle.checkpoint_store.specs.Consistent.{AreDistinctBy};
 ghost use Rattle.flow_report.specs.Writing.{Writes};
-ghost use Rattle.flow_query.specs.Parts.{line_text, size_of, waiting_at, waiting_in, waiting_text};
+ghost use Rattle.flow_query.specs.Parts.{arrival_of, line_text, listed_at, size_of, waiting_in, waiting_text};
 
 use disk_trait::Failed;
 use flow_report::{Line, write_line};
-use flowfile_record::{ActiveList, Numbered, NumberedList, uuid_of};
+use flowfile_record::{ActiveFile, ActiveList, Numbered, NumberedList, uuid_of};
 use std::alloc::{AllocError, Global};
 use world_io::Sink;
 
@@ -28,37 +29,73 @@ impl Numbered for Waiting {
     }
 }
 
-/// The files of a connection, by their arrivals.
-pub(crate) fn queue_of(
+/// The files of each of so many connections, as they stand, in one pass over all files.
+pub(crate) fn lists_of(
     alloc: Global,
     files: &ActiveList,
-    place: usize,
-) -> Result<NumberedList<Waiting>, AllocError>
-    requires { AreDistinctBy (λ a. a.file.arrival) files.now.items }
-    ensures { IfOk result (λ queue. queue.items ≡ waiting_at files.now.items place) }
+    connections: usize,
+) -> Result<Vec<Vec<Waiting>>, AllocError>
+    ensures len { IfOk result (λ lists. vec_len lists ≡ connections) }
+    ensures lists { IfOk result (λ lists. (place : ℕ) → place < connections
+        → listed_at lists.items place ≡ waiting_in files.now.items place) }
 {
-    let waiting = list_waiting(alloc, files, place)?;
+    let mut lists = empty_lists(alloc, connections)?;
+    for active in files.iter() {
+        list_file(&mut lists, active)?;
+    }
+    Ok(lists)
+}
+
+// Adds a file to the list of its connection.
+fn list_file(lists: &mut Vec<Vec<Waiting>>, active: &ActiveFile) -> Result<(), AllocError>
+    ensures len { vec_len lists.new ≡ vec_len lists.old }
+    ensures lists { OnOk result ((place : ℕ) → place < vec_len lists.old → listed_at lists.new.items place
+        ≡ listed_at lists.old.items place ++ waiting_in (active.now ∷ []) place) }
+{
+    let place = usize::from(active.connection);
+    if place < lists.len() {
+        lists[place].push(Waiting {
+            arrival: active.file.arrival,
+            number: active.file.number,
+            size: active.file.content.size,
+        })?;
+    }
+    Ok(())
+}
+
+fn empty_lists(alloc: Global, count: usize) -> Result<Vec<Vec<Waiting>>, AllocError>
+    ensures len { IfOk result (λ lists. vec_len lists ≡ count) }
+    ensures empty { IfOk result (λ lists. (place : ℕ) → listed_at lists.items place ≡ []) }
+{
+    let mut lists = Vec::new(alloc);
+    for _ in 0..count {
+        lists.push(Vec::new(alloc))?;
+    }
+    Ok(lists)
+}
+
+/// Takes the list of a connection out, which leaves an empty one.
+pub(crate) fn take_list(alloc: Global, lists: &mut Vec<Vec<Waiting>>, place: usize) -> Vec<Waiting>
+    requires { place < vec_len lists.old }
+    ensures list { result.items ≡ listed_at lists.old.items place }
+    ensures others { (at : ℕ) → (at ≡ place → ⊥) → listed_at lists.new.items at ≡ listed_at lists.old.items at }
+    ensures len { vec_len lists.new ≡ vec_len lists.old }
+{
+    std::mem::replace(&mut lists[place], Vec::new(alloc))
+}
+
+/// A queue of these files, by their arrivals.
+pub(crate) fn queue_of(
+    alloc: Global,
+    waiting: Vec<Waiting>,
+) -> Result<NumberedList<Waiting>, AllocError>
+    requires { AreDistinctBy arrival_of waiting.items }
+    ensures { IfOk result (λ queue. queue.items ≡ with_items arrival_of waiting.items []) }
+{
     let mut queue = NumberedList::new(alloc);
     queue.reserve(waiting.len() as u64)?;
     queue.put_all(waiting);
     Ok(queue)
-}
-
-// .. by their numbers.
-fn list_waiting(alloc: Global, files: &ActiveList, place: usize) -> Result<Vec<Waiting>, AllocError>
-    ensures { IfOk result (λ list. list.items ≡ waiting_in files.now.items place) }
-{
-    let mut list = Vec::new(alloc);
-    for active in files.iter() {
-        if usize::from(active.connection) == place {
-            list.push(Waiting {
-                arrival: active.file.arrival,
-                number: active.file.number,
-                size: active.file.content.size,
-            })?;
-        }
-    }
-    Ok(list)
 }
 
 /// Writes the line of a connection and those of its files.
