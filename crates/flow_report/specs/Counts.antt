@@ -21,4 +21,5 @@ bytes_at counts at = (slice_index_or counts.counts at nothing).bytes
 -- the lines of connections, the first of which stands at this place of the flow
 abbrev pub lines_from : (first : ℕ) → List Connection → Kept → List ℕ
 lines_from first connections kept =
-    flat_map (λ at. connection_text at.1.id (files_in at.0 kept) (bytes_in at.0 kept)) (enumerate_from first connections)
+    flat_map (λ at. connection_text at.1.id (files_in at.0 kept) (bytes_in at.0 kept))
+    (enumerate_from first connections)
