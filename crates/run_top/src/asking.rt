@@ -8,7 +8,7 @@ ghost use Rattle.run_top.specs.Printing.{IsLine};
 use crate::printing::tell_line;
 use crate::status::{ABSENT, DAMAGED, DISK_FAULT, DONE, OUT_OF_MEMORY, SINK_FAULT};
 use disk_trait::Disk;
-use flow_query::{Query, QueryError, answer};
+use flow_query::{Query, QueryError, a_query_sees_the_state_of_a_run, answer};
 use flow_report::Line;
 use std::alloc::Global;
 use world_io::Sink;
@@ -22,6 +22,7 @@ pub fn ask<D: Disk, S: Sink>(alloc: Global, query: &Query, disk: &mut D, sink: &
     ensures stays { Stays D.held D.moment D.images disk.old disk.new }
     ensures disk { CountsFaults (D.faults disk.old) (D.faults disk.new) (result ≡ DISK_FAULT) }
 {
+    a_query_sees_the_state_of_a_run();
     match answer(alloc, *query, disk, sink) {
         Ok(()) => DONE,
         Err(error) => {
