@@ -1,3 +1,4 @@
+pub mod Absence
 pub mod Answering
 pub mod Arrivals
 pub mod Counted

@@ -1,5 +1,5 @@
 -- What a query answers of a state.
-use Rattle.std.specs.Prelude.{◌≡◌, ◌⊎◌, ℕ, true, List, ◌++◌, Contains, Result, Ok, Err}
+use Rattle.std.specs.Prelude.{◌≡◌, ◌⊎◌, ⊤, ℕ, true, List, ◌++◌, Contains, Result, Ok, Err}
 use Rattle.disk_trait.specs.Files.{Files}
 use Rattle.flowfile_record.specs.Identifier.{identifier}
 use Rattle.machine_model.specs.Files.{queue_at}
@@ -48,6 +48,15 @@ IsAbsent (query.Lineage id) state =
 IsAbsent (query.Content id) state =
     (place : ℕ) (file : QueuedFile) → Contains (queue_at state place) file → identifier state.store file.number ≡ id → ⊥
 IsAbsent query.Check state = ⊥
+
+-- Nothing of the identifier is told exactly where there is none, unless something failed.
+abbrev pub TellsAbsence : Query → State → Result (Unit {0}) QueryError → Type 0
+TellsAbsence query state (Ok _) = IsAbsent query state → ⊥
+TellsAbsence query state (Err Absent) = IsAbsent query state
+TellsAbsence query state (Err (Damaged _)) = ⊤
+TellsAbsence query state (Err Disk) = ⊤
+TellsAbsence query state (Err Sink) = ⊤
+TellsAbsence query state (Err Memory) = ⊤
 
 -- ---- what a call leaves in the sink
 

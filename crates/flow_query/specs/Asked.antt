@@ -2,7 +2,7 @@
 use Rattle.std.specs.Prelude.{ℕ, Bool, IsTrue, List, Result}
 use Rattle.disk_trait.specs.Files.{Files}
 use Rattle.store_core.specs.Seen.{SeenState, OfTheState, kept_seen}
-use Rattle.flow_query.specs.Answers.{IsAnswer}
+use Rattle.flow_query.specs.Answers.{IsAnswer, TellsAbsence}
 use Rattle.flow_query.specs.declared.asking.Query.{Query}
 use Rattle.flow_query.specs.declared.error.QueryError.{QueryError}
 
@@ -11,3 +11,7 @@ abbrev pub Answers : (disk sink : Bool) → Files → SeenState → Query → (b
     → Result (Unit {0}) QueryError → Type 0
 Answers disk sink files s query before after result = OfTheState disk files s
     (λ state. IsTrue sink → IsAnswer query (kept_seen s).connections state before after result)
+
+-- Where the disk tells, and the files hold what was seen, whatever the sink: whether there is nothing of the identifier.
+abbrev pub IsRightOnAbsence : (disk : Bool) → Files → SeenState → Query → Result (Unit {0}) QueryError → Type 0
+IsRightOnAbsence disk files s query result = OfTheState disk files s (λ state. TellsAbsence query state result)

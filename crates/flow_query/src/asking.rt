@@ -8,8 +8,8 @@ ghost use Rattle.machine_model.specs.State.{State};
 ghost use Rattle.store_core.specs.Kept.{kept_in};
 ghost use Rattle.store_core.specs.Seen.{IsSeenOn, no_flow};
 ghost use Rattle.store_core.specs.State.{stands_for};
-ghost use Rattle.flow_query.specs.Answers.{IsAnswer, IsSoundAnswer};
-ghost use Rattle.flow_query.specs.Asked.{Answers};
+ghost use Rattle.flow_query.specs.Answers.{IsAnswer, IsSoundAnswer, TellsAbsence};
+ghost use Rattle.flow_query.specs.Asked.{Answers, IsRightOnAbsence};
 
 use crate::QueryError;
 use crate::check::show_check;
@@ -50,6 +50,9 @@ pub fn answer<D: Disk, S: Sink>(
         → IsAnswer query kept.connections state (S.written sink.old) (S.written sink.new) result }
     // An answer comes only of a store that is sound. A damage is the first that its files have, and nothing is printed.
     ensures sound { IsTrue D.tells → IsSoundAnswer (D.held disk.old) sink.old sink.new result }
+    // .. and whatever the sink tells, an absence is told exactly where it is one.
+    ensures absence { IsTrue D.tells → (state : State) → stands_for no_flow 0 (D.held disk.old) ≡ Ok state
+        → TellsAbsence query state result }
     ensures stays { Stays D.held D.moment D.images disk.old disk.new }
     ensures disk { CountsFaults (D.faults disk.old) (D.faults disk.new) (IsErrOf result QueryError.Disk) }
     ensures sink { CountsFaults (S.faults sink.old) (S.faults sink.new) (IsErrOf result QueryError.Sink) }
@@ -68,6 +71,7 @@ fn show<D: Disk, S: Sink>(
 ) -> Result<(), QueryError>
     ensures printed { Answers D.tells S.tells (D.held disk.old) seen.now query (S.written sink.old)
         (S.written sink.new) result }
+    ensures absence { IsRightOnAbsence D.tells (D.held disk.old) seen.now query result }
     ensures undamaged { (damage : Damage) → IsErrOf result (QueryError.Damaged damage) → IsTrue D.tells
         → IsSeenOn (D.held disk.old) seen.now → ⊥ }
     ensures stays { Stays D.held D.moment D.images disk.old disk.new }

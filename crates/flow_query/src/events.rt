@@ -27,6 +27,7 @@ pub(crate) fn show_events<D: Disk, S: Sink>(
 ) -> Result<(), QueryError>
     ensures printed { Answers D.tells S.tells (D.held disk.old) seen.now query.Events (S.written sink.old)
         (S.written sink.new) result }
+    ensures present { IsErrOf result QueryError.Absent → ⊥ }
     ensures undamaged { (damage : Damage) → IsErrOf result (QueryError.Damaged damage) → IsTrue D.tells
         → IsSeenOn (D.held disk.old) seen.now → ⊥ }
     ensures stays { Stays D.held D.moment D.images disk.old disk.new }

@@ -7,7 +7,7 @@ ghost use Rattle.flowfile_record.specs.NumberedItems.{AscendsByNumber};
 ghost use Rattle.machine_model.specs.Lineage.{is_named};
 ghost use Rattle.prov_index.specs.Index.{number_of};
 ghost use Rattle.store_core.specs.Seen.{IsSeenOn, OfTheState, kept_seen};
-ghost use Rattle.flow_query.specs.Asked.{Answers};
+ghost use Rattle.flow_query.specs.Asked.{Answers, IsRightOnAbsence};
 ghost use Rattle.flow_query.specs.Parts.{IsFoundBy, IsUnread};
 ghost use Rattle.flow_query.specs.declared.asking.Query.TheVariants as query;
 
@@ -35,6 +35,7 @@ pub(crate) fn show_lineage<D: Disk, S: Sink>(
 ) -> Result<(), QueryError>
     ensures printed { Answers D.tells S.tells (D.held disk.old) seen.now (query.Lineage id) (S.written sink.old)
         (S.written sink.new) result }
+    ensures absence { IsRightOnAbsence D.tells (D.held disk.old) seen.now (query.Lineage id) result }
     ensures undamaged { (damage : Damage) → IsErrOf result (QueryError.Damaged damage) → IsTrue D.tells
         → IsSeenOn (D.held disk.old) seen.now → ⊥ }
     ensures stays { Stays D.held D.moment D.images disk.old disk.new }

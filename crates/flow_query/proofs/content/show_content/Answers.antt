@@ -4,6 +4,7 @@ use Rattle.std.proofs.lemmas.Result.{err_from_is_err_and}
 use Rattle.flow_report.proofs.Writing.{writes-named}
 use Rattle.store_core.specs.Seen.{kept_seen, IsContentOf}
 use Rattle.flow_query.specs.declared.asking.Query.TheVariants as query
+use Rattle.flow_query.proofs.Absence.{has_content}
 use Rattle.flow_query.proofs.Live.{none_queued, never_none, content_is}
 use Rattle.flow_query.proofs.Refusing.{sink_failed}
 use Rattle.flow_query.proofs.content.show_content.Goals as goal
@@ -43,3 +44,16 @@ returns-clause-printed g c told seen state is writes =
       content_is files s state c.args.id number bytes seen is c.in-Some.ensures.found content,
       (writes-named _ _ _ _ _ c.as_slice.ensures.value (c.in_ok-write_bytes.ensures.written writes)).ok,
     )
+
+pub returns-in_default-clause-absence : goal.returns-in_default-clause-absence
+returns-in_default-clause-absence g c told seen state is =
+    none_queued (g.D.Disk.held c.args.disk.now) c.args.seen.now state c.args.id seen is c.in_default.ensures.none
+
+pub returns-clause-absence : goal.returns-clause-absence
+returns-clause-absence g c told seen state is =
+    let files = g.D.Disk.held c.args.disk.now in
+    let s = c.args.seen.now in
+    let number = c.in-Some.number in
+    let bytes = c.in-Some-2.bytes.items in
+    let content = subst (λ (o : Option (Vec ℕ Global)). IsContentOf number (bytes_in o) state) c.in-Some-2.is (c.in_ok-bytes.ensures.content told seen state is) in
+    has_content c.args.id state bytes (content_is files s state c.args.id number bytes seen is c.in-Some.ensures.found content)
