@@ -28,18 +28,19 @@ use engine_queues::what_is_kept_is_seen;
 use engine_session::sessions_are_steps;
 use flow_run::{faults_end_a_run, run_goes_on};
 use std::alloc::Global;
-use world_io::{Clock, Inbox, Outbox};
+use world_io::{Clock, Gate, Inbox, Outbox};
 
 impl Engine<'_> {
     /// Tends what is due and runs session after session, until the flow is quiet or blocked. Where files wait for the
     /// end of a penalty, it waits with them.
-    pub(crate) fn drive<D: Disk, I: Inbox, O: Outbox, C: Clock>(
+    pub(crate) fn drive<D: Disk, I: Inbox, O: Outbox, C: Clock, G: Gate>(
         &mut self,
         alloc: Global,
         disk: &mut D,
         inbox: &mut I,
         outbox: &mut O,
         clock: &mut C,
+        gate: &G,
     ) -> Result<Ending, EngineError>
         requires ready { IsReady D.tells D.held D.moment D.images self.old disk.old }
         requires works { self.old.failed ≡ false }
@@ -74,7 +75,7 @@ impl Engine<'_> {
         faults_end_a_run::<D>();
         for _turn in 0..u64::MAX {
             let moment = clock.now();
-            match self.turn(alloc, disk, inbox, outbox, moment)? {
+            match self.turn(alloc, disk, inbox, outbox, moment, gate)? {
                 None => {}
                 Some(Ending::Rest { until }) => clock.wait(until),
                 Some(Ending::Blocked(connection)) => return Ok(Ending::Blocked(connection)),
@@ -86,13 +87,14 @@ impl Engine<'_> {
     }
 
     // Tends what is due, or else runs the next session. Where none comes, it tells how it ends.
-    fn turn<D: Disk, I: Inbox, O: Outbox>(
+    fn turn<D: Disk, I: Inbox, O: Outbox, G: Gate>(
         &mut self,
         alloc: Global,
         disk: &mut D,
         inbox: &mut I,
         outbox: &mut O,
         moment: u64,
+        gate: &G,
     ) -> Result<Option<Ending>, EngineError>
         requires ready { IsReady D.tells D.held D.moment D.images self.old disk.old }
         requires works { self.old.failed ≡ false }
@@ -124,19 +126,20 @@ impl Engine<'_> {
             (I.faults inbox.old) (I.faults inbox.new) (O.faults outbox.old) (O.faults outbox.new) }
     {
         match self.tend(alloc, disk, moment)? {
-            Tended::Nothing => self.go_on(alloc, disk, inbox, outbox, moment),
+            Tended::Nothing => self.go_on(alloc, disk, inbox, outbox, moment, gate),
             Tended::Expired | Tended::Checkpointed | Tended::Reclaimed(_) => Ok(None),
         }
     }
 
     // Runs the next session. Where none comes, it tells how it ends.
-    fn go_on<D: Disk, I: Inbox, O: Outbox>(
+    fn go_on<D: Disk, I: Inbox, O: Outbox, G: Gate>(
         &mut self,
         alloc: Global,
         disk: &mut D,
         inbox: &mut I,
         outbox: &mut O,
         moment: u64,
+        gate: &G,
     ) -> Result<Option<Ending>, EngineError>
         requires ready { IsReady D.tells D.held D.moment D.images self.old disk.old }
         requires works { self.old.failed ≡ false }
@@ -180,7 +183,7 @@ impl Engine<'_> {
             // All that is due was tended before.
             Checkout::Due => unreachable!(),
             Checkout::Session(choice) => {
-                self.run_session(alloc, disk, inbox, outbox, moment, choice)?;
+                self.run_session(alloc, disk, inbox, outbox, moment, choice, gate)?;
                 Ok(None)
             }
             Checkout::Limit(limit) => Err(EngineError::Limit(limit)),
@@ -191,8 +194,8 @@ impl Engine<'_> {
     }
 
     // Runs the session that comes next: its job is read, worked on and committed. Where the job has changed, nothing is
-    // done.
-    fn run_session<D: Disk, I: Inbox, O: Outbox>(
+    // done. Its number at the gate is how many entries the journal has before its own.
+    fn run_session<D: Disk, I: Inbox, O: Outbox, G: Gate>(
         &mut self,
         alloc: Global,
         disk: &mut D,
@@ -200,6 +203,7 @@ impl Engine<'_> {
         outbox: &mut O,
         moment: u64,
         choice: Choice,
+        gate: &G,
     ) -> Result<(), EngineError>
         requires ready { IsReady D.tells D.held D.moment D.images self.old disk.old }
         requires works { self.old.failed ≡ false }
@@ -232,7 +236,15 @@ impl Engine<'_> {
         run_goes_on::<D>();
         faults_end_a_run::<D>();
         let job = self.read(alloc, disk, inbox, outbox, moment, choice)?;
-        let done = work(alloc, self.flow, self.store.state().store, job)?;
+        let session = self.entries();
+        let done = work(
+            alloc,
+            self.flow,
+            self.store.state().store,
+            job,
+            session,
+            gate,
+        )?;
         self.commit(alloc, disk, inbox, outbox, done)?;
         Ok(())
     }

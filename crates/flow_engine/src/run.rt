@@ -21,7 +21,7 @@ use flow_run::{Ended, faults_end_a_run, run_ends};
 use machine_model::{Flow, names_are_lost_by_taking};
 use std::alloc::Global;
 use store_core::Store;
-use world_io::{Clock, Inbox, Outbox};
+use world_io::{Clock, Gate, Inbox, Outbox};
 
 /// How a run ended; and what it left, where its store was closed.
 #[derive(Drop)]
@@ -32,9 +32,10 @@ pub struct Ran {
 
 /// Runs a flow over a store of it that was opened: session after session until nothing is left to do, all of it is
 /// held back by full connections, or the journal has `most` entries. Then the store is closed. Where the log has
-/// `checkpoint` entries, a new one begins behind a snapshot. It tells how that ended; after a fault the store isn't
-/// closed, and is to be opened anew.
-pub fn run_flow<D: Disk, I: Inbox, O: Outbox, C: Clock>(
+/// `checkpoint` entries, a new one begins behind a snapshot. Each session's processor works inside the gate, under a
+/// number: how many entries the journal has before the session's own. It tells how the run ended; after a fault the store
+/// isn't closed, and is to be opened anew.
+pub fn run_flow<D: Disk, I: Inbox, O: Outbox, C: Clock, G: Gate>(
     alloc: Global,
     flow: &Flow,
     store: Store,
@@ -44,6 +45,7 @@ pub fn run_flow<D: Disk, I: Inbox, O: Outbox, C: Clock>(
     inbox: &mut I,
     outbox: &mut O,
     clock: &mut C,
+    gate: &G,
 ) -> Ran
     requires sound { IsSound flow.now }
     requires built { AreBuilt flow.now }
@@ -72,7 +74,7 @@ pub fn run_flow<D: Disk, I: Inbox, O: Outbox, C: Clock>(
         Ok(engine) => engine,
         Err(error) => return fail(&error),
     };
-    match engine.drive(alloc, disk, inbox, outbox, clock) {
+    match engine.drive(alloc, disk, inbox, outbox, clock, gate) {
         Ok(Ending::Blocked(connection)) => leave(engine.close(disk), Ended::Blocked(connection)),
         Ok(Ending::Quiet) => leave(engine.close(disk), Ended::Quiet),
         Ok(Ending::Rest { .. }) => unreachable!(),

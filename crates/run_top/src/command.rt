@@ -41,7 +41,8 @@ use world_io::{Clock, Gate, Inbox, Outbox, Sink, Source};
 /// the disk, or makes one, whose id is then the low 60 bits of the lot. Then the flow runs over it, session after
 /// session, until nothing is left to do, all of it is held back by full connections, or the journal has as many entries
 /// as `--max-commits` says. A log of as many entries as `--checkpoint` says is followed by a new one. The clock tells
-/// the moments of sessions. Whatever `--threads` says, one session runs at a time, and no gate is asked.
+/// the moments of sessions. Whatever `--threads` says, one session runs at a time. Each session's processor works between
+/// one `enter` and one `leave` of the gate, under the session's number: how many entries the journal has before its own.
 ///
 /// At its end it prints a summary: how many files each connection has and how many bytes they have together, how many
 /// names of the inbox are left, and how many events of each kind the store has; and behind it what held the run back or
@@ -58,7 +59,7 @@ pub fn run<R, D: Disk, I: Inbox, O: Outbox, F: Source, P: Patterns, S: Sink, C: 
     patterns: &mut P,
     sink: &mut S,
     clock: &mut C,
-    _gate: &G,
+    gate: &G,
 ) -> u8
     // The status is that of an answer. A flow of the text was read, and this is what its run did; or none was, and
     // nothing was done.
@@ -94,13 +95,13 @@ pub fn run<R, D: Disk, I: Inbox, O: Outbox, F: Source, P: Patterns, S: Sink, C: 
         × CountsFaults (S.faults sink.old) (S.faults sink.new) (answer ≡ Answer.Sink) }
 {
     let answer = answer_words(
-        alloc, words, lot, disk, inbox, outbox, flow, patterns, sink, clock,
+        alloc, words, lot, disk, inbox, outbox, flow, patterns, sink, clock, gate,
     );
     answer.status()
 }
 
 // What the words come to.
-fn answer_words<D: Disk, I: Inbox, O: Outbox, F: Source, P: Patterns, S: Sink, C: Clock>(
+fn answer_words<D: Disk, I: Inbox, O: Outbox, F: Source, P: Patterns, S: Sink, C: Clock, G: Gate>(
     alloc: Global,
     words: &[String],
     lot: u64,
@@ -111,6 +112,7 @@ fn answer_words<D: Disk, I: Inbox, O: Outbox, F: Source, P: Patterns, S: Sink, C
     patterns: &mut P,
     sink: &mut S,
     clock: &mut C,
+    gate: &G,
 ) -> Answer
     ensures asked { (options : TheOptions) → AskToRun words.now options
         → (((one : TheFlow) × IsRead F.tells (F.rest flow.old) one
@@ -135,7 +137,7 @@ fn answer_words<D: Disk, I: Inbox, O: Outbox, F: Source, P: Patterns, S: Sink, C
 {
     match options_to_run(alloc, words) {
         Ok(options) => run_text(
-            alloc, options, lot, disk, inbox, outbox, flow, patterns, sink, clock,
+            alloc, options, lot, disk, inbox, outbox, flow, patterns, sink, clock, gate,
         ),
         Err(answer) => refuse(sink, answer),
     }
@@ -157,7 +159,7 @@ fn options_to_run(alloc: Global, words: &[String]) -> Result<RunOptions, Answer>
 }
 
 // Runs the flow whose text the source has.
-fn run_text<D: Disk, I: Inbox, O: Outbox, F: Source, P: Patterns, S: Sink, C: Clock>(
+fn run_text<D: Disk, I: Inbox, O: Outbox, F: Source, P: Patterns, S: Sink, C: Clock, G: Gate>(
     alloc: Global,
     options: RunOptions,
     lot: u64,
@@ -168,6 +170,7 @@ fn run_text<D: Disk, I: Inbox, O: Outbox, F: Source, P: Patterns, S: Sink, C: Cl
     patterns: &mut P,
     sink: &mut S,
     clock: &mut C,
+    gate: &G,
 ) -> Answer
     requires most { options.max_commits ≤ COMMITS_MAX }
     ensures asked { (((one : TheFlow) × IsRead F.tells (F.rest flow.old) one
@@ -187,13 +190,15 @@ fn run_text<D: Disk, I: Inbox, O: Outbox, F: Source, P: Patterns, S: Sink, C: Cl
         × CountsFaults (S.faults sink.old) (S.faults sink.new) (result ≡ Answer.Sink) }
 {
     match read(alloc, flow, patterns) {
-        Ok(flow) => run_read(alloc, &flow, options, lot, disk, inbox, outbox, sink, clock),
+        Ok(flow) => run_read(
+            alloc, &flow, options, lot, disk, inbox, outbox, sink, clock, gate,
+        ),
         Err(answer) => refuse(sink, answer),
     }
 }
 
 // Runs a flow that was read, and prints how that ended.
-fn run_read<D: Disk, I: Inbox, O: Outbox, S: Sink, C: Clock>(
+fn run_read<D: Disk, I: Inbox, O: Outbox, S: Sink, C: Clock, G: Gate>(
     alloc: Global,
     flow: &Flow,
     options: RunOptions,
@@ -203,6 +208,7 @@ fn run_read<D: Disk, I: Inbox, O: Outbox, S: Sink, C: Clock>(
     outbox: &mut O,
     sink: &mut S,
     clock: &mut C,
+    gate: &G,
 ) -> Answer
     requires sound { IsSound flow.now }
     requires built { AreBuilt flow.now }
@@ -226,13 +232,14 @@ fn run_read<D: Disk, I: Inbox, O: Outbox, S: Sink, C: Clock>(
         inbox,
         outbox,
         clock,
+        gate,
     );
     show(sink, flow, run)
 }
 
 /// Opens the store of a flow, and runs the flow over it, until the journal has `most` entries at the latest, with a
 /// checkpoint where the log has `checkpoint` entries.
-pub(crate) fn run_over<D: Disk, I: Inbox, O: Outbox, C: Clock>(
+pub(crate) fn run_over<D: Disk, I: Inbox, O: Outbox, C: Clock, G: Gate>(
     alloc: Global,
     flow: &Flow,
     lot: u64,
@@ -242,6 +249,7 @@ pub(crate) fn run_over<D: Disk, I: Inbox, O: Outbox, C: Clock>(
     inbox: &mut I,
     outbox: &mut O,
     clock: &mut C,
+    gate: &G,
 ) -> Result<Ran, Answer>
     requires sound { IsSound flow.now }
     requires built { AreBuilt flow.now }
@@ -286,6 +294,6 @@ pub(crate) fn run_over<D: Disk, I: Inbox, O: Outbox, C: Clock>(
     events_up_to_the_last_are_in_a_row();
     let _stored = store.state();
     Ok(run_flow(
-        alloc, flow, store, most, checkpoint, disk, inbox, outbox, clock,
+        alloc, flow, store, most, checkpoint, disk, inbox, outbox, clock, gate,
     ))
 }
