@@ -22,8 +22,8 @@ pub struct Done {
     pub(crate) sources: SourceList,
 }
 
-/// Has the processor of a job work on it, between one `enter` and one `leave` of the gate with the session's number, also
-/// where memory is wanting. The uuids of its files are those of the store of this id.
+/// Has the processor of a job work on it, between one `enter` and one `leave` of the gate with the session's number,
+/// also where memory is wanting. The uuids of its files are those of the store of this id.
 pub fn work<G: Gate>(
     alloc: Global,
     flow: &Flow,

@@ -41,8 +41,9 @@ use world_io::{Clock, Gate, Inbox, Outbox, Sink, Source};
 /// the disk, or makes one, whose id is then the low 60 bits of the lot. Then the flow runs over it, session after
 /// session, until nothing is left to do, all of it is held back by full connections, or the journal has as many entries
 /// as `--max-commits` says. A log of as many entries as `--checkpoint` says is followed by a new one. The clock tells
-/// the moments of sessions. Whatever `--threads` says, one session runs at a time. Each session's processor works between
-/// one `enter` and one `leave` of the gate, under the session's number: how many entries the journal has before its own.
+/// the moments of sessions. Whatever `--threads` says, one session runs at a time. Each session's processor works
+/// between one `enter` and one `leave` of the gate, under a number: how many entries the journal has before the
+/// session's own.
 ///
 /// At its end it prints a summary: how many files each connection has and how many bytes they have together, how many
 /// names of the inbox are left, and how many events of each kind the store has; and behind it what held the run back or
