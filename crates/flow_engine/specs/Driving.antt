@@ -1,7 +1,8 @@
 -- How a turn of an engine ends.
-use Rattle.std.specs.Prelude.{◌≡◌, ℕ, List, Option, None, Some}
+use Rattle.std.specs.Prelude.{◌≡◌, ◌⊎◌, ℕ, List, [], ◌∷◌, ◌++◌, Option, None, Some}
 use Rattle.disk_trait.specs.Files.{Files}
 use Rattle.flowfile_record.specs.NamedFile.{NamedFile}
+use Rattle.machine_model.specs.declared.journal.Entry.{Entry}
 use Rattle.machine_model.specs.Files.{queues_of}
 use Rattle.machine_model.specs.State.{Machine}
 use Rattle.engine_choice.specs.Laws.{IsEndAt}
@@ -10,6 +11,7 @@ use Rattle.engine_choice.specs.declared.choice.Ending.TheVariants.{Rest}
 use Rattle.engine_queues.specs.Laws.{SeesTheSame}
 use Rattle.engine_queues.specs.Queues.{queue_seen}
 use Rattle.store_core.specs.Store.{kept_by}
+use Rattle.flow_run.specs.Turns.{moment_of}
 use Rattle.flow_engine.specs.Engine.{EngineState}
 use Rattle.flow_engine.specs.Running.{IsRunning, IsRunningTo}
 
@@ -36,3 +38,8 @@ IsTurned moment images e opened first start time now left standing (Some (Rest u
     IsRunning moment images e opened first start time now left standing
 IsTurned moment images e opened first start time now left standing (Some ending) =
     IsEnded moment images e opened first start time now left standing ending
+
+-- a turn's journal has one entry more at most, of a step that was made at this moment
+abbrev pub GrowsAt : (moment : ℕ) → (old new : List Entry) → Type 0
+GrowsAt moment old new =
+    (new ≡ old) ⊎ ((entry : Entry) × (moment_of entry.step ≡ moment) × (new ≡ old ++ entry ∷ []))

@@ -4,8 +4,9 @@ ghost use Rattle.kept_state.specs.declared.limit.Limit.{Limit as TheLimit};
 ghost use Rattle.machine_model.specs.State.{Machine};
 ghost use Rattle.engine_choice.specs.declared.choice.Ending.{Ending as TheEnding};
 ghost use Rattle.flow_engine.specs.Checkout.{session_in};
-ghost use Rattle.flow_engine.specs.Driving.{IsEnded, IsTurned, ShowsState};
+ghost use Rattle.flow_engine.specs.Driving.{GrowsAt, IsEnded, IsTurned, ShowsState};
 ghost use Rattle.flow_run.specs.Run.{StandsFor};
+ghost use Rattle.flow_run.specs.Turns.{AreMadeAt};
 ghost use Rattle.flowfile_wal.specs.Calls.{InEach};
 ghost use Rattle.flow_engine.specs.Engine.{AreTakeable, IsOfSameRun};
 ghost use Rattle.flow_engine.specs.Errors.{CountsEachFault, HasCause};
@@ -63,6 +64,9 @@ impl Engine<'_> {
         // Whatever inbox and outbox tell.
         ensures work { OnOk result (IsAtWork self.old.flow D.tells D.held D.moment D.images self.new.store disk.new) }
         ensures later { C.time clock.old ≤ C.time clock.new }
+        // Each moment of a step, and that of the end, is one that the clock gave.
+        ensures moments { AreMadeAt C.given self.old.journal → AreMadeAt C.given self.new.journal }
+        ensures given { OnOk result (C.given (C.time clock.new)) }
         ensures failed { self.new.failed ≡ true → IsErrOf result EngineError.Disk ⊎ IsErrOf result EngineError.Outbox }
         ensures works { IsErrOf result EngineError.MustReopen → ⊥ }
         ensures same { IsOfSameRun self.old self.new }
@@ -114,6 +118,7 @@ impl Engine<'_> {
             → Stops error D.tells D.held D.moment D.images self.new opened first start moment disk.new
             (I.left inbox.new) (O.standing outbox.new) }
         ensures ready { OnOk result (IsReady D.tells D.held D.moment D.images self.new disk.new) }
+        ensures grows { GrowsAt moment self.old.journal self.new.journal }
         ensures failed { self.new.failed ≡ true → IsErrOf result EngineError.Disk ⊎ IsErrOf result EngineError.Outbox }
         ensures works { IsErrOf result EngineError.MustReopen → ⊥ }
         ensures left { OnOk result (IsTrue I.tells → AreTakeable (I.left inbox.new) self.new.listing.names) }
@@ -161,6 +166,7 @@ impl Engine<'_> {
             → Stops error D.tells D.held D.moment D.images self.new opened first start moment disk.new
             (I.left inbox.new) (O.standing outbox.new) }
         ensures ready { OnOk result (IsReady D.tells D.held D.moment D.images self.new disk.new) }
+        ensures grows { GrowsAt moment self.old.journal self.new.journal }
         ensures failed { self.new.failed ≡ true → IsErrOf result EngineError.Disk ⊎ IsErrOf result EngineError.Outbox }
         ensures works { IsErrOf result EngineError.MustReopen → ⊥ }
         ensures left { OnOk result (IsTrue I.tells → AreTakeable (I.left inbox.new) self.new.listing.names) }
@@ -222,6 +228,7 @@ impl Engine<'_> {
             → Stops error D.tells D.held D.moment D.images self.new opened first start moment disk.new
             (I.left inbox.new) (O.standing outbox.new) }
         ensures ready { OnOk result (IsReady D.tells D.held D.moment D.images self.new disk.new) }
+        ensures grows { GrowsAt moment self.old.journal self.new.journal }
         ensures failed { self.new.failed ≡ true → IsErrOf result EngineError.Disk ⊎ IsErrOf result EngineError.Outbox }
         ensures works { IsErrOf result EngineError.MustReopen → ⊥ }
         ensures left { OnOk result (IsTrue I.tells → AreTakeable (I.left inbox.new) self.new.listing.names) }

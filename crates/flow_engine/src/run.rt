@@ -6,7 +6,8 @@ ghost use Rattle.machine_model.specs.State.{State};
 ghost use Rattle.machine_model.specs.declared.journal.Entry.{Entry as TheEntry};
 ghost use Rattle.flow_run.specs.Going.{IsRunningAt};
 ghost use Rattle.flow_run.specs.Run.{HasRun, machine_at};
-ghost use Rattle.flow_run.specs.Ending.{EndsForCause, EndsShort, IsFault};
+ghost use Rattle.flow_run.specs.Ending.{EndsForCause, EndsShort, IsAtRest, IsFault};
+ghost use Rattle.flow_run.specs.Turns.{AreMadeAt};
 ghost use Rattle.flow_engine.specs.Closing.{Shows};
 ghost use Rattle.flow_engine.specs.Engine.{AreBuilt};
 ghost use Rattle.flow_engine.specs.Errors.{ended_by};
@@ -58,7 +59,10 @@ pub fn run_flow<D: Disk, I: Inbox, O: Outbox, C: Clock, G: Gate>(
         (machine_at state (I.left inbox.old) (O.standing outbox.old)) (I.left inbox.old) (O.standing outbox.old)
         → (journal : List TheEntry) × (ran : HasRun flow.now result.ended start (C.time clock.new) D.tells D.held
         D.moment D.images store.lot (machine_at state (I.left inbox.old) (O.standing outbox.old)) first disk.new
-        (I.left inbox.new) (O.standing outbox.new) journal) × IfSome result.closed (Shows flow.now ran.reached) }
+        (I.left inbox.new) (O.standing outbox.new) journal) × IfSome result.closed (Shows flow.now ran.reached)
+        × AreMadeAt C.given journal }
+    // At rest the time is one that the clock gave.
+    ensures given { IsAtRest result.ended → C.given (C.time clock.new) }
     // The store was closed unless something failed.
     ensures closed { MatchOption result.closed (IsFault result.ended) (λ closed. IsFault result.ended → ⊥) }
     // Whatever inbox and outbox tell.

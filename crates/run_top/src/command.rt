@@ -67,7 +67,7 @@ pub fn run<R, D: Disk, I: Inbox, O: Outbox, F: Source, P: Patterns, S: Sink, C: 
     ensures asked { (options : TheOptions) → AskToRun words.now options
         → (answer : TheAnswer) × (result ≡ status_of answer)
         × (((one : TheFlow) × IsRead F.tells (F.rest flow.old) one
-        × Runs one answer (C.time clock.old) (C.time clock.new) lot options D.tells D.held D.moment D.images
+        × Runs one answer C.given (C.time clock.old) (C.time clock.new) lot options D.tells D.held D.moment D.images
         disk.old disk.new I.tells I.left inbox.old inbox.new O.tells O.standing outbox.old outbox.new
         S.tells S.written S.faults sink.old sink.new)
         ⊎ IsNotRead answer (told P.faults P.refused patterns.old) (told P.faults P.refused patterns.new) F.tells
@@ -117,7 +117,7 @@ fn answer_words<D: Disk, I: Inbox, O: Outbox, F: Source, P: Patterns, S: Sink, C
 ) -> Answer
     ensures asked { (options : TheOptions) → AskToRun words.now options
         → (((one : TheFlow) × IsRead F.tells (F.rest flow.old) one
-        × Runs one result (C.time clock.old) (C.time clock.new) lot options D.tells D.held D.moment D.images
+        × Runs one result C.given (C.time clock.old) (C.time clock.new) lot options D.tells D.held D.moment D.images
         disk.old disk.new I.tells I.left inbox.old inbox.new O.tells O.standing outbox.old outbox.new
         S.tells S.written S.faults sink.old sink.new)
         ⊎ IsNotRead result (told P.faults P.refused patterns.old) (told P.faults P.refused patterns.new) F.tells
@@ -175,7 +175,7 @@ fn run_text<D: Disk, I: Inbox, O: Outbox, F: Source, P: Patterns, S: Sink, C: Cl
 ) -> Answer
     requires most { options.max_commits ≤ COMMITS_MAX }
     ensures asked { (((one : TheFlow) × IsRead F.tells (F.rest flow.old) one
-        × Runs one result (C.time clock.old) (C.time clock.new) lot options D.tells D.held D.moment D.images
+        × Runs one result C.given (C.time clock.old) (C.time clock.new) lot options D.tells D.held D.moment D.images
         disk.old disk.new I.tells I.left inbox.old inbox.new O.tells O.standing outbox.old outbox.new
         S.tells S.written S.faults sink.old sink.new)
         ⊎ IsNotRead result (told P.faults P.refused patterns.old) (told P.faults P.refused patterns.new) F.tells
@@ -215,7 +215,7 @@ fn run_read<D: Disk, I: Inbox, O: Outbox, S: Sink, C: Clock, G: Gate>(
     requires built { AreBuilt flow.now }
     requires digest { IsDigest flow.now.digest }
     requires most { options.max_commits ≤ COMMITS_MAX }
-    ensures runs { Runs flow.now result (C.time clock.old) (C.time clock.new) lot options
+    ensures runs { Runs flow.now result C.given (C.time clock.old) (C.time clock.new) lot options
         D.tells D.held D.moment D.images
         disk.old disk.new I.tells I.left inbox.old inbox.new O.tells O.standing outbox.old outbox.new
         S.tells S.written S.faults sink.old sink.new }
@@ -258,7 +258,7 @@ pub(crate) fn run_over<D: Disk, I: Inbox, O: Outbox, C: Clock, G: Gate>(
     requires most { most < 2 ^ 64 - 1 }
     ensures ran { IfOk result (λ ran. IsTrue D.tells → IsTrue I.tells → IsTrue O.tells
         → (state : State) → IsOfFlow flow.now lot (D.held disk.old) state
-        → HasEnded flow.now ran (C.time clock.old) (C.time clock.new) D.tells D.held D.moment D.images lot most
+        → HasEnded flow.now ran C.given (C.time clock.old) (C.time clock.new) D.tells D.held D.moment D.images lot most checkpoint
         (machine_at state (I.left inbox.old) (O.standing outbox.old))
         disk.old disk.new (I.left inbox.new) (O.standing outbox.new)) }
     ensures closed { IfOk result (λ ran. MatchOption ran.closed (IsFault ran.ended)
@@ -266,7 +266,7 @@ pub(crate) fn run_over<D: Disk, I: Inbox, O: Outbox, C: Clock, G: Gate>(
     ensures refused { IfErr result IsOfStore }
     ensures failed { IfErr result (λ answer. IsTrue D.tells
         → (state : State) → IsOfFlow flow.now lot (D.held disk.old) state
-        → HasFailed flow.now answer (C.time clock.old) (C.time clock.new) D.tells D.held D.moment D.images lot most
+        → HasFailed flow.now answer C.given (C.time clock.old) (C.time clock.new) D.tells D.held D.moment D.images lot most checkpoint
         (machine_at state (I.left inbox.old) (O.standing outbox.old))
         disk.old disk.new (I.left inbox.new) (O.standing outbox.new)
         ⊎ IsNotOpened answer D.moment D.images disk.old disk.new inbox.old inbox.new outbox.old outbox.new) }

@@ -16,8 +16,9 @@ use Rattle.flow_engine.specs.Errors.{ended_by}
 use Rattle.flow_engine.specs.declared.error.EngineError.{EngineError}
 use Rattle.flow_engine.specs.declared.error.EngineError.TheVariants.{Limit}
 use Rattle.flow_engine.proofs.Closing.{IsNoLimit, begun, by_damage, closes_blocked, closes_limited, closes_quiet, closes_so, ends_on_faults, has_ended, limit_met, limit_of, no_limit_faults, not_opened, run_of, wanted_or_disk, works_at_limit, works_behind, works_on}
+use Rattle.flow_engine.proofs.Growing.{none_made}
 use Rattle.flow_engine.proofs.Turning.{damaged_by, each_counts_after}
-use Rattle.flow_engine.proofs.Short.{ends_by_error, ends_short}
+use Rattle.flow_engine.proofs.Short.{ends_by_error, ends_short, no_rest}
 use Rattle.flow_run.proofs.Writing.{same_log, writes_in_turn, writes_none, writes_on}
 use Rattle.flow_engine.proofs.Shown.{closes_or_fails, fails_to_open, fails_to_run, none_shown, run_shows}
 use Rattle.flow_engine.proofs.Writes.{writes_by_close}
@@ -32,6 +33,7 @@ returns-in-Err-clause-headline g c telling in_telling out_telling state first st
       not_opened D.tells D.held D.moment D.images c.faults_end_a_run.ensures.between c.args.flow.now c.args.store.lot start (g.C.Clock.time c.args.clock.now) (machine_at state left standing) first c.args.disk.now left
           (g.I.Inbox.left c.new.new.inbox) standing c.in-Err.error c.fail.result.ended c.in-Err.ensures.kinds c.fail.ensures.ended c.new.ensures.left run,
       none_shown c.args.flow.now c.fail.result.closed _ c.fail.ensures.closed,
+      tt,
     )
 
 pub returns-in-Err-clause-closed : goal.returns-in-Err-clause-closed
@@ -66,6 +68,7 @@ returns-in-Ok-Blocked-clause-headline g c telling in_telling out_telling state f
       run_shows c.names_are_lost_by_taking.ensures.one_step D.tells D.held D.moment D.images flow c.in-Ok.engine e state left now_left standing now_standing first c.drive.new.disk c.close.new.disk start time end.reached ran.reached
           c.close.result c.leave.result.closed (c.drive.ensures.same.flow ∙ is.flow_is) c.drive.ensures.same.too_large (c.in-Ok.ensures.listed.coming in_telling state standing) (c.in-Ok.ensures.listed.counted in_telling) end.to ran.ran.replays
           c.leave.ensures.closed c.close.ensures.closed c.close.ensures.shows telling,
+      c.drive.ensures.moments (none_made g.C.Clock.given c.in-Ok.engine.journal c.in-Ok.ensures.opened.journal),
     )
 
 pub returns-in-Ok-Blocked-clause-closed : goal.returns-in-Ok-Blocked-clause-closed
@@ -115,6 +118,7 @@ returns-in-Ok-Quiet-clause-headline g c telling in_telling out_telling state fir
       run_shows c.names_are_lost_by_taking.ensures.one_step D.tells D.held D.moment D.images flow c.in-Ok.engine e state left now_left standing now_standing first c.drive.new.disk c.close-in-Ok-Quiet.new.disk start time end.reached ran.reached
           c.close-in-Ok-Quiet.result c.leave-in-Ok-Quiet.result.closed (c.drive.ensures.same.flow ∙ is.flow_is) c.drive.ensures.same.too_large (c.in-Ok.ensures.listed.coming in_telling state standing) (c.in-Ok.ensures.listed.counted in_telling) end.to ran.ran.replays
           c.leave-in-Ok-Quiet.ensures.closed c.close-in-Ok-Quiet.ensures.closed c.close-in-Ok-Quiet.ensures.shows telling,
+      c.drive.ensures.moments (none_made g.C.Clock.given c.in-Ok.engine.journal c.in-Ok.ensures.opened.journal),
     )
 
 pub returns-in-Ok-Quiet-clause-closed : goal.returns-in-Ok-Quiet-clause-closed
@@ -174,6 +178,7 @@ returns-in-Limit-clause-headline g c telling in_telling out_telling state first 
       run_shows c.names_are_lost_by_taking.ensures.one_step D.tells D.held D.moment D.images flow c.in-Ok.engine e state left now_left standing now_standing first c.drive.new.disk c.close-in-Err-drive.new.disk start time stop.reached ran.reached
           c.close-in-Err-drive.result c.leave-in-Err-drive.result.closed (c.drive.ensures.same.flow ∙ is.flow_is) c.drive.ensures.same.too_large (c.in-Ok.ensures.listed.coming in_telling state standing) (c.in-Ok.ensures.listed.counted in_telling) stop.to ran.ran.replays
           c.leave-in-Err-drive.ensures.closed c.close-in-Err-drive.ensures.closed c.close-in-Err-drive.ensures.shows telling,
+      c.drive.ensures.moments (none_made g.C.Clock.given c.in-Ok.engine.journal c.in-Ok.ensures.opened.journal),
     )
 
 pub returns-in-Limit-clause-closed : goal.returns-in-Limit-clause-closed
@@ -233,7 +238,9 @@ returns-in_default g c =
                 (c.drive.ensures.same.flow ∙ is.flow_is) (c.drive.ensures.same.lot ∙ ap (λ (t : StoreState). t.lot) is.store_is)
                 (has_ended D.tells D.held D.moment D.images e opened first c.drive.new.disk now_left now_standing start time error none stop)),
             none_shown c.args.flow.now c.fail-in_default.result.closed _ c.fail-in_default.ensures.closed,
+            c.drive.ensures.moments (none_made g.C.Clock.given c.in-Ok.engine.journal c.in-Ok.ensures.opened.journal),
           );
+      given = λ rest. absurd (no_rest error end so rest);
       closed = fails_to_run c.fail-in_default.result.closed end error c.fail-in_default.ensures.closed so none;
       checkpointed = ends_by_error D.moment D.images c.args.checkpoint error end c.drive.new.disk so;
       alone =
@@ -251,3 +258,6 @@ returns-in_default g c =
             (g.O.Outbox.faults c.args.outbox.now) (g.O.Outbox.faults c.args.outbox.now) (g.O.Outbox.faults c.drive.new.outbox) (omega arith) c.new.ensures.cause.never_falls (omega arith) c.drive.ensures.cause);
       };
     }
+
+pub returns-in-Err-clause-given : goal.returns-in-Err-clause-given
+returns-in-Err-clause-given g c rest = absurd (no_rest c.in-Err.error c.fail.result.ended c.fail.ensures.ended rest)

@@ -12,6 +12,7 @@ use Rattle.flow_engine.proofs.RunsOn.{spared_by_none}
 use Rattle.flow_engine.proofs.Ending.{ends_blocked, ends_quiet, rests, went_on}
 use Rattle.flow_engine.proofs.Turning.{same_run_on, works_on}
 use Rattle.flow_engine.proofs.engine.Engine.drive.Goals.{in-None, in-Some-Rest}
+use Rattle.flow_engine.proofs.Growing.{made_on}
 use Rattle.flow_engine.proofs.engine.Engine.drive.Goals as goal
 
 pub returns-in_err-turn-clause-stopped : goal.returns-in_err-turn-clause-stopped
@@ -56,6 +57,7 @@ loop-turn-preserved g c =
                   w.in-Some-Rest.until (w.in-Some-Rest.is ∙ ap (λ (a : Ending). Some a) w.in-Some-Rest.field-0-is)
             ],
           );
+      moments = λ all. made_on g.C.Clock.given c.now-moment.result c.loop-turn.self.journal c.turn.new.self.journal c.turn.ensures.grows c.now-moment.ensures.answer (inv.moments all);
       disk_faults = omega (arith, inv.disk_faults, c.turn.ensures.cause.disk.never_falls);
       inbox_faults = omega (arith, inv.inbox_faults, c.turn.ensures.cause.inbox.never_falls);
       outbox_faults = omega (arith, inv.outbox_faults, c.turn.ensures.cause.outbox.never_falls);
@@ -107,3 +109,18 @@ returns-in-Some-Quiet-clause-alone g c =
     let D = g.D.Disk in
     let inv = c.loop-turn.invariant in
     writes_on D.moment D.images c.args.self.now.store.log.number c.loop-turn.self.store.log.number c.args.disk.now c.loop-turn.disk c.turn.new.disk inv.log inv.alone c.turn.ensures.alone
+
+pub returns-in_err-turn-clause-moments : goal.returns-in_err-turn-clause-moments
+returns-in_err-turn-clause-moments g c all = made_on g.C.Clock.given c.now-moment.result c.loop-turn.self.journal c.turn.new.self.journal c.turn.ensures.grows c.now-moment.ensures.answer (c.loop-turn.invariant.moments all)
+
+pub returns-in-Some-Blocked-clause-moments : goal.returns-in-Some-Blocked-clause-moments
+returns-in-Some-Blocked-clause-moments g c all = made_on g.C.Clock.given c.now-moment.result c.loop-turn.self.journal c.turn.new.self.journal c.turn.ensures.grows c.now-moment.ensures.answer (c.loop-turn.invariant.moments all)
+
+pub returns-in-Some-Blocked-clause-given : goal.returns-in-Some-Blocked-clause-given
+returns-in-Some-Blocked-clause-given g c = subst g.C.Clock.given c.now-moment.ensures.moment c.now-moment.ensures.answer
+
+pub returns-in-Some-Quiet-clause-moments : goal.returns-in-Some-Quiet-clause-moments
+returns-in-Some-Quiet-clause-moments g c all = made_on g.C.Clock.given c.now-moment.result c.loop-turn.self.journal c.turn.new.self.journal c.turn.ensures.grows c.now-moment.ensures.answer (c.loop-turn.invariant.moments all)
+
+pub returns-in-Some-Quiet-clause-given : goal.returns-in-Some-Quiet-clause-given
+returns-in-Some-Quiet-clause-given g c = subst g.C.Clock.given c.now-moment.ensures.moment c.now-moment.ensures.answer

@@ -1,5 +1,6 @@
 use Rattle.std.proofs.Common.{◌≡◌, ℕ, ◌≤◌, false, IsTrue}
 use Rattle.machine_model.specs.State.{Machine}
+use Rattle.flow_run.specs.Turns.{AreMadeAt}
 use Rattle.flow_run.specs.Work.{IsNoEarlier, WritesLog}
 use Rattle.flow_engine.specs.Engine.{AreTakeable, IsOfSameRun}
 use Rattle.flow_engine.specs.Ready.{IsReady}
@@ -18,6 +19,7 @@ invariant-loop-turn g l = record {
   runs : IsTrue g.D.Disk.tells → IsTrue g.I.Inbox.tells → IsTrue g.O.Outbox.tells → (opened : Machine) (first : g.row.D.Denot) (start time : ℕ) → time ≤ g.C.Clock.time l.fn.clock
       → IsRunning g.D.Disk.moment g.D.Disk.images l.fn.self opened first start time l.fn.disk (g.I.Inbox.left l.fn.inbox) (g.O.Outbox.standing l.fn.outbox)
       → (at : ℕ) × (at ≤ g.C.Clock.time l.clock) × IsRunning g.D.Disk.moment g.D.Disk.images l.self opened first start at l.disk (g.I.Inbox.left l.inbox) (g.O.Outbox.standing l.outbox);
+  moments : AreMadeAt g.C.Clock.given l.fn.self.journal → AreMadeAt g.C.Clock.given l.self.journal;
   disk_faults : g.D.Disk.faults l.fn.disk ≤ g.D.Disk.faults l.disk;
   inbox_faults : g.I.Inbox.faults l.fn.inbox ≤ g.I.Inbox.faults l.inbox;
   outbox_faults : g.O.Outbox.faults l.fn.outbox ≤ g.O.Outbox.faults l.outbox;

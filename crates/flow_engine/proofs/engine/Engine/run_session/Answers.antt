@@ -1,4 +1,4 @@
-use Rattle.std.proofs.Common.{◌≡◌, ℕ, ◌∙◌, ap, subst, arith}
+use Rattle.std.proofs.Common.{◌≡◌, inl, ℕ, ◌∙◌, ap, subst, arith}
 use Rattle.std.specs.Prelude.{false, Err}
 use Rattle.std.proofs.lemmas.Result.{err_from_is_err_and}
 use Rattle.store_core.specs.Store.{kept_by}
@@ -9,6 +9,7 @@ use Rattle.flow_engine.specs.declared.error.EngineError.{EngineError}
 use Rattle.flow_engine.proofs.Goes.{spared_by_read, stops_unmoved}
 use Rattle.flow_engine.proofs.Reread.{still_runs}
 use Rattle.flow_engine.proofs.Turning.{moment_of_work, read_same, still_works}
+use Rattle.flow_engine.proofs.Growing.{committed_grows, grows_behind}
 use Rattle.flow_engine.proofs.engine.Engine.run_session.Goals as goal
 
 pub returns-in_err-job-clause-stopped : goal.returns-in_err-job-clause-stopped
@@ -71,3 +72,27 @@ returns-clause-ready g c =
     let same : c.read.new.self ≡ c.args.self.now = c.in_ok-job.ensures.engine.unchanged (λ disk. cc) in
     let works : c.read.new.self.failed ≡ false = ap (λ (x : EngineState). x.failed) same ∙ c.requires.works in
     c.commit.ensures.usable.usable (still_works c.in_ok-commit.field-0 c.read.new.self c.commit.new.self _ _ works c.in_ok-commit.ensures.refusal.reopen)
+
+pub returns-in_err-job-clause-grows : goal.returns-in_err-job-clause-grows
+returns-in_err-job-clause-grows g c =
+    let same = read_same c.read.result c.args.self.now c.read.new.self c.read.ensures.engine c.in_err-job.field-0.0 c.in_err-job.was in
+    inl same.2
+
+pub returns-in_err-done-clause-grows : goal.returns-in_err-done-clause-grows
+returns-in_err-done-clause-grows g c = inl (ap (λ (x : EngineState). x.journal) (c.in_ok-job.ensures.engine.unchanged (λ disk. cc)))
+
+pub returns-in_err-commit-clause-grows : goal.returns-in_err-commit-clause-grows
+returns-in_err-commit-clause-grows g c =
+    let e : EngineState = c.args.self.now in
+    let next = c.in_ok-job.ensures.job.0 in
+    let at : c.in_ok-done.done.given.moment ≡ c.args.moment = moment_of_work (kept_by e.store) c.args.moment next.choice c.in_ok-job.job c.in_ok-done.done.given next.handed c.in_ok-done.ensures.given in
+    grows_behind c.args.moment e.journal c.read.new.self.journal c.commit.new.self.journal (ap (λ (x : EngineState). x.journal) (c.in_ok-job.ensures.engine.unchanged (λ disk. cc)))
+    (committed_grows c.in_ok-done.done c.args.moment (g.D.Disk.moment c.commit.new.disk) at c.read.new.self c.commit.new.self c.commit.result c.commit.ensures.entered.journal)
+
+pub returns-clause-grows : goal.returns-clause-grows
+returns-clause-grows g c =
+    let e : EngineState = c.args.self.now in
+    let next = c.in_ok-job.ensures.job.0 in
+    let at : c.in_ok-done.done.given.moment ≡ c.args.moment = moment_of_work (kept_by e.store) c.args.moment next.choice c.in_ok-job.job c.in_ok-done.done.given next.handed c.in_ok-done.ensures.given in
+    grows_behind c.args.moment e.journal c.read.new.self.journal c.commit.new.self.journal (ap (λ (x : EngineState). x.journal) (c.in_ok-job.ensures.engine.unchanged (λ disk. cc)))
+    (committed_grows c.in_ok-done.done c.args.moment (g.D.Disk.moment c.commit.new.disk) at c.read.new.self c.commit.new.self c.commit.result c.commit.ensures.entered.journal)

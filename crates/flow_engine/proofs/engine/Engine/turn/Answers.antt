@@ -1,11 +1,15 @@
 use Rattle.std.proofs.Common.{◌≡◌, ℕ, false, sym, ap, subst, arith}
-use Rattle.std.specs.Prelude.{Err, Ok, None}
+use Rattle.std.specs.Prelude.{Err, Ok, None, Result}
 use Rattle.std.proofs.lemmas.Result.{IfOk-weaker, err_from_is_err_and}
 use Rattle.engine_choice.specs.Listing.{Left}
 use Rattle.flow_run.specs.Work.{IsShortOn}
-use Rattle.flow_engine.specs.Engine.{AreTakeable}
+use Rattle.flow_engine.specs.Engine.{AreTakeable, EngineState}
+use Rattle.flow_engine.specs.Tending.{HasTended}
+use Rattle.flow_engine.specs.declared.error.EngineError.{EngineError}
+use Rattle.flow_engine.specs.declared.tending.Tended.{Tended}
 use Rattle.flow_engine.specs.declared.tending.Tended.TheVariants.{Nothing}
 use Rattle.flow_engine.proofs.Turning.{no_fault, still_works}
+use Rattle.flow_engine.proofs.Growing.{grows_behind, tended_grows}
 use Rattle.flow_engine.proofs.engine.Engine.turn.Goals as goal
 
 pub returns-in_err-tend-clause-stopped : goal.returns-in_err-tend-clause-stopped
@@ -48,6 +52,7 @@ returns-in-Expired g c =
       short = λ end is. absurd cc;
       stopped = λ error is. absurd cc;
       ready = c.in_ok-tend.ensures.usable well;
+      grows = tended_grows c.tend.result c.args.moment (D.moment c.tend.new.disk) c.args.self.now c.tend.new.self c.tend.ensures.tended.done;
       failed = λ fails. absurd cc;
       works = λ is. absurd cc;
       left = λ telling. subst (λ (l : Left). AreTakeable (g.I.Inbox.left c.args.inbox.now) l.names) (sym c.tend.ensures.alone.listing) (c.requires.left telling);
@@ -59,3 +64,14 @@ returns-in-Expired g c =
           no_fault None (D.faults c.args.disk.now) (D.faults c.tend.new.disk) (g.I.Inbox.faults c.args.inbox.now) (g.I.Inbox.faults c.args.inbox.now) (g.O.Outbox.faults c.args.outbox.now) (g.O.Outbox.faults c.args.outbox.now)
           c.tend.ensures.refusal.disk.never_falls (omega arith) (omega arith);
     }
+
+pub returns-in_err-tend-clause-grows : goal.returns-in_err-tend-clause-grows
+returns-in_err-tend-clause-grows g c = tended_grows c.tend.result c.args.moment (g.D.Disk.moment c.tend.new.disk) c.args.self.now c.tend.new.self c.tend.ensures.tended.done
+
+pub returns-in-Nothing-clause-grows : goal.returns-in-Nothing-clause-grows
+returns-in-Nothing-clause-grows g c =
+    let was = c.in_ok-tend.was in
+    let nothing = c.in-Nothing.is in
+    let is : c.tend.result ≡ Ok Nothing = cc in
+    let same = subst (λ (r : Result Tended EngineError). HasTended r c.args.moment (g.D.Disk.moment c.tend.new.disk) c.args.self.now c.tend.new.self) is c.tend.ensures.tended.done in
+    grows_behind c.args.moment c.args.self.now.journal c.tend.new.self.journal c.go_on.new.self.journal (ap (λ (x : EngineState). x.journal) same) c.go_on.ensures.grows
