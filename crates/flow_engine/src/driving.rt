@@ -14,6 +14,7 @@ ghost use Rattle.flow_engine.specs.Ready.{IsReady, due_in};
 ghost use Rattle.flow_engine.specs.Running.{IsRunning, Stops};
 ghost use Rattle.flow_run.specs.Work.{IsAtWork, IsNoEarlier, IsShortOn, WritesLog};
 ghost use Rattle.flow_engine.specs.declared.error.EngineError.{EngineError as TheError};
+ghost use Rattle.flow_run.specs.Puts.{Start, outgoing};
 
 use crate::EngineError;
 use crate::checkout::Checkout;
@@ -48,17 +49,17 @@ impl Engine<'_> {
         requires left { IsTrue I.tells → AreTakeable (I.left inbox.old) self.old.listing.names }
         // The run went on until nothing was left to do, or it was stopped.
         ensures ended { IfOk result (λ ending. IsTrue D.tells → IsTrue I.tells → IsTrue O.tells
-            → (opened : Machine) (first : D) (start time : ℕ) → time ≤ C.time clock.old
+            → (opened : Machine) (first : D) (start : Start) (time : ℕ) → time ≤ C.time clock.old
             → IsRunning D.moment D.images self.old opened first start time disk.old (I.left inbox.old)
-            (O.standing outbox.old)
+            (outgoing O.standing O.puts outbox.old)
             → IsEnded D.moment D.images self.new opened first start (C.time clock.new) disk.new (I.left inbox.new)
-            (O.standing outbox.new) ending) }
+            (outgoing O.standing O.puts outbox.new) ending) }
         ensures stopped { (error : TheError) → IsErrOf result error → IsTrue D.tells → IsTrue I.tells → IsTrue O.tells
-            → (opened : Machine) (first : D) (start time : ℕ) → time ≤ C.time clock.old
+            → (opened : Machine) (first : D) (start : Start) (time : ℕ) → time ≤ C.time clock.old
             → IsRunning D.moment D.images self.old opened first start time disk.old (I.left inbox.old)
-            (O.standing outbox.old)
+            (outgoing O.standing O.puts outbox.old)
             → Stops error D.tells D.held D.moment D.images self.new opened first start (C.time clock.new) disk.new
-            (I.left inbox.new) (O.standing outbox.new) }
+            (I.left inbox.new) (outgoing O.standing O.puts outbox.new) }
         ensures no_rest { IfOk result (λ ending. (until : ℕ) → ending ≡ Ending.Rest until → ⊥) }
         ensures short { OnOk result (IsShortOn D.moment D.images self.new.checkpoint disk.new) }
         // Whatever inbox and outbox tell.
@@ -104,19 +105,19 @@ impl Engine<'_> {
         requires works { self.old.failed ≡ false }
         requires left { IsTrue I.tells → AreTakeable (I.left inbox.old) self.old.listing.names }
         ensures turned { IfOk result (λ ending. IsTrue D.tells → IsTrue I.tells → IsTrue O.tells
-            → (opened : Machine) (first : D) (start time : ℕ) → time ≤ moment
+            → (opened : Machine) (first : D) (start : Start) (time : ℕ) → time ≤ moment
             → IsRunning D.moment D.images self.old opened first start time disk.old (I.left inbox.old)
-            (O.standing outbox.old)
+            (outgoing O.standing O.puts outbox.old)
             → IsTurned D.moment D.images self.new opened first start moment disk.new (I.left inbox.new)
-            (O.standing outbox.new) ending) }
+            (outgoing O.standing O.puts outbox.new) ending) }
         ensures short { IfOk result (λ ending. (end : TheEnding) → ending ≡ Some end
             → IsShortOn D.moment D.images self.new.checkpoint disk.new) }
         ensures stopped { (error : TheError) → IsErrOf result error → IsTrue D.tells → IsTrue I.tells → IsTrue O.tells
-            → (opened : Machine) (first : D) (start time : ℕ) → time ≤ moment
+            → (opened : Machine) (first : D) (start : Start) (time : ℕ) → time ≤ moment
             → IsRunning D.moment D.images self.old opened first start time disk.old (I.left inbox.old)
-            (O.standing outbox.old)
+            (outgoing O.standing O.puts outbox.old)
             → Stops error D.tells D.held D.moment D.images self.new opened first start moment disk.new
-            (I.left inbox.new) (O.standing outbox.new) }
+            (I.left inbox.new) (outgoing O.standing O.puts outbox.new) }
         ensures ready { OnOk result (IsReady D.tells D.held D.moment D.images self.new disk.new) }
         ensures grows { GrowsAt moment self.old.journal self.new.journal }
         ensures failed { self.new.failed ≡ true → IsErrOf result EngineError.Disk ⊎ IsErrOf result EngineError.Outbox }
@@ -152,19 +153,19 @@ impl Engine<'_> {
         requires tended { due_in self.old moment ≡ None }
         requires short { IsShortOn D.moment D.images self.old.checkpoint disk.old }
         ensures turned { IfOk result (λ ending. IsTrue D.tells → IsTrue I.tells → IsTrue O.tells
-            → (opened : Machine) (first : D) (start time : ℕ) → time ≤ moment
+            → (opened : Machine) (first : D) (start : Start) (time : ℕ) → time ≤ moment
             → IsRunning D.moment D.images self.old opened first start time disk.old (I.left inbox.old)
-            (O.standing outbox.old)
+            (outgoing O.standing O.puts outbox.old)
             → IsTurned D.moment D.images self.new opened first start moment disk.new (I.left inbox.new)
-            (O.standing outbox.new) ending) }
+            (outgoing O.standing O.puts outbox.new) ending) }
         ensures short { IfOk result (λ ending. (end : TheEnding) → ending ≡ Some end
             → IsShortOn D.moment D.images self.new.checkpoint disk.new) }
         ensures stopped { (error : TheError) → IsErrOf result error → IsTrue D.tells → IsTrue I.tells → IsTrue O.tells
-            → (opened : Machine) (first : D) (start time : ℕ) → time ≤ moment
+            → (opened : Machine) (first : D) (start : Start) (time : ℕ) → time ≤ moment
             → IsRunning D.moment D.images self.old opened first start time disk.old (I.left inbox.old)
-            (O.standing outbox.old)
+            (outgoing O.standing O.puts outbox.old)
             → Stops error D.tells D.held D.moment D.images self.new opened first start moment disk.new
-            (I.left inbox.new) (O.standing outbox.new) }
+            (I.left inbox.new) (outgoing O.standing O.puts outbox.new) }
         ensures ready { OnOk result (IsReady D.tells D.held D.moment D.images self.new disk.new) }
         ensures grows { GrowsAt moment self.old.journal self.new.journal }
         ensures failed { self.new.failed ≡ true → IsErrOf result EngineError.Disk ⊎ IsErrOf result EngineError.Outbox }
@@ -216,17 +217,17 @@ impl Engine<'_> {
         requires chosen { session_in self.old moment ≡ Some choice }
         requires left { IsTrue I.tells → AreTakeable (I.left inbox.old) self.old.listing.names }
         ensures goes_on { OnOk result (IsTrue D.tells → IsTrue I.tells → IsTrue O.tells
-            → (opened : Machine) (first : D) (start time : ℕ) → time ≤ moment
+            → (opened : Machine) (first : D) (start : Start) (time : ℕ) → time ≤ moment
             → IsRunning D.moment D.images self.old opened first start time disk.old (I.left inbox.old)
-            (O.standing outbox.old)
+            (outgoing O.standing O.puts outbox.old)
             → IsRunning D.moment D.images self.new opened first start moment disk.new (I.left inbox.new)
-            (O.standing outbox.new)) }
+            (outgoing O.standing O.puts outbox.new)) }
         ensures stopped { (error : TheError) → IsErrOf result error → IsTrue D.tells → IsTrue I.tells → IsTrue O.tells
-            → (opened : Machine) (first : D) (start time : ℕ) → time ≤ moment
+            → (opened : Machine) (first : D) (start : Start) (time : ℕ) → time ≤ moment
             → IsRunning D.moment D.images self.old opened first start time disk.old (I.left inbox.old)
-            (O.standing outbox.old)
+            (outgoing O.standing O.puts outbox.old)
             → Stops error D.tells D.held D.moment D.images self.new opened first start moment disk.new
-            (I.left inbox.new) (O.standing outbox.new) }
+            (I.left inbox.new) (outgoing O.standing O.puts outbox.new) }
         ensures ready { OnOk result (IsReady D.tells D.held D.moment D.images self.new disk.new) }
         ensures grows { GrowsAt moment self.old.journal self.new.journal }
         ensures failed { self.new.failed ≡ true → IsErrOf result EngineError.Disk ⊎ IsErrOf result EngineError.Outbox }

@@ -12,6 +12,7 @@ ghost use Rattle.flow_engine.specs.Closing.{Shows};
 ghost use Rattle.flow_engine.specs.Engine.{AreBuilt};
 ghost use Rattle.flow_engine.specs.Errors.{ended_by};
 ghost use Rattle.flow_run.specs.Work.{IsAtWork, WritesLog};
+ghost use Rattle.flow_run.specs.Puts.{Start, outgoing};
 
 use crate::EngineError;
 use crate::close::Closed;
@@ -53,13 +54,15 @@ pub fn run_flow<D: Disk, I: Inbox, O: Outbox, C: Clock, G: Gate>(
     requires most { most < 2 ^ 64 - 1 }
     requires work { IsAtWork flow.now D.tells D.held D.moment D.images store disk.old }
     // Where the devices tell, a journal of the machine's steps tells what the run did.
-    ensures headline { IsTrue D.tells → IsTrue I.tells → IsTrue O.tells → (state : State) (first : D) (start : ℕ)
+    ensures headline { IsTrue D.tells → IsTrue I.tells → IsTrue O.tells → (state : State) (first : D) (start : Start)
         → IsRunningAt flow.now start (C.time clock.old) D.moment D.images store.lot
         (machine_at state (I.left inbox.old) (O.standing outbox.old)) first disk.old []
-        (machine_at state (I.left inbox.old) (O.standing outbox.old)) (I.left inbox.old) (O.standing outbox.old)
+        (machine_at state (I.left inbox.old) (O.standing outbox.old)) (I.left inbox.old)
+        (outgoing O.standing O.puts outbox.old)
         → (journal : List TheEntry) × (ran : HasRun flow.now result.ended start (C.time clock.new) D.tells D.held
         D.moment D.images store.lot (machine_at state (I.left inbox.old) (O.standing outbox.old)) first disk.new
-        (I.left inbox.new) (O.standing outbox.new) journal) × IfSome result.closed (Shows flow.now ran.reached)
+        (I.left inbox.new) (outgoing O.standing O.puts outbox.new) journal) × IfSome result.closed
+        (Shows flow.now ran.reached)
         × AreMadeAt C.given journal }
     // At rest the time is one that the clock gave.
     ensures given { IsAtRest result.ended → C.given (C.time clock.new) }

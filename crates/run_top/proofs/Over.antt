@@ -15,6 +15,7 @@ use Rattle.store_core.specs.Opened.{SameMeaning}
 use Rattle.engine_core.specs.Committing.{identity_of}
 use Rattle.flow_run.specs.Ending.{EndsOnFaults, EndsShort, IsAtRest, IsLimitMet}
 use Rattle.flow_run.specs.Laws.{FailedOpeningsEnd}
+use Rattle.flow_run.specs.Puts.{Outgoing, Start}
 use Rattle.flow_run.specs.Run.{HasRun, machine_at}
 use Rattle.flow_run.specs.Turns.{AreMadeAt}
 use Rattle.flow_run.specs.Work.{IsEndedByLimit, IsReadDamaged}
@@ -49,9 +50,9 @@ told_shut flow lot files _ store damaged other = absurd store
 
 module _ {A D I O : Type 0} (tells : Bool) (held : D → Files) (moment : D → ℕ) (images : D → ℕ → Files → Type 0) (flow : Flow) (lot : ℕ) (old new : D) (inbox : I) (outbox : O)
     (opened : Result A Answer) (answer : Answer) (was : opened ≡ Err answer) (store : IsOfStore answer) (opens : Opens (identity_of flow) moment images lot (held old) old new opened) where
-  pub refused_ends : FailedOpeningsEnd tells held moment images → (given : ℕ → Type 0) (start time most checkpoint : ℕ) → start ≤ time → (state : State) (left : List NamedFile) (standing : List ℕ → Option (List ℕ))
+  pub refused_ends : FailedOpeningsEnd tells held moment images → (given : ℕ → Type 0) (start : Start) (time most checkpoint : ℕ) → start.time ≤ time → (state : State) (left : List NamedFile) (standing : List ℕ → Option (List ℕ))
       → (answer ≡ OtherFlow → IsShutAnswer (identity_of flow) lot (held old) OtherFlow) → IsOfFlow flow lot (held old) state
-      → HasFailed flow answer given start time tells held moment images lot most checkpoint (machine_at state left standing) old new left standing ⊎ IsNotOpened answer moment images old new inbox inbox outbox outbox
+      → HasFailed flow answer given start time tells held moment images lot most checkpoint (machine_at state left standing) old new left (record { standing = standing; puts = start.puts }) ⊎ IsNotOpened answer moment images old new inbox inbox outbox outbox
   refused_ends law given start time most checkpoint le state left standing other of = ⊎_elim
       (λ (since : SinceSync moment images old new (SameMeaning (identity_of flow) lot (held old))).
       let cause = fault_of answer store (λ is. not_other flow lot (held old) state of (other is)) in
@@ -133,13 +134,13 @@ module _ {D : Type 0} (tells : Bool) (held : D → Files) (moment : D → ℕ) (
       (λ full. inr full)
       met
 
-  pub ran_ends : (ran : Ran) (given : ℕ → Type 0) (start time most checkpoint : ℕ) (opened : Machine) (old mid new : D) (left : List NamedFile) (standing : List ℕ → Option (List ℕ)) → moment old + 1 ≤ moment mid
+  pub ran_ends : (ran : Ran) (given : ℕ → Type 0) (start : Start) (time most checkpoint : ℕ) (opened : Machine) (old mid new : D) (left : List NamedFile) (out : Outgoing) → moment old + 1 ≤ moment mid
       → ((limit : Limit) → ran.ended ≡ ending.Limit limit → IsLimitMet flow tells held moment images other (moment mid) most limit new)
-      → (journal : List Entry) × ((run : HasRun flow ran.ended start time tells held moment images other opened old new left standing journal) × IfSome ran.closed (Shows flow run.reached) × AreMadeAt given journal)
+      → (journal : List Entry) × ((run : HasRun flow ran.ended start time tells held moment images other opened old new left out journal) × IfSome ran.closed (Shows flow run.reached) × AreMadeAt given journal)
       → (IsAtRest ran.ended → given time) → EndsShort moment images checkpoint ran.ended new
-      → HasEnded flow ran given start time tells held moment images lot most checkpoint opened old new left standing
-  ran_ends ran given start time most checkpoint opened old mid new left standing begun met ends at_rest short =
-      let before : HasEnded flow ran given start time tells held moment images other most checkpoint opened old new left standing = record {
+      → HasEnded flow ran given start time tells held moment images lot most checkpoint opened old new left out
+  ran_ends ran given start time most checkpoint opened old mid new left out begun met ends at_rest short =
+      let before : HasEnded flow ran given start time tells held moment images other most checkpoint opened old new left out = record {
         ends = record {
           journal = ends.0;
           ran = ends.1.0;
@@ -149,7 +150,7 @@ module _ {D : Type 0} (tells : Bool) (held : D → Files) (moment : D → ℕ) (
         };
         shows = ends.1.1;
       } in
-      subst (λ (l : ℕ). HasEnded flow ran given start time tells held moment images l most checkpoint opened old new left standing) same before
+      subst (λ (l : ℕ). HasEnded flow ran given start time tells held moment images l most checkpoint opened old new left out) same before
 
   pub ran_why : (ended : Ended) (most : ℕ) {I O : Type 0} (old mid new : D) (inbox_old inbox_new : I) (outbox_old outbox_new : O) → moment old + 1 ≤ moment mid → moment mid ≤ moment new
       → ((limit : Limit) → ended ≡ ending.Limit limit → IsLimitMet flow tells held moment images other (moment mid) most limit new)

@@ -9,6 +9,7 @@ ghost use Rattle.store_core.specs.Opened.{IsShut};
 ghost use Rattle.engine_core.specs.Committing.{identity_of};
 ghost use Rattle.flow_definition.specs.Patterns.{told};
 ghost use Rattle.flow_run.specs.Ending.{IsFault};
+ghost use Rattle.flow_run.specs.Puts.{outgoing};
 ghost use Rattle.flow_run.specs.Run.{machine_at};
 ghost use Rattle.flow_engine.specs.Engine.{AreBuilt};
 ghost use Rattle.run_top.specs.Opening.{IsOfFlow, IsOfStore};
@@ -68,7 +69,7 @@ pub fn run<R, D: Disk, I: Inbox, O: Outbox, F: Source, P: Patterns, S: Sink, C: 
         → (answer : TheAnswer) × (result ≡ status_of answer)
         × (((one : TheFlow) × IsRead F.tells (F.rest flow.old) one
         × Runs one answer C.given (C.time clock.old) (C.time clock.new) lot options D.tells D.held D.moment D.images
-        disk.old disk.new I.tells I.left inbox.old inbox.new O.tells O.standing outbox.old outbox.new
+        disk.old disk.new I.tells I.left inbox.old inbox.new O.tells O.standing O.puts outbox.old outbox.new
         S.tells S.written S.faults sink.old sink.new)
         ⊎ IsNotRead answer (told P.faults P.refused patterns.old) (told P.faults P.refused patterns.new) F.tells
         (F.rest flow.old) S.tells S.written S.faults
@@ -118,7 +119,7 @@ fn answer_words<D: Disk, I: Inbox, O: Outbox, F: Source, P: Patterns, S: Sink, C
     ensures asked { (options : TheOptions) → AskToRun words.now options
         → (((one : TheFlow) × IsRead F.tells (F.rest flow.old) one
         × Runs one result C.given (C.time clock.old) (C.time clock.new) lot options D.tells D.held D.moment D.images
-        disk.old disk.new I.tells I.left inbox.old inbox.new O.tells O.standing outbox.old outbox.new
+        disk.old disk.new I.tells I.left inbox.old inbox.new O.tells O.standing O.puts outbox.old outbox.new
         S.tells S.written S.faults sink.old sink.new)
         ⊎ IsNotRead result (told P.faults P.refused patterns.old) (told P.faults P.refused patterns.new) F.tells
         (F.rest flow.old) S.tells S.written S.faults
@@ -176,7 +177,7 @@ fn run_text<D: Disk, I: Inbox, O: Outbox, F: Source, P: Patterns, S: Sink, C: Cl
     requires most { options.max_commits ≤ COMMITS_MAX }
     ensures asked { (((one : TheFlow) × IsRead F.tells (F.rest flow.old) one
         × Runs one result C.given (C.time clock.old) (C.time clock.new) lot options D.tells D.held D.moment D.images
-        disk.old disk.new I.tells I.left inbox.old inbox.new O.tells O.standing outbox.old outbox.new
+        disk.old disk.new I.tells I.left inbox.old inbox.new O.tells O.standing O.puts outbox.old outbox.new
         S.tells S.written S.faults sink.old sink.new)
         ⊎ IsNotRead result (told P.faults P.refused patterns.old) (told P.faults P.refused patterns.new) F.tells
         (F.rest flow.old) S.tells S.written S.faults
@@ -217,7 +218,7 @@ fn run_read<D: Disk, I: Inbox, O: Outbox, S: Sink, C: Clock, G: Gate>(
     requires most { options.max_commits ≤ COMMITS_MAX }
     ensures runs { Runs flow.now result C.given (C.time clock.old) (C.time clock.new) lot options
         D.tells D.held D.moment D.images
-        disk.old disk.new I.tells I.left inbox.old inbox.new O.tells O.standing outbox.old outbox.new
+        disk.old disk.new I.tells I.left inbox.old inbox.new O.tells O.standing O.puts outbox.old outbox.new
         S.tells S.written S.faults sink.old sink.new }
     ensures faults { CountsEachFault result (D.faults disk.old) (D.faults disk.new)
         (I.faults inbox.old) (I.faults inbox.new) (O.faults outbox.old) (O.faults outbox.new)
@@ -258,17 +259,19 @@ pub(crate) fn run_over<D: Disk, I: Inbox, O: Outbox, C: Clock, G: Gate>(
     requires most { most < 2 ^ 64 - 1 }
     ensures ran { IfOk result (λ ran. IsTrue D.tells → IsTrue I.tells → IsTrue O.tells
         → (state : State) → IsOfFlow flow.now lot (D.held disk.old) state
-        → HasEnded flow.now ran C.given (C.time clock.old) (C.time clock.new) D.tells D.held D.moment D.images lot most checkpoint
+        → HasEnded flow.now ran C.given (record { time = C.time clock.old; puts = O.puts outbox.old })
+        (C.time clock.new) D.tells D.held D.moment D.images lot most checkpoint
         (machine_at state (I.left inbox.old) (O.standing outbox.old))
-        disk.old disk.new (I.left inbox.new) (O.standing outbox.new)) }
+        disk.old disk.new (I.left inbox.new) (outgoing O.standing O.puts outbox.new)) }
     ensures closed { IfOk result (λ ran. MatchOption ran.closed (IsFault ran.ended)
         (λ closed. IsFault ran.ended → ⊥)) }
     ensures refused { IfErr result IsOfStore }
     ensures failed { IfErr result (λ answer. IsTrue D.tells
         → (state : State) → IsOfFlow flow.now lot (D.held disk.old) state
-        → HasFailed flow.now answer C.given (C.time clock.old) (C.time clock.new) D.tells D.held D.moment D.images lot most checkpoint
+        → HasFailed flow.now answer C.given (record { time = C.time clock.old; puts = O.puts outbox.old })
+        (C.time clock.new) D.tells D.held D.moment D.images lot most checkpoint
         (machine_at state (I.left inbox.old) (O.standing outbox.old))
-        disk.old disk.new (I.left inbox.new) (O.standing outbox.new)
+        disk.old disk.new (I.left inbox.new) (outgoing O.standing O.puts outbox.new)
         ⊎ IsNotOpened answer D.moment D.images disk.old disk.new inbox.old inbox.new outbox.old outbox.new) }
     ensures shut { IsTrue D.tells → IsShut (identity_of flow.now) lot (D.held disk.old)
         → (answer : TheAnswer) × (result ≡ Err answer)

@@ -10,13 +10,14 @@ use Rattle.flow_engine.specs.declared.tending.Tended.{Tended}
 use Rattle.flow_engine.specs.declared.tending.Tended.TheVariants.{Nothing}
 use Rattle.flow_engine.proofs.Turning.{no_fault, still_works}
 use Rattle.flow_engine.proofs.Growing.{grows_behind, tended_grows}
+use Rattle.flow_run.specs.Puts.{outgoing}
 use Rattle.flow_engine.proofs.engine.Engine.turn.Goals as goal
 
 pub returns-in_err-tend-clause-stopped : goal.returns-in_err-tend-clause-stopped
 returns-in_err-tend-clause-stopped g c error is telling in_telling out_telling opened first start time le run =
     let p = err_from_is_err_and c.from_residual.result c.from_residual.ensures.1 in
     let told : c.in_err-tend.field-0.0 ≡ error = cc (p.1, p.2, is) in
-    (c.in_err-tend.ensures.run telling).stopped error (ap Err told) c.requires.works opened first start time (g.I.Inbox.left c.args.inbox.now) (g.O.Outbox.standing c.args.outbox.now) le run
+    (c.in_err-tend.ensures.run telling).stopped error (ap Err told) c.requires.works opened first start time (g.I.Inbox.left c.args.inbox.now) (outgoing g.O.Outbox.standing g.O.Outbox.puts c.args.outbox.now) le run
 
 pub go_on-requires-clause-short : goal.go_on-requires-clause-short
 go_on-requires-clause-short g c κs within =
@@ -33,14 +34,14 @@ returns-in-Nothing-clause-turned g c =
     IfOk-weaker c.go_on.result _ _
     (λ ending turned telling in_telling out_telling opened first start time le run.
     turned telling in_telling out_telling opened first start c.args.moment (omega arith)
-    ((c.in_ok-tend.ensures.run telling).goes_on well opened first start time (g.I.Inbox.left c.args.inbox.now) (g.O.Outbox.standing c.args.outbox.now) le run))
+    ((c.in_ok-tend.ensures.run telling).goes_on well opened first start time (g.I.Inbox.left c.args.inbox.now) (outgoing g.O.Outbox.standing g.O.Outbox.puts c.args.outbox.now) le run))
     c.go_on.ensures.turned
 
 pub returns-in-Nothing-clause-stopped : goal.returns-in-Nothing-clause-stopped
 returns-in-Nothing-clause-stopped g c error is telling in_telling out_telling opened first start time le run =
     let well : c.tend.new.self.failed ≡ false = still_works c.in_ok-tend.field-0 c.args.self.now c.tend.new.self _ _ c.requires.works c.in_ok-tend.ensures.refusal.reopen in
     c.go_on.ensures.stopped error is telling in_telling out_telling opened first start c.args.moment (omega arith)
-    ((c.in_ok-tend.ensures.run telling).goes_on well opened first start time (g.I.Inbox.left c.args.inbox.now) (g.O.Outbox.standing c.args.outbox.now) le run)
+    ((c.in_ok-tend.ensures.run telling).goes_on well opened first start time (g.I.Inbox.left c.args.inbox.now) (outgoing g.O.Outbox.standing g.O.Outbox.puts c.args.outbox.now) le run)
 
 pub returns-in-Expired : goal.returns-in-Expired
 returns-in-Expired g c =
@@ -48,7 +49,7 @@ returns-in-Expired g c =
     let well : c.tend.new.self.failed ≡ false = still_works c.in_ok-tend.field-0 c.args.self.now c.tend.new.self _ _ c.requires.works c.in_ok-tend.ensures.refusal.reopen in
     record {
       turned = λ telling in_telling out_telling opened first start time le run.
-          (c.in_ok-tend.ensures.run telling).goes_on well opened first start time (g.I.Inbox.left c.args.inbox.now) (g.O.Outbox.standing c.args.outbox.now) le run;
+          (c.in_ok-tend.ensures.run telling).goes_on well opened first start time (g.I.Inbox.left c.args.inbox.now) (outgoing g.O.Outbox.standing g.O.Outbox.puts c.args.outbox.now) le run;
       short = λ end is. absurd cc;
       stopped = λ error is. absurd cc;
       ready = c.in_ok-tend.ensures.usable well;
