@@ -24,6 +24,7 @@ use Rattle.flow_engine.specs.Engine.{EngineState}
 use Rattle.flow_engine.specs.Running.{IsRunning}
 use Rattle.flow_engine.specs.Ready.{Due, due_in, first_of, is_log_due}
 use Rattle.flow_engine.specs.declared.checkout.Checkout.{Checkout}
+use Rattle.flow_run.specs.Puts.{Outgoing, Start}
 use Rattle.flow_engine.specs.declared.checkout.Checkout.TheVariants as next
 
 -- ---- what comes next
@@ -82,8 +83,8 @@ full_as entries most (Some choice) end limit is = by (nat_lt entries most) refl 
 
 -- ---- the end is the machine's
 
-module _ (law : EndsAreMachineEnds) {D : Type 0} (moment : D → ℕ) (images : D → ℕ → Files → Type 0) (e : EngineState) (opened : Machine) (first now : D) (left : List NamedFile) (standing : List ℕ → Option (List ℕ))
-    (start time : ℕ) (run : IsRunning moment images e opened first start time now left standing) (seen : SeesTheSame e.flow (queue_seen e.queues) (queues_of run.reached.state)) (counts : (kept_by e.store).counts ≡ run.reached.state.counts)
+module _ (law : EndsAreMachineEnds) {D : Type 0} (moment : D → ℕ) (images : D → ℕ → Files → Type 0) (e : EngineState) (opened : Machine) (first now : D) (left : List NamedFile) (out : Outgoing)
+    (start : Start) (time : ℕ) (run : IsRunning moment images e opened first start time now left out) (seen : SeesTheSame e.flow (queue_seen e.queues) (queues_of run.reached.state)) (counts : (kept_by e.store).counts ≡ run.reached.state.counts)
     (due : due_in e time ≡ None) where
   machine_end : choice_in e time ≡ None → IsMachineEnd e.flow run.reached.state run.reached.world time (ending_in e time)
   machine_end none =
@@ -95,36 +96,36 @@ module _ (law : EndsAreMachineEnds) {D : Type 0} (moment : D → ℕ) (images : 
       law e.flow (queue_seen e.queues) run.reached.state run.reached.world time e.last seen (none_expired e time due) (ap choice_of_counts (sym counts) ∙ ap choice_of_names run.to.coming ∙ none) in
       subst (IsMachineEnd e.flow run.reached.state run.reached.world time) (ap end_of_counts (sym counts) ∙ ap end_of_names run.to.coming) is
 
-  ended : (ending : Ending) → IsEndAt e.flow run.reached.state run.reached.world time ending → IsEnded moment images e opened first start time now left standing ending
+  ended : (ending : Ending) → IsEndAt e.flow run.reached.state run.reached.world time ending → IsEnded moment images e opened first start time now left out ending
   ended ending ends = record {
     reached = run.reached;
     to = run.to;
     ends = ends;
   }
 
-  pub turned_at_end : (ending : Ending) → ending ≡ ending_in e time → choice_in e time ≡ None → IsTurned moment images e opened first start time now left standing (Some ending)
+  pub turned_at_end : (ending : Ending) → ending ≡ ending_in e time → choice_in e time ≡ None → IsTurned moment images e opened first start time now left out (Some ending)
   turned_at_end (Rest until) is none = run
   turned_at_end (Blocked connection) is none = ended (Blocked connection) (((machine_end none).is_blocked connection).0 (sym is))
   turned_at_end Quiet is none = ended Quiet ((machine_end none).is_quiet.0 (sym is))
 
 -- ---- what a turn answered
 
-module _ {D : Type 0} (moment : D → ℕ) (images : D → ℕ → Files → Type 0) (e : EngineState) (opened : Machine) (first now : D) (start : ℕ) (left : List NamedFile) (standing : List ℕ → Option (List ℕ)) (time : ℕ) (answer : Option Ending)
-    (turned : IsTurned moment images e opened first start time now left standing answer) where
+module _ {D : Type 0} (moment : D → ℕ) (images : D → ℕ → Files → Type 0) (e : EngineState) (opened : Machine) (first now : D) (start : Start) (left : List NamedFile) (out : Outgoing) (time : ℕ) (answer : Option Ending)
+    (turned : IsTurned moment images e opened first start time now left out answer) where
   -- it went on, or it rests
-  pub went_on : answer ≡ None → IsRunning moment images e opened first start time now left standing
-  went_on is = subst (λ (a : Option Ending). IsTurned moment images e opened first start time now left standing a) is turned
+  pub went_on : answer ≡ None → IsRunning moment images e opened first start time now left out
+  went_on is = subst (λ (a : Option Ending). IsTurned moment images e opened first start time now left out a) is turned
 
-  pub rests : (until : ℕ) → answer ≡ Some (Rest until) → IsRunning moment images e opened first start time now left standing
-  rests until is = subst (λ (a : Option Ending). IsTurned moment images e opened first start time now left standing a) is turned
+  pub rests : (until : ℕ) → answer ≡ Some (Rest until) → IsRunning moment images e opened first start time now left out
+  rests until is = subst (λ (a : Option Ending). IsTurned moment images e opened first start time now left out a) is turned
 
   -- it ended, by a clock that tells this moment
-  pub ends_blocked : (connection later : ℕ) → answer ≡ Some (Blocked connection) → time ≡ later → IsEnded moment images e opened first start later now left standing (Blocked connection)
+  pub ends_blocked : (connection later : ℕ) → answer ≡ Some (Blocked connection) → time ≡ later → IsEnded moment images e opened first start later now left out (Blocked connection)
   ends_blocked connection later is same =
-      subst (λ (t : ℕ). IsEnded moment images e opened first start t now left standing (Blocked connection)) same
-      (subst (λ (a : Option Ending). IsTurned moment images e opened first start time now left standing a) is turned)
+      subst (λ (t : ℕ). IsEnded moment images e opened first start t now left out (Blocked connection)) same
+      (subst (λ (a : Option Ending). IsTurned moment images e opened first start time now left out a) is turned)
 
-  pub ends_quiet : (later : ℕ) → answer ≡ Some Quiet → time ≡ later → IsEnded moment images e opened first start later now left standing Quiet
+  pub ends_quiet : (later : ℕ) → answer ≡ Some Quiet → time ≡ later → IsEnded moment images e opened first start later now left out Quiet
   ends_quiet later is same =
-      subst (λ (t : ℕ). IsEnded moment images e opened first start t now left standing Quiet) same
-      (subst (λ (a : Option Ending). IsTurned moment images e opened first start time now left standing a) is turned)
+      subst (λ (t : ℕ). IsEnded moment images e opened first start t now left out Quiet) same
+      (subst (λ (a : Option Ending). IsTurned moment images e opened first start time now left out a) is turned)

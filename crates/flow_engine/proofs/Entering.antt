@@ -38,11 +38,12 @@ use Rattle.flow_engine.proofs.Due.{chosen_of, nothing_due}
 use Rattle.flow_engine.proofs.Ending.{none_expired}
 use Rattle.flow_engine.proofs.Chosen.{IsNext, job_receives, next_first, next_is_left, next_takes_it, next_there_is}
 use Rattle.flow_engine.proofs.Goes.{takes_received}
+use Rattle.flow_run.specs.Puts.{Outgoing, Start}
 use Rattle.flow_engine.proofs.Steps.{next_there, step_so}
 
 module _ (tells : Bool) {D : Type 0} (held : D → Files) (moment : D → ℕ) (images : D → ℕ → Files → Type 0) (v e : EngineState) (is : v ≡ e) (disk : D) (ready : IsReady tells held moment images e disk)
-    (consistent : IsConsistent (kept_by v.store)) (telling : Type 0) (left : List NamedFile) (standing : List ℕ → Option (List ℕ)) (done : Done)
-    (stands : StandsSo telling e (content_in (held disk)) left standing done) where
+    (consistent : IsConsistent (kept_by v.store)) (telling : Type 0) (left : List NamedFile) (out : Outgoing) (done : Done)
+    (stands : StandsSo telling e (content_in (held disk)) left out.standing done) where
   abbrev pub job_in : Job
   job_in = stands.0
 
@@ -61,8 +62,8 @@ module _ (tells : Bool) {D : Type 0} (held : D → Files) (moment : D → ℕ) (
   pub handed_in : IsHanded (kept_by v.store) done.given.moment choice_at job_in
   handed_in = subst (λ (x : EngineState). IsHanded (kept_by x.store) done.given.moment choice_at job_in) (sym is) stands.1.handed
 
-  told_in : telling → IsHandedAs (kept_by v.store) (content_in (held disk)) left standing choice_at job_in
-  told_in told = subst (λ (x : EngineState). IsHandedAs (kept_by x.store) (content_in (held disk)) left standing choice_at job_in) (sym is) (stands.1.told told)
+  told_in : telling → IsHandedAs (kept_by v.store) (content_in (held disk)) left out.standing choice_at job_in
+  told_in told = subst (λ (x : EngineState). IsHandedAs (kept_by x.store) (content_in (held disk)) left out.standing choice_at job_in) (sym is) (stands.1.told told)
 
   pub next_in : QueuesShowKept → IsNext v.flow (kept_by v.store) v.listing.names done.given.moment choice_at
   next_in shown = next_there tells held moment images v e is disk ready consistent done.given.moment choice_at chosen_at shown
@@ -86,12 +87,12 @@ module _ (tells : Bool) {D : Type 0} (held : D → Files) (moment : D → ℕ) (
   -- what it makes is the step that comes next
   pub steps_in : QueuesShowKept → QueuesAreSeen → HeldContentsHaveSizes → ChoicesAreSessions → ChoicesAreSeen → MachinesFilesAreLive → (kept_by v.store).batches ≡ [] → Holds v.store (held disk)
       → ((flow : Flow) → IsAtWork flow tells held moment images v.store disk → (m : Machine) → InEach (images disk (moment disk)) (StandsFor flow v.store.lot m) → IsStateOf m (content_in (held disk)) (kept_by v.store))
-      → telling → (opened : Machine) (first : D) (start time : ℕ) (run : IsRunning moment images e opened first start time disk left standing) → (changed : Changed)
+      → telling → (opened : Machine) (first : D) (start : Start) (time : ℕ) (run : IsRunning moment images e opened first start time disk left out) → (changed : Changed)
       → ((job : Job) → MayHand v.flow (kept_by v.store) job → IsWorkOn v.flow (kept_by v.store).store job done → MakesStep v.flow (kept_by v.store) job changed)
       → IsStepOf e.flow e.last (content_in (held disk)) run.reached job_in changed × IsStateOf run.reached (content_in (held disk)) (kept_by v.store)
   steps_in shown seen sizes sessions choices live no_batches holds tied told opened first start time run changed makes =
       step_so tells held moment images v e is disk ready consistent done.given.moment choice_at chosen_at shown seen sizes sessions choices live
-      (none_expired e done.given.moment (nothing_due e done.given.moment choice_at stands.1.chosen)) no_batches holds tied v.store refl opened first start time left standing run job_in changed
+      (none_expired e done.given.moment (nothing_due e done.given.moment choice_at stands.1.chosen)) no_batches holds tied v.store refl opened first start time left out run job_in changed
       handed_in (told_in told) (makes job_in may_in work_in)
 
   -- ---- the file that it receives

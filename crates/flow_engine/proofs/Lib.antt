@@ -33,3 +33,4 @@ pub mod Turning
 mod Worked
 mod Written
 pub mod Writes
+mod Growing

@@ -1,10 +1,11 @@
 -- What a session sends is what the outbox has behind it.
-use Rattle.std.proofs.Common.{◌≡◌, ⊎_elim, ℕ, ◌≤◌, true, List, [], ◌∷◌, length, map, refl, sym, ◌∙◌, ap, subst, arith}
+use Rattle.std.proofs.Common.{◌≡◌, ⊎_elim, ℕ, ◌≤◌, true, List, [], ◌∷◌, ◌++◌, length, map, refl, sym, ◌∙◌, ap, subst, arith}
 use Rattle.std.specs.Prelude.{All, Contains, IfSome, MatchOption, Option, None, Some, is_some, sum_by, unwrap_or}
 use Rattle.std.proofs.lemmas.Bool.{false≢true, le-leb}
 use Rattle.std.proofs.lemmas.List.Elements.{All-contains, All-head}
+use Rattle.std.proofs.lemmas.List.{append-nil}
 use Rattle.std.proofs.lemmas.List.Sums.{sum_by-cons}
-use Rattle.flowfile_record.specs.NamedFile.{with_file}
+use Rattle.flowfile_record.specs.NamedFile.{NamedFile, with_file}
 use Rattle.flowfile_record.specs.Stored.{Kept}
 use Rattle.flowfile_record.specs.declared.TheConstants.{CONTENT_MAX}
 use Rattle.flowfile_record.specs.declared.content.ContentRef.{ContentRef}
@@ -27,6 +28,7 @@ use Rattle.process_session.specs.declared.file.Source.{Source}
 use Rattle.settlement.specs.Contents.{source_bytes}
 use Rattle.engine_session.specs.Handing.{AreReadOf, fit_a_content, taken_from}
 use Rattle.flow_run.specs.Laws.{OtherSessionsPutNone, PutsSendTheTakenBytes}
+use Rattle.flow_run.specs.Puts.{IsPutBy, Outgoing, files_sent, puts_of_step}
 use Rattle.flow_run.specs.Run.{IsPut}
 use Rattle.flow_engine.specs.Change.{IsSentBy, with_sending}
 use Rattle.flow_engine.specs.Sending.{sending_of}
@@ -75,32 +77,54 @@ pub record IsPutOf (flow : Flow) (machine : Machine) (one : Step) (session : End
   pub bytes : source_bytes sources 0 ≡ file.bytes
   pub puts : (name : List ℕ) → name_in file.attributes ≡ Some name → IsPut flow machine one name
 
--- what is sent stands in the outbox, and this session of a PutFile put it
+-- what is sent is put into the outbox, by this session of a PutFile
 pub record IsSent (flow : Flow) (machine : Machine) (one : Step) (session : EndedSession) (outcome : Outcome) (sources : List Source) : Type 0 where
-  pub outbox : (session_after machine session outcome).world.outbox ≡ with_sending (sending_of outcome.sent sources) machine.world.outbox
+  pub outbox : (out : Outgoing) → out.standing ≡ machine.world.outbox → IsPutBy flow machine one (session_after machine session outcome) out (with_sending (sending_of outcome.sent sources) out)
   pub sent : IsSentBy flow machine one (sending_of outcome.sent sources)
 
-module _ (none : OtherSessionsPutNone) (puts : PutsSendTheTakenBytes) (flow : Flow) (machine : Machine) (one : Step) (session : EndedSession) (outcome : Outcome) (sources : List Source) where
-  abbrev standing : List ℕ → Option (List ℕ)
-  standing = (session_after machine session outcome).world.outbox
+module _ (none : OtherSessionsPutNone) (puts : PutsSendTheTakenBytes) (flow : Flow) (machine : Machine) (one : Step) (session : EndedSession) (outcome : Outcome) (sources : List Source)
+    (is_put : puts_of_step flow machine one ≡ files_sent session outcome outcome.sent) where
+  abbrev after : Machine
+  after = session_after machine session outcome
 
   abbrev SendsSo : Option Sent → Type 0
-  SendsSo sent = (standing ≡ with_sending (sending_of sent sources) machine.world.outbox) × IsSentBy flow machine one (sending_of sent sources)
+  SendsSo sent = ((out : Outgoing) → out.standing ≡ machine.world.outbox → IsPutBy flow machine one after out (with_sending (sending_of sent sources) out)) × IsSentBy flow machine one (sending_of sent sources)
+
+  -- it sends nothing
+  unsent : outcome.sent ≡ None → after.world.outbox ≡ machine.world.outbox → SendsSo None
+  unsent is same = (
+    λ out stands. record {
+      standing = stands ∙ sym same;
+      puts = sym (ap (λ (l : List NamedFile). out.puts ++ l) (is_put ∙ ap (files_sent session outcome) is) ∙ append-nil out.puts);
+    },
+    tt,
+  )
 
   nothing : outcome.sent ≡ None → SendsSo outcome.sent
-  nothing is = subst SendsSo (sym is) (none machine session outcome is, tt)
+  nothing is = subst SendsSo (sym is) (unsent is (none machine session outcome is))
 
-  by_sent : (of : IsPutOf flow machine one session sources) (sent : Option Sent)
-      → MatchOption sent (standing ≡ machine.world.outbox) (λ s. (name_in of.file.attributes ≡ Some s.name) × (standing ≡ with_file machine.world.outbox s.name of.file.bytes))
+  by_sent : (of : IsPutOf flow machine one session sources) (sent : Option Sent) → outcome.sent ≡ sent
+      → MatchOption sent (after.world.outbox ≡ machine.world.outbox)
+      (λ s. (name_in of.file.attributes ≡ Some s.name) × (after.world.outbox ≡ with_file machine.world.outbox s.name of.file.bytes) × (files_sent session outcome (Some s) ≡ record { name = s.name; bytes = of.file.bytes } ∷ []))
       → SendsSo sent
-  by_sent of None same = (same, tt)
-  by_sent of (Some sent) put =
-      (put.1 ∙ ap (with_file machine.world.outbox sent.name) (sym of.bytes), of.puts sent.name put.0)
+  by_sent of None is same = unsent is same
+  by_sent of (Some sent) is put = (
+    λ out stands. record {
+      standing =
+          ap (λ (o : List ℕ → Option (List ℕ)). with_file o sent.name (source_bytes sources 0)) stands
+          ∙ ap (with_file machine.world.outbox sent.name) of.bytes
+          ∙ sym put.1;
+      puts =
+          ap (λ (bytes : List ℕ). out.puts ++ record { name = sent.name; bytes = bytes } ∷ []) of.bytes
+          ∙ ap (λ (l : List NamedFile). out.puts ++ l) (sym (is_put ∙ ap (files_sent session outcome) is ∙ put.2));
+    },
+    of.puts sent.name put.0,
+  )
 
   put_of : (conflict : Conflict) → session.processor.kind ≡ PutFile conflict → IsPutOf flow machine one session sources
       → act session.processor.kind (map (as_taken machine.state) session.taken) session.given ≡ Some outcome → SendsSo outcome.sent
   put_of conflict is of acts =
-      by_sent of outcome.sent
+      by_sent of outcome.sent refl
       (puts machine session outcome conflict of.file of.taken
       (subst (λ (kind : Kind). act kind (as_taken machine.state of.file ∷ []) session.given ≡ Some outcome) is
       (subst (λ (taken : List QueuedFile). act session.processor.kind (map (as_taken machine.state) taken) session.given ≡ Some outcome) of.taken acts)))

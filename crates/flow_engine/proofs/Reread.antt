@@ -14,6 +14,7 @@ use Rattle.flow_engine.specs.Running.{IsRunning}
 use Rattle.flow_engine.specs.declared.done.Done.{Done}
 use Rattle.flow_engine.proofs.Commits.{work_read}
 use Rattle.flow_engine.proofs.Goes.{spared_by_read}
+use Rattle.flow_run.specs.Puts.{Outgoing, Start}
 use Rattle.flow_engine.proofs.Steps.{runs_on}
 
 module _ (tells : Bool) {D : Type 0} (held : D → Files) (moment : D → ℕ) (images : D → ℕ → Files → Type 0) (old new : D) (stays : Stays held moment images old new) where
@@ -33,21 +34,21 @@ module _ (tells : Bool) {D : Type 0} (held : D → Files) (moment : D → ℕ) (
       })
 
   -- the run is where it was
-  pub still_runs : SparedRunsGoOn moment images → (e f : EngineState) → f ≡ e → (opened : Machine) (first : D) (start time later : ℕ) → time ≤ later
-      → (left now_left : List NamedFile) (standing now_standing : List ℕ → Option (List ℕ)) → now_left ≡ left → now_standing ≡ standing
-      → IsRunning moment images e opened first start time old left standing → IsRunning moment images f opened first start later new now_left now_standing
-  still_runs law e f same opened first start time later le left now_left standing now_standing lies stands run =
-      let on = runs_on moment images law e opened first start time later old new left standing run le
+  pub still_runs : SparedRunsGoOn moment images → (e f : EngineState) → f ≡ e → (opened : Machine) (first : D) (start : Start) (time later : ℕ) → time ≤ later
+      → (left now_left : List NamedFile) (out now_out : Outgoing) → now_left ≡ left → now_out ≡ out
+      → IsRunning moment images e opened first start time old left out → IsRunning moment images f opened first start later new now_left now_out
+  still_runs law e f same opened first start time later le left now_left out now_out lies stands run =
+      let on = runs_on moment images law e opened first start time later old new left out run le
       (spared_by_read tells held moment images e.flow e.store.lot run.reached old new stays run.to.run.holds) in
-      subst (λ (x : EngineState). IsRunning moment images x opened first start later new now_left now_standing) (sym same)
-      (subst (λ (l : List NamedFile). IsRunning moment images e opened first start later new l now_standing) (sym lies)
-      (subst (λ (o : List ℕ → Option (List ℕ)). IsRunning moment images e opened first start later new left o) (sym stands) on))
+      subst (λ (x : EngineState). IsRunning moment images x opened first start later new now_left now_out) (sym same)
+      (subst (λ (l : List NamedFile). IsRunning moment images e opened first start later new l now_out) (sym lies)
+      (subst (λ (o : Outgoing). IsRunning moment images e opened first start later new left o) (sym stands) on))
 
   -- a work's job stands as it did
-  pub still_stands : (e f : EngineState) → f ≡ e → (telling : Type 0) (left now_left : List NamedFile) (standing now_standing : List ℕ → Option (List ℕ)) → now_left ≡ left → now_standing ≡ standing → (done : Done)
-      → StandsSo telling e (content_in (held old)) left standing done → StandsSo telling f (content_in (held new)) now_left now_standing done
-  still_stands e f same telling left now_left standing now_standing lies stands done so =
-      subst (λ (x : EngineState). StandsSo telling x (content_in (held new)) now_left now_standing done) (sym same)
-      (subst (λ (l : List NamedFile). StandsSo telling e (content_in (held new)) l now_standing done) (sym lies)
-      (subst (λ (o : List ℕ → Option (List ℕ)). StandsSo telling e (content_in (held new)) left o done) (sym stands)
-      (subst (λ (files : Files). StandsSo telling e (content_in files) left standing done) (sym stays.files) so)))
+  pub still_stands : (e f : EngineState) → f ≡ e → (telling : Type 0) (left now_left : List NamedFile) (out now_out : Outgoing) → now_left ≡ left → now_out ≡ out → (done : Done)
+      → StandsSo telling e (content_in (held old)) left out.standing done → StandsSo telling f (content_in (held new)) now_left now_out.standing done
+  still_stands e f same telling left now_left out now_out lies stands done so =
+      subst (λ (x : EngineState). StandsSo telling x (content_in (held new)) now_left now_out.standing done) (sym same)
+      (subst (λ (l : List NamedFile). StandsSo telling e (content_in (held new)) l now_out.standing done) (sym lies)
+      (subst (λ (o : Outgoing). StandsSo telling e (content_in (held new)) left o.standing done) (sym stands)
+      (subst (λ (files : Files). StandsSo telling e (content_in files) left out.standing done) (sym stays.files) so)))

@@ -1,7 +1,7 @@
 -- That a session whose change was made is a step of the machine.
 use Rattle.std.proofs.Common.{◌≡◌, ℕ, zero, suc, List, [], ◌∷◌, length, map, refl, sym, ◌∙◌, ap, subst}
-use Rattle.std.specs.Prelude.{All, Option, Some, slice_get}
-use Rattle.std.specs.Option.{option_to_list}
+use Rattle.std.specs.Prelude.{All, Option, Some, option_and_then, option_map, slice_get}
+use Rattle.std.specs.Option.{option_map_or, option_to_list}
 use Rattle.std.proofs.lemmas.List.Elements.{All-head, All-tail}
 use Rattle.flowfile_record.specs.Stored.{Kept}
 use Rattle.flowfile_record.specs.declared.change.Settled.{Settled}
@@ -22,7 +22,7 @@ use Rattle.machine_model.specs.Laws.{MayTake, received_name}
 use Rattle.machine_model.specs.Placing.{EndedSession}
 use Rattle.machine_model.specs.Sound.{IsSound, IsSoundKind}
 use Rattle.machine_model.specs.State.{Machine, QueuedFile, State}
-use Rattle.machine_model.specs.Stepping.{as_taken, given_in, step, taken_files, world_after}
+use Rattle.machine_model.specs.Stepping.{as_taken, given_at, given_in, session_of as machine_session, step, taken_files, world_after}
 use Rattle.process_session.specs.Bench.{source_of}
 use Rattle.process_session.specs.declared.file.Source.{Source}
 use Rattle.process_session.specs.declared.file.Taken.{Taken}
@@ -36,12 +36,14 @@ use Rattle.engine_session.specs.Laws.{TakenFilesAreTheMachines, TakenFilesAreThe
 use Rattle.engine_session.specs.Steps.{IsSession, SettledSessionsAreSteps, machine_in}
 use Rattle.engine_session.specs.Working.{IsWorkAt, MayWork}
 use Rattle.flow_run.specs.Laws.{OtherSessionsLoseNone, OtherSessionsPutNone, PutsSendTheTakenBytes, ReceivingSessionsLoseAFile}
+use Rattle.flow_run.specs.Puts.{IsPutBy, files_sent, puts_of_step, session_at, session_puts}
 use Rattle.flow_run.specs.Run.{IsStateOf}
 use Rattle.flow_engine.specs.Change.{IsSentBy, IsStepOf, MakesStep, step_of, with_sending, without_bytes}
 use Rattle.flow_engine.specs.Done.{IsWorkOn}
 use Rattle.flow_engine.specs.Job.{MayHand, StandsIn}
 use Rattle.flow_engine.specs.Sending.{sending_of, sources_left}
 use Rattle.flow_engine.specs.declared.change.Changed.{Changed}
+use Rattle.flow_engine.specs.declared.change.Sending.{Sending}
 use Rattle.flow_engine.specs.declared.done.Done.{Done}
 use Rattle.flow_engine.specs.declared.job.Job.{Job}
 use Rattle.flow_engine.proofs.Names.{coming_behind, inbox_behind}
@@ -211,9 +213,18 @@ module _ (laws : Laws) (flow : Flow) (k : Kept) (job : Job) (outcome : Outcome) 
         };
       }
 
+  -- it puts what its outcome sends
+  puts_sent : puts_of_step flow before (step_of job) ≡ files_sent (session before.state) outcome outcome.sent
+  puts_sent =
+      ap (λ (p : Option Processor). option_map_or (session_puts before) (option_and_then (session_at flow before job.processor job.numbers job.given.moment (without_bytes job.given)) p) []) stands.found
+      ∙ ap (λ (taken : Option (List QueuedFile)). option_map_or (session_puts before) (option_and_then (λ files. option_map (machine_session flow before job.processor stands.processor files)
+      (option_and_then (given_in stands.processor.kind job.processor before.state before.world files) (given_at job.given.moment (without_bytes job.given)))) taken) []) stands.taken
+      ∙ ap (λ (given : Option Given). option_map_or (session_puts before) (option_map (machine_session flow before job.processor stands.processor queued) given) []) stands.given
+      ∙ ap (λ (made : Option Outcome). option_map_or (λ o. files_sent (session before.state) o o.sent) made []) (acts before.state tied.is)
+
   pub is_step : (changed : Changed) → changed.settled ≡ settled → changed.sending ≡ sending_of outcome.sent (sources_of k job) → IsStepOf flow last contents before job changed
   is_step changed same sends =
-      let put = is_sent laws.unsent laws.put flow before (step_of job) (session before.state) outcome (sources_of k job) (acts before.state tied.is) put_of in
+      let put = is_sent laws.unsent laws.put flow before (step_of job) (session before.state) outcome (sources_of k job) puts_sent (acts before.state tied.is) put_of in
       record {
         after = behind before.state;
         goes = goes;
@@ -221,7 +232,9 @@ module _ (laws : Laws) (flow : Flow) (k : Kept) (job : Job) (outcome : Outcome) 
         state = ap (state_after contents before.state) same;
         inbox = inbox_behind laws.received laws.kept before (session before.state) outcome receives;
         coming = coming_behind stands.processor.kind before.world (session before.state) outcome receives;
-        outbox = put.outbox ∙ ap (λ s. with_sending s before.world.outbox) (sym sends);
+        outbox = λ out same.
+            let by = put.outbox out same in
+            subst (λ (sending : Option Sending). IsPutBy flow before (step_of job) (behind before.state) out (with_sending sending out)) (sym sends) (record { standing = by.standing; puts = by.puts });
         sent = subst (IsSentBy flow before (step_of job)) (sym sends) put.sent;
       }
 

@@ -12,7 +12,7 @@ use Rattle.flowfile_wal.specs.Current.{CurrentLog}
 use Rattle.machine_model.specs.Due.{is_checkpoint_due}
 use Rattle.store_core.specs.Store.{HasLog, StoreState}
 use Rattle.store_core.proofs.Opening.{claims_log}
-use Rattle.flow_run.specs.Ending.{EndsShort}
+use Rattle.flow_run.specs.Ending.{EndsShort, IsAtRest}
 use Rattle.flow_run.specs.Work.{HasShortLog, IsShortOn}
 use Rattle.flow_run.specs.declared.ended.Ended.{Ended}
 use Rattle.flow_run.specs.declared.ended.Ended.TheVariants as ended
@@ -69,6 +69,30 @@ no_log_due checkpoint s files fits none has = by (nat_lt 0 s.entries) refl none
         not_due checkpoint s files fits
         (λ number is. sym none ∙ ap (λ (o : Option ℕ). option_map_or (λ number. is_checkpoint_due checkpoint s.entries number) o false) is) has
 
+-- ---- where a run ends
+
+not_quiet : (error : EngineError) → ended_by error ≡ ended.Quiet → ⊥
+not_quiet (Damaged damage) is = cc
+not_quiet Disk is = cc
+not_quiet Inbox is = cc
+not_quiet Outbox is = cc
+not_quiet (Limit limit) is = cc
+not_quiet MustReopen is = cc
+not_quiet Memory is = cc
+
+not_blocked : (error : EngineError) (place : ℕ) → ended_by error ≡ ended.Blocked place → ⊥
+not_blocked (Damaged damage) place is = cc
+not_blocked Disk place is = cc
+not_blocked Inbox place is = cc
+not_blocked Outbox place is = cc
+not_blocked (Limit limit) place is = cc
+not_blocked MustReopen place is = cc
+not_blocked Memory place is = cc
+
+pub no_rest : (error : EngineError) (end : Ended) → end ≡ ended_by error → IsAtRest end → ⊥
+no_rest error end is (inl quiet) = not_quiet error (sym is ∙ quiet)
+no_rest error end is (inr blocked) = not_blocked error blocked.0 (sym is ∙ blocked.1)
+
 -- ---- of a disk
 
 module _ {D : Type 0} (moment : D → ℕ) (images : D → ℕ → Files → Type 0) where
@@ -80,29 +104,8 @@ module _ {D : Type 0} (moment : D → ℕ) (images : D → ℕ → Files → Typ
       let was : HasShortLog checkpoint after.0 = short after.0 after.1 in
       record { log = was.log; current = claims_log after.0 c step after.2 ∙ was.current; short = was.short }
 
-  -- ---- where a run ends
-
-  not_quiet : (error : EngineError) → ended_by error ≡ ended.Quiet → ⊥
-  not_quiet (Damaged damage) is = cc
-  not_quiet Disk is = cc
-  not_quiet Inbox is = cc
-  not_quiet Outbox is = cc
-  not_quiet (Limit limit) is = cc
-  not_quiet MustReopen is = cc
-  not_quiet Memory is = cc
-
-  not_blocked : (error : EngineError) (place : ℕ) → ended_by error ≡ ended.Blocked place → ⊥
-  not_blocked (Damaged damage) place is = cc
-  not_blocked Disk place is = cc
-  not_blocked Inbox place is = cc
-  not_blocked Outbox place is = cc
-  not_blocked (Limit limit) place is = cc
-  not_blocked MustReopen place is = cc
-  not_blocked Memory place is = cc
-
   pub ends_by_error : (checkpoint : ℕ) (error : EngineError) (end : Ended) (new : D) → end ≡ ended_by error → EndsShort moment images checkpoint end new
-  ends_by_error checkpoint error end new is (inl quiet) = absurd (not_quiet error (sym is ∙ quiet))
-  ends_by_error checkpoint error end new is (inr blocked) = absurd (not_blocked error blocked.0 (sym is ∙ blocked.1))
+  ends_by_error checkpoint error end new is rest = absurd (no_rest error end is rest)
 
   pub ends_short : (checkpoint other : ℕ) (end : Ended) (old new : D) → other ≡ checkpoint → IsShortOn moment images other old
       → ((n : ℕ) → IsShortOn moment images n old → IsShortOn moment images n new) → EndsShort moment images checkpoint end new

@@ -13,6 +13,7 @@ use Rattle.machine_model.specs.State.{Machine, State}
 use Rattle.machine_model.specs.Stepping.{replay}
 use Rattle.engine_choice.specs.Choice.{coming_of}
 use Rattle.flow_run.specs.Ending.{IsFault}
+use Rattle.flow_run.specs.Puts.{Outgoing, Start}
 use Rattle.flow_run.specs.Run.{StandsFor, machine_at}
 use Rattle.flow_run.specs.declared.ended.Ended.{Ended}
 use Rattle.flow_engine.specs.Closing.{IsClosed, Shows, ShowsState}
@@ -79,12 +80,12 @@ shown tells held moment images e old new reached (Err error) is shows telling st
 
 -- the store of a run that leads to this machine was closed
 pub run_shows : StepsLoseNames → {D : Type 0} (tells : Bool) (held : D → Files) (moment : D → ℕ) (images : D → ℕ → Files → Type 0) (flow : Flow) (e0 e : EngineState) (state : State) (left now_left : List NamedFile)
-    (standing now_standing : List ℕ → Option (List ℕ)) (first old new : D) (start time : ℕ) (reached m : Machine) (result : Result Closed EngineError) (o : Option Closed) → e.flow ≡ flow → e.listing.too_large ≡ e0.listing.too_large
+    (standing : List ℕ → Option (List ℕ)) (now_out : Outgoing) (first old new : D) (start : Start) (time : ℕ) (reached m : Machine) (result : Result Closed EngineError) (o : Option Closed) → e.flow ≡ flow → e.listing.too_large ≡ e0.listing.too_large
     → coming_of (machine_at state left standing).world ≡ e0.listing.names → length left ≡ length e0.listing.names + e0.listing.too_large
-    → IsRunningTo moment images e (machine_at state left standing) first start time old now_left now_standing reached
+    → IsRunningTo moment images e (machine_at state left standing) first start time old now_left now_out reached
     → replay flow (machine_at state left standing) (steps e.journal) ≡ Some m → o ≡ result_ok result → IfOk result (IsClosed tells held moment images e new)
     → IfOk result (λ closed. IsTrue tells → (m : Machine) → InEach (images old (moment old)) (StandsFor e.flow e.store.lot m) → ShowsState e.flow m closed) → IsTrue tells → IfSome o (Shows flow m)
-run_shows law tells held moment images flow e0 e state left now_left standing now_standing first old new start time reached m result o flow_is large_is coming counted to ends is closed shows telling =
+run_shows law tells held moment images flow e0 e state left now_left standing now_out first old new start time reached m result o flow_is large_is coming counted to ends is closed shows telling =
     let all : length reached.world.left ≡ length e.listing.names + e0.listing.too_large
     = all_counted law e.flow state left standing (steps e.journal) reached e0.listing.names e.listing.names e0.listing.too_large to.run.ran.replays coming counted to.coming in
     let same : reached ≡ m = one_end flow e.flow (machine_at state left standing) reached m (steps e.journal) flow_is to.run.ran.replays ends in

@@ -28,6 +28,7 @@ use Rattle.flow_engine.specs.Running.{IsRunning}
 use Rattle.flow_engine.specs.declared.change.Changed.{Changed}
 use Rattle.flow_engine.specs.declared.job.Job.{Job}
 use Rattle.flow_engine.proofs.Chosen.{IsNext, next_takes}
+use Rattle.flow_run.specs.Puts.{Outgoing, Start}
 use Rattle.flow_engine.proofs.Stands.{stands_in}
 
 module _ (tells : Bool) {D : Type 0} (held : D → Files) (moment : D → ℕ) (images : D → ℕ → Files → Type 0) (e : EngineState) (disk : D) (ready : IsReady tells held moment images e disk)
@@ -39,23 +40,23 @@ module _ (tells : Bool) {D : Type 0} (held : D → Files) (moment : D → ℕ) (
   -- where nothing has expired, what it makes of what it was handed is a step
   pub steps : QueuesShowKept → QueuesAreSeen → HeldContentsHaveSizes → ChoicesAreSessions → ChoicesAreSeen → MachinesFilesAreLive → due_expiry e.flow (queue_seen e.queues) time ≡ None
       → (kept_by e.store).batches ≡ [] → Holds e.store (held disk)
-      → (opened : Machine) (first : D) (start since : ℕ) (left : List NamedFile) (standing : List ℕ → Option (List ℕ)) (run : IsRunning moment images e opened first start since disk left standing)
+      → (opened : Machine) (first : D) (start : Start) (since : ℕ) (left : List NamedFile) (out : Outgoing) (run : IsRunning moment images e opened first start since disk left out)
       → IsStateOf run.reached (content_in (held disk)) (kept_by e.store) → (job : Job) (changed : Changed)
-      → IsHanded (kept_by e.store) time choice job → IsHandedAs (kept_by e.store) (content_in (held disk)) left standing choice job
+      → IsHanded (kept_by e.store) time choice job → IsHandedAs (kept_by e.store) (content_in (held disk)) left out.standing choice job
       → MakesStep e.flow (kept_by e.store) job changed → IsStepOf e.flow e.last (content_in (held disk)) run.reached job changed
-  steps shown seen sizes sessions choices live nothing no_batches holds opened first start since left standing run tied job changed handed told makes =
+  steps shown seen sizes sessions choices live nothing no_batches holds opened first start since left out run tied job changed handed told makes =
       makes e.last (content_in (held disk)) run.reached tied run.to.run.valid
-      (stands_in sessions choices seen live e.flow (kept_by e.store) e.queues e.listing.names time e.last choice (content_in (held disk)) run.reached left standing job
-      consistent no_batches ready.work.flow_is ready.queues (sizes e.store (held disk) holds) nothing chosen (next shown) tied run.to.run.valid run.to.coming run.to.run.lies run.to.run.stands handed told)
+      (stands_in sessions choices seen live e.flow (kept_by e.store) e.queues e.listing.names time e.last choice (content_in (held disk)) run.reached left out.standing job
+      consistent no_batches ready.work.flow_is ready.queues (sizes e.store (held disk) holds) nothing chosen (next shown) tied run.to.run.valid run.to.coming run.to.run.lies run.to.run.stands.standing handed told)
 
 -- calls that leave what the disk stands for, and time that goes by
-abbrev pub runs_on : {D : Type 0} (moment : D → ℕ) (images : D → ℕ → Files → Type 0) → SparedRunsGoOn moment images → (e : EngineState) (opened : Machine) (first : D) (start time later : ℕ) (old new : D) (left : List NamedFile)
-    (standing : List ℕ → Option (List ℕ)) (run : IsRunning moment images e opened first start time old left standing) → time ≤ later → IsSpared e.flow moment images e.store.lot run.reached old new
-    → IsRunning moment images e opened first start later new left standing
-runs_on moment images law e opened first start time later old new left standing run no_earlier spared = record {
+abbrev pub runs_on : {D : Type 0} (moment : D → ℕ) (images : D → ℕ → Files → Type 0) → SparedRunsGoOn moment images → (e : EngineState) (opened : Machine) (first : D) (start : Start) (time later : ℕ) (old new : D) (left : List NamedFile)
+    (out : Outgoing) (run : IsRunning moment images e opened first start time old left out) → time ≤ later → IsSpared e.flow moment images e.store.lot run.reached old new
+    → IsRunning moment images e opened first start later new left out
+runs_on moment images law e opened first start time later old new left out run no_earlier spared = record {
   reached = run.reached;
   to = record {
-    run = law e.flow start time later e.store.lot opened run.reached first old new e.journal left standing run.to.run no_earlier spared;
+    run = law e.flow start time later e.store.lot opened run.reached first old new e.journal left out run.to.run no_earlier spared;
     coming = run.to.coming;
     last = run.to.last;
   };
@@ -78,19 +79,19 @@ module _ (tells : Bool) {D : Type 0} (held : D → Files) (moment : D → ℕ) (
       → (kept_by v.store).batches ≡ [] → Holds v.store (held disk)
       → ((flow : Flow) → IsAtWork flow tells held moment images v.store disk → (m : Machine) → InEach (images disk (moment disk)) (StandsFor flow v.store.lot m) → IsStateOf m (content_in (held disk)) (kept_by v.store))
       → (t : StoreState) → t ≡ v.store
-      → (opened : Machine) (first : D) (start since : ℕ) (left : List NamedFile) (standing : List ℕ → Option (List ℕ)) (run : IsRunning moment images e opened first start since disk left standing)
+      → (opened : Machine) (first : D) (start : Start) (since : ℕ) (left : List NamedFile) (out : Outgoing) (run : IsRunning moment images e opened first start since disk left out)
       → (job : Job) (changed : Changed)
-      → IsHanded (kept_by v.store) time choice job → IsHandedAs (kept_by v.store) (content_in (held disk)) left standing choice job
+      → IsHanded (kept_by v.store) time choice job → IsHandedAs (kept_by v.store) (content_in (held disk)) left out.standing choice job
       → MakesStep v.flow (kept_by t) job changed
       → IsStepOf e.flow e.last (content_in (held disk)) run.reached job changed × IsStateOf run.reached (content_in (held disk)) (kept_by v.store)
-  step_so shown seen sizes sessions choices live nothing no_batches holds tied t same opened first start since left standing run job changed handed told makes =
+  step_so shown seen sizes sessions choices live nothing no_batches holds tied t same opened first start since left out run job changed handed told makes =
       let tie = tied e.flow (subst (λ (x : EngineState). IsAtWork e.flow tells held moment images x.store disk) (sym is) ready.work) run.reached
       (subst (λ (x : EngineState). InEach (images disk (moment disk)) (StandsFor e.flow x.store.lot run.reached)) (sym is) run.to.run.holds) in (
         steps tells held moment images e disk ready (subst (λ (x : EngineState). IsConsistent (kept_by x.store)) is consistent) time choice chosen shown seen sizes sessions choices live nothing
-            (subst (λ (x : EngineState). (kept_by x.store).batches ≡ []) is no_batches) (subst (λ (x : EngineState). Holds x.store (held disk)) is holds) opened first start since left standing run
+            (subst (λ (x : EngineState). (kept_by x.store).batches ≡ []) is no_batches) (subst (λ (x : EngineState). Holds x.store (held disk)) is holds) opened first start since left out run
             (subst (λ (x : EngineState). IsStateOf run.reached (content_in (held disk)) (kept_by x.store)) is tie) job changed
             (subst (λ (x : EngineState). IsHanded (kept_by x.store) time choice job) is handed)
-            (subst (λ (x : EngineState). IsHandedAs (kept_by x.store) (content_in (held disk)) left standing choice job) is told)
+            (subst (λ (x : EngineState). IsHandedAs (kept_by x.store) (content_in (held disk)) left out.standing choice job) is told)
             (subst (λ (x : EngineState). MakesStep x.flow (kept_by x.store) job changed) is (subst (λ (s : StoreState). MakesStep v.flow (kept_by s) job changed) same makes)),
         tie,
       )

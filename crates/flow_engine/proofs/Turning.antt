@@ -27,6 +27,7 @@ use Rattle.flow_engine.specs.declared.job.Job.{Job}
 use Rattle.flow_engine.proofs.Choosing.{HasStep}
 use Rattle.flow_engine.proofs.Goes.{IsNoLimit}
 use Rattle.flow_engine.proofs.RunsOn.{spared_by_none}
+use Rattle.flow_run.specs.Puts.{Outgoing, Start}
 use Rattle.flow_engine.proofs.Steps.{runs_on}
 
 -- ---- the same run
@@ -97,20 +98,20 @@ pub no_limit : (one error : EngineError) → one ≡ error → (one ≡ MustReop
 no_limit one error same (inl reopen) limit is = let both : MustReopen ≡ Limit limit = sym reopen ∙ same ∙ is in cc
 no_limit one error same (inr memory) limit is = let both : Memory ≡ Limit limit = sym memory ∙ same ∙ is in cc
 
-module _ {D : Type 0} (tells : Bool) (held : D → Files) (moment : D → ℕ) (images : D → ℕ → Files → Type 0) (e : EngineState) (opened : Machine) (first : D) (start time : ℕ) (now : D) (left : List NamedFile) (standing : List ℕ → Option (List ℕ)) where
+module _ {D : Type 0} (tells : Bool) (held : D → Files) (moment : D → ℕ) (images : D → ℕ → Files → Type 0) (e : EngineState) (opened : Machine) (first : D) (start : Start) (time : ℕ) (now : D) (left : List NamedFile) (out : Outgoing) where
   module _ (law : SparedRunsGoOn moment images) (later : ℕ) (by : time ≤ later) where
     -- at a later time the journal has as many entries as it may, and a session comes next
-    pub limited : NextStepsAreInTurn moment images → (run : IsRunning moment images e opened first start time now left standing) → length e.journal ≡ e.most → images now (moment now) (held now)
-        → HasStep e.flow e.last later run.reached → IsLimited tells held moment images e (journal_full e.most) opened first start later now left standing
+    pub limited : NextStepsAreInTurn moment images → (run : IsRunning moment images e opened first start time now left out) → length e.journal ≡ e.most → images now (moment now) (held now)
+        → HasStep e.flow e.last later run.reached → IsLimited tells held moment images e (journal_full e.most) opened first start later now left out
     limited turn run full is_left goes =
         let comes = subst (λ (last : Option ℕ). ComesNext e.flow last run.reached goes.next) run.to.last goes.comes in
         let one_after = subst (λ (t : ℕ). time ≤ t) (sym goes.at) by in
         record {
           reached = run.reached;
-          to = (runs_on moment images law e opened first start time later now now left standing run by (spared_by_none tells held moment images e.flow e.store.lot run.reached now run.to.run.holds)).to;
+          to = (runs_on moment images law e opened first start time later now now left out run by (spared_by_none tells held moment images e.flow e.store.lot run.reached now run.to.run.holds)).to;
           met = record {
             next = goes.next;
-            turn = turn e.flow start time later e.store.lot opened run.reached first now e.journal goes.next left standing run.to.run one_after (omega (arith, goes.at)) comes;
+            turn = turn e.flow start time later e.store.lot opened run.reached first now e.journal goes.next left out run.to.run one_after (omega (arith, goes.at)) comes;
             after = goes.after;
             goes = goes.goes;
             stands = run.to.run.holds (held now) is_left;

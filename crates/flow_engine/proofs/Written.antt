@@ -24,6 +24,7 @@ use Rattle.flow_engine.specs.Errors.{error_of}
 use Rattle.flow_engine.specs.declared.change.Changed.{Changed}
 use Rattle.flow_engine.specs.declared.error.EngineError.{EngineError}
 use Rattle.flow_engine.specs.declared.error.EngineError.TheVariants.{Disk, Limit, Memory, Outbox}
+use Rattle.flow_run.specs.Puts.{Outgoing}
 use Rattle.flow_engine.proofs.Commits.{work_roomy}
 
 -- the errors that come before the commit
@@ -44,13 +45,13 @@ same_error : (one other : EngineError) → ◌≡◌ {A = Result ℕ EngineError
 same_error one other is = cc
 
 module _ {D : Type 0} (tells : Bool) (held : D → Files) (moment : D → ℕ) (images : D → ℕ → Files → Type 0) (out_tells : Bool) (s t : StoreState) (queues now_queues : List QueueState) (changed : Changed)
-    (standing now_standing : List ℕ → Option (List ℕ)) (old new : D) where
+    (out now_out : Outgoing) (old new : D) where
   abbrev pub Written : Result ℕ EngineError → Type 0
-  Written result = HasWritten result tells held moment images out_tells s t queues now_queues changed standing now_standing old new
+  Written result = HasWritten result tells held moment images out_tells s t queues now_queues changed out now_out old new
 
   -- an error before the commit
   pub unwritten_by : (error : EngineError) → IsBefore error → new ≡ old → t ≡ with_room t.memory.room s → ((flow : Flow) → AreQueuesOf flow (kept_by s) queues → AreQueuesOf flow (kept_by s) now_queues)
-      → ((error ≡ Outbox → ⊥) → now_standing ≡ standing) → (error ≡ Outbox → IsTrue out_tells → IsLeftBySend changed.sending standing now_standing)
+      → ((error ≡ Outbox → ⊥) → now_out ≡ out) → (error ≡ Outbox → IsTrue out_tells → IsLeftBySend changed.sending out now_out)
       → ((limit : TheLimit) → error ≡ Limit limit → IsLimitOf s changed.settled limit) → (result : Result ℕ EngineError) → result ≡ Err error → Written result
   unwritten_by error before same roomy still unsent put passes result was = subst Written (sym was) (record {
     stepped = tt;
@@ -74,7 +75,7 @@ module _ {D : Type 0} (tells : Bool) (held : D → Files) (moment : D → ℕ) (
   pub cut_off_by : (error : EngineError) → error ≡ Disk
       → ((flow : Flow) (before after : Machine) → IsAtWork flow tells held moment images s old → InEach (images old (moment old)) (StandsFor flow s.lot before)
       → state_after (content_in (held old)) before.state changed.settled ≡ after.state → IsBetween flow moment images s.lot before after old new)
-      → (IsTrue out_tells → now_standing ≡ with_sending changed.sending standing) → (t.lot ≡ s.lot) × (t.log.number ≡ s.log.number) → (result : Result ℕ EngineError) → result ≡ Err error → Written result
+      → (IsTrue out_tells → now_out ≡ with_sending changed.sending out) → (t.lot ≡ s.lot) × (t.log.number ≡ s.log.number) → (result : Result ℕ EngineError) → result ≡ Err error → Written result
   cut_off_by error disk between sent lot result was = subst Written (sym (was ∙ ap Err disk)) (record {
     stepped = tt;
     cut_off = λ is. between;

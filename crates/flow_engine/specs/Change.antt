@@ -1,5 +1,5 @@
 -- What a session changes: the store's state, and what it sends.
-use Rattle.std.specs.Prelude.{◌≡◌, ⊤, ℕ, List, Option, None, Some}
+use Rattle.std.specs.Prelude.{◌≡◌, ⊤, ℕ, List, [], ◌∷◌, ◌++◌, Option, None, Some}
 use Rattle.flowfile_record.specs.NamedFile.{NamedFile, with_file, without}
 use Rattle.flowfile_record.specs.Stored.{Kept}
 use Rattle.flowfile_record.specs.declared.content.ContentRef.{ContentRef}
@@ -13,6 +13,7 @@ use Rattle.machine_model.specs.Stepping.{step, without_name}
 use Rattle.machine_model.specs.Valid.{IsValid}
 use Rattle.engine_choice.specs.Choice.{coming_of}
 use Rattle.flow_run.specs.Journal.{files_left}
+use Rattle.flow_run.specs.Puts.{IsPutBy, Outgoing}
 use Rattle.flow_run.specs.Run.{IsPut, IsStateOf}
 use Rattle.flow_run.specs.Turns.{ComesNext}
 use Rattle.flow_engine.specs.Job.{StandsIn}
@@ -20,10 +21,13 @@ use Rattle.flow_engine.specs.declared.change.Changed.{Changed}
 use Rattle.flow_engine.specs.declared.change.Sending.{Sending}
 use Rattle.flow_engine.specs.declared.job.Job.{Job}
 
--- what the outbox has once this was sent
-abbrev pub with_sending : Option Sending → (List ℕ → Option (List ℕ)) → List ℕ → Option (List ℕ)
-with_sending None standing = standing
-with_sending (Some sending) standing = with_file standing sending.name sending.bytes
+-- an outbox once this was sent: it stands there, and was put
+abbrev pub with_sending : Option Sending → Outgoing → Outgoing
+with_sending None out = out
+with_sending (Some sending) out = record {
+  standing = with_file out.standing sending.name sending.bytes;
+  puts = out.puts ++ record { name = sending.name; bytes = sending.bytes } ∷ [];
+}
 
 -- without the file of this name, if there is one
 abbrev pub without_received : Option (List ℕ) → List NamedFile → List NamedFile
@@ -57,7 +61,8 @@ pub record IsStepOf (flow : Flow) (last : Option ℕ) (contents : ContentRef →
   pub state : state_after contents before.state changed.settled ≡ after.state
   pub inbox : files_left after.world ≡ without_received job.given.file (files_left before.world)
   pub coming : coming_of after.world ≡ names_without job.given.file (coming_of before.world)
-  pub outbox : after.world.outbox ≡ with_sending changed.sending before.world.outbox
+  pub outbox : (out : Outgoing) → out.standing ≡ before.world.outbox
+      → IsPutBy flow before (step_of job) after out (with_sending changed.sending out)
   pub sent : IsSentBy flow before (step_of job) changed.sending
 
 -- wherever what the session was handed stands so, it is such a step

@@ -6,6 +6,7 @@ use Rattle.flowfile_record.specs.NamedFile.{NamedFile}
 use Rattle.flowfile_record.specs.declared.content.ContentRef.{ContentRef}
 use Rattle.content_repo.specs.Claims.{content_in}
 use Rattle.kept_state.specs.declared.limit.Limit.{Limit as TheLimit}
+use Rattle.flow_run.specs.Puts.{Outgoing}
 use Rattle.store_core.specs.Store.{kept_by}
 use Rattle.flow_run.specs.Work.{WritesLog}
 use Rattle.flow_engine.specs.Checkout.{session_in}
@@ -107,10 +108,10 @@ pub record MakesEntry (result : Result Committed EngineError) (done : Done) (now
 -- or none, and nothing is done.
 pub record TakesWhatStands {D : Type 0} (result : Result Committed EngineError) (telling : Type 0) (held : D → Files)
     (moment : D → ℕ) (images : D → ℕ → Files → Type 0) (done : Done) (e_old e_new : EngineState) (old new : D)
-    (left : List NamedFile) (standing now_standing : List ℕ → Option (List ℕ)) : Type 0 where
-  pub stands : IsLeftOut result e_old e_new ⊎ StandsSo telling e_old (content_in (held old)) left standing done
-  pub changed : result ≡ Ok Changed → StandsOtherwise telling e_old (content_in (held old)) left standing done
-      × (e_new ≡ e_old) × Stays held moment images old new × (now_standing ≡ standing)
+    (left : List NamedFile) (out now_out : Outgoing) : Type 0 where
+  pub stands : IsLeftOut result e_old e_new ⊎ StandsSo telling e_old (content_in (held old)) left out.standing done
+  pub changed : result ≡ Ok Changed → StandsOtherwise telling e_old (content_in (held old)) left out.standing done
+      × (e_new ≡ e_old) × Stays held moment images old new × (now_out ≡ out)
 
 -- What stays: the run's constants and the number of the log. Only claims, files of events, the log and what may follow
 -- it are written.

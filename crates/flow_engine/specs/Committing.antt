@@ -9,6 +9,7 @@ use Rattle.machine_model.specs.Changing.{state_after}
 use Rattle.machine_model.specs.State.{Machine}
 use Rattle.store_core.specs.Change.{IsLimitOf}
 use Rattle.flow_run.specs.Going.{IsBetween, IsStepped}
+use Rattle.flow_run.specs.Puts.{Outgoing}
 use Rattle.flow_run.specs.Run.{StandsFor}
 use Rattle.flow_engine.specs.Change.{with_sending}
 use Rattle.flow_engine.specs.declared.change.Changed.{Changed}
@@ -30,16 +31,21 @@ pub record IsQueued {D : Type 0} (flow : Flow) (tells : Bool) (held : D → File
 abbrev pub with_room : ℕ → StoreState → StoreState
 with_room room s = record s { memory = record { kept = kept_by s; room = room } }
 
--- what the outbox has where it failed as this was put: under its name may stand anything
-abbrev pub IsLeftBySend : Option Sending → (old new : List ℕ → Option (List ℕ)) → Type 0
+-- It was put, in vain: under its name may stand anything.
+pub record IsTried (sending : Sending) (old new : Outgoing) : Type 0 where
+  pub others : (other : List ℕ) → other ≢ sending.name → new.standing other ≡ old.standing other
+  pub puts : new.puts ≡ (with_sending (Some sending) old).puts
+
+-- what the outbox has where it failed as this was put: all is as it was, or it was tried
+abbrev pub IsLeftBySend : Option Sending → (old new : Outgoing) → Type 0
 IsLeftBySend None old new = ⊥
-IsLeftBySend (Some sending) old new = (other : List ℕ) → other ≢ sending.name → new other ≡ old other
+IsLeftBySend (Some sending) old new = (new ≡ old) ⊎ IsTried sending old new
 
 -- What is left where a change was sent and committed, and why it wasn't. Any error but the disk's comes before the commit,
 -- and any but these two devices' before the put.
 pub record HasWritten {D : Type 0} (result : Result ℕ EngineError) (tells : Bool) (held : D → Files) (moment : D → ℕ)
     (images : D → ℕ → Files → Type 0) (out_tells : Bool) (s t : StoreState) (queues now_queues : List QueueState)
-    (changed : Changed) (standing now_standing : List ℕ → Option (List ℕ)) (old new : D) : Type 0 where
+    (changed : Changed) (out now_out : Outgoing) (old new : D) : Type 0 where
   pub stepped : OnOk result ((flow : Flow) (before after : Machine) → IsAtWork flow tells held moment images s old
       → InEach (images old (moment old)) (StandsFor flow s.lot before)
       → state_after (content_in (held old)) before.state changed.settled ≡ after.state
@@ -50,13 +56,13 @@ pub record HasWritten {D : Type 0} (result : Result ℕ EngineError) (tells : Bo
       → state_after (content_in (held old)) before.state changed.settled ≡ after.state
       → IsBetween flow moment images s.lot before after old new
   pub moment_is : IfOk result (λ answer. answer ≡ moment new)
-  pub sent : OnOk result (IsTrue out_tells → now_standing ≡ with_sending changed.sending standing)
-  pub sent_before : IsErrOf result Disk → IsTrue out_tells → now_standing ≡ with_sending changed.sending standing
+  pub sent : OnOk result (IsTrue out_tells → now_out ≡ with_sending changed.sending out)
+  pub sent_before : IsErrOf result Disk → IsTrue out_tells → now_out ≡ with_sending changed.sending out
   pub unwritten : (error : EngineError) → IsErrOf result error → (error ≡ Disk → ⊥)
       → (new ≡ old) × (t ≡ with_room t.memory.room s)
   pub unsent : (error : EngineError) → IsErrOf result error → (error ≡ Disk → ⊥) → (error ≡ Outbox → ⊥)
-      → now_standing ≡ standing
-  pub put : IsErrOf result Outbox → IsTrue out_tells → IsLeftBySend changed.sending standing now_standing
+      → now_out ≡ out
+  pub put : IsErrOf result Outbox → IsTrue out_tells → IsLeftBySend changed.sending out now_out
   pub passes : (limit : TheLimit) → IsErrOf result (Limit limit) → IsLimitOf s changed.settled limit
   pub kinds : IfErr result (λ error. (error ≡ Disk) ⊎ (error ≡ Memory) ⊎ (error ≡ Outbox)
       ⊎ ((limit : TheLimit) × (error ≡ Limit limit)))

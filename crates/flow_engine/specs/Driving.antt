@@ -1,7 +1,8 @@
 -- How a turn of an engine ends.
-use Rattle.std.specs.Prelude.{◌≡◌, ℕ, List, Option, None, Some}
+use Rattle.std.specs.Prelude.{◌≡◌, ◌⊎◌, ℕ, List, [], ◌∷◌, ◌++◌, Option, None, Some}
 use Rattle.disk_trait.specs.Files.{Files}
 use Rattle.flowfile_record.specs.NamedFile.{NamedFile}
+use Rattle.machine_model.specs.declared.journal.Entry.{Entry}
 use Rattle.machine_model.specs.Files.{queues_of}
 use Rattle.machine_model.specs.State.{Machine}
 use Rattle.engine_choice.specs.Laws.{IsEndAt}
@@ -10,6 +11,8 @@ use Rattle.engine_choice.specs.declared.choice.Ending.TheVariants.{Rest}
 use Rattle.engine_queues.specs.Laws.{SeesTheSame}
 use Rattle.engine_queues.specs.Queues.{queue_seen}
 use Rattle.store_core.specs.Store.{kept_by}
+use Rattle.flow_run.specs.Puts.{Outgoing, Start}
+use Rattle.flow_run.specs.Turns.{moment_of}
 use Rattle.flow_engine.specs.Engine.{EngineState}
 use Rattle.flow_engine.specs.Running.{IsRunning, IsRunningTo}
 
@@ -21,18 +24,23 @@ pub record ShowsState (e : EngineState) (m : Machine) : Type 0 where
 
 -- Nothing is left to do, or all of it is held back, at this moment of the clock.
 pub record IsEnded {D : Type 0} (moment : D → ℕ) (images : D → ℕ → Files → Type 0) (e : EngineState)
-    (opened : Machine) (first : D) (start time : ℕ) (now : D) (left : List NamedFile)
-    (standing : List ℕ → Option (List ℕ)) (ending : Ending) : Type 0 where
+    (opened : Machine) (first : D) (start : Start) (time : ℕ) (now : D) (left : List NamedFile)
+    (out : Outgoing) (ending : Ending) : Type 0 where
   pub reached : Machine
-  pub to : IsRunningTo moment images e opened first start time now left standing reached
+  pub to : IsRunningTo moment images e opened first start time now left out reached
   pub ends : IsEndAt e.flow reached.state reached.world time ending
 
 -- what a turn leaves at this moment of the clock: a run that goes on, at once or behind a rest, or one that has ended
 abbrev pub IsTurned : {D : Type 0} → (D → ℕ) → (D → ℕ → Files → Type 0) → EngineState → (opened : Machine)
-    → (first : D) → (start time : ℕ) → (now : D) → List NamedFile → (List ℕ → Option (List ℕ)) → Option Ending → Type 0
-IsTurned moment images e opened first start time now left standing None =
-    IsRunning moment images e opened first start time now left standing
-IsTurned moment images e opened first start time now left standing (Some (Rest until)) =
-    IsRunning moment images e opened first start time now left standing
-IsTurned moment images e opened first start time now left standing (Some ending) =
-    IsEnded moment images e opened first start time now left standing ending
+    → (first : D) → (start : Start) (time : ℕ) → (now : D) → List NamedFile → Outgoing → Option Ending → Type 0
+IsTurned moment images e opened first start time now left out None =
+    IsRunning moment images e opened first start time now left out
+IsTurned moment images e opened first start time now left out (Some (Rest until)) =
+    IsRunning moment images e opened first start time now left out
+IsTurned moment images e opened first start time now left out (Some ending) =
+    IsEnded moment images e opened first start time now left out ending
+
+-- a turn's journal has one entry more at most, of a step that was made at this moment
+abbrev pub GrowsAt : (moment : ℕ) → (old new : List Entry) → Type 0
+GrowsAt moment old new =
+    (new ≡ old) ⊎ ((entry : Entry) × (moment_of entry.step ≡ moment) × (new ≡ old ++ entry ∷ []))

@@ -20,6 +20,7 @@ ghost use Rattle.flow_engine.specs.Ready.{IsReady, IsUsableWith};
 ghost use Rattle.flow_engine.specs.Running.{CommitsRun, IsRunning, Stops};
 ghost use Rattle.flow_run.specs.Work.{IsReadDamaged, WritesLog};
 ghost use Rattle.flow_engine.specs.declared.error.EngineError.{EngineError as TheError};
+ghost use Rattle.flow_run.specs.Puts.{Start, outgoing};
 
 use crate::EngineError;
 use crate::change::{Changed, session_change};
@@ -68,11 +69,12 @@ impl Engine<'_> {
         // Only what stands is made part of the run.
         ensures stands { TakesWhatStands result (IsTrue D.tells × IsTrue I.tells × IsTrue O.tells) D.held D.moment
             D.images done self.old self.new disk.old disk.new (I.left inbox.old)
-            (O.standing outbox.old) (O.standing outbox.new) }
+            (outgoing O.standing O.puts outbox.old) (outgoing O.standing O.puts outbox.new) }
         // The run goes on, unless a file that was received couldn't be removed, or it is stopped.
         ensures run { IsTrue D.tells → IsTrue I.tells → IsTrue O.tells
             → CommitsRun result D.tells D.held D.moment D.images done.given.moment self.old self.new disk.old disk.new
-            (I.left inbox.old) (I.left inbox.new) (O.standing outbox.old) (O.standing outbox.new) }
+            (I.left inbox.old) (I.left inbox.new) (outgoing O.standing O.puts outbox.old)
+            (outgoing O.standing O.puts outbox.new) }
         // Whatever inbox and outbox tell.
         ensures usable { IsUsableWith D.tells D.held D.moment D.images I.tells (I.left inbox.new) self.new disk.new }
         ensures alone { CommitsAlone D.moment D.images self.old self.new disk.old disk.new }
@@ -113,21 +115,21 @@ impl Engine<'_> {
             (I.left inbox.old) (O.standing outbox.old) done }
         ensures untouched { result ≡ Ok Committed.Changed → (self.new ≡ self.old)
             × Stays D.held D.moment D.images disk.old disk.new × (I.left inbox.new ≡ I.left inbox.old)
-            × (O.standing outbox.new ≡ O.standing outbox.old) }
+            × (outgoing O.standing O.puts outbox.new ≡ outgoing O.standing O.puts outbox.old) }
         ensures goes_on { (IsErrOf result EngineError.Disk → ⊥) → self.new.failed ≡ false
             → (IsErrOf result EngineError.Inbox → self.new.journal ≡ self.old.journal)
             → IsTrue D.tells → IsTrue I.tells → IsTrue O.tells
-            → (opened : Machine) (first : D) (start time : ℕ) → time ≤ done.given.moment
+            → (opened : Machine) (first : D) (start : Start) (time : ℕ) → time ≤ done.given.moment
             → IsRunning D.moment D.images self.old opened first start time disk.old (I.left inbox.old)
-            (O.standing outbox.old)
+            (outgoing O.standing O.puts outbox.old)
             → IsRunning D.moment D.images self.new opened first start done.given.moment disk.new (I.left inbox.new)
-            (O.standing outbox.new) }
+            (outgoing O.standing O.puts outbox.new) }
         ensures stopped { (error : TheError) → IsErrOf result error → IsTrue D.tells → IsTrue I.tells → IsTrue O.tells
-            → (opened : Machine) (first : D) (start time : ℕ) → time ≤ done.given.moment
+            → (opened : Machine) (first : D) (start : Start) (time : ℕ) → time ≤ done.given.moment
             → IsRunning D.moment D.images self.old opened first start time disk.old (I.left inbox.old)
-            (O.standing outbox.old)
+            (outgoing O.standing O.puts outbox.old)
             → Stops error D.tells D.held D.moment D.images self.new opened first start done.given.moment disk.new
-            (I.left inbox.new) (O.standing outbox.new) }
+            (I.left inbox.new) (outgoing O.standing O.puts outbox.new) }
         ensures ready { (IsErrOf result EngineError.Disk → ⊥)
             → IsReady D.tells D.held D.moment D.images self.new disk.new }
         ensures left { IsTrue I.tells → AreTakeable (I.left inbox.new) self.new.listing.names }
@@ -173,7 +175,7 @@ impl Engine<'_> {
         ensures rest { self.new ≡ record self.old { store = self.new.store } }
         ensures stays { Stays D.held D.moment D.images disk.old disk.new }
         ensures left { I.left inbox.new ≡ I.left inbox.old }
-        ensures standing { O.standing outbox.new ≡ O.standing outbox.old }
+        ensures outbox { outgoing O.standing O.puts outbox.new ≡ outgoing O.standing O.puts outbox.old }
         ensures unlimited { (limit : TheLimit) → IsErrOf result (EngineError.Limit limit) → ⊥ }
         ensures works { IsErrOf result EngineError.MustReopen → ⊥ }
         ensures damaged { (damage : TheDamage) → IsErrOf result (EngineError.Damaged damage)
@@ -207,17 +209,17 @@ impl Engine<'_> {
         ensures inbox { IsTrue I.tells → IsInboxLeft result done.given.file (I.left inbox.old) (I.left inbox.new) }
         ensures goes_on { (IsErrOf result EngineError.Disk → ⊥) → self.new.failed ≡ false
             → (IsErrOf result EngineError.Inbox → ⊥) → IsTrue D.tells → IsTrue I.tells → IsTrue O.tells
-            → (opened : Machine) (first : D) (start time : ℕ) → time ≤ done.given.moment
+            → (opened : Machine) (first : D) (start : Start) (time : ℕ) → time ≤ done.given.moment
             → IsRunning D.moment D.images self.old opened first start time disk.old (I.left inbox.old)
-            (O.standing outbox.old)
+            (outgoing O.standing O.puts outbox.old)
             → IsRunning D.moment D.images self.new opened first start done.given.moment disk.new (I.left inbox.new)
-            (O.standing outbox.new) }
+            (outgoing O.standing O.puts outbox.new) }
         ensures stopped { (error : TheError) → IsErrOf result error → IsTrue D.tells → IsTrue I.tells → IsTrue O.tells
-            → (opened : Machine) (first : D) (start time : ℕ) → time ≤ done.given.moment
+            → (opened : Machine) (first : D) (start : Start) (time : ℕ) → time ≤ done.given.moment
             → IsRunning D.moment D.images self.old opened first start time disk.old (I.left inbox.old)
-            (O.standing outbox.old)
+            (outgoing O.standing O.puts outbox.old)
             → Stops error D.tells D.held D.moment D.images self.new opened first start done.given.moment disk.new
-            (I.left inbox.new) (O.standing outbox.new) }
+            (I.left inbox.new) (outgoing O.standing O.puts outbox.new) }
         ensures ready { (IsErrOf result EngineError.Disk → ⊥)
             → IsReady D.tells D.held D.moment D.images self.new disk.new }
         ensures left { IsTrue I.tells → AreTakeable (I.left inbox.new) self.new.listing.names }
@@ -268,7 +270,8 @@ impl Engine<'_> {
         requires live { HasLiveContents self.old.store changed.settled }
         requires gone { are_active_in (kept_by self.old.store).files changed.connection changed.settled.gone ≡ true }
         ensures written { HasWritten result D.tells D.held D.moment D.images O.tells self.old.store self.new.store
-            self.old.queues self.new.queues changed (O.standing outbox.old) (O.standing outbox.new) disk.old disk.new }
+            self.old.queues self.new.queues changed (outgoing O.standing O.puts outbox.old)
+            (outgoing O.standing O.puts outbox.new) disk.old disk.new }
         ensures journal { self.new.journal ≡ journaled result step self.old.journal }
         ensures rest { self.new ≡ record self.old {
           store = self.new.store;

@@ -8,6 +8,7 @@ use flowfile_record::{Body, Bytes, FileList, FlowFile, Numbers, Outcome};
 use machine_model::{Flow, Given, Step};
 use process_session::{Source, SourceList};
 use std::alloc::{AllocError, Global};
+use world_io::Gate;
 
 /// What a session's processor made of its job, with what stays of the files that it took. It is made by [`work`] alone.
 #[derive(Drop)]
@@ -21,8 +22,27 @@ pub struct Done {
     pub(crate) sources: SourceList,
 }
 
-/// Has the processor of a job work on it. The uuids of its files are those of the store of this id.
-pub fn work(alloc: Global, flow: &Flow, store: u64, job: Job) -> Result<Done, AllocError>
+/// Has the processor of a job work on it, between one `enter` and one `leave` of the gate with the session's number,
+/// also where memory is wanting. The uuids of its files are those of the store of this id.
+pub fn work<G: Gate>(
+    alloc: Global,
+    flow: &Flow,
+    store: u64,
+    job: Job,
+    session: u64,
+    gate: &G,
+) -> Result<Done, AllocError>
+    requires { MayWorkOn flow.now store job }
+    ensures { IfOk result (IsWorkOn flow.now store job) }
+{
+    gate.enter(session);
+    let done = work_inside(alloc, flow, store, job);
+    gate.leave(session);
+    done
+}
+
+// Has the processor work, without the gate.
+fn work_inside(alloc: Global, flow: &Flow, store: u64, job: Job) -> Result<Done, AllocError>
     requires { MayWorkOn flow.now store job }
     ensures { IfOk result (IsWorkOn flow.now store job) }
 {

@@ -4,8 +4,9 @@ ghost use Rattle.kept_state.specs.declared.limit.Limit.{Limit as TheLimit};
 ghost use Rattle.machine_model.specs.State.{Machine};
 ghost use Rattle.engine_choice.specs.declared.choice.Ending.{Ending as TheEnding};
 ghost use Rattle.flow_engine.specs.Checkout.{session_in};
-ghost use Rattle.flow_engine.specs.Driving.{IsEnded, IsTurned, ShowsState};
+ghost use Rattle.flow_engine.specs.Driving.{GrowsAt, IsEnded, IsTurned, ShowsState};
 ghost use Rattle.flow_run.specs.Run.{StandsFor};
+ghost use Rattle.flow_run.specs.Turns.{AreMadeAt};
 ghost use Rattle.flowfile_wal.specs.Calls.{InEach};
 ghost use Rattle.flow_engine.specs.Engine.{AreTakeable, IsOfSameRun};
 ghost use Rattle.flow_engine.specs.Errors.{CountsEachFault, HasCause};
@@ -13,6 +14,7 @@ ghost use Rattle.flow_engine.specs.Ready.{IsReady, due_in};
 ghost use Rattle.flow_engine.specs.Running.{IsRunning, Stops};
 ghost use Rattle.flow_run.specs.Work.{IsAtWork, IsNoEarlier, IsShortOn, WritesLog};
 ghost use Rattle.flow_engine.specs.declared.error.EngineError.{EngineError as TheError};
+ghost use Rattle.flow_run.specs.Puts.{Start, outgoing};
 
 use crate::EngineError;
 use crate::checkout::Checkout;
@@ -28,40 +30,44 @@ use engine_queues::what_is_kept_is_seen;
 use engine_session::sessions_are_steps;
 use flow_run::{faults_end_a_run, run_goes_on};
 use std::alloc::Global;
-use world_io::{Clock, Inbox, Outbox};
+use world_io::{Clock, Gate, Inbox, Outbox};
 
 impl Engine<'_> {
     /// Tends what is due and runs session after session, until the flow is quiet or blocked. Where files wait for the
     /// end of a penalty, it waits with them.
-    pub(crate) fn drive<D: Disk, I: Inbox, O: Outbox, C: Clock>(
+    pub(crate) fn drive<D: Disk, I: Inbox, O: Outbox, C: Clock, G: Gate>(
         &mut self,
         alloc: Global,
         disk: &mut D,
         inbox: &mut I,
         outbox: &mut O,
         clock: &mut C,
+        gate: &G,
     ) -> Result<Ending, EngineError>
         requires ready { IsReady D.tells D.held D.moment D.images self.old disk.old }
         requires works { self.old.failed ≡ false }
         requires left { IsTrue I.tells → AreTakeable (I.left inbox.old) self.old.listing.names }
         // The run went on until nothing was left to do, or it was stopped.
         ensures ended { IfOk result (λ ending. IsTrue D.tells → IsTrue I.tells → IsTrue O.tells
-            → (opened : Machine) (first : D) (start time : ℕ) → time ≤ C.time clock.old
+            → (opened : Machine) (first : D) (start : Start) (time : ℕ) → time ≤ C.time clock.old
             → IsRunning D.moment D.images self.old opened first start time disk.old (I.left inbox.old)
-            (O.standing outbox.old)
+            (outgoing O.standing O.puts outbox.old)
             → IsEnded D.moment D.images self.new opened first start (C.time clock.new) disk.new (I.left inbox.new)
-            (O.standing outbox.new) ending) }
+            (outgoing O.standing O.puts outbox.new) ending) }
         ensures stopped { (error : TheError) → IsErrOf result error → IsTrue D.tells → IsTrue I.tells → IsTrue O.tells
-            → (opened : Machine) (first : D) (start time : ℕ) → time ≤ C.time clock.old
+            → (opened : Machine) (first : D) (start : Start) (time : ℕ) → time ≤ C.time clock.old
             → IsRunning D.moment D.images self.old opened first start time disk.old (I.left inbox.old)
-            (O.standing outbox.old)
+            (outgoing O.standing O.puts outbox.old)
             → Stops error D.tells D.held D.moment D.images self.new opened first start (C.time clock.new) disk.new
-            (I.left inbox.new) (O.standing outbox.new) }
+            (I.left inbox.new) (outgoing O.standing O.puts outbox.new) }
         ensures no_rest { IfOk result (λ ending. (until : ℕ) → ending ≡ Ending.Rest until → ⊥) }
         ensures short { OnOk result (IsShortOn D.moment D.images self.new.checkpoint disk.new) }
         // Whatever inbox and outbox tell.
         ensures work { OnOk result (IsAtWork self.old.flow D.tells D.held D.moment D.images self.new.store disk.new) }
         ensures later { C.time clock.old ≤ C.time clock.new }
+        // Each moment of a step, and that of the end, is one that the clock gave.
+        ensures moments { AreMadeAt C.given self.old.journal → AreMadeAt C.given self.new.journal }
+        ensures given { OnOk result (C.given (C.time clock.new)) }
         ensures failed { self.new.failed ≡ true → IsErrOf result EngineError.Disk ⊎ IsErrOf result EngineError.Outbox }
         ensures works { IsErrOf result EngineError.MustReopen → ⊥ }
         ensures same { IsOfSameRun self.old self.new }
@@ -74,7 +80,7 @@ impl Engine<'_> {
         faults_end_a_run::<D>();
         for _turn in 0..u64::MAX {
             let moment = clock.now();
-            match self.turn(alloc, disk, inbox, outbox, moment)? {
+            match self.turn(alloc, disk, inbox, outbox, moment, gate)? {
                 None => {}
                 Some(Ending::Rest { until }) => clock.wait(until),
                 Some(Ending::Blocked(connection)) => return Ok(Ending::Blocked(connection)),
@@ -86,32 +92,34 @@ impl Engine<'_> {
     }
 
     // Tends what is due, or else runs the next session. Where none comes, it tells how it ends.
-    fn turn<D: Disk, I: Inbox, O: Outbox>(
+    fn turn<D: Disk, I: Inbox, O: Outbox, G: Gate>(
         &mut self,
         alloc: Global,
         disk: &mut D,
         inbox: &mut I,
         outbox: &mut O,
         moment: u64,
+        gate: &G,
     ) -> Result<Option<Ending>, EngineError>
         requires ready { IsReady D.tells D.held D.moment D.images self.old disk.old }
         requires works { self.old.failed ≡ false }
         requires left { IsTrue I.tells → AreTakeable (I.left inbox.old) self.old.listing.names }
         ensures turned { IfOk result (λ ending. IsTrue D.tells → IsTrue I.tells → IsTrue O.tells
-            → (opened : Machine) (first : D) (start time : ℕ) → time ≤ moment
+            → (opened : Machine) (first : D) (start : Start) (time : ℕ) → time ≤ moment
             → IsRunning D.moment D.images self.old opened first start time disk.old (I.left inbox.old)
-            (O.standing outbox.old)
+            (outgoing O.standing O.puts outbox.old)
             → IsTurned D.moment D.images self.new opened first start moment disk.new (I.left inbox.new)
-            (O.standing outbox.new) ending) }
+            (outgoing O.standing O.puts outbox.new) ending) }
         ensures short { IfOk result (λ ending. (end : TheEnding) → ending ≡ Some end
             → IsShortOn D.moment D.images self.new.checkpoint disk.new) }
         ensures stopped { (error : TheError) → IsErrOf result error → IsTrue D.tells → IsTrue I.tells → IsTrue O.tells
-            → (opened : Machine) (first : D) (start time : ℕ) → time ≤ moment
+            → (opened : Machine) (first : D) (start : Start) (time : ℕ) → time ≤ moment
             → IsRunning D.moment D.images self.old opened first start time disk.old (I.left inbox.old)
-            (O.standing outbox.old)
+            (outgoing O.standing O.puts outbox.old)
             → Stops error D.tells D.held D.moment D.images self.new opened first start moment disk.new
-            (I.left inbox.new) (O.standing outbox.new) }
+            (I.left inbox.new) (outgoing O.standing O.puts outbox.new) }
         ensures ready { OnOk result (IsReady D.tells D.held D.moment D.images self.new disk.new) }
+        ensures grows { GrowsAt moment self.old.journal self.new.journal }
         ensures failed { self.new.failed ≡ true → IsErrOf result EngineError.Disk ⊎ IsErrOf result EngineError.Outbox }
         ensures works { IsErrOf result EngineError.MustReopen → ⊥ }
         ensures left { OnOk result (IsTrue I.tells → AreTakeable (I.left inbox.new) self.new.listing.names) }
@@ -124,19 +132,20 @@ impl Engine<'_> {
             (I.faults inbox.old) (I.faults inbox.new) (O.faults outbox.old) (O.faults outbox.new) }
     {
         match self.tend(alloc, disk, moment)? {
-            Tended::Nothing => self.go_on(alloc, disk, inbox, outbox, moment),
+            Tended::Nothing => self.go_on(alloc, disk, inbox, outbox, moment, gate),
             Tended::Expired | Tended::Checkpointed | Tended::Reclaimed(_) => Ok(None),
         }
     }
 
     // Runs the next session. Where none comes, it tells how it ends.
-    fn go_on<D: Disk, I: Inbox, O: Outbox>(
+    fn go_on<D: Disk, I: Inbox, O: Outbox, G: Gate>(
         &mut self,
         alloc: Global,
         disk: &mut D,
         inbox: &mut I,
         outbox: &mut O,
         moment: u64,
+        gate: &G,
     ) -> Result<Option<Ending>, EngineError>
         requires ready { IsReady D.tells D.held D.moment D.images self.old disk.old }
         requires works { self.old.failed ≡ false }
@@ -144,20 +153,21 @@ impl Engine<'_> {
         requires tended { due_in self.old moment ≡ None }
         requires short { IsShortOn D.moment D.images self.old.checkpoint disk.old }
         ensures turned { IfOk result (λ ending. IsTrue D.tells → IsTrue I.tells → IsTrue O.tells
-            → (opened : Machine) (first : D) (start time : ℕ) → time ≤ moment
+            → (opened : Machine) (first : D) (start : Start) (time : ℕ) → time ≤ moment
             → IsRunning D.moment D.images self.old opened first start time disk.old (I.left inbox.old)
-            (O.standing outbox.old)
+            (outgoing O.standing O.puts outbox.old)
             → IsTurned D.moment D.images self.new opened first start moment disk.new (I.left inbox.new)
-            (O.standing outbox.new) ending) }
+            (outgoing O.standing O.puts outbox.new) ending) }
         ensures short { IfOk result (λ ending. (end : TheEnding) → ending ≡ Some end
             → IsShortOn D.moment D.images self.new.checkpoint disk.new) }
         ensures stopped { (error : TheError) → IsErrOf result error → IsTrue D.tells → IsTrue I.tells → IsTrue O.tells
-            → (opened : Machine) (first : D) (start time : ℕ) → time ≤ moment
+            → (opened : Machine) (first : D) (start : Start) (time : ℕ) → time ≤ moment
             → IsRunning D.moment D.images self.old opened first start time disk.old (I.left inbox.old)
-            (O.standing outbox.old)
+            (outgoing O.standing O.puts outbox.old)
             → Stops error D.tells D.held D.moment D.images self.new opened first start moment disk.new
-            (I.left inbox.new) (O.standing outbox.new) }
+            (I.left inbox.new) (outgoing O.standing O.puts outbox.new) }
         ensures ready { OnOk result (IsReady D.tells D.held D.moment D.images self.new disk.new) }
+        ensures grows { GrowsAt moment self.old.journal self.new.journal }
         ensures failed { self.new.failed ≡ true → IsErrOf result EngineError.Disk ⊎ IsErrOf result EngineError.Outbox }
         ensures works { IsErrOf result EngineError.MustReopen → ⊥ }
         ensures left { OnOk result (IsTrue I.tells → AreTakeable (I.left inbox.new) self.new.listing.names) }
@@ -180,7 +190,7 @@ impl Engine<'_> {
             // All that is due was tended before.
             Checkout::Due => unreachable!(),
             Checkout::Session(choice) => {
-                self.run_session(alloc, disk, inbox, outbox, moment, choice)?;
+                self.run_session(alloc, disk, inbox, outbox, moment, choice, gate)?;
                 Ok(None)
             }
             Checkout::Limit(limit) => Err(EngineError::Limit(limit)),
@@ -191,8 +201,8 @@ impl Engine<'_> {
     }
 
     // Runs the session that comes next: its job is read, worked on and committed. Where the job has changed, nothing is
-    // done.
-    fn run_session<D: Disk, I: Inbox, O: Outbox>(
+    // done. Its number at the gate is how many entries the journal has before its own.
+    fn run_session<D: Disk, I: Inbox, O: Outbox, G: Gate>(
         &mut self,
         alloc: Global,
         disk: &mut D,
@@ -200,24 +210,26 @@ impl Engine<'_> {
         outbox: &mut O,
         moment: u64,
         choice: Choice,
+        gate: &G,
     ) -> Result<(), EngineError>
         requires ready { IsReady D.tells D.held D.moment D.images self.old disk.old }
         requires works { self.old.failed ≡ false }
         requires chosen { session_in self.old moment ≡ Some choice }
         requires left { IsTrue I.tells → AreTakeable (I.left inbox.old) self.old.listing.names }
         ensures goes_on { OnOk result (IsTrue D.tells → IsTrue I.tells → IsTrue O.tells
-            → (opened : Machine) (first : D) (start time : ℕ) → time ≤ moment
+            → (opened : Machine) (first : D) (start : Start) (time : ℕ) → time ≤ moment
             → IsRunning D.moment D.images self.old opened first start time disk.old (I.left inbox.old)
-            (O.standing outbox.old)
+            (outgoing O.standing O.puts outbox.old)
             → IsRunning D.moment D.images self.new opened first start moment disk.new (I.left inbox.new)
-            (O.standing outbox.new)) }
+            (outgoing O.standing O.puts outbox.new)) }
         ensures stopped { (error : TheError) → IsErrOf result error → IsTrue D.tells → IsTrue I.tells → IsTrue O.tells
-            → (opened : Machine) (first : D) (start time : ℕ) → time ≤ moment
+            → (opened : Machine) (first : D) (start : Start) (time : ℕ) → time ≤ moment
             → IsRunning D.moment D.images self.old opened first start time disk.old (I.left inbox.old)
-            (O.standing outbox.old)
+            (outgoing O.standing O.puts outbox.old)
             → Stops error D.tells D.held D.moment D.images self.new opened first start moment disk.new
-            (I.left inbox.new) (O.standing outbox.new) }
+            (I.left inbox.new) (outgoing O.standing O.puts outbox.new) }
         ensures ready { OnOk result (IsReady D.tells D.held D.moment D.images self.new disk.new) }
+        ensures grows { GrowsAt moment self.old.journal self.new.journal }
         ensures failed { self.new.failed ≡ true → IsErrOf result EngineError.Disk ⊎ IsErrOf result EngineError.Outbox }
         ensures works { IsErrOf result EngineError.MustReopen → ⊥ }
         ensures left { OnOk result (IsTrue I.tells → AreTakeable (I.left inbox.new) self.new.listing.names) }
@@ -232,7 +244,15 @@ impl Engine<'_> {
         run_goes_on::<D>();
         faults_end_a_run::<D>();
         let job = self.read(alloc, disk, inbox, outbox, moment, choice)?;
-        let done = work(alloc, self.flow, self.store.state().store, job)?;
+        let session = self.entries();
+        let done = work(
+            alloc,
+            self.flow,
+            self.store.state().store,
+            job,
+            session,
+            gate,
+        )?;
         self.commit(alloc, disk, inbox, outbox, done)?;
         Ok(())
     }

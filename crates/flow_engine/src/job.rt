@@ -20,6 +20,7 @@ ghost use Rattle.flow_engine.specs.Handing.{IsHanded, IsHandedAs, MayBeReceived,
 ghost use Rattle.flow_engine.specs.Job.{IsNextJob};
 ghost use Rattle.flow_engine.specs.Ready.{IsReady, IsUsableWith};
 ghost use Rattle.flow_run.specs.Work.{IsAtWork, IsReadDamaged};
+ghost use Rattle.flow_run.specs.Puts.{outgoing};
 
 use crate::EngineError;
 use crate::engine::Engine;
@@ -67,7 +68,7 @@ impl Engine<'_> {
             × MayWorkOn self.old.flow (kept_by self.old.store).store job) }
         ensures engine { OnlyReads result self.old self.new }
         ensures world { Stays D.held D.moment D.images disk.old disk.new × (I.left inbox.new ≡ I.left inbox.old)
-            × (O.standing outbox.new ≡ O.standing outbox.old) }
+            × (outgoing O.standing O.puts outbox.new ≡ outgoing O.standing O.puts outbox.old) }
         ensures usable { IsUsableWith D.tells D.held D.moment D.images I.tells (I.left inbox.new) self.new disk.new }
         ensures refusal { RefusesToRead result D.tells D.held D.moment D.images D.faults I.faults O.faults
             self.old self.new disk.old disk.new inbox.old inbox.new outbox.old outbox.new }
@@ -102,7 +103,7 @@ impl Engine<'_> {
         ensures rest { self.new ≡ record self.old { store = self.new.store } }
         ensures stays { Stays D.held D.moment D.images disk.old disk.new }
         ensures left { I.left inbox.new ≡ I.left inbox.old }
-        ensures standing { O.standing outbox.new ≡ O.standing outbox.old }
+        ensures outbox { outgoing O.standing O.puts outbox.new ≡ outgoing O.standing O.puts outbox.old }
         ensures unlimited { (limit : TheLimit) → IsErrOf result (EngineError.Limit limit) → ⊥ }
         ensures works { IsErrOf result EngineError.MustReopen → ⊥ }
         ensures damaged { (damage : TheDamage) → IsErrOf result (EngineError.Damaged damage)
@@ -137,7 +138,7 @@ fn hand<D: Disk, I: Inbox, O: Outbox>(
     ensures store { IsReadBy result store.old store.new }
     ensures stays { Stays D.held D.moment D.images disk.old disk.new }
     ensures left { I.left inbox.new ≡ I.left inbox.old }
-    ensures standing { O.standing outbox.new ≡ O.standing outbox.old }
+    ensures outbox { outgoing O.standing O.puts outbox.new ≡ outgoing O.standing O.puts outbox.old }
     ensures unlimited { (limit : TheLimit) → IsErrOf result (EngineError.Limit limit) → ⊥ }
     ensures works { IsErrOf result EngineError.MustReopen → ⊥ }
     ensures damaged { (damage : TheDamage) → IsErrOf result (EngineError.Damaged damage) → (flow : TheFlow)
@@ -237,7 +238,7 @@ fn hand_files<D: Disk, O: Outbox>(
         (record { processor = processor; taking = Files connection numbers }) job) }
     ensures store { IsReadBy result store.old store.new }
     ensures stays { Stays D.held D.moment D.images disk.old disk.new }
-    ensures standing { O.standing outbox.new ≡ O.standing outbox.old }
+    ensures outbox { outgoing O.standing O.puts outbox.new ≡ outgoing O.standing O.puts outbox.old }
     ensures kinds { IfErr result (λ error. (error ≡ EngineError.Disk) ⊎ (error ≡ EngineError.Memory)
         ⊎ (error ≡ EngineError.Outbox) ⊎ ((damage : TheDamage) × (error ≡ EngineError.Damaged damage))) }
     ensures damaged { (damage : TheDamage) → IsErrOf result (EngineError.Damaged damage) → (flow : TheFlow)
@@ -276,7 +277,7 @@ fn is_there<O: Outbox>(
     ensures there { IfOk result (λ there. IsTrue O.tells → there ≡ option_map_or (λ file.
         option_map_or (λ name. is_some (O.standing outbox.old name)) (name_in file.attributes) false)
         (slice_get files.now 0) false) }
-    ensures standing { O.standing outbox.new ≡ O.standing outbox.old }
+    ensures outbox { outgoing O.standing O.puts outbox.new ≡ outgoing O.standing O.puts outbox.old }
     ensures kinds { IfErr result (λ error. (error ≡ EngineError.Outbox) ⊎ (error ≡ EngineError.Memory)) }
     ensures cause { CountsFaults (O.faults outbox.old) (O.faults outbox.new) (IsErrOf result EngineError.Outbox) }
 {
@@ -294,7 +295,7 @@ fn has_file<O: Outbox>(
 ) -> Result<bool, EngineError>
     ensures there { IfOk result (λ there. IsTrue O.tells
         → there ≡ option_map_or (λ name. is_some (O.standing outbox.old name)) (name_in attributes.now) false) }
-    ensures standing { O.standing outbox.new ≡ O.standing outbox.old }
+    ensures outbox { outgoing O.standing O.puts outbox.new ≡ outgoing O.standing O.puts outbox.old }
     ensures kinds { IfErr result (λ error. (error ≡ EngineError.Outbox) ⊎ (error ≡ EngineError.Memory)) }
     ensures cause { CountsFaults (O.faults outbox.old) (O.faults outbox.new) (IsErrOf result EngineError.Outbox) }
 {

@@ -6,11 +6,13 @@ ghost use Rattle.machine_model.specs.State.{State};
 ghost use Rattle.machine_model.specs.declared.journal.Entry.{Entry as TheEntry};
 ghost use Rattle.flow_run.specs.Going.{IsRunningAt};
 ghost use Rattle.flow_run.specs.Run.{HasRun, machine_at};
-ghost use Rattle.flow_run.specs.Ending.{EndsForCause, EndsShort, IsFault};
+ghost use Rattle.flow_run.specs.Ending.{EndsForCause, EndsShort, IsAtRest, IsFault};
+ghost use Rattle.flow_run.specs.Turns.{AreMadeAt};
 ghost use Rattle.flow_engine.specs.Closing.{Shows};
 ghost use Rattle.flow_engine.specs.Engine.{AreBuilt};
 ghost use Rattle.flow_engine.specs.Errors.{ended_by};
 ghost use Rattle.flow_run.specs.Work.{IsAtWork, WritesLog};
+ghost use Rattle.flow_run.specs.Puts.{Start, outgoing};
 
 use crate::EngineError;
 use crate::close::Closed;
@@ -21,7 +23,7 @@ use flow_run::{Ended, faults_end_a_run, run_ends};
 use machine_model::{Flow, names_are_lost_by_taking};
 use std::alloc::Global;
 use store_core::Store;
-use world_io::{Clock, Inbox, Outbox};
+use world_io::{Clock, Gate, Inbox, Outbox};
 
 /// How a run ended; and what it left, where its store was closed.
 #[derive(Drop)]
@@ -32,9 +34,10 @@ pub struct Ran {
 
 /// Runs a flow over a store of it that was opened: session after session until nothing is left to do, all of it is
 /// held back by full connections, or the journal has `most` entries. Then the store is closed. Where the log has
-/// `checkpoint` entries, a new one begins behind a snapshot. It tells how that ended; after a fault the store isn't
-/// closed, and is to be opened anew.
-pub fn run_flow<D: Disk, I: Inbox, O: Outbox, C: Clock>(
+/// `checkpoint` entries, a new one begins behind a snapshot. Each session's processor works inside the gate, under a
+/// number: how many entries the journal has before the session's own. It tells how the run ended; after a fault the
+/// store isn't closed, and is to be opened anew.
+pub fn run_flow<D: Disk, I: Inbox, O: Outbox, C: Clock, G: Gate>(
     alloc: Global,
     flow: &Flow,
     store: Store,
@@ -44,19 +47,25 @@ pub fn run_flow<D: Disk, I: Inbox, O: Outbox, C: Clock>(
     inbox: &mut I,
     outbox: &mut O,
     clock: &mut C,
+    gate: &G,
 ) -> Ran
     requires sound { IsSound flow.now }
     requires built { AreBuilt flow.now }
     requires most { most < 2 ^ 64 - 1 }
     requires work { IsAtWork flow.now D.tells D.held D.moment D.images store disk.old }
     // Where the devices tell, a journal of the machine's steps tells what the run did.
-    ensures headline { IsTrue D.tells → IsTrue I.tells → IsTrue O.tells → (state : State) (first : D) (start : ℕ)
+    ensures headline { IsTrue D.tells → IsTrue I.tells → IsTrue O.tells → (state : State) (first : D) (start : Start)
         → IsRunningAt flow.now start (C.time clock.old) D.moment D.images store.lot
         (machine_at state (I.left inbox.old) (O.standing outbox.old)) first disk.old []
-        (machine_at state (I.left inbox.old) (O.standing outbox.old)) (I.left inbox.old) (O.standing outbox.old)
+        (machine_at state (I.left inbox.old) (O.standing outbox.old)) (I.left inbox.old)
+        (outgoing O.standing O.puts outbox.old)
         → (journal : List TheEntry) × (ran : HasRun flow.now result.ended start (C.time clock.new) D.tells D.held
         D.moment D.images store.lot (machine_at state (I.left inbox.old) (O.standing outbox.old)) first disk.new
-        (I.left inbox.new) (O.standing outbox.new) journal) × IfSome result.closed (Shows flow.now ran.reached) }
+        (I.left inbox.new) (outgoing O.standing O.puts outbox.new) journal) × IfSome result.closed
+        (Shows flow.now ran.reached)
+        × AreMadeAt C.given journal }
+    // At rest the time is one that the clock gave.
+    ensures given { IsAtRest result.ended → C.given (C.time clock.new) }
     // The store was closed unless something failed.
     ensures closed { MatchOption result.closed (IsFault result.ended) (λ closed. IsFault result.ended → ⊥) }
     // Whatever inbox and outbox tell.
@@ -72,7 +81,7 @@ pub fn run_flow<D: Disk, I: Inbox, O: Outbox, C: Clock>(
         Ok(engine) => engine,
         Err(error) => return fail(&error),
     };
-    match engine.drive(alloc, disk, inbox, outbox, clock) {
+    match engine.drive(alloc, disk, inbox, outbox, clock, gate) {
         Ok(Ending::Blocked(connection)) => leave(engine.close(disk), Ended::Blocked(connection)),
         Ok(Ending::Quiet) => leave(engine.close(disk), Ended::Quiet),
         Ok(Ending::Rest { .. }) => unreachable!(),

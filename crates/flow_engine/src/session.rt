@@ -11,6 +11,7 @@ ghost use Rattle.store_core.specs.Store.{kept_by};
 ghost use Rattle.flow_engine.specs.Change.{names_without, with_sending, without_received};
 ghost use Rattle.flow_engine.specs.Committing.{HasWritten, IsLeftBySend, IsQueued};
 ghost use Rattle.flow_run.specs.Work.{WritesLog};
+ghost use Rattle.flow_run.specs.Puts.{outgoing};
 
 use crate::EngineError;
 use crate::change::{Changed, Sending};
@@ -36,7 +37,8 @@ pub(crate) fn commit<D: Disk, O: Outbox>(
     requires live { HasLiveContents store.old changed.settled }
     requires gone { are_active_in (kept_by store.old).files connection changed.settled.gone ≡ true }
     ensures written { HasWritten result D.tells D.held D.moment D.images O.tells store.old store.new queues.old
-        queues.new changed (O.standing outbox.old) (O.standing outbox.new) disk.old disk.new }
+        queues.new changed (outgoing O.standing O.puts outbox.old)
+        (outgoing O.standing O.puts outbox.new) disk.old disk.new }
     ensures alone { WritesLog D.moment D.images store.old.log.number disk.old disk.new }
     ensures disk_cause { CountsFaults (D.faults disk.old) (D.faults disk.new) (IsErrOf result EngineError.Disk) }
     ensures outbox_cause { CountsFaults (O.faults outbox.old) (O.faults outbox.new)
@@ -59,9 +61,10 @@ pub(crate) fn commit<D: Disk, O: Outbox>(
 // Puts what is sent.
 fn send<O: Outbox>(outbox: &mut O, sending: &Option<Sending>) -> Result<(), EngineError>
     ensures sent { OnOk result (IsTrue O.tells
-        → O.standing outbox.new ≡ with_sending sending.now (O.standing outbox.old)) }
+        → outgoing O.standing O.puts outbox.new ≡ with_sending sending.now (outgoing O.standing O.puts outbox.old)) }
     ensures failed { IfErr result (λ error. (error ≡ EngineError.Outbox)
-        × (IsTrue O.tells → IsLeftBySend sending.now (O.standing outbox.old) (O.standing outbox.new))) }
+        × (IsTrue O.tells → IsLeftBySend sending.now (outgoing O.standing O.puts outbox.old)
+        (outgoing O.standing O.puts outbox.new))) }
     ensures cause { CountsFaults (O.faults outbox.old) (O.faults outbox.new) (IsErrOf result EngineError.Outbox) }
 {
     let Some(sending) = sending else {

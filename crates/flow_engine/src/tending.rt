@@ -31,6 +31,7 @@ ghost use Rattle.flow_engine.specs.Tending.{GoesTo, HasExpired, HasTended, IsChe
 ghost use Rattle.flow_run.specs.Work.{IsAtWork, IsNoEarlier, IsRefused, IsShortOn, WritesLog};
 ghost use Rattle.flow_engine.specs.declared.error.EngineError.{EngineError as TheError};
 ghost use Rattle.flow_engine.specs.declared.tending.Tended.TheVariants.{Expired, Nothing};
+ghost use Rattle.flow_run.specs.Puts.{Outgoing, Start};
 
 use crate::EngineError;
 use crate::engine::Engine;
@@ -101,18 +102,18 @@ impl Engine<'_> {
         ensures nothing { result ≡ Ok Nothing
             → (disk.new ≡ disk.old) × IsShortOn D.moment D.images self.old.checkpoint disk.old }
         ensures goes_on { (IsErrOf result EngineError.Disk → ⊥) → IsTrue D.tells → (opened : Machine) (first : D)
-            (start time : ℕ) (left : List NamedFile) (standing : List ℕ → Option (List ℕ)) → time ≤ moment
-            → IsRunning D.moment D.images self.old opened first start time disk.old left standing
-            → IsRunning D.moment D.images self.new opened first start moment disk.new left standing }
+            (start : Start) (time : ℕ) (left : List NamedFile) (out : Outgoing) → time ≤ moment
+            → IsRunning D.moment D.images self.old opened first start time disk.old left out
+            → IsRunning D.moment D.images self.new opened first start moment disk.new left out }
         ensures idle { (IsErrOf result EngineError.Disk → ⊥) → (result ≡ Ok Expired → ⊥) → IsTrue D.tells
-            → (opened : Machine) (first : D) (start time : ℕ) (left : List NamedFile)
-            (standing : List ℕ → Option (List ℕ))
-            → IsRunning D.moment D.images self.old opened first start time disk.old left standing
-            → IsRunning D.moment D.images self.new opened first start time disk.new left standing }
+            → (opened : Machine) (first : D) (start : Start) (time : ℕ) (left : List NamedFile)
+            (out : Outgoing)
+            → IsRunning D.moment D.images self.old opened first start time disk.old left out
+            → IsRunning D.moment D.images self.new opened first start time disk.new left out }
         ensures stopped { (error : TheError) → IsErrOf result error → IsTrue D.tells → (opened : Machine) (first : D)
-            (start time : ℕ) (left : List NamedFile) (standing : List ℕ → Option (List ℕ)) → time ≤ moment
-            → IsRunning D.moment D.images self.old opened first start time disk.old left standing
-            → Stops error D.tells D.held D.moment D.images self.new opened first start moment disk.new left standing }
+            (start : Start) (time : ℕ) (left : List NamedFile) (out : Outgoing) → time ≤ moment
+            → IsRunning D.moment D.images self.old opened first start time disk.old left out
+            → Stops error D.tells D.held D.moment D.images self.new opened first start moment disk.new left out }
         ensures ready { (IsErrOf result EngineError.Disk → ⊥)
             → IsReady D.tells D.held D.moment D.images self.new disk.new }
         ensures names { (self.new.listing ≡ self.old.listing) × (self.new.last ≡ self.old.last)
@@ -146,14 +147,16 @@ impl Engine<'_> {
     fn checkpoint_due<D: Disk>(&mut self, disk: &mut D) -> Result<bool, EngineError>
         requires { IsReady D.tells D.held D.moment D.images self.old disk.old }
         ensures due { IfOk result (λ made. made ≡ is_log_due self.old.checkpoint self.old.store) }
-        ensures goes_on { (IsErrOf result EngineError.Disk → ⊥) → (opened : Machine) (first : D) (start time : ℕ)
-            (left : List NamedFile) (standing : List ℕ → Option (List ℕ))
-            → IsRunning D.moment D.images self.old opened first start time disk.old left standing
-            → IsRunning D.moment D.images self.new opened first start time disk.new left standing }
-        ensures stopped { (error : TheError) → IsErrOf result error → (opened : Machine) (first : D) (start time : ℕ)
-            (left : List NamedFile) (standing : List ℕ → Option (List ℕ))
-            → IsRunning D.moment D.images self.old opened first start time disk.old left standing
-            → Stops error D.tells D.held D.moment D.images self.new opened first start time disk.new left standing }
+        ensures goes_on { (IsErrOf result EngineError.Disk → ⊥) → (opened : Machine) (first : D) (start : Start)
+            (time : ℕ)
+            (left : List NamedFile) (out : Outgoing)
+            → IsRunning D.moment D.images self.old opened first start time disk.old left out
+            → IsRunning D.moment D.images self.new opened first start time disk.new left out }
+        ensures stopped { (error : TheError) → IsErrOf result error → (opened : Machine) (first : D) (start : Start)
+            (time : ℕ)
+            (left : List NamedFile) (out : Outgoing)
+            → IsRunning D.moment D.images self.old opened first start time disk.old left out
+            → Stops error D.tells D.held D.moment D.images self.new opened first start time disk.new left out }
         ensures made { result ≡ Ok true → IsCheckpointed self.old.store self.new.store }
         ensures none { result ≡ Ok false → (self.new ≡ self.old) × (disk.new ≡ disk.old) }
         ensures short { result ≡ Ok false → IsShortOn D.moment D.images self.old.checkpoint disk.old }
@@ -181,15 +184,16 @@ impl Engine<'_> {
     fn reclaim_due<D: Disk>(&mut self, disk: &mut D) -> Result<Option<Reclaimed>, EngineError>
         requires { IsReady D.tells D.held D.moment D.images self.old disk.old }
         ensures due { IfOk result (λ answer. is_some answer ≡ nat_le RECLAIM_ENTRIES self.old.since_reclaim) }
-        ensures goes_on { (IsErrOf result EngineError.Disk → ⊥) → (opened : Machine) (first : D) (start time : ℕ)
-            (left : List NamedFile) (standing : List ℕ → Option (List ℕ))
-            → IsRunning D.moment D.images self.old opened first start time disk.old left standing
-            → IsRunning D.moment D.images self.new opened first start time disk.new left standing }
-        ensures stopped { IsErrOf result EngineError.Disk → (opened : Machine) (first : D) (start time : ℕ)
-            (left : List NamedFile) (standing : List ℕ → Option (List ℕ))
-            → IsRunning D.moment D.images self.old opened first start time disk.old left standing
+        ensures goes_on { (IsErrOf result EngineError.Disk → ⊥) → (opened : Machine) (first : D) (start : Start)
+            (time : ℕ)
+            (left : List NamedFile) (out : Outgoing)
+            → IsRunning D.moment D.images self.old opened first start time disk.old left out
+            → IsRunning D.moment D.images self.new opened first start time disk.new left out }
+        ensures stopped { IsErrOf result EngineError.Disk → (opened : Machine) (first : D) (start : Start) (time : ℕ)
+            (left : List NamedFile) (out : Outgoing)
+            → IsRunning D.moment D.images self.old opened first start time disk.old left out
             → Stops EngineError.Disk D.tells D.held D.moment D.images self.new opened first start time disk.new left
-            standing }
+            out }
         ensures done { (answer : TheCount) → result ≡ Ok (Some answer)
             → IsReclaimed self.old.store.slots self.new.store.slots answer × (self.new.since_reclaim ≡ 0) }
         ensures none { result ≡ Ok None → (self.new ≡ self.old) × (disk.new ≡ disk.old) }
@@ -226,18 +230,18 @@ impl Engine<'_> {
         ensures due { IfOk result (λ done.
             done ≡ is_some (due_expiry self.old.flow (queue_seen self.old.queues) moment)) }
         ensures goes_on { (IsErrOf result EngineError.Disk → ⊥) → IsTrue D.tells → (opened : Machine) (first : D)
-            (start time : ℕ) (left : List NamedFile) (standing : List ℕ → Option (List ℕ)) → time ≤ moment
-            → IsRunning D.moment D.images self.old opened first start time disk.old left standing
-            → IsRunning D.moment D.images self.new opened first start moment disk.new left standing }
+            (start : Start) (time : ℕ) (left : List NamedFile) (out : Outgoing) → time ≤ moment
+            → IsRunning D.moment D.images self.old opened first start time disk.old left out
+            → IsRunning D.moment D.images self.new opened first start moment disk.new left out }
         ensures idle { (IsErrOf result EngineError.Disk → ⊥) → (result ≡ Ok true → ⊥) → IsTrue D.tells
-            → (opened : Machine) (first : D) (start time : ℕ) (left : List NamedFile)
-            (standing : List ℕ → Option (List ℕ))
-            → IsRunning D.moment D.images self.old opened first start time disk.old left standing
-            → IsRunning D.moment D.images self.new opened first start time disk.new left standing }
+            → (opened : Machine) (first : D) (start : Start) (time : ℕ) (left : List NamedFile)
+            (out : Outgoing)
+            → IsRunning D.moment D.images self.old opened first start time disk.old left out
+            → IsRunning D.moment D.images self.new opened first start time disk.new left out }
         ensures stopped { (error : TheError) → IsErrOf result error → IsTrue D.tells → (opened : Machine) (first : D)
-            (start time : ℕ) (left : List NamedFile) (standing : List ℕ → Option (List ℕ)) → time ≤ moment
-            → IsRunning D.moment D.images self.old opened first start time disk.old left standing
-            → Stops error D.tells D.held D.moment D.images self.new opened first start moment disk.new left standing }
+            (start : Start) (time : ℕ) (left : List NamedFile) (out : Outgoing) → time ≤ moment
+            → IsRunning D.moment D.images self.old opened first start time disk.old left out
+            → Stops error D.tells D.held D.moment D.images self.new opened first start moment disk.new left out }
         ensures expired { result ≡ Ok true → HasExpired moment (Some (D.moment disk.new)) self.old self.new
             × (self.new.since_reclaim ≡ counted_on self.old.since_reclaim) }
         ensures cut_off { IsErrOf result EngineError.Disk → HasExpired moment None self.old self.new }

@@ -11,9 +11,11 @@ use Rattle.store_core.specs.Opened.{SameMeaning}
 use Rattle.store_core.specs.State.{stands_for}
 use Rattle.engine_core.specs.Committing.{identity_of}
 use Rattle.flow_run.specs.Laws.{FailedOpeningsEnd, OpenedRunsBegin, RunsBegin}
+use Rattle.flow_run.specs.Puts.{Start}
 use Rattle.flow_run.specs.Run.{IsPrefix, Replays, StandsFor, machine_at}
 use Rattle.flow_run.proofs.Gone.{all_left, none_gone}
 use Rattle.flow_run.proofs.Journals.{whole_prefix}
+use Rattle.flow_run.proofs.Puts.{nothing_put}
 
 module _ {D : Type 0} (moment : D → ℕ) (images : D → ℕ → Files → Type 0) where
   module _ (flow : Flow) (lot : ℕ) (old now : D) (opened : Machine) (since : SinceSync moment images old now (StandsFor flow lot opened)) where
@@ -34,7 +36,7 @@ module _ {D : Type 0} (moment : D → ℕ) (images : D → ℕ → Files → Typ
     valid = valid;
     holds = λ c there. since.each (moment now) c since.begun (omega arith) there;
     lies = sym (all_left left);
-    stands = refl;
+    stands = nothing_put flow start (machine_at state left standing) standing refl;
   }
 
   -- whatever means the same as the files stands for the same state
@@ -56,6 +58,6 @@ module _ {D : Type 0} (moment : D → ℕ) (images : D → ℕ → Files → Typ
     turns = le;
     gone = none_gone flow left;
     inbox = inl (sym (all_left left));
-    outbox = inl refl;
+    outbox = inl (nothing_put flow start (machine_at state left standing) standing refl);
     ends = tt;
   }

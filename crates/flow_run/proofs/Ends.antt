@@ -8,8 +8,8 @@ use Rattle.flow_run.proofs.Steps.{spared}
 
 module _ (law : ReplayOfOneMore) (stays : StepsStayValid) (loses : StepsLoseNames) (tells : Bool) {D : Type 0} (held : D → Files) (moment : D → ℕ) (images : D → ℕ → Files → Type 0) where
   pub quiet_ends : QuietRunsEnd tells held moment images
-  quiet_ends flow start time later lot opened reached first old new journal left standing run le since image tidied is =
-      let on = spared law stays loses moment images flow start time later lot opened reached first old new journal left standing run le since in
+  quiet_ends flow start time later lot opened reached first old new journal left out run le since image tidied is =
+      let on = spared law stays loses moment images flow start time later lot opened reached first old new journal left out run le since in
       record {
         reached = reached;
         ran = on.ran;
@@ -22,8 +22,8 @@ module _ (law : ReplayOfOneMore) (stays : StepsStayValid) (loses : StepsLoseName
       }
 
   pub blocked_ends : BlockedRunsEnd tells held moment images
-  blocked_ends flow start time later lot place opened reached first old new journal left standing run le since image tidied is =
-      let on = spared law stays loses moment images flow start time later lot opened reached first old new journal left standing run le since in
+  blocked_ends flow start time later lot place opened reached first old new journal left out run le since image tidied is =
+      let on = spared law stays loses moment images flow start time later lot opened reached first old new journal left out run le since in
       record {
         reached = reached;
         ran = on.ran;
@@ -36,8 +36,8 @@ module _ (law : ReplayOfOneMore) (stays : StepsStayValid) (loses : StepsLoseName
       }
 
   pub limited_ends : LimitedRunsEnd tells held moment images
-  limited_ends flow start time later lot opened reached first old new journal left standing limit run le met since image tidied =
-      let on = spared law stays loses moment images flow start time later lot opened reached first old new journal left standing run le since in
+  limited_ends flow start time later lot opened reached first old new journal left out limit run le met since image tidied =
+      let on = spared law stays loses moment images flow start time later lot opened reached first old new journal left out run le since in
       record {
         reached = reached;
         ran = on.ran;

@@ -5,6 +5,7 @@ pub mod Journals
 pub mod Left
 pub mod Memory
 pub mod Outgoing
+pub mod Puts
 pub mod Steps
 pub mod Turns
 pub mod Writing

@@ -14,6 +14,7 @@ use Rattle.machine_model.specs.Placing.{EndedSession, SettledFile}
 use Rattle.machine_model.specs.State.{Machine, QueuedFile, State, World}
 use Rattle.machine_model.specs.Stepping.{as_taken, session_after, same_world}
 use Rattle.flow_run.specs.Laws.{OtherSessionsPutNone, PutsSendTheTakenBytes, QueuesLeaveTheWorld, SendingSessionsPutAFile}
+use Rattle.flow_run.specs.Puts.{files_sent}
 
 -- ---- steps of queues
 
@@ -56,11 +57,16 @@ module _ (machine : Machine) (session : EndedSession) (file : QueuedFile) (taken
   SendsSo name outcome =
       MatchOption outcome.sent
       ((session_after machine session outcome).world.outbox ≡ machine.world.outbox)
-      (λ sent. (name ≡ Some sent.name) × ((session_after machine session outcome).world.outbox ≡ with_file machine.world.outbox sent.name file.bytes))
+      (λ sent. (name ≡ Some sent.name) × ((session_after machine session outcome).world.outbox ≡ with_file machine.world.outbox sent.name file.bytes)
+      × (files_sent session outcome (Some sent) ≡ record { name = sent.name; bytes = file.bytes } ∷ []))
 
   -- the first file that was taken is that one
   out : (name : List ℕ) → SendsSo (Some name) (record { files = passed_on 0 file.attributes false 0 ∷ []; sent = Some (record { place = 0; name = name }) })
-  out name = (refl, ap (λ (l : List QueuedFile). with_file machine.world.outbox name (unwrap_or (slice_get (map (λ f. f.bytes) l) 0) [])) taken)
+  out name = (
+    refl,
+    ap (λ (l : List QueuedFile). with_file machine.world.outbox name (unwrap_or (slice_get (map (λ f. f.bytes) l) 0) [])) taken,
+    ap (λ (l : List QueuedFile). record { name = name; bytes = unwrap_or (slice_get (map (λ f. f.bytes) l) 0) [] } ∷ []) taken,
+  )
 
   put_sends : (conflict : Conflict) (there : Bool) (name : Option (List ℕ)) → SendsSo name (put conflict there taken_file name)
   put_sends conflict there None = refl

@@ -14,13 +14,15 @@ use Rattle.flow_run.specs.Going.{IsBetween, IsRunningAt, IsStepped}
 use Rattle.machine_model.specs.Acknowledged.{steps}
 use Rattle.flow_run.specs.Journal.{files_left}
 use Rattle.flow_run.specs.Laws.{DiskFaultsEnd, FaultsEnd, InboxFaultsEnd, NextStepsAreInTurn, OutboxFaultsEnd, SparedRunsGoOn, SteppedRunsGoOn}
-use Rattle.flow_run.specs.Run.{HasRun, IsGoneByEntry, IsLeftOver, Replays}
+use Rattle.flow_run.specs.Puts.{IsPutBy, Outgoing, Start, puts_of_step}
+use Rattle.flow_run.specs.Run.{HasPut, HasRun, IsGoneByEntry, IsLeftOver, Replays}
 use Rattle.flow_run.specs.Turns.{ComeInTurn, ComesNext, last_worker, moment_of}
 use Rattle.flow_run.specs.declared.ended.Ended.TheVariants as ending
 use Rattle.flow_run.specs.declared.ended.Fault.TheVariants as fault
 use Rattle.flow_run.proofs.Gone.{gone_without, still_gone}
 use Rattle.flow_run.proofs.Journals.{acknowledged-all, acknowledged-open, all-append, step_acked, step_none, step_open}
 use Rattle.flow_run.proofs.Left.{one_taken, other_steps, step_takes, takes_cases, takes_one}
+use Rattle.flow_run.proofs.Puts.{puts_behind}
 use Rattle.flow_run.proofs.Turns.{next_turn, one_more_turn, turns_later}
 
 next_valid : StepsStayValid → (flow : Flow) (m after : Machine) (one : Step) → IsValid flow m.state → step flow m one ≡ Some after → IsValid flow after.state
@@ -30,10 +32,10 @@ module _ (law : ReplayOfOneMore) (stays : StepsStayValid) (loses : StepsLoseName
   -- ---- a run goes on
 
   pub spared : SparedRunsGoOn moment images
-  spared flow start time later lot opened reached first old new journal left standing run le since = record {
+  spared flow start time later lot opened reached first old new journal left out run le since = record {
     ran = step_none law flow moment images lot first old new opened reached reached journal run.ran run.all since;
     all = run.all;
-    turns = turns_later flow None start time later opened (steps journal) le run.turns;
+    turns = turns_later flow None start.time time later opened (steps journal) le run.turns;
     gone = run.gone;
     valid = run.valid;
     holds = λ c there. since.each (moment new) c since.later (omega arith) there;
@@ -41,14 +43,24 @@ module _ (law : ReplayOfOneMore) (stays : StepsStayValid) (loses : StepsLoseName
     stands = run.stands;
   }
 
-  module _ (flow : Flow) (start time lot : ℕ) (opened reached after : Machine) (first old new : D) (journal : List Entry) (one : Step) (left : List NamedFile) (standing : List ℕ → Option (List ℕ))
-      (run : IsRunningAt flow start time moment images lot opened first old journal reached left standing) (le : time ≤ moment_of one) (comes : ComesNext flow (last_worker None (steps journal)) reached one)
+  module _ (flow : Flow) (start : Start) (time lot : ℕ) (opened reached after : Machine) (first old new : D) (journal : List Entry) (one : Step) (left : List NamedFile) (out : Outgoing)
+      (run : IsRunningAt flow start time moment images lot opened first old journal reached left out) (le : time ≤ moment_of one) (comes : ComesNext flow (last_worker None (steps journal)) reached one)
       (goes : step flow reached one ≡ Some after) where
-    turns_now : (acked : Option ℕ) → ComeInTurn flow None start (moment_of one) opened (steps (journal ++ record { step = one; acked = acked } ∷ []))
-    turns_now acked = one_more_turn flow None start time opened reached journal (record { step = one; acked = acked }) run.turns run.ran.replays le comes
+    turns_now : (acked : Option ℕ) → ComeInTurn flow None start.time (moment_of one) opened (steps (journal ++ record { step = one; acked = acked } ∷ []))
+    turns_now acked = one_more_turn flow None start.time time opened reached journal (record { step = one; acked = acked }) run.turns run.ran.replays le comes
 
-    turns_by : (acked : Option ℕ) (later : ℕ) → moment_of one ≤ later → ComeInTurn flow None start later opened (steps (journal ++ record { step = one; acked = acked } ∷ []))
-    turns_by acked later by = turns_later flow None start (moment_of one) later opened (steps (journal ++ record { step = one; acked = acked } ∷ [])) by (turns_now acked)
+    turns_by : (acked : Option ℕ) (later : ℕ) → moment_of one ≤ later → ComeInTurn flow None start.time later opened (steps (journal ++ record { step = one; acked = acked } ∷ []))
+    turns_by acked later by = turns_later flow None start.time (moment_of one) later opened (steps (journal ++ record { step = one; acked = acked } ∷ [])) by (turns_now acked)
+
+    -- the outbox behind it
+    put_now : (acked : Option ℕ) (now_out : Outgoing) → IsPutBy flow reached one after out now_out → HasPut flow start opened (journal ++ record { step = one; acked = acked } ∷ []) after now_out
+    put_now acked now_out by = record {
+      standing = by.standing;
+      puts =
+          by.puts
+          ∙ ap (λ (l : List NamedFile). l ++ puts_of_step flow reached one) run.stands.puts
+          ∙ puts_behind flow opened reached start.puts journal (record { step = one; acked = acked }) run.ran.replays;
+    }
 
     -- ---- a step that is acknowledged
 
@@ -71,9 +83,9 @@ module _ (law : ReplayOfOneMore) (stays : StepsStayValid) (loses : StepsLoseName
           (gone_without flow opened.world.inbox left some.0 journal entry_acked run.gone some.1 refl))
           (takes_cases flow one)
 
-      stepped_on : (now_left : List NamedFile) (now_standing : List ℕ → Option (List ℕ)) → now_left ≡ files_left after.world → now_standing ≡ after.world.outbox
-          → IsRunningAt flow start (moment_of one) moment images lot opened first new (journal ++ entry_acked ∷ []) after now_left now_standing
-      stepped_on now_left now_standing lies stands = record {
+      stepped_on : (now_left : List NamedFile) (now_out : Outgoing) → now_left ≡ files_left after.world → IsPutBy flow reached one after out now_out
+          → IsRunningAt flow start (moment_of one) moment images lot opened first new (journal ++ entry_acked ∷ []) after now_left now_out
+      stepped_on now_left now_out lies stands = record {
         ran = acked_ran;
         all = all-append journal entry_acked run.all refl;
         turns = turns_now (Some (moment new));
@@ -81,7 +93,7 @@ module _ (law : ReplayOfOneMore) (stays : StepsStayValid) (loses : StepsLoseName
         valid = next_valid stays flow reached after one run.valid goes;
         holds = stepped.done;
         lies = lies;
-        stands = stands;
+        stands = put_now (Some (moment new)) now_out stands;
       }
 
       -- ---- the file's removal failed: it may be there
@@ -103,9 +115,9 @@ module _ (law : ReplayOfOneMore) (stays : StepsStayValid) (loses : StepsLoseName
           still = same ∙ run.lies;
         }
 
-        unremoved : (now_left : List NamedFile) (now_standing : List ℕ → Option (List ℕ)) → (now_left ≡ left) ⊎ (now_left ≡ without name left) → now_standing ≡ after.world.outbox
-            → HasRun flow (ending.Fault fault.Inbox) start later tells held moment images lot opened first new now_left now_standing (journal ++ entry_acked ∷ [])
-        unremoved now_left now_standing either stands = record {
+        unremoved : (now_left : List NamedFile) (now_out : Outgoing) → (now_left ≡ left) ⊎ (now_left ≡ without name left) → IsPutBy flow reached one after out now_out
+            → HasRun flow (ending.Fault fault.Inbox) start later tells held moment images lot opened first new now_left now_out (journal ++ entry_acked ∷ [])
+        unremoved now_left now_out either stands = record {
           reached = after;
           ran = acked_ran;
           acked = inl (acknowledged-all (journal ++ entry_acked ∷ []) (moment first + 1) (moment new) (moment new) (all-append journal entry_acked run.all refl) acked_ran.in_order (omega arith));
@@ -118,7 +130,7 @@ module _ (law : ReplayOfOneMore) (stays : StepsStayValid) (loses : StepsLoseName
               (λ (same : now_left ≡ left). inr (left_over now_left same))
               (λ (removed : now_left ≡ without name left). inl (removed_is now_left removed))
               either;
-          outbox = inl stands;
+          outbox = inl (put_now (Some (moment new)) now_out stands);
           ends = tt;
         }
 
@@ -148,39 +160,39 @@ module _ (law : ReplayOfOneMore) (stays : StepsStayValid) (loses : StepsLoseName
           }))
           (takes_cases flow one)
 
-      stopped_within : (tells : Bool) (held : D → Files) (later : ℕ) → moment_of one ≤ later → (now_standing : List ℕ → Option (List ℕ)) → now_standing ≡ after.world.outbox
-          → HasRun flow (ending.Fault fault.Disk) start later tells held moment images lot opened first new left now_standing (journal ++ entry_open ∷ [])
-      stopped_within tells held later by now_standing stands = record {
+      stopped_within : (tells : Bool) (held : D → Files) (later : ℕ) → moment_of one ≤ later → (now_out : Outgoing) → IsPutBy flow reached one after out now_out
+          → HasRun flow (ending.Fault fault.Disk) start later tells held moment images lot opened first new left now_out (journal ++ entry_open ∷ [])
+      stopped_within tells held later by now_out stands = record {
         reached = after;
         ran = open_ran;
         acked = inr (refl, acknowledged-open journal one (moment first + 1) (moment old) (moment new) run.all run.ran.in_order since.later);
         turns = turns_by None later by;
         gone = still_gone flow opened.world.inbox left journal entry_open run.gone;
         inbox = open_inbox;
-        outbox = inl stands;
+        outbox = inl (put_now None now_out stands);
         ends = tt;
       }
 
   pub next_in_turn : NextStepsAreInTurn moment images
-  next_in_turn flow start time later lot opened reached first now journal one left standing run le by comes =
-      next_turn flow None start time later opened reached (steps journal) one run.turns run.ran.replays le by comes
+  next_in_turn flow start time later lot opened reached first now journal one left out run le by comes =
+      next_turn flow None start.time time later opened reached (steps journal) one run.turns run.ran.replays le by comes
 
   pub steps_go_on : SteppedRunsGoOn moment images
-  steps_go_on flow start time lot opened reached after first old new journal one left now_left standing now_standing run le comes goes stepped lies stands =
-      stepped_on flow start time lot opened reached after first old new journal one left standing run le comes goes stepped now_left now_standing lies stands
+  steps_go_on flow start time lot opened reached after first old new journal one left now_left out now_out run le comes goes stepped lies stands =
+      stepped_on flow start time lot opened reached after first old new journal one left out run le comes goes stepped now_left now_out lies stands
 
   module _ (tells : Bool) (held : D → Files) where
     pub disk_faults : DiskFaultsEnd tells held moment images
-    disk_faults flow start time later lot opened reached after first old new journal one left standing now_standing run le by comes goes since stands =
-        stopped_within flow start time lot opened reached after first old new journal one left standing run le comes goes since tells held later by now_standing stands
+    disk_faults flow start time later lot opened reached after first old new journal one left out now_out run le by comes goes since stands =
+        stopped_within flow start time lot opened reached after first old new journal one left out run le comes goes since tells held later by now_out stands
 
     pub inbox_faults : InboxFaultsEnd tells held moment images
-    inbox_faults flow start time later lot opened reached after first old new journal one name left now_left standing now_standing run le by comes goes stepped takes either stands =
-        unremoved flow start time lot opened reached after first old new journal one left standing run le comes goes stepped tells held later by name (one_taken flow one name takes) now_left now_standing either stands
+    inbox_faults flow start time later lot opened reached after first old new journal one name left now_left out now_out run le by comes goes stepped takes either stands =
+        unremoved flow start time lot opened reached after first old new journal one left out run le comes goes stepped tells held later by name (one_taken flow one name takes) now_left now_out either stands
 
     pub faults : FaultsEnd tells held moment images
-    faults flow start time later lot opened reached first old new journal left standing cause run le since =
-        let on = spared flow start time later lot opened reached first old new journal left standing run le since in
+    faults flow start time later lot opened reached first old new journal left out cause run le since =
+        let on = spared flow start time later lot opened reached first old new journal left out run le since in
         record {
           reached = reached;
           ran = on.ran;
@@ -193,8 +205,8 @@ module _ (law : ReplayOfOneMore) (stays : StepsStayValid) (loses : StepsLoseName
         }
 
     pub outbox_faults : OutboxFaultsEnd tells held moment images
-    outbox_faults flow start time later lot opened reached after first old new journal one left standing now_standing name bytes run since le by comes goes put puts others =
-        let on = spared flow start time later lot opened reached first old new journal left standing run (omega (arith, le, by)) since in
+    outbox_faults flow start time later lot opened reached after first old new journal one left out now_out name bytes run since le by comes goes put puts others tried =
+        let on = spared flow start time later lot opened reached first old new journal left out run (omega (arith, le, by)) since in
         record {
           reached = reached;
           ran = on.ran;
@@ -205,14 +217,15 @@ module _ (law : ReplayOfOneMore) (stays : StepsStayValid) (loses : StepsLoseName
           outbox = inr (record {
             failed = refl;
             next = one;
-            turn = next_turn flow None start time later opened reached (steps journal) one run.turns run.ran.replays le by comes;
+            turn = next_turn flow None start.time time later opened reached (steps journal) one run.turns run.ran.replays le by comes;
             after = after;
             goes = goes;
             name = name;
             put = put;
             bytes = bytes;
             puts = puts;
-            others = λ other isnt. others other isnt ∙ ap (λ (o : List ℕ → Option (List ℕ)). o other) on.stands;
+            others = λ other isnt. others other isnt ∙ ap (λ (o : List ℕ → Option (List ℕ)). o other) on.stands.standing;
+            tried = tried ∙ ap (λ (l : List NamedFile). l ++ puts_of_step flow reached one) on.stands.puts;
           });
           ends = tt;
         }

@@ -10,22 +10,23 @@ use Rattle.machine_model.specs.State.{Machine}
 use Rattle.machine_model.specs.Valid.{IsValid}
 use Rattle.machine_model.specs.Acknowledged.{steps}
 use Rattle.flow_run.specs.Journal.{files_left, IsAcknowledged}
-use Rattle.flow_run.specs.Run.{IsGoneByEntry, Replays, StandsFor}
+use Rattle.flow_run.specs.Puts.{Outgoing, Start}
+use Rattle.flow_run.specs.Run.{HasPut, IsGoneByEntry, Replays, StandsFor}
 use Rattle.flow_run.specs.Turns.{ComeInTurn}
 
 -- Each entry of the journal is acknowledged, each was made in its turn, from the start's time up to now, and store, inbox
 -- and outbox are those of the whole journal, which leads to this machine.
-pub record IsRunningAt {D : Type 0} (flow : Flow) (start time : ℕ) (moment : D → ℕ)
+pub record IsRunningAt {D : Type 0} (flow : Flow) (start : Start) (time : ℕ) (moment : D → ℕ)
     (images : D → ℕ → Files → Type 0) (lot : ℕ) (opened : Machine) (old now : D) (journal : List Entry)
-    (reached : Machine) (left : List NamedFile) (standing : List ℕ → Option (List ℕ)) : Type 0 where
+    (reached : Machine) (left : List NamedFile) (out : Outgoing) : Type 0 where
   pub ran : Replays flow moment images lot opened journal reached old now
   pub all : IsAcknowledged journal
-  pub turns : ComeInTurn flow None start time opened (steps journal)
+  pub turns : ComeInTurn flow None start.time time opened (steps journal)
   pub gone : IsGoneByEntry flow opened.world.inbox left journal
   pub valid : IsValid flow reached.state
   pub holds : InEach (images now (moment now)) (StandsFor flow lot reached)
   pub lies : left ≡ files_left reached.world
-  pub stands : standing ≡ reached.world.outbox
+  pub stands : HasPut flow start opened journal reached out
 
 -- Within a step whatever a stop leaves stands for the state before it or for that behind it, ..
 abbrev pub IsBetween : {D : Type 0} → Flow → (D → ℕ) → (D → ℕ → Files → Type 0) → (lot : ℕ)

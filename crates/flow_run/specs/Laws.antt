@@ -29,6 +29,7 @@ use Rattle.store_core.specs.Store.{Holds, StoreState, kept_by}
 use Rattle.engine_core.specs.Committing.{identity_of}
 use Rattle.flow_run.specs.Going.{IsBetween, IsRunningAt, IsSpared, IsStepped}
 use Rattle.flow_run.specs.Journal.{files_left, Takes}
+use Rattle.flow_run.specs.Puts.{IsPutBy, Outgoing, Start, files_sent, puts_of_step}
 use Rattle.flow_run.specs.Run.{HasRun, IsAtLimit, IsPut, IsStateOf, IsTidied, StandsFor, machine_at}
 use Rattle.flow_run.specs.Turns.{ComeInTurn, ComesNext, last_worker, moment_of}
 use Rattle.flow_run.specs.declared.ended.Ended.TheVariants as ending
@@ -40,156 +41,161 @@ use Rattle.flow_run.specs.declared.ended.Fault.TheVariants as fault
 -- where from behind the opening's first sync on whatever a stop may leave stands for a valid state, a run is at that
 -- state, with no entry, and all that the inbox has is left
 abbrev pub RunsBegin : {D : Type 0} → (D → ℕ) → (D → ℕ → Files → Type 0) → Type 0
-RunsBegin {D} moment images = (flow : Flow) (start time lot : ℕ) (old now : D) (state : State)
-    (left : List NamedFile) (standing : List ℕ → Option (List ℕ)) → IsValid flow state → start ≤ time
+RunsBegin {D} moment images = (flow : Flow) (start : Start) (time lot : ℕ) (old now : D) (state : State)
+    (left : List NamedFile) (standing : List ℕ → Option (List ℕ)) → IsValid flow state → start.time ≤ time
     → SinceSync moment images old now (StandsFor flow lot (machine_at state left standing))
     → IsRunningAt flow start time moment images lot (machine_at state left standing) old now []
-    (machine_at state left standing) left standing
+    (machine_at state left standing) left (record { standing = standing; puts = start.puts })
 
 -- the same where files stood for the state, and whatever a stop may leave means the same
 abbrev pub OpenedRunsBegin : {D : Type 0} → (D → ℕ) → (D → ℕ → Files → Type 0) → Type 0
-OpenedRunsBegin {D} moment images = (flow : Flow) (start time lot : ℕ) (files : Files) (old now : D) (state : State)
-    (left : List NamedFile) (standing : List ℕ → Option (List ℕ)) → IsValid flow state → start ≤ time
+OpenedRunsBegin {D} moment images = (flow : Flow) (start : Start) (time lot : ℕ) (files : Files) (old now : D)
+    (state : State)
+    (left : List NamedFile) (standing : List ℕ → Option (List ℕ)) → IsValid flow state → start.time ≤ time
     → stands_for (identity_of flow) lot files ≡ Ok state
     → SinceSync moment images old now (SameMeaning (identity_of flow) lot files)
     → IsRunningAt flow start time moment images lot (machine_at state left standing) old now []
-    (machine_at state left standing) left standing
+    (machine_at state left standing) left (record { standing = standing; puts = start.puts })
 
 -- a run whose opening failed behind its first sync has done nothing
 abbrev pub FailedOpeningsEnd : {D : Type 0} → (tells : Bool) → (D → Files) → (D → ℕ) → (D → ℕ → Files → Type 0)
     → Type 0
-FailedOpeningsEnd {D} tells held moment images = (flow : Flow) (start time lot : ℕ) (files : Files) (old now : D)
-    (state : State) (left : List NamedFile) (standing : List ℕ → Option (List ℕ)) (cause : Fault) → start ≤ time
+FailedOpeningsEnd {D} tells held moment images = (flow : Flow) (start : Start) (time lot : ℕ) (files : Files)
+    (old now : D)
+    (state : State) (left : List NamedFile) (standing : List ℕ → Option (List ℕ)) (cause : Fault) → start.time ≤ time
     → stands_for (identity_of flow) lot files ≡ Ok state
     → SinceSync moment images old now (SameMeaning (identity_of flow) lot files)
     → HasRun flow (ending.Fault cause) start time tells held moment images lot (machine_at state left standing) old now
-    left standing []
+    left (record { standing = standing; puts = start.puts }) []
 
 -- ---- a run goes on
 
 -- by the step that comes next, which is acknowledged now, with inbox and outbox as the step leaves them
 abbrev pub SteppedRunsGoOn : {D : Type 0} → (D → ℕ) → (D → ℕ → Files → Type 0) → Type 0
-SteppedRunsGoOn {D} moment images = (flow : Flow) (start time lot : ℕ) (opened reached after : Machine)
+SteppedRunsGoOn {D} moment images = (flow : Flow) (start : Start) (time lot : ℕ) (opened reached after : Machine)
     (first old new : D) (journal : List Entry) (one : Step) (left now_left : List NamedFile)
-    (standing now_standing : List ℕ → Option (List ℕ))
-    → IsRunningAt flow start time moment images lot opened first old journal reached left standing
+    (out now_out : Outgoing)
+    → IsRunningAt flow start time moment images lot opened first old journal reached left out
     → time ≤ moment_of one → ComesNext flow (last_worker None (steps journal)) reached one
     → step flow reached one ≡ Some after
     → IsStepped flow moment images lot reached after old new
-    → now_left ≡ files_left after.world → now_standing ≡ after.world.outbox
+    → now_left ≡ files_left after.world → IsPutBy flow reached one after out now_out
     → IsRunningAt flow start (moment_of one) moment images lot opened first new
     (journal ++ record { step = one; acked = Some (moment new) } ∷ [])
-    after now_left now_standing
+    after now_left now_out
 
 -- by calls that leave what the disk stands for, and inbox and outbox, and as time goes by
 abbrev pub SparedRunsGoOn : {D : Type 0} → (D → ℕ) → (D → ℕ → Files → Type 0) → Type 0
-SparedRunsGoOn {D} moment images = (flow : Flow) (start time later lot : ℕ) (opened reached : Machine)
-    (first old new : D) (journal : List Entry) (left : List NamedFile) (standing : List ℕ → Option (List ℕ))
-    → IsRunningAt flow start time moment images lot opened first old journal reached left standing
+SparedRunsGoOn {D} moment images = (flow : Flow) (start : Start) (time later lot : ℕ) (opened reached : Machine)
+    (first old new : D) (journal : List Entry) (left : List NamedFile) (out : Outgoing)
+    → IsRunningAt flow start time moment images lot opened first old journal reached left out
     → time ≤ later → IsSpared flow moment images lot reached old new
-    → IsRunningAt flow start later moment images lot opened first new journal reached left standing
+    → IsRunningAt flow start later moment images lot opened first new journal reached left out
 
 -- ---- a fault ends a run
 
 -- between two steps, whichever it is
 abbrev pub FaultsEnd : {D : Type 0} → (tells : Bool) → (D → Files) → (D → ℕ) → (D → ℕ → Files → Type 0) → Type 0
-FaultsEnd {D} tells held moment images = (flow : Flow) (start time later lot : ℕ) (opened reached : Machine)
-    (first old new : D) (journal : List Entry) (left : List NamedFile) (standing : List ℕ → Option (List ℕ))
+FaultsEnd {D} tells held moment images = (flow : Flow) (start : Start) (time later lot : ℕ) (opened reached : Machine)
+    (first old new : D) (journal : List Entry) (left : List NamedFile) (out : Outgoing)
     (cause : Fault)
-    → IsRunningAt flow start time moment images lot opened first old journal reached left standing
+    → IsRunningAt flow start time moment images lot opened first old journal reached left out
     → time ≤ later → IsSpared flow moment images lot reached old new
-    → HasRun flow (ending.Fault cause) start later tells held moment images lot opened first new left standing journal
+    → HasRun flow (ending.Fault cause) start later tells held moment images lot opened first new left out journal
 
 -- of the disk within the step that comes next: its outbox may be done, and what it takes from the inbox is still there
 abbrev pub DiskFaultsEnd : {D : Type 0} → (tells : Bool) → (D → Files) → (D → ℕ) → (D → ℕ → Files → Type 0) → Type 0
-DiskFaultsEnd {D} tells held moment images = (flow : Flow) (start time later lot : ℕ)
+DiskFaultsEnd {D} tells held moment images = (flow : Flow) (start : Start) (time later lot : ℕ)
     (opened reached after : Machine) (first old new : D) (journal : List Entry) (one : Step) (left : List NamedFile)
-    (standing now_standing : List ℕ → Option (List ℕ))
-    → IsRunningAt flow start time moment images lot opened first old journal reached left standing
+    (out now_out : Outgoing)
+    → IsRunningAt flow start time moment images lot opened first old journal reached left out
     → time ≤ moment_of one → moment_of one ≤ later
     → ComesNext flow (last_worker None (steps journal)) reached one → step flow reached one ≡ Some after
     → IsBetween flow moment images lot reached after old new
-    → now_standing ≡ after.world.outbox
-    → HasRun flow (ending.Fault fault.Disk) start later tells held moment images lot opened first new left now_standing
+    → IsPutBy flow reached one after out now_out
+    → HasRun flow (ending.Fault fault.Disk) start later tells held moment images lot opened first new left now_out
     (journal ++ record { step = one; acked = None } ∷ [])
 
 -- of the outbox at the put of the step that comes next: what stands under that name may be anything
 abbrev pub OutboxFaultsEnd : {D : Type 0} → (tells : Bool) → (D → Files) → (D → ℕ) → (D → ℕ → Files → Type 0)
     → Type 0
-OutboxFaultsEnd {D} tells held moment images = (flow : Flow) (start time later lot : ℕ)
+OutboxFaultsEnd {D} tells held moment images = (flow : Flow) (start : Start) (time later lot : ℕ)
     (opened reached after : Machine) (first old new : D) (journal : List Entry) (one : Step) (left : List NamedFile)
-    (standing now_standing : List ℕ → Option (List ℕ)) (name bytes : List ℕ)
-    → IsRunningAt flow start time moment images lot opened first old journal reached left standing
+    (out now_out : Outgoing) (name bytes : List ℕ)
+    → IsRunningAt flow start time moment images lot opened first old journal reached left out
     → IsSpared flow moment images lot reached old new
     → time ≤ moment_of one → moment_of one ≤ later
     → ComesNext flow (last_worker None (steps journal)) reached one → step flow reached one ≡ Some after
     → IsPut flow reached one name → after.world.outbox ≡ with_file reached.world.outbox name bytes
-    → ((other : List ℕ) → other ≢ name → now_standing other ≡ standing other)
+    → ((other : List ℕ) → other ≢ name → now_out.standing other ≡ out.standing other)
+    → now_out.puts ≡ out.puts ++ puts_of_step flow reached one
     → HasRun flow (ending.Fault fault.Outbox) start later tells held moment images lot opened first new left
-    now_standing journal
+    now_out journal
 
 -- of the inbox behind a step that took a file: it may be gone or not
 abbrev pub InboxFaultsEnd : {D : Type 0} → (tells : Bool) → (D → Files) → (D → ℕ) → (D → ℕ → Files → Type 0)
     → Type 0
-InboxFaultsEnd {D} tells held moment images = (flow : Flow) (start time later lot : ℕ)
+InboxFaultsEnd {D} tells held moment images = (flow : Flow) (start : Start) (time later lot : ℕ)
     (opened reached after : Machine) (first old new : D) (journal : List Entry) (one : Step) (name : List ℕ)
-    (left now_left : List NamedFile) (standing now_standing : List ℕ → Option (List ℕ))
-    → IsRunningAt flow start time moment images lot opened first old journal reached left standing
+    (left now_left : List NamedFile) (out now_out : Outgoing)
+    → IsRunningAt flow start time moment images lot opened first old journal reached left out
     → time ≤ moment_of one → moment_of one ≤ later
     → ComesNext flow (last_worker None (steps journal)) reached one → step flow reached one ≡ Some after
     → IsStepped flow moment images lot reached after old new → Takes flow one name
     → (now_left ≡ left) ⊎ (now_left ≡ without name left)
-    → now_standing ≡ after.world.outbox
+    → IsPutBy flow reached one after out now_out
     → HasRun flow (ending.Fault fault.Inbox) start later tells held moment images lot opened first new now_left
-    now_standing (journal ++ record { step = one; acked = Some (moment new) } ∷ [])
+    now_out (journal ++ record { step = one; acked = Some (moment new) } ∷ [])
 
 -- ---- a run ends: its store was closed
 
 -- nothing was left to do, but for swaps
 abbrev pub QuietRunsEnd : {D : Type 0} → (tells : Bool) → (D → Files) → (D → ℕ) → (D → ℕ → Files → Type 0) → Type 0
-QuietRunsEnd {D} tells held moment images = (flow : Flow) (start time later lot : ℕ) (opened reached : Machine)
-    (first old new : D) (journal : List Entry) (left : List NamedFile) (standing : List ℕ → Option (List ℕ))
-    → IsRunningAt flow start time moment images lot opened first old journal reached left standing
+QuietRunsEnd {D} tells held moment images = (flow : Flow) (start : Start) (time later lot : ℕ)
+    (opened reached : Machine)
+    (first old new : D) (journal : List Entry) (left : List NamedFile) (out : Outgoing)
+    → IsRunningAt flow start time moment images lot opened first old journal reached left out
     → time ≤ later → IsSpared flow moment images lot reached old new
     → images new (moment new) (held new) → IsTidied flow lot (held new)
     → quiet_but_for_swaps flow reached.state reached.world later ≡ true
-    → HasRun flow ending.Quiet start later tells held moment images lot opened first new left standing journal
+    → HasRun flow ending.Quiet start later tells held moment images lot opened first new left out journal
 
 -- all that there was to do, but for swaps, was held back
 abbrev pub BlockedRunsEnd : {D : Type 0} → (tells : Bool) → (D → Files) → (D → ℕ) → (D → ℕ → Files → Type 0)
     → Type 0
-BlockedRunsEnd {D} tells held moment images = (flow : Flow) (start time later lot place : ℕ)
+BlockedRunsEnd {D} tells held moment images = (flow : Flow) (start : Start) (time later lot place : ℕ)
     (opened reached : Machine) (first old new : D) (journal : List Entry) (left : List NamedFile)
-    (standing : List ℕ → Option (List ℕ))
-    → IsRunningAt flow start time moment images lot opened first old journal reached left standing
+    (out : Outgoing)
+    → IsRunningAt flow start time moment images lot opened first old journal reached left out
     → time ≤ later → IsSpared flow moment images lot reached old new
     → images new (moment new) (held new) → IsTidied flow lot (held new)
     → blocked_but_for_swaps flow reached.state reached.world later ≡ Some place
-    → HasRun flow (ending.Blocked place) start later tells held moment images lot opened first new left standing journal
+    → HasRun flow (ending.Blocked place) start later tells held moment images lot opened first new left out journal
 
 -- a limit was met
 abbrev pub LimitedRunsEnd : {D : Type 0} → (tells : Bool) → (D → Files) → (D → ℕ) → (D → ℕ → Files → Type 0)
     → Type 0
-LimitedRunsEnd {D} tells held moment images = (flow : Flow) (start time later lot : ℕ) (opened reached : Machine)
-    (first old new : D) (journal : List Entry) (left : List NamedFile) (standing : List ℕ → Option (List ℕ))
+LimitedRunsEnd {D} tells held moment images = (flow : Flow) (start : Start) (time later lot : ℕ)
+    (opened reached : Machine)
+    (first old new : D) (journal : List Entry) (left : List NamedFile) (out : Outgoing)
     (limit : Limit)
-    → IsRunningAt flow start time moment images lot opened first old journal reached left standing
+    → IsRunningAt flow start time moment images lot opened first old journal reached left out
     → time ≤ later → IsAtLimit flow start later tells held moment images lot opened journal reached limit old
     → IsSpared flow moment images lot reached old new
     → images new (moment new) (held new) → IsTidied flow lot (held new)
-    → HasRun flow (ending.Limit limit) start later tells held moment images lot opened first new left standing journal
+    → HasRun flow (ending.Limit limit) start later tells held moment images lot opened first new left out journal
 
 -- ---- the journal with one step more
 
 -- with the step that comes next it is in turn, up to any time behind that
 abbrev pub NextStepsAreInTurn : {D : Type 0} → (D → ℕ) → (D → ℕ → Files → Type 0) → Type 0
-NextStepsAreInTurn {D} moment images = (flow : Flow) (start time later lot : ℕ) (opened reached : Machine)
+NextStepsAreInTurn {D} moment images = (flow : Flow) (start : Start) (time later lot : ℕ) (opened reached : Machine)
     (first now : D) (journal : List Entry) (one : Step) (left : List NamedFile)
-    (standing : List ℕ → Option (List ℕ))
-    → IsRunningAt flow start time moment images lot opened first now journal reached left standing
+    (out : Outgoing)
+    → IsRunningAt flow start time moment images lot opened first now journal reached left out
     → time ≤ moment_of one → moment_of one ≤ later
     → ComesNext flow (last_worker None (steps journal)) reached one
-    → ComeInTurn flow None start later opened (steps journal ++ one ∷ [])
+    → ComeInTurn flow None start.time later opened (steps journal ++ one ∷ [])
 
 -- ---- what a store has in memory
 
@@ -260,4 +266,5 @@ PutsSendTheTakenBytes = (machine : Machine) (session : EndedSession) (outcome : 
     → MatchOption outcome.sent
     ((session_after machine session outcome).world.outbox ≡ machine.world.outbox)
     (λ sent. (name_in file.attributes ≡ Some sent.name)
-    × ((session_after machine session outcome).world.outbox ≡ with_file machine.world.outbox sent.name file.bytes))
+    × ((session_after machine session outcome).world.outbox ≡ with_file machine.world.outbox sent.name file.bytes)
+    × (files_sent session outcome (Some sent) ≡ record { name = sent.name; bytes = file.bytes } ∷ []))

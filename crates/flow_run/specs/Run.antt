@@ -31,6 +31,7 @@ use Rattle.store_core.specs.State.{stands_for, state_with}
 use Rattle.store_core.specs.Store.{StoreState, kept_by, IsKeptOn, IsTidy}
 use Rattle.engine_core.specs.Committing.{AreEventsUpTo, identity_of}
 use Rattle.flow_run.specs.Journal.{files_left, Takes, WasGot}
+use Rattle.flow_run.specs.Puts.{Outgoing, Start, puts_of, puts_of_step}
 use Rattle.flow_run.specs.Turns.{ComeInTurn}
 use Rattle.flow_run.specs.declared.ended.Ended.{Ended}
 use Rattle.flow_run.specs.declared.ended.Ended.TheVariants as ending
@@ -81,6 +82,12 @@ abbrev pub IsGoneByEntry : Flow → (before after : List NamedFile) → List Ent
 IsGoneByEntry flow before after journal =
     (name : List ℕ) → IsSome (bytes_of before name) → IsNone (bytes_of after name) → WasGot flow name journal
 
+-- The outbox is that of the machine, and what was put since the start is just what the journal's steps put.
+pub record HasPut (flow : Flow) (start : Start) (opened : Machine) (journal : List Entry) (reached : Machine)
+    (out : Outgoing) : Type 0 where
+  pub standing : out.standing ≡ reached.world.outbox
+  pub puts : out.puts ≡ start.puts ++ puts_of flow opened (steps journal)
+
 -- ---- where a device failed
 
 -- The inbox is as before the journal's last step, which took a file: disk or inbox failed before the file was removed.
@@ -112,19 +119,21 @@ pub record IsPut (flow : Flow) (before : Machine) (one : Step) (name : List ℕ)
   pub named : name_in file.attributes ≡ Some name
 
 -- The outbox failed at the put of the session that comes next, which isn't done: what it takes still waits. What stands
--- under the name of that may be anything.
-pub record IsStoppedAtPut (flow : Flow) (ended : Ended) (start time : ℕ) (opened : Machine) (journal : List Entry)
-    (reached : Machine) (standing : List ℕ → Option (List ℕ)) : Type 0 where
+-- under the name of that may be anything. Behind the puts of the journal's steps its put was tried, once.
+pub record IsStoppedAtPut (flow : Flow) (ended : Ended) (start : Start) (time : ℕ) (opened : Machine)
+    (journal : List Entry)
+    (reached : Machine) (out : Outgoing) : Type 0 where
   pub failed : ended ≡ ending.Fault fault.Outbox
   pub next : Step
-  pub turn : ComeInTurn flow None start time opened (steps journal ++ next ∷ [])
+  pub turn : ComeInTurn flow None start.time time opened (steps journal ++ next ∷ [])
   pub after : Machine
   pub goes : step flow reached next ≡ Some after
   pub name : List ℕ
   pub put : IsPut flow reached next name
   pub bytes : List ℕ
   pub puts : after.world.outbox ≡ with_file reached.world.outbox name bytes
-  pub others : (other : List ℕ) → other ≢ name → standing other ≡ reached.world.outbox other
+  pub others : (other : List ℕ) → other ≢ name → out.standing other ≡ reached.world.outbox other
+  pub tried : out.puts ≡ start.puts ++ puts_of flow opened (steps journal) ++ puts_of_step flow reached next
 
 -- ---- limits
 
@@ -152,11 +161,12 @@ IsAtJournalLimit limit journal =
 
 -- A limit was met on a disk as it was then, whose files stand for the state after the whole journal: the step that came
 -- next would have passed it.
-pub record IsAtLimit {D : Type 0} (flow : Flow) (start time : ℕ) (tells : Bool) (held : D → Files) (moment : D → ℕ)
+pub record IsAtLimit {D : Type 0} (flow : Flow) (start : Start) (time : ℕ) (tells : Bool) (held : D → Files)
+    (moment : D → ℕ)
     (images : D → ℕ → Files → Type 0) (lot : ℕ) (opened : Machine) (journal : List Entry) (reached : Machine)
     (limit : Limit) (at : D) : Type 0 where
   pub next : Step
-  pub turn : ComeInTurn flow None start time opened (steps journal ++ next ∷ [])
+  pub turn : ComeInTurn flow None start.time time opened (steps journal ++ next ∷ [])
   pub after : Machine
   pub goes : step flow reached next ≡ Some after
   pub stands : StandsFor flow lot reached (held at)
@@ -188,7 +198,7 @@ pub record IsHeldBack (flow : Flow) (time place lot : ℕ) (reached : Machine) (
   pub is_blocked : blocked_but_for_swaps flow reached.state reached.world time ≡ Some place
 
 -- A limit was met, and from then on whatever a stop may leave stands for the state after the whole journal.
-pub record IsStoppedByLimit {D : Type 0} (flow : Flow) (start time : ℕ) (tells : Bool) (held : D → Files)
+pub record IsStoppedByLimit {D : Type 0} (flow : Flow) (start : Start) (time : ℕ) (tells : Bool) (held : D → Files)
     (moment : D → ℕ) (images : D → ℕ → Files → Type 0) (lot : ℕ) (opened : Machine) (journal : List Entry)
     (reached : Machine) (limit : Limit) (new : D) : Type 0 where
   pub closed : IsClosed flow lot reached (held new)
@@ -197,7 +207,7 @@ pub record IsStoppedByLimit {D : Type 0} (flow : Flow) (start time : ℕ) (tells
   pub since : Since moment images at new (StandsFor flow lot reached)
 
 -- What an end tells. A fault tells nothing more than that it came.
-abbrev pub EndsSo : {D : Type 0} → Flow → Ended → (start time : ℕ) → (tells : Bool) → (D → Files) → (D → ℕ)
+abbrev pub EndsSo : {D : Type 0} → Flow → Ended → (start : Start) (time : ℕ) → (tells : Bool) → (D → Files) → (D → ℕ)
     → (D → ℕ → Files → Type 0) → (lot : ℕ) → Machine → List Entry → Machine → (new : D) → Type 0
 EndsSo flow ending.Quiet start time tells held moment images lot opened journal reached new =
     IsDone flow time lot reached (held new)
@@ -210,14 +220,16 @@ EndsSo flow (ending.Fault cause) start time tells held moment images lot opened 
 -- However it ended: the journal tells what the run did to disk, inbox and outbox. Each step was made in its turn, from
 -- the clock's time at the start up to its time at the end. Inbox and outbox are those of the whole journal, but for the
 -- one file at which a device failed.
-pub record HasRun {D : Type 0} (flow : Flow) (ended : Ended) (start time : ℕ) (tells : Bool) (held : D → Files)
+pub record HasRun {D : Type 0} (flow : Flow) (ended : Ended) (start : Start) (time : ℕ) (tells : Bool) (held : D
+    → Files)
     (moment : D → ℕ) (images : D → ℕ → Files → Type 0) (lot : ℕ) (opened : Machine) (old new : D)
-    (left : List NamedFile) (standing : List ℕ → Option (List ℕ)) (journal : List Entry) : Type 0 where
+    (left : List NamedFile) (out : Outgoing) (journal : List Entry) : Type 0 where
   pub reached : Machine
   pub ran : Replays flow moment images lot opened journal reached old new
   pub acked : IsAckedBy (moment new) ended journal
-  pub turns : ComeInTurn flow None start time opened (steps journal)
+  pub turns : ComeInTurn flow None start.time time opened (steps journal)
   pub gone : IsGoneByEntry flow opened.world.inbox left journal
   pub inbox : (left ≡ files_left reached.world) ⊎ IsLeftOver flow ended opened journal left
-  pub outbox : (standing ≡ reached.world.outbox) ⊎ IsStoppedAtPut flow ended start time opened journal reached standing
+  pub outbox : HasPut flow start opened journal reached out
+      ⊎ IsStoppedAtPut flow ended start time opened journal reached out
   pub ends : EndsSo flow ended start time tells held moment images lot opened journal reached new

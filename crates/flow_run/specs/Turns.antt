@@ -1,7 +1,9 @@
 -- Which step of a run comes next, and when.
 use Rattle.std.specs.Prelude.{◌≡◌, ℕ, ◌≤◌, List, [], ◌∷◌, Option, Some, None}
+use Rattle.std.specs.List.{AllByRecursion}
 use Rattle.machine_model.specs.declared.flow.Flow.{Flow}
 use Rattle.machine_model.specs.declared.given.Given.{Given}
+use Rattle.machine_model.specs.declared.journal.Entry.{Entry}
 use Rattle.machine_model.specs.declared.journal.Step.{Step}
 use Rattle.machine_model.specs.declared.journal.Step.TheVariants.{Session, Expire}
 use Rattle.machine_model.specs.Due.{due_expiry}
@@ -60,3 +62,7 @@ ComeInTurn flow last since until before (one ∷ later) =
     (since ≤ moment_of one) × ComesNext flow last before one
     × ((after : Machine) → step flow before one ≡ Some after
     → ComeInTurn flow (worker_behind last one) (moment_of one) until after later)
+
+-- each step of the journal was made at a moment of which this holds
+abbrev pub AreMadeAt : (given : ℕ → Type 0) → List Entry → Type 0
+AreMadeAt given journal = AllByRecursion (λ entry. given (moment_of entry.step)) journal

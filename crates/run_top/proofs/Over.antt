@@ -13,9 +13,11 @@ use Rattle.store_core.specs.Calls.{IsUnwritten, SinceSync}
 use Rattle.store_core.specs.Flow as store
 use Rattle.store_core.specs.Opened.{SameMeaning}
 use Rattle.engine_core.specs.Committing.{identity_of}
-use Rattle.flow_run.specs.Ending.{EndsOnFaults, IsLimitMet}
+use Rattle.flow_run.specs.Ending.{EndsOnFaults, EndsShort, IsAtRest, IsLimitMet}
 use Rattle.flow_run.specs.Laws.{FailedOpeningsEnd}
+use Rattle.flow_run.specs.Puts.{Outgoing, Start}
 use Rattle.flow_run.specs.Run.{HasRun, machine_at}
+use Rattle.flow_run.specs.Turns.{AreMadeAt}
 use Rattle.flow_run.specs.Work.{IsEndedByLimit, IsReadDamaged}
 use Rattle.flow_run.specs.declared.ended.Ended.{Ended}
 use Rattle.flow_run.specs.declared.ended.Ended.TheVariants as ending
@@ -48,10 +50,10 @@ told_shut flow lot files _ store damaged other = absurd store
 
 module _ {A D I O : Type 0} (tells : Bool) (held : D → Files) (moment : D → ℕ) (images : D → ℕ → Files → Type 0) (flow : Flow) (lot : ℕ) (old new : D) (inbox : I) (outbox : O)
     (opened : Result A Answer) (answer : Answer) (was : opened ≡ Err answer) (store : IsOfStore answer) (opens : Opens (identity_of flow) moment images lot (held old) old new opened) where
-  pub refused_ends : FailedOpeningsEnd tells held moment images → (start time most : ℕ) → start ≤ time → (state : State) (left : List NamedFile) (standing : List ℕ → Option (List ℕ))
+  pub refused_ends : FailedOpeningsEnd tells held moment images → (given : ℕ → Type 0) (start : Start) (time most checkpoint : ℕ) → start.time ≤ time → (state : State) (left : List NamedFile) (standing : List ℕ → Option (List ℕ))
       → (answer ≡ OtherFlow → IsShutAnswer (identity_of flow) lot (held old) OtherFlow) → IsOfFlow flow lot (held old) state
-      → HasFailed flow answer start time tells held moment images lot most (machine_at state left standing) old new left standing ⊎ IsNotOpened answer moment images old new inbox inbox outbox outbox
-  refused_ends law start time most le state left standing other of = ⊎_elim
+      → HasFailed flow answer given start time tells held moment images lot most checkpoint (machine_at state left standing) old new left (record { standing = standing; puts = start.puts }) ⊎ IsNotOpened answer moment images old new inbox inbox outbox outbox
+  refused_ends law given start time most checkpoint le state left standing other of = ⊎_elim
       (λ (since : SinceSync moment images old new (SameMeaning (identity_of flow) lot (held old))).
       let cause = fault_of answer store (λ is. not_other flow lot (held old) state of (other is)) in
       inl (record {
@@ -61,6 +63,8 @@ module _ {A D I O : Type 0} (tells : Bool) (held : D → Files) (moment : D → 
           journal = [];
           ran = law flow start time lot (held old) old new state left standing cause.0 le of.stands since;
           limited = λ limit is. absurd (cc);
+          moments = tt;
+          rest = λ rest. absurd (⊎_elim (λ is. cc) (λ is. cc (is.1)) rest);
         };
       }))
       (λ (un : IsUnopened moment images old new opened). inr (not_opened moment images old new inbox outbox opened answer was un))
@@ -130,20 +134,23 @@ module _ {D : Type 0} (tells : Bool) (held : D → Files) (moment : D → ℕ) (
       (λ full. inr full)
       met
 
-  pub ran_ends : (ran : Ran) (start time most : ℕ) (opened : Machine) (old mid new : D) (left : List NamedFile) (standing : List ℕ → Option (List ℕ)) → moment old + 1 ≤ moment mid
+  pub ran_ends : (ran : Ran) (given : ℕ → Type 0) (start : Start) (time most checkpoint : ℕ) (opened : Machine) (old mid new : D) (left : List NamedFile) (out : Outgoing) → moment old + 1 ≤ moment mid
       → ((limit : Limit) → ran.ended ≡ ending.Limit limit → IsLimitMet flow tells held moment images other (moment mid) most limit new)
-      → (journal : List Entry) × ((run : HasRun flow ran.ended start time tells held moment images other opened old new left standing journal) × IfSome ran.closed (Shows flow run.reached))
-      → HasEnded flow ran start time tells held moment images lot most opened old new left standing
-  ran_ends ran start time most opened old mid new left standing begun met ends =
-      let before : HasEnded flow ran start time tells held moment images other most opened old new left standing = record {
+      → (journal : List Entry) × ((run : HasRun flow ran.ended start time tells held moment images other opened old new left out journal) × IfSome ran.closed (Shows flow run.reached) × AreMadeAt given journal)
+      → (IsAtRest ran.ended → given time) → EndsShort moment images checkpoint ran.ended new
+      → HasEnded flow ran given start time tells held moment images lot most checkpoint opened old new left out
+  ran_ends ran given start time most checkpoint opened old mid new left out begun met ends at_rest short =
+      let before : HasEnded flow ran given start time tells held moment images other most checkpoint opened old new left out = record {
         ends = record {
           journal = ends.0;
           ran = ends.1.0;
           limited = λ limit is. met_since most old mid new begun limit (met limit is);
+          moments = ends.1.2;
+          rest = λ rest. (at_rest rest, short rest);
         };
         shows = ends.1.1;
       } in
-      subst (λ (l : ℕ). HasEnded flow ran start time tells held moment images l most opened old new left standing) same before
+      subst (λ (l : ℕ). HasEnded flow ran given start time tells held moment images l most checkpoint opened old new left out) same before
 
   pub ran_why : (ended : Ended) (most : ℕ) {I O : Type 0} (old mid new : D) (inbox_old inbox_new : I) (outbox_old outbox_new : O) → moment old + 1 ≤ moment mid → moment mid ≤ moment new
       → ((limit : Limit) → ended ≡ ending.Limit limit → IsLimitMet flow tells held moment images other (moment mid) most limit new)

@@ -9,6 +9,7 @@ use Rattle.store_core.specs.Opened.{IsShut}
 use Rattle.engine_core.specs.Committing.{identity_of}
 use Rattle.flow_words.specs.declared.command.RunOptions.{RunOptions}
 use Rattle.flow_run.specs.Ending.{IsFault}
+use Rattle.flow_run.specs.Puts.{Start, outgoing}
 use Rattle.flow_run.specs.Run.{machine_at}
 use Rattle.flow_run.specs.declared.ended.Ended.{Ended}
 use Rattle.flow_run.specs.declared.ended.Ended.TheVariants as ending
@@ -56,9 +57,12 @@ shown_counts (Ok ran) answer disk_old disk_new inbox_old inbox_new outbox_old ou
 shown_counts (Err instead) answer disk_old disk_new inbox_old inbox_new outbox_old outbox_new told counts =
     subst (λ (a : Answer). CountsEachFault a disk_old disk_new inbox_old inbox_new outbox_old outbox_new) (sym told) counts
 
-module _ {D I O S : Type 0} (flow : Flow) (answer : Answer) (start time lot : ℕ) (options : RunOptions) (tells : Bool) (held : D → Files) (moment : D → ℕ) (images : D → ℕ → Files → Type 0) (old new : D)
-    (in_tells : Bool) (left : I → List NamedFile) (inbox_old inbox_new : I) (out_tells : Bool) (standing : O → List ℕ → Option (List ℕ)) (outbox_old outbox_new : O)
+module _ {D I O S : Type 0} (flow : Flow) (answer : Answer) (given : ℕ → Type 0) (start time lot : ℕ) (options : RunOptions) (tells : Bool) (held : D → Files) (moment : D → ℕ) (images : D → ℕ → Files → Type 0) (old new : D)
+    (in_tells : Bool) (left : I → List NamedFile) (inbox_old inbox_new : I) (out_tells : Bool) (standing : O → List ℕ → Option (List ℕ)) (puts : O → List NamedFile) (outbox_old outbox_new : O)
     (sink_tells : Bool) (written : S → List ℕ) (sink_faults : S → ℕ) (sink_old sink_new : S) where
+  abbrev from_start : Start
+  from_start = record { time = start; puts = puts outbox_old }
+
   abbrev Opened : State → Machine
   Opened state = machine_at state (left inbox_old) (standing outbox_old)
 
@@ -75,13 +79,13 @@ module _ {D I O S : Type 0} (flow : Flow) (answer : Answer) (start time lot : �
   LeftShut a = IsLeftShut (identity_of flow) a held moment images lot old new inbox_old inbox_new outbox_old outbox_new
 
   abbrev EndedBy : Ran → State → Type 0
-  EndedBy ran state = HasEnded flow ran start time tells held moment images lot options.max_commits (Opened state) old new (left inbox_new) (standing outbox_new)
+  EndedBy ran state = HasEnded flow ran given from_start time tells held moment images lot options.max_commits options.checkpoint (Opened state) old new (left inbox_new) (outgoing standing puts outbox_new)
 
   abbrev Failed : Answer → State → Type 0
-  Failed a state = HasFailed flow a start time tells held moment images lot options.max_commits (Opened state) old new (left inbox_new) (standing outbox_new)
+  Failed a state = HasFailed flow a given from_start time tells held moment images lot options.max_commits options.checkpoint (Opened state) old new (left inbox_new) (outgoing standing puts outbox_new)
 
   abbrev ShownEnd : State → Type 0
-  ShownEnd state = HasShownEnd flow answer start time tells held moment images lot options.max_commits (Opened state) old new (left inbox_new) (standing outbox_new) sink_tells (written sink_old) (written sink_new)
+  ShownEnd state = HasShownEnd flow answer given from_start time tells held moment images lot options.max_commits options.checkpoint (Opened state) old new (left inbox_new) (outgoing standing puts outbox_new) sink_tells (written sink_old) (written sink_new)
 
   abbrev Line : Type 0
   Line = IsRefusal answer → IsTrue sink_tells → IsLine sink_faults written (refusal_line answer) sink_old sink_new
@@ -91,7 +95,7 @@ module _ {D I O S : Type 0} (flow : Flow) (answer : Answer) (start time lot : �
       → MatchOption ran.closed (IsFault ran.ended) (λ closed. IsFault ran.ended → ⊥) → (IsTrue tells → IsShut (identity_of flow) lot (held old) → ⊥)
       → Written (answer_of_end ran.ended) → Caused (answer_of_end ran.ended) → IsToldAs ran.ended answer
       → IfSome ran.closed (λ closed. IsTrue sink_tells → IsPrinted answer (closing_text flow ran.ended closed) (written sink_old) (written sink_new)) → Line
-      → Runs flow answer start time lot options tells held moment images old new in_tells left inbox_old inbox_new out_tells standing outbox_old outbox_new sink_tells written sink_faults sink_old sink_new
+      → Runs flow answer given start time lot options tells held moment images old new in_tells left inbox_old inbox_new out_tells standing puts outbox_old outbox_new sink_tells written sink_faults sink_old sink_new
   ran_runs ran ended closes fits alone why told printed line = record {
     headline = λ disk_told in_told out_told state of.
         let ends = ended disk_told in_told out_told state of in
@@ -116,7 +120,7 @@ module _ {D I O S : Type 0} (flow : Flow) (answer : Answer) (start time lot : �
   -- it wasn't
   refused_runs : (instead : Answer) → (IsTrue tells → (state : State) → IsOfFlow flow lot (held old) state → Failed instead state ⊎ Unopened instead)
       → (IsTrue tells → IsShut (identity_of flow) lot (held old) → LeftShut instead ⊎ Unopened instead) → Written instead ⊎ Unopened instead → Caused instead → answer ≡ instead → Line
-      → Runs flow answer start time lot options tells held moment images old new in_tells left inbox_old inbox_new out_tells standing outbox_old outbox_new sink_tells written sink_faults sink_old sink_new
+      → Runs flow answer given start time lot options tells held moment images old new in_tells left inbox_old inbox_new out_tells standing puts outbox_old outbox_new sink_tells written sink_faults sink_old sink_new
   refused_runs instead failed shut alone why is line = record {
     headline = λ disk_told in_told out_told state of. ⊎_elim
         (λ (fails : Failed instead state). inl (record {
@@ -140,7 +144,7 @@ module _ {D I O S : Type 0} (flow : Flow) (answer : Answer) (start time lot : �
       → (IsTrue tells → IsShut (identity_of flow) lot (held old) → (a : Answer) × (run ≡ Err a) × (LeftShut a ⊎ Unopened a))
       → IfOk run (λ ran. Written (answer_of_end ran.ended)) → IfErr run (λ a. Written a ⊎ Unopened a) → Caused (answer_at run) → IsShownAs run answer
       → IfOk run (λ ran. IfSome ran.closed (λ closed. IsTrue sink_tells → IsPrinted answer (closing_text flow ran.ended closed) (written sink_old) (written sink_new))) → Line
-      → Runs flow answer start time lot options tells held moment images old new in_tells left inbox_old inbox_new out_tells standing outbox_old outbox_new sink_tells written sink_faults sink_old sink_new
+      → Runs flow answer given start time lot options tells held moment images old new in_tells left inbox_old inbox_new out_tells standing puts outbox_old outbox_new sink_tells written sink_faults sink_old sink_new
   runs (Ok ran) ended closes failed shut alone barely why told printed line =
       ran_runs ran ended closes (λ disk_told shut_is. not_err (shut disk_told shut_is)) alone why told printed line
     where

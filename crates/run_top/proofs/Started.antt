@@ -23,6 +23,7 @@ use Rattle.store_core.specs.Valid.{HeldFilesStandForKept, KeptIsValid}
 use Rattle.engine_core.specs.Committing.{identity_of}
 use Rattle.flow_run.specs.Going.{IsRunningAt}
 use Rattle.flow_run.specs.Laws.{OpenedRunsBegin}
+use Rattle.flow_run.specs.Puts.{Start}
 use Rattle.flow_run.specs.Run.{machine_at}
 use Rattle.flow_run.specs.Work.{IsAtWork}
 
@@ -43,10 +44,10 @@ module _ (law : HeldFilesStandForKept) (flow : Flow) (s : StoreState) (lot : ℕ
 module _ {D : Type 0} (moment : D → ℕ) (images : D → ℕ → Files → Type 0) (begins : OpenedRunsBegin moment images) (law : HeldFilesStandForKept) (valid : KeptIsValid) (rows : Rows)
     (flow : Flow) (tells : Bool) (held : D → Files) (s : StoreState) (lot : ℕ) (old new : D) (state : State) where
   -- a store that works, behind its opening
-  pub starts : (start time : ℕ) → start ≤ time → (left : List NamedFile) (standing : List ℕ → Option (List ℕ)) → IsAtWork flow tells held moment images s new → s.lot ≡ lot
+  pub starts : (start : Start) (time : ℕ) → start.time ≤ time → (left : List NamedFile) (standing : List ℕ → Option (List ℕ)) → IsAtWork flow tells held moment images s new → s.lot ≡ lot
       → IsConsistent (kept_by s) → (kept_by s).batches ≡ [] → (kept_by s).last_event ≡ s.events.end → images new (moment new) (held new)
       → SinceSync moment images old new (SameMeaning (identity_of flow) lot (held old)) → stands_for (identity_of flow) lot (held old) ≡ Ok state
-      → IsRunningAt flow start time moment images s.lot (machine_at state left standing) old new [] (machine_at state left standing) left standing
+      → IsRunningAt flow start time moment images s.lot (machine_at state left standing) old new [] (machine_at state left standing) left (record { standing = standing; puts = start.puts })
   starts start time le left standing work is consistent none last is_left since stands =
       let same : SameMeaning (identity_of flow) lot (held old) (held new) = since.each (moment new) (held new) since.begun (omega arith) is_left in
       let holds : Holds s (held new) = work.kept.holds work.works (held new) is_left in
@@ -57,5 +58,5 @@ module _ {D : Type 0} (moment : D → ℕ) (images : D → ℕ → Files → Typ
       let sound : IsValid flow (state_with (content_in (held new)) events (kept_by s)) = valid flow (content_in (held new)) events (kept_by s) consistent none row.0 row.1
       (ap (λ (f : store.Flow). length f.connections) work.flow_is ∙ length-map flow.connections (λ (connection : Connection). connection.id)) (ap (λ (f : store.Flow). f.processors) work.flow_is)
       in
-      subst (λ (l : ℕ). IsRunningAt flow start time moment images l (machine_at state left standing) old new [] (machine_at state left standing) left standing) (sym is)
+      subst (λ (l : ℕ). IsRunningAt flow start time moment images l (machine_at state left standing) old new [] (machine_at state left standing) left (record { standing = standing; puts = start.puts })) (sym is)
       (begins flow start time lot (held old) old new state left standing (subst (λ (x : State). IsValid flow x) (sym kept) sound) le stands since)

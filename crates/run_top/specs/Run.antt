@@ -19,8 +19,10 @@ use Rattle.engine_core.specs.Committing.{identity_of}
 use Rattle.flow_definition.specs.Patterns.{Told}
 use Rattle.flow_definition.specs.declared.rule.Rule.{Rule}
 use Rattle.flow_words.specs.declared.command.RunOptions.{RunOptions}
-use Rattle.flow_run.specs.Ending.{IsFault, IsLimitMet}
+use Rattle.flow_run.specs.Ending.{IsAtRest, IsFault, IsLimitMet}
+use Rattle.flow_run.specs.Puts.{Outgoing, Start, outgoing}
 use Rattle.flow_run.specs.Run.{HasRun, machine_at}
+use Rattle.flow_run.specs.Turns.{AreMadeAt}
 use Rattle.flow_run.specs.Work.{IsReadDamaged, IsShortOn, MayWriteFrom}
 use Rattle.flow_run.specs.declared.ended.Ended.{Ended}
 use Rattle.flow_run.specs.declared.ended.Ended.TheVariants as ending
@@ -38,29 +40,34 @@ use Rattle.run_top.specs.declared.answer.Answer.TheVariants.{Limit as Limited}
 -- ---- a flow has run
 
 -- The flow has run from one time of the clock to another, with this journal, and ended so. Where the journal's limit
--- ended it, that is `most`.
-pub record EndsWith {D : Type 0} (flow : Flow) (ended : Ended) (start time : ℕ) (tells : Bool) (held : D → Files)
-    (moment : D → ℕ) (images : D → ℕ → Files → Type 0) (lot most : ℕ) (opened : Machine) (old new : D)
-    (left : List NamedFile) (standing : List ℕ → Option (List ℕ)) : Type 0 where
+-- ended it, that is `most`. Of each step's moment holds what holds of each moment that the clock gave; and where nothing
+-- was left to do, or all of it was held back, of the time too, and the log is short.
+pub record EndsWith {D : Type 0} (flow : Flow) (ended : Ended) (given : ℕ → Type 0) (start : Start) (time : ℕ)
+    (tells : Bool) (held : D → Files) (moment : D → ℕ) (images : D → ℕ → Files → Type 0) (lot most checkpoint : ℕ)
+    (opened : Machine) (old new : D) (left : List NamedFile) (out : Outgoing) : Type 0 where
   pub journal : List Entry
-  pub ran : HasRun flow ended start time tells held moment images lot opened old new left standing journal
+  pub ran : HasRun flow ended start time tells held moment images lot opened old new left out journal
   pub limited : (limit : Limit) → ended ≡ ending.Limit limit
       → IsLimitMet flow tells held moment images lot (moment old + 1) most limit new
+  pub moments : AreMadeAt given journal
+  pub rest : IsAtRest ended → given time × IsShortOn moment images checkpoint new
 
 -- a run has ended so, and where its store was closed what it left is what the machine reached
-pub record HasEnded {D : Type 0} (flow : Flow) (ran : Ran) (start time : ℕ) (tells : Bool) (held : D → Files)
-    (moment : D → ℕ) (images : D → ℕ → Files → Type 0) (lot most : ℕ) (opened : Machine) (old new : D)
-    (left : List NamedFile) (standing : List ℕ → Option (List ℕ)) : Type 0 where
-  pub ends : EndsWith flow ran.ended start time tells held moment images lot most opened old new left standing
+pub record HasEnded {D : Type 0} (flow : Flow) (ran : Ran) (given : ℕ → Type 0) (start : Start) (time : ℕ)
+    (tells : Bool) (held : D → Files) (moment : D → ℕ) (images : D → ℕ → Files → Type 0) (lot most checkpoint : ℕ)
+    (opened : Machine) (old new : D) (left : List NamedFile) (out : Outgoing) : Type 0 where
+  pub ends : EndsWith flow ran.ended given start time tells held moment images lot most checkpoint opened old new
+      left out
   pub shows : IfSome ran.closed (Shows flow ends.ran.reached)
 
 -- behind its first sync the opening of the store failed, which ended a run that has done nothing
-pub record HasFailed {D : Type 0} (flow : Flow) (answer : Answer) (start time : ℕ) (tells : Bool) (held : D → Files)
-    (moment : D → ℕ) (images : D → ℕ → Files → Type 0) (lot most : ℕ) (opened : Machine) (old new : D)
-    (left : List NamedFile) (standing : List ℕ → Option (List ℕ)) : Type 0 where
+pub record HasFailed {D : Type 0} (flow : Flow) (answer : Answer) (given : ℕ → Type 0) (start : Start) (time : ℕ)
+    (tells : Bool) (held : D → Files) (moment : D → ℕ) (images : D → ℕ → Files → Type 0) (lot most checkpoint : ℕ)
+    (opened : Machine) (old new : D) (left : List NamedFile) (out : Outgoing) : Type 0 where
   pub cause : Fault
   pub told : answer ≡ answer_of_fault cause
-  pub ends : EndsWith flow (ending.Fault cause) start time tells held moment images lot most opened old new left standing
+  pub ends : EndsWith flow
+      (ending.Fault cause) given start time tells held moment images lot most checkpoint opened old new left out
 
 -- the end is told, or where the store was closed that its text couldn't be printed
 abbrev pub IsToldAs : Ended → Answer → Type 0
@@ -72,12 +79,12 @@ IsShownAs (Ok ran) answer = IsToldAs ran.ended answer
 IsShownAs (Err instead) answer = answer ≡ instead
 
 -- It has ended and told so. Unless something failed, the text of the end was printed.
-pub record HasShownEnd {D : Type 0} (flow : Flow) (answer : Answer) (start time : ℕ) (tells : Bool) (held : D → Files)
-    (moment : D → ℕ) (images : D → ℕ → Files → Type 0) (lot most : ℕ) (opened : Machine) (old new : D)
-    (left : List NamedFile) (standing : List ℕ → Option (List ℕ)) (sink_tells : Bool) (before after : List ℕ) : Type 0 where
+pub record HasShownEnd {D : Type 0} (flow : Flow) (answer : Answer) (given : ℕ → Type 0) (start : Start) (time : ℕ)
+    (tells : Bool) (held : D → Files) (moment : D → ℕ) (images : D → ℕ → Files → Type 0) (lot most checkpoint : ℕ)
+    (opened : Machine) (old new : D) (left : List NamedFile) (out : Outgoing) (sink_tells : Bool) (before after : List ℕ) : Type 0 where
   pub ended : Ended
   pub told : IsToldAs ended answer
-  pub ends : EndsWith flow ended start time tells held moment images lot most opened old new left standing
+  pub ends : EndsWith flow ended given start time tells held moment images lot most checkpoint opened old new left out
   pub printed : (IsFault ended → ⊥) → IsTrue sink_tells
       → IsPrinted answer (end_text flow ended ends.ran.reached) before after
 
@@ -196,17 +203,19 @@ pub record CountsEachFault (answer : Answer) (disk_old disk_new inbox_old inbox_
 -- ---- a run of a flow that was read
 
 -- What a run of the flow did to disk, inbox, outbox and sink.
-pub record Runs {D I O S : Type 0} (flow : Flow) (answer : Answer) (start time : ℕ) (lot : ℕ) (options : RunOptions)
+pub record Runs {D I O S : Type 0} (flow : Flow) (answer : Answer) (given : ℕ → Type 0) (start time lot : ℕ)
+    (options : RunOptions)
     (tells : Bool) (held : D → Files) (moment : D → ℕ) (images : D → ℕ → Files → Type 0) (old new : D)
     (in_tells : Bool) (left : I → List NamedFile) (inbox_old inbox_new : I)
-    (out_tells : Bool) (standing : O → List ℕ → Option (List ℕ)) (outbox_old outbox_new : O)
+    (out_tells : Bool) (standing : O → List ℕ → Option (List ℕ)) (puts : O → List NamedFile) (outbox_old outbox_new : O)
     (sink_tells : Bool) (written : S → List ℕ) (sink_faults : S → ℕ) (sink_old sink_new : S) : Type 0 where
   -- Where the devices tell and the files stand for a state of the flow, there is a journal of which all that HasRun
   -- says is true, whatever the answer, and its end was printed; or the store wasn't opened.
   pub headline : IsTrue tells → IsTrue in_tells → IsTrue out_tells → (state : State) → IsOfFlow flow lot (held old) state
-      → HasShownEnd flow answer start time tells held moment images lot options.max_commits
-      (machine_at state (left inbox_old) (standing outbox_old)) old new (left inbox_new) (standing outbox_new) sink_tells
-      (written sink_old) (written sink_new)
+      → HasShownEnd flow answer given
+      (record { time = start; puts = puts outbox_old }) time tells held moment images lot
+      options.max_commits options.checkpoint (machine_at state (left inbox_old) (standing outbox_old)) old new
+      (left inbox_new) (outgoing standing puts outbox_new) sink_tells (written sink_old) (written sink_new)
       ⊎ IsNotOpened answer moment images old new inbox_old inbox_new outbox_old outbox_new
   -- Where the files stand for no state, or for one of another flow, the disk is synced once and nothing else is done,
   -- whatever the answer; or the store wasn't opened.

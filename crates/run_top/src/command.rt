@@ -9,6 +9,7 @@ ghost use Rattle.store_core.specs.Opened.{IsShut};
 ghost use Rattle.engine_core.specs.Committing.{identity_of};
 ghost use Rattle.flow_definition.specs.Patterns.{told};
 ghost use Rattle.flow_run.specs.Ending.{IsFault};
+ghost use Rattle.flow_run.specs.Puts.{outgoing};
 ghost use Rattle.flow_run.specs.Run.{machine_at};
 ghost use Rattle.flow_engine.specs.Engine.{AreBuilt};
 ghost use Rattle.run_top.specs.Opening.{IsOfFlow, IsOfStore};
@@ -41,7 +42,9 @@ use world_io::{Clock, Gate, Inbox, Outbox, Sink, Source};
 /// the disk, or makes one, whose id is then the low 60 bits of the lot. Then the flow runs over it, session after
 /// session, until nothing is left to do, all of it is held back by full connections, or the journal has as many entries
 /// as `--max-commits` says. A log of as many entries as `--checkpoint` says is followed by a new one. The clock tells
-/// the moments of sessions. Whatever `--threads` says, one session runs at a time, and no gate is asked.
+/// the moments of sessions. Whatever `--threads` says, one session runs at a time. Each session's processor works
+/// between one `enter` and one `leave` of the gate, under a number: how many entries the journal has before the
+/// session's own.
 ///
 /// At its end it prints a summary: how many files each connection has and how many bytes they have together, how many
 /// names of the inbox are left, and how many events of each kind the store has; and behind it what held the run back or
@@ -58,15 +61,15 @@ pub fn run<R, D: Disk, I: Inbox, O: Outbox, F: Source, P: Patterns, S: Sink, C: 
     patterns: &mut P,
     sink: &mut S,
     clock: &mut C,
-    _gate: &G,
+    gate: &G,
 ) -> u8
     // The status is that of an answer. A flow of the text was read, and this is what its run did; or none was, and
     // nothing was done.
     ensures asked { (options : TheOptions) → AskToRun words.now options
         → (answer : TheAnswer) × (result ≡ status_of answer)
         × (((one : TheFlow) × IsRead F.tells (F.rest flow.old) one
-        × Runs one answer (C.time clock.old) (C.time clock.new) lot options D.tells D.held D.moment D.images
-        disk.old disk.new I.tells I.left inbox.old inbox.new O.tells O.standing outbox.old outbox.new
+        × Runs one answer C.given (C.time clock.old) (C.time clock.new) lot options D.tells D.held D.moment D.images
+        disk.old disk.new I.tells I.left inbox.old inbox.new O.tells O.standing O.puts outbox.old outbox.new
         S.tells S.written S.faults sink.old sink.new)
         ⊎ IsNotRead answer (told P.faults P.refused patterns.old) (told P.faults P.refused patterns.new) F.tells
         (F.rest flow.old) S.tells S.written S.faults
@@ -94,13 +97,13 @@ pub fn run<R, D: Disk, I: Inbox, O: Outbox, F: Source, P: Patterns, S: Sink, C: 
         × CountsFaults (S.faults sink.old) (S.faults sink.new) (answer ≡ Answer.Sink) }
 {
     let answer = answer_words(
-        alloc, words, lot, disk, inbox, outbox, flow, patterns, sink, clock,
+        alloc, words, lot, disk, inbox, outbox, flow, patterns, sink, clock, gate,
     );
     answer.status()
 }
 
 // What the words come to.
-fn answer_words<D: Disk, I: Inbox, O: Outbox, F: Source, P: Patterns, S: Sink, C: Clock>(
+fn answer_words<D: Disk, I: Inbox, O: Outbox, F: Source, P: Patterns, S: Sink, C: Clock, G: Gate>(
     alloc: Global,
     words: &[String],
     lot: u64,
@@ -111,11 +114,12 @@ fn answer_words<D: Disk, I: Inbox, O: Outbox, F: Source, P: Patterns, S: Sink, C
     patterns: &mut P,
     sink: &mut S,
     clock: &mut C,
+    gate: &G,
 ) -> Answer
     ensures asked { (options : TheOptions) → AskToRun words.now options
         → (((one : TheFlow) × IsRead F.tells (F.rest flow.old) one
-        × Runs one result (C.time clock.old) (C.time clock.new) lot options D.tells D.held D.moment D.images
-        disk.old disk.new I.tells I.left inbox.old inbox.new O.tells O.standing outbox.old outbox.new
+        × Runs one result C.given (C.time clock.old) (C.time clock.new) lot options D.tells D.held D.moment D.images
+        disk.old disk.new I.tells I.left inbox.old inbox.new O.tells O.standing O.puts outbox.old outbox.new
         S.tells S.written S.faults sink.old sink.new)
         ⊎ IsNotRead result (told P.faults P.refused patterns.old) (told P.faults P.refused patterns.new) F.tells
         (F.rest flow.old) S.tells S.written S.faults
@@ -135,7 +139,7 @@ fn answer_words<D: Disk, I: Inbox, O: Outbox, F: Source, P: Patterns, S: Sink, C
 {
     match options_to_run(alloc, words) {
         Ok(options) => run_text(
-            alloc, options, lot, disk, inbox, outbox, flow, patterns, sink, clock,
+            alloc, options, lot, disk, inbox, outbox, flow, patterns, sink, clock, gate,
         ),
         Err(answer) => refuse(sink, answer),
     }
@@ -157,7 +161,7 @@ fn options_to_run(alloc: Global, words: &[String]) -> Result<RunOptions, Answer>
 }
 
 // Runs the flow whose text the source has.
-fn run_text<D: Disk, I: Inbox, O: Outbox, F: Source, P: Patterns, S: Sink, C: Clock>(
+fn run_text<D: Disk, I: Inbox, O: Outbox, F: Source, P: Patterns, S: Sink, C: Clock, G: Gate>(
     alloc: Global,
     options: RunOptions,
     lot: u64,
@@ -168,11 +172,12 @@ fn run_text<D: Disk, I: Inbox, O: Outbox, F: Source, P: Patterns, S: Sink, C: Cl
     patterns: &mut P,
     sink: &mut S,
     clock: &mut C,
+    gate: &G,
 ) -> Answer
     requires most { options.max_commits ≤ COMMITS_MAX }
     ensures asked { (((one : TheFlow) × IsRead F.tells (F.rest flow.old) one
-        × Runs one result (C.time clock.old) (C.time clock.new) lot options D.tells D.held D.moment D.images
-        disk.old disk.new I.tells I.left inbox.old inbox.new O.tells O.standing outbox.old outbox.new
+        × Runs one result C.given (C.time clock.old) (C.time clock.new) lot options D.tells D.held D.moment D.images
+        disk.old disk.new I.tells I.left inbox.old inbox.new O.tells O.standing O.puts outbox.old outbox.new
         S.tells S.written S.faults sink.old sink.new)
         ⊎ IsNotRead result (told P.faults P.refused patterns.old) (told P.faults P.refused patterns.new) F.tells
         (F.rest flow.old) S.tells S.written S.faults
@@ -187,13 +192,15 @@ fn run_text<D: Disk, I: Inbox, O: Outbox, F: Source, P: Patterns, S: Sink, C: Cl
         × CountsFaults (S.faults sink.old) (S.faults sink.new) (result ≡ Answer.Sink) }
 {
     match read(alloc, flow, patterns) {
-        Ok(flow) => run_read(alloc, &flow, options, lot, disk, inbox, outbox, sink, clock),
+        Ok(flow) => run_read(
+            alloc, &flow, options, lot, disk, inbox, outbox, sink, clock, gate,
+        ),
         Err(answer) => refuse(sink, answer),
     }
 }
 
 // Runs a flow that was read, and prints how that ended.
-fn run_read<D: Disk, I: Inbox, O: Outbox, S: Sink, C: Clock>(
+fn run_read<D: Disk, I: Inbox, O: Outbox, S: Sink, C: Clock, G: Gate>(
     alloc: Global,
     flow: &Flow,
     options: RunOptions,
@@ -203,14 +210,15 @@ fn run_read<D: Disk, I: Inbox, O: Outbox, S: Sink, C: Clock>(
     outbox: &mut O,
     sink: &mut S,
     clock: &mut C,
+    gate: &G,
 ) -> Answer
     requires sound { IsSound flow.now }
     requires built { AreBuilt flow.now }
     requires digest { IsDigest flow.now.digest }
     requires most { options.max_commits ≤ COMMITS_MAX }
-    ensures runs { Runs flow.now result (C.time clock.old) (C.time clock.new) lot options
+    ensures runs { Runs flow.now result C.given (C.time clock.old) (C.time clock.new) lot options
         D.tells D.held D.moment D.images
-        disk.old disk.new I.tells I.left inbox.old inbox.new O.tells O.standing outbox.old outbox.new
+        disk.old disk.new I.tells I.left inbox.old inbox.new O.tells O.standing O.puts outbox.old outbox.new
         S.tells S.written S.faults sink.old sink.new }
     ensures faults { CountsEachFault result (D.faults disk.old) (D.faults disk.new)
         (I.faults inbox.old) (I.faults inbox.new) (O.faults outbox.old) (O.faults outbox.new)
@@ -226,13 +234,14 @@ fn run_read<D: Disk, I: Inbox, O: Outbox, S: Sink, C: Clock>(
         inbox,
         outbox,
         clock,
+        gate,
     );
     show(sink, flow, run)
 }
 
 /// Opens the store of a flow, and runs the flow over it, until the journal has `most` entries at the latest, with a
 /// checkpoint where the log has `checkpoint` entries.
-pub(crate) fn run_over<D: Disk, I: Inbox, O: Outbox, C: Clock>(
+pub(crate) fn run_over<D: Disk, I: Inbox, O: Outbox, C: Clock, G: Gate>(
     alloc: Global,
     flow: &Flow,
     lot: u64,
@@ -242,6 +251,7 @@ pub(crate) fn run_over<D: Disk, I: Inbox, O: Outbox, C: Clock>(
     inbox: &mut I,
     outbox: &mut O,
     clock: &mut C,
+    gate: &G,
 ) -> Result<Ran, Answer>
     requires sound { IsSound flow.now }
     requires built { AreBuilt flow.now }
@@ -249,17 +259,19 @@ pub(crate) fn run_over<D: Disk, I: Inbox, O: Outbox, C: Clock>(
     requires most { most < 2 ^ 64 - 1 }
     ensures ran { IfOk result (λ ran. IsTrue D.tells → IsTrue I.tells → IsTrue O.tells
         → (state : State) → IsOfFlow flow.now lot (D.held disk.old) state
-        → HasEnded flow.now ran (C.time clock.old) (C.time clock.new) D.tells D.held D.moment D.images lot most
+        → HasEnded flow.now ran C.given (record { time = C.time clock.old; puts = O.puts outbox.old })
+        (C.time clock.new) D.tells D.held D.moment D.images lot most checkpoint
         (machine_at state (I.left inbox.old) (O.standing outbox.old))
-        disk.old disk.new (I.left inbox.new) (O.standing outbox.new)) }
+        disk.old disk.new (I.left inbox.new) (outgoing O.standing O.puts outbox.new)) }
     ensures closed { IfOk result (λ ran. MatchOption ran.closed (IsFault ran.ended)
         (λ closed. IsFault ran.ended → ⊥)) }
     ensures refused { IfErr result IsOfStore }
     ensures failed { IfErr result (λ answer. IsTrue D.tells
         → (state : State) → IsOfFlow flow.now lot (D.held disk.old) state
-        → HasFailed flow.now answer (C.time clock.old) (C.time clock.new) D.tells D.held D.moment D.images lot most
+        → HasFailed flow.now answer C.given (record { time = C.time clock.old; puts = O.puts outbox.old })
+        (C.time clock.new) D.tells D.held D.moment D.images lot most checkpoint
         (machine_at state (I.left inbox.old) (O.standing outbox.old))
-        disk.old disk.new (I.left inbox.new) (O.standing outbox.new)
+        disk.old disk.new (I.left inbox.new) (outgoing O.standing O.puts outbox.new)
         ⊎ IsNotOpened answer D.moment D.images disk.old disk.new inbox.old inbox.new outbox.old outbox.new) }
     ensures shut { IsTrue D.tells → IsShut (identity_of flow.now) lot (D.held disk.old)
         → (answer : TheAnswer) × (result ≡ Err answer)
@@ -286,6 +298,6 @@ pub(crate) fn run_over<D: Disk, I: Inbox, O: Outbox, C: Clock>(
     events_up_to_the_last_are_in_a_row();
     let _stored = store.state();
     Ok(run_flow(
-        alloc, flow, store, most, checkpoint, disk, inbox, outbox, clock,
+        alloc, flow, store, most, checkpoint, disk, inbox, outbox, clock, gate,
     ))
 }

@@ -17,10 +17,11 @@ use machine_model::Flow;
 use prov_store::Events;
 use sha2::{Digest, Sha256};
 use std::alloc::Global;
+use std::sync::atomic::{AtomicU64, Ordering};
 use std::test::Fail;
 use store_core::{Limit, Which};
 use world_io::{
-    FreeGate, MemoryClock, MemoryInbox, MemoryOutbox, MemorySink, MemorySource, Name, Outbox,
+    FreeGate, Gate, MemoryClock, MemoryInbox, MemoryOutbox, MemorySink, MemorySource, Name, Outbox,
 };
 
 // What comes into the inbox goes out by the outbox.
@@ -262,12 +263,13 @@ fn log_behind(
 
 // Runs the flow over the store, until the journal has `most` entries at the latest: how that ended, and how many files
 // were delivered.
-fn goes_on(
+fn goes_on<G: Gate>(
     alloc: Global,
     disk: &mut MemoryDisk,
     flow: &Flow,
     most: u64,
     checkpoint: u64,
+    gate: &G,
 ) -> Result<(Ended, u64), Fail>
     requires sound { IsSound flow.now }
     requires built { AreBuilt flow.now }
@@ -287,6 +289,7 @@ fn goes_on(
         &mut inbox,
         &mut outbox,
         &mut clock,
+        gate,
     );
     match ran {
         Ok(ran) => Ok((ran.ended, outbox.count() as u64)),
@@ -300,7 +303,8 @@ fn runs_on(alloc: Global, disk: &mut MemoryDisk, run: LoggedRun, gone: u64) -> R
     let flow = beat(alloc, run.files)?;
     log_behind(alloc, disk, &flow, gone, gone)?;
     let left = run.files.saturating_sub(gone);
-    if goes_on(alloc, disk, &flow, DEFAULT_COMMITS, run.entries)? != (Ended::Quiet, left) {
+    let ended = goes_on(alloc, disk, &flow, DEFAULT_COMMITS, run.entries, &FreeGate)?;
+    if ended != (Ended::Quiet, left) {
         return Err("a run that doesn't deliver the rest")?;
     }
     if log_behind(alloc, disk, &flow, run.files, run.files)? != (run.last_log, 0) {
@@ -319,16 +323,73 @@ fn ends_at_its_limit(alloc: Global) -> Result<(), Fail> {
         number: 5,
         wanted: 6,
     };
-    let ended = goes_on(alloc, &mut disk, &flow, 5, DEFAULT_CHECKPOINT)?;
+    let ended = goes_on(alloc, &mut disk, &flow, 5, DEFAULT_CHECKPOINT, &FreeGate)?;
     if ended != (Ended::Limit(limit), 2) {
         return Err("a run that isn't ended by the limit of its journal")?;
     }
     log_behind(alloc, &mut disk, &flow, 3, 2)?;
-    let ended = goes_on(alloc, &mut disk, &flow, DEFAULT_COMMITS, DEFAULT_CHECKPOINT)?;
+    let ended = goes_on(
+        alloc,
+        &mut disk,
+        &flow,
+        DEFAULT_COMMITS,
+        DEFAULT_CHECKPOINT,
+        &FreeGate,
+    )?;
     if ended != (Ended::Quiet, 2) {
         return Err("a run that doesn't deliver what a limit left")?;
     }
     log_behind(alloc, &mut disk, &flow, 4, 4)?;
+    Ok(())
+}
+
+// A gate that counts the sessions that come to it in turn, by their numbers, and those that go.
+#[derive(Drop)]
+struct CountingGate {
+    came: AtomicU64,
+    went: AtomicU64,
+}
+
+impl Gate for CountingGate {
+    fn enter(&self, session: u64) {
+        if session == self.came.load(Ordering::SeqCst) {
+            self.came.fetch_add(1, Ordering::SeqCst);
+        }
+    }
+
+    fn leave(&self, session: u64) {
+        if session == self.went.load(Ordering::SeqCst) {
+            self.went.fetch_add(1, Ordering::SeqCst);
+        }
+    }
+}
+
+// Runs the flow of four files: each of its eight sessions passes the gate.
+fn passes_the_gate(alloc: Global) -> Result<(), Fail> {
+    let flow = beat(alloc, 4)?;
+    let mut disk = MemoryDisk::new(Vec::new(alloc));
+    let gate = CountingGate {
+        came: AtomicU64::new(0),
+        went: AtomicU64::new(0),
+    };
+    let ended = goes_on(
+        alloc,
+        &mut disk,
+        &flow,
+        DEFAULT_COMMITS,
+        DEFAULT_CHECKPOINT,
+        &gate,
+    )?;
+    if ended != (Ended::Quiet, 4) {
+        return Err("a run that doesn't deliver its files")?;
+    }
+    let passed = (
+        gate.came.load(Ordering::SeqCst),
+        gate.went.load(Ordering::SeqCst),
+    );
+    if passed != (8, 8) {
+        return Err("a session that doesn't pass the gate")?;
+    }
     Ok(())
 }
 
@@ -385,5 +446,6 @@ fn wherever_a_run_stops_the_next_one_delivers_the_file(rt: HostRuntime) -> Resul
     goes_by_logs(alloc, short, &PICKS)?;
     goes_by_logs(alloc, long, &[Pick::Torn(0x5a5a)])?;
     ends_at_its_limit(alloc)?;
+    passes_the_gate(alloc)?;
     Ok(())
 }

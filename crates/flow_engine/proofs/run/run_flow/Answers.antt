@@ -16,22 +16,26 @@ use Rattle.flow_engine.specs.Errors.{ended_by}
 use Rattle.flow_engine.specs.declared.error.EngineError.{EngineError}
 use Rattle.flow_engine.specs.declared.error.EngineError.TheVariants.{Limit}
 use Rattle.flow_engine.proofs.Closing.{IsNoLimit, begun, by_damage, closes_blocked, closes_limited, closes_quiet, closes_so, ends_on_faults, has_ended, limit_met, limit_of, no_limit_faults, not_opened, run_of, wanted_or_disk, works_at_limit, works_behind, works_on}
+use Rattle.flow_engine.proofs.Growing.{none_made}
 use Rattle.flow_engine.proofs.Turning.{damaged_by, each_counts_after}
-use Rattle.flow_engine.proofs.Short.{ends_by_error, ends_short}
+use Rattle.flow_engine.proofs.Short.{ends_by_error, ends_short, no_rest}
 use Rattle.flow_run.proofs.Writing.{same_log, writes_in_turn, writes_none, writes_on}
 use Rattle.flow_engine.proofs.Shown.{closes_or_fails, fails_to_open, fails_to_run, none_shown, run_shows}
 use Rattle.flow_engine.proofs.Writes.{writes_by_close}
+use Rattle.flow_run.specs.Puts.{outgoing}
 use Rattle.flow_engine.proofs.run.run_flow.Goals as goal
 
 pub returns-in-Err-clause-headline : goal.returns-in-Err-clause-headline
 returns-in-Err-clause-headline g c telling in_telling out_telling state first start run =
     let D = g.D.Disk in
     let left : List NamedFile = g.I.Inbox.left c.args.inbox.now in
-    let standing = g.O.Outbox.standing c.args.outbox.now in (
+    let standing = g.O.Outbox.standing c.args.outbox.now in
+    let out = outgoing g.O.Outbox.standing g.O.Outbox.puts c.args.outbox.now in (
       [],
       not_opened D.tells D.held D.moment D.images c.faults_end_a_run.ensures.between c.args.flow.now c.args.store.lot start (g.C.Clock.time c.args.clock.now) (machine_at state left standing) first c.args.disk.now left
-          (g.I.Inbox.left c.new.new.inbox) standing c.in-Err.error c.fail.result.ended c.in-Err.ensures.kinds c.fail.ensures.ended c.new.ensures.left run,
+          (g.I.Inbox.left c.new.new.inbox) out c.in-Err.error c.fail.result.ended c.in-Err.ensures.kinds c.fail.ensures.ended c.new.ensures.left run,
       none_shown c.args.flow.now c.fail.result.closed _ c.fail.ensures.closed,
+      tt,
     )
 
 pub returns-in-Err-clause-closed : goal.returns-in-Err-clause-closed
@@ -42,8 +46,9 @@ returns-in-Ok-Blocked-clause-headline g c telling in_telling out_telling state f
     let D = g.D.Disk in
     let left : List NamedFile = g.I.Inbox.left c.args.inbox.now in
     let standing = g.O.Outbox.standing c.args.outbox.now in
+    let out = outgoing g.O.Outbox.standing g.O.Outbox.puts c.args.outbox.now in
     let now_left : List NamedFile = g.I.Inbox.left c.drive.new.inbox in
-    let now_standing = g.O.Outbox.standing c.drive.new.outbox in
+    let now_out = outgoing g.O.Outbox.standing g.O.Outbox.puts c.drive.new.outbox in
     let time = g.C.Clock.time c.drive.new.clock in
     let opened = machine_at state left standing in
     let flow : Flow = c.args.flow.now in
@@ -51,21 +56,22 @@ returns-in-Ok-Blocked-clause-headline g c telling in_telling out_telling state f
     let e : EngineState = c.drive.new.self in
     let laws = g.met.D.Disk g.world.𝓛 g.world.𝓜 g.world.𝓡 ((λ s x. x), (λ x. x), (λ x. x), λ x. x) in
     let works : e.failed ≡ false = works_behind c.drive.result e.failed c.in-Ok-Blocked.field-0 c.in-Ok-Blocked.is c.drive.ensures.failed in
-    let begins = begun D.moment D.images flow c.args.store c.args.most c.args.checkpoint c.in-Ok.engine is opened first c.args.disk.now start (g.C.Clock.time c.args.clock.now) left (g.I.Inbox.left c.new.new.inbox) standing c.new.ensures.left
+    let begins = begun D.moment D.images flow c.args.store c.args.most c.args.checkpoint c.in-Ok.engine is opened first c.args.disk.now start (g.C.Clock.time c.args.clock.now) left (g.I.Inbox.left c.new.new.inbox) out c.new.ensures.left
     (c.in-Ok.ensures.listed.coming in_telling state standing) run in
-    let end = subst (λ (a : Ending). IsEnded D.moment D.images e opened first start time c.drive.new.disk now_left now_standing a) c.in-Ok-Blocked.field-0-is
+    let end = subst (λ (a : Ending). IsEnded D.moment D.images e opened first start time c.drive.new.disk now_left now_out a) c.in-Ok-Blocked.field-0-is
     (c.in-Ok-Blocked.ensures.ended telling in_telling out_telling opened first start (g.C.Clock.time c.args.clock.now) (omega arith) begins) in
     let closes = closes_so c.close.result e.failed c.leave.result.ended (ended.Blocked c.in-Ok-Blocked.connection) (IsTrue D.tells → IsTidied e.flow e.store.lot (D.held c.close.new.disk)) works c.leave.ensures.ok c.leave.ensures.err (IfOk-weaker c.close.result _ _ (λ closed is_closed. is_closed.tidied) c.close.ensures.closed)
     c.close.ensures.refusal.reopen c.close.ensures.refusal.kinds in
     let ran =
     closes_blocked D.tells D.held D.moment D.images c.faults_end_a_run.ensures.between e flow c.args.store.lot (c.drive.ensures.same.flow ∙ is.flow_is) (c.drive.ensures.same.lot ∙ ap (λ (t : StoreState). t.lot) is.store_is)
-    (c.in-Ok-Blocked.ensures.work.flow_is ∙ ap identity_of (sym c.drive.ensures.same.flow)) opened first c.drive.new.disk c.close.new.disk now_left now_standing start time c.leave.result.ended (c.close.ensures.states works)
+    (c.in-Ok-Blocked.ensures.work.flow_is ∙ ap identity_of (sym c.drive.ensures.same.flow)) opened first c.drive.new.disk c.close.new.disk now_left now_out start time c.leave.result.ended (c.close.ensures.states works)
     (laws.held_is_left c.close.new.disk telling) c.close.result c.run_ends.ensures.blocked c.in-Ok-Blocked.connection end closes telling in (
       e.journal,
       ran,
-      run_shows c.names_are_lost_by_taking.ensures.one_step D.tells D.held D.moment D.images flow c.in-Ok.engine e state left now_left standing now_standing first c.drive.new.disk c.close.new.disk start time end.reached ran.reached
+      run_shows c.names_are_lost_by_taking.ensures.one_step D.tells D.held D.moment D.images flow c.in-Ok.engine e state left now_left standing now_out first c.drive.new.disk c.close.new.disk start time end.reached ran.reached
           c.close.result c.leave.result.closed (c.drive.ensures.same.flow ∙ is.flow_is) c.drive.ensures.same.too_large (c.in-Ok.ensures.listed.coming in_telling state standing) (c.in-Ok.ensures.listed.counted in_telling) end.to ran.ran.replays
           c.leave.ensures.closed c.close.ensures.closed c.close.ensures.shows telling,
+      c.drive.ensures.moments (none_made g.C.Clock.given c.in-Ok.engine.journal c.in-Ok.ensures.opened.journal),
     )
 
 pub returns-in-Ok-Blocked-clause-closed : goal.returns-in-Ok-Blocked-clause-closed
@@ -91,8 +97,9 @@ returns-in-Ok-Quiet-clause-headline g c telling in_telling out_telling state fir
     let D = g.D.Disk in
     let left : List NamedFile = g.I.Inbox.left c.args.inbox.now in
     let standing = g.O.Outbox.standing c.args.outbox.now in
+    let out = outgoing g.O.Outbox.standing g.O.Outbox.puts c.args.outbox.now in
     let now_left : List NamedFile = g.I.Inbox.left c.drive.new.inbox in
-    let now_standing = g.O.Outbox.standing c.drive.new.outbox in
+    let now_out = outgoing g.O.Outbox.standing g.O.Outbox.puts c.drive.new.outbox in
     let time = g.C.Clock.time c.drive.new.clock in
     let opened = machine_at state left standing in
     let flow : Flow = c.args.flow.now in
@@ -100,21 +107,22 @@ returns-in-Ok-Quiet-clause-headline g c telling in_telling out_telling state fir
     let e : EngineState = c.drive.new.self in
     let laws = g.met.D.Disk g.world.𝓛 g.world.𝓜 g.world.𝓡 ((λ s x. x), (λ x. x), (λ x. x), λ x. x) in
     let works : e.failed ≡ false = works_behind c.drive.result e.failed c.in-Ok-Quiet.field-0 c.in-Ok-Quiet.is c.drive.ensures.failed in
-    let begins = begun D.moment D.images flow c.args.store c.args.most c.args.checkpoint c.in-Ok.engine is opened first c.args.disk.now start (g.C.Clock.time c.args.clock.now) left (g.I.Inbox.left c.new.new.inbox) standing c.new.ensures.left
+    let begins = begun D.moment D.images flow c.args.store c.args.most c.args.checkpoint c.in-Ok.engine is opened first c.args.disk.now start (g.C.Clock.time c.args.clock.now) left (g.I.Inbox.left c.new.new.inbox) out c.new.ensures.left
     (c.in-Ok.ensures.listed.coming in_telling state standing) run in
-    let end = subst (λ (a : Ending). IsEnded D.moment D.images e opened first start time c.drive.new.disk now_left now_standing a) c.in-Ok-Quiet.field-0-is
+    let end = subst (λ (a : Ending). IsEnded D.moment D.images e opened first start time c.drive.new.disk now_left now_out a) c.in-Ok-Quiet.field-0-is
     (c.in-Ok-Quiet.ensures.ended telling in_telling out_telling opened first start (g.C.Clock.time c.args.clock.now) (omega arith) begins) in
     let closes = closes_so c.close-in-Ok-Quiet.result e.failed c.leave-in-Ok-Quiet.result.ended ended.Quiet (IsTrue D.tells → IsTidied e.flow e.store.lot (D.held c.close-in-Ok-Quiet.new.disk)) works c.leave-in-Ok-Quiet.ensures.ok c.leave-in-Ok-Quiet.ensures.err (IfOk-weaker c.close-in-Ok-Quiet.result _ _ (λ closed is_closed. is_closed.tidied) c.close-in-Ok-Quiet.ensures.closed)
     c.close-in-Ok-Quiet.ensures.refusal.reopen c.close-in-Ok-Quiet.ensures.refusal.kinds in
     let ran =
     closes_quiet D.tells D.held D.moment D.images c.faults_end_a_run.ensures.between e flow c.args.store.lot (c.drive.ensures.same.flow ∙ is.flow_is) (c.drive.ensures.same.lot ∙ ap (λ (t : StoreState). t.lot) is.store_is)
-    (c.in-Ok-Quiet.ensures.work.flow_is ∙ ap identity_of (sym c.drive.ensures.same.flow)) opened first c.drive.new.disk c.close-in-Ok-Quiet.new.disk now_left now_standing start time c.leave-in-Ok-Quiet.result.ended (c.close-in-Ok-Quiet.ensures.states works)
+    (c.in-Ok-Quiet.ensures.work.flow_is ∙ ap identity_of (sym c.drive.ensures.same.flow)) opened first c.drive.new.disk c.close-in-Ok-Quiet.new.disk now_left now_out start time c.leave-in-Ok-Quiet.result.ended (c.close-in-Ok-Quiet.ensures.states works)
     (laws.held_is_left c.close-in-Ok-Quiet.new.disk telling) c.close-in-Ok-Quiet.result c.run_ends.ensures.quiet end closes telling in (
       e.journal,
       ran,
-      run_shows c.names_are_lost_by_taking.ensures.one_step D.tells D.held D.moment D.images flow c.in-Ok.engine e state left now_left standing now_standing first c.drive.new.disk c.close-in-Ok-Quiet.new.disk start time end.reached ran.reached
+      run_shows c.names_are_lost_by_taking.ensures.one_step D.tells D.held D.moment D.images flow c.in-Ok.engine e state left now_left standing now_out first c.drive.new.disk c.close-in-Ok-Quiet.new.disk start time end.reached ran.reached
           c.close-in-Ok-Quiet.result c.leave-in-Ok-Quiet.result.closed (c.drive.ensures.same.flow ∙ is.flow_is) c.drive.ensures.same.too_large (c.in-Ok.ensures.listed.coming in_telling state standing) (c.in-Ok.ensures.listed.counted in_telling) end.to ran.ran.replays
           c.leave-in-Ok-Quiet.ensures.closed c.close-in-Ok-Quiet.ensures.closed c.close-in-Ok-Quiet.ensures.shows telling,
+      c.drive.ensures.moments (none_made g.C.Clock.given c.in-Ok.engine.journal c.in-Ok.ensures.opened.journal),
     )
 
 pub returns-in-Ok-Quiet-clause-closed : goal.returns-in-Ok-Quiet-clause-closed
@@ -147,8 +155,9 @@ returns-in-Limit-clause-headline g c telling in_telling out_telling state first 
     let D = g.D.Disk in
     let left : List NamedFile = g.I.Inbox.left c.args.inbox.now in
     let standing = g.O.Outbox.standing c.args.outbox.now in
+    let out = outgoing g.O.Outbox.standing g.O.Outbox.puts c.args.outbox.now in
     let now_left : List NamedFile = g.I.Inbox.left c.drive.new.inbox in
-    let now_standing = g.O.Outbox.standing c.drive.new.outbox in
+    let now_out = outgoing g.O.Outbox.standing g.O.Outbox.puts c.drive.new.outbox in
     let time = g.C.Clock.time c.drive.new.clock in
     let opened = machine_at state left standing in
     let flow : Flow = c.args.flow.now in
@@ -158,7 +167,7 @@ returns-in-Limit-clause-headline g c telling in_telling out_telling state first 
     let limit = c.in-Limit.limit in
     let was = c.in-Err-drive.is ∙ ap Err c.in-Limit.is in
     let works : e.failed ≡ false = works_at_limit c.drive.result e.failed limit was c.drive.ensures.failed in
-    let begins = begun D.moment D.images flow c.args.store c.args.most c.args.checkpoint c.in-Ok.engine is opened first c.args.disk.now start (g.C.Clock.time c.args.clock.now) left (g.I.Inbox.left c.new.new.inbox) standing c.new.ensures.left
+    let begins = begun D.moment D.images flow c.args.store c.args.most c.args.checkpoint c.in-Ok.engine is opened first c.args.disk.now start (g.C.Clock.time c.args.clock.now) left (g.I.Inbox.left c.new.new.inbox) out c.new.ensures.left
     (c.in-Ok.ensures.listed.coming in_telling state standing) run in
     let e0 : EngineState = c.in-Ok.engine in
     let work = works_on D.tells D.held D.moment D.images e0.flow e0.most limit e.store c.drive.new.disk (c.drive.ensures.why.limited limit was) in
@@ -167,13 +176,14 @@ returns-in-Limit-clause-headline g c telling in_telling out_telling state first 
     c.close-in-Err-drive.ensures.refusal.reopen c.close-in-Err-drive.ensures.refusal.kinds in
     let ran =
     closes_limited D.tells D.held D.moment D.images c.faults_end_a_run.ensures.between e flow c.args.store.lot (c.drive.ensures.same.flow ∙ is.flow_is) (c.drive.ensures.same.lot ∙ ap (λ (t : StoreState). t.lot) is.store_is)
-    (work.flow_is ∙ ap identity_of (sym c.drive.ensures.same.flow)) opened first c.drive.new.disk c.close-in-Err-drive.new.disk now_left now_standing start time c.leave-in-Err-drive.result.ended (c.close-in-Err-drive.ensures.states works)
+    (work.flow_is ∙ ap identity_of (sym c.drive.ensures.same.flow)) opened first c.drive.new.disk c.close-in-Err-drive.new.disk now_left now_out start time c.leave-in-Err-drive.result.ended (c.close-in-Err-drive.ensures.states works)
     (laws.held_is_left c.close-in-Err-drive.new.disk telling) c.close-in-Err-drive.result c.run_ends.ensures.limited limit stop closes telling in (
       e.journal,
       ran,
-      run_shows c.names_are_lost_by_taking.ensures.one_step D.tells D.held D.moment D.images flow c.in-Ok.engine e state left now_left standing now_standing first c.drive.new.disk c.close-in-Err-drive.new.disk start time stop.reached ran.reached
+      run_shows c.names_are_lost_by_taking.ensures.one_step D.tells D.held D.moment D.images flow c.in-Ok.engine e state left now_left standing now_out first c.drive.new.disk c.close-in-Err-drive.new.disk start time stop.reached ran.reached
           c.close-in-Err-drive.result c.leave-in-Err-drive.result.closed (c.drive.ensures.same.flow ∙ is.flow_is) c.drive.ensures.same.too_large (c.in-Ok.ensures.listed.coming in_telling state standing) (c.in-Ok.ensures.listed.counted in_telling) stop.to ran.ran.replays
           c.leave-in-Err-drive.ensures.closed c.close-in-Err-drive.ensures.closed c.close-in-Err-drive.ensures.shows telling,
+      c.drive.ensures.moments (none_made g.C.Clock.given c.in-Ok.engine.journal c.in-Ok.ensures.opened.journal),
     )
 
 pub returns-in-Limit-clause-closed : goal.returns-in-Limit-clause-closed
@@ -220,20 +230,23 @@ returns-in_default g c =
       headline = λ telling in_telling out_telling state first start run.
           let left : List NamedFile = g.I.Inbox.left c.args.inbox.now in
           let standing = g.O.Outbox.standing c.args.outbox.now in
+          let out = outgoing g.O.Outbox.standing g.O.Outbox.puts c.args.outbox.now in
           let opened = machine_at state left standing in
           let now_left : List NamedFile = g.I.Inbox.left c.drive.new.inbox in
-          let now_standing = g.O.Outbox.standing c.drive.new.outbox in
+          let now_out = outgoing g.O.Outbox.standing g.O.Outbox.puts c.drive.new.outbox in
           let time = g.C.Clock.time c.drive.new.clock in
-          let begins = begun D.moment D.images c.args.flow.now c.args.store c.args.most c.args.checkpoint e0 is opened first c.args.disk.now start (g.C.Clock.time c.args.clock.now) left (g.I.Inbox.left c.new.new.inbox) standing c.new.ensures.left
+          let begins = begun D.moment D.images c.args.flow.now c.args.store c.args.most c.args.checkpoint e0 is opened first c.args.disk.now start (g.C.Clock.time c.args.clock.now) left (g.I.Inbox.left c.new.new.inbox) out c.new.ensures.left
           (c.in-Ok.ensures.listed.coming in_telling state standing) run in
           let stop = c.drive.ensures.stopped error c.in-Err-drive.is telling in_telling out_telling opened first start (g.C.Clock.time c.args.clock.now) (omega arith) begins in (
             e.journal,
-            subst (λ (r : Ended). HasRun c.args.flow.now r start time D.tells D.held D.moment D.images c.args.store.lot opened first c.drive.new.disk now_left now_standing e.journal) (sym so)
-                (run_of c.args.flow.now e.flow (ended_by error) start time D.tells D.held D.moment D.images c.args.store.lot e.store.lot opened first c.drive.new.disk now_left now_standing e.journal
+            subst (λ (r : Ended). HasRun c.args.flow.now r start time D.tells D.held D.moment D.images c.args.store.lot opened first c.drive.new.disk now_left now_out e.journal) (sym so)
+                (run_of c.args.flow.now e.flow (ended_by error) start time D.tells D.held D.moment D.images c.args.store.lot e.store.lot opened first c.drive.new.disk now_left now_out e.journal
                 (c.drive.ensures.same.flow ∙ is.flow_is) (c.drive.ensures.same.lot ∙ ap (λ (t : StoreState). t.lot) is.store_is)
-                (has_ended D.tells D.held D.moment D.images e opened first c.drive.new.disk now_left now_standing start time error none stop)),
+                (has_ended D.tells D.held D.moment D.images e opened first c.drive.new.disk now_left now_out start time error none stop)),
             none_shown c.args.flow.now c.fail-in_default.result.closed _ c.fail-in_default.ensures.closed,
+            c.drive.ensures.moments (none_made g.C.Clock.given c.in-Ok.engine.journal c.in-Ok.ensures.opened.journal),
           );
+      given = λ rest. absurd (no_rest error end so rest);
       closed = fails_to_run c.fail-in_default.result.closed end error c.fail-in_default.ensures.closed so none;
       checkpointed = ends_by_error D.moment D.images c.args.checkpoint error end c.drive.new.disk so;
       alone =
@@ -251,3 +264,6 @@ returns-in_default g c =
             (g.O.Outbox.faults c.args.outbox.now) (g.O.Outbox.faults c.args.outbox.now) (g.O.Outbox.faults c.drive.new.outbox) (omega arith) c.new.ensures.cause.never_falls (omega arith) c.drive.ensures.cause);
       };
     }
+
+pub returns-in-Err-clause-given : goal.returns-in-Err-clause-given
+returns-in-Err-clause-given g c rest = absurd (no_rest c.in-Err.error c.fail.result.ended c.fail.ensures.ended rest)

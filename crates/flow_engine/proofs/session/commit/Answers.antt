@@ -13,6 +13,7 @@ use Rattle.flow_run.proofs.Writing.{touches_log}
 use Rattle.flow_engine.specs.declared.error.EngineError.{EngineError}
 use Rattle.flow_engine.proofs.Commits.{committed, committed_between, flow_after, kept_after, still_works}
 use Rattle.flow_engine.proofs.Written.{cut_off_by, lot_after, refused_by_disk, unwritten_by, works_roomy}
+use Rattle.flow_run.specs.Puts.{outgoing}
 use Rattle.flow_engine.proofs.session.commit.Goals as goal
 
 pub returns-in_err-moment-clause-alone : goal.returns-in_err-moment-clause-alone
@@ -50,9 +51,9 @@ settle-requires-clause-kept g c =
 pub returns-in_err-reserve-clause-written : goal.returns-in_err-reserve-clause-written
 returns-in_err-reserve-clause-written g c =
     let D = g.D.Disk in
-    let standing = g.O.Outbox.standing c.args.outbox.now in
+    let out = outgoing g.O.Outbox.standing g.O.Outbox.puts c.args.outbox.now in
     let p = err_from_is_err_and c.from_residual-in_err-reserve.result c.from_residual-in_err-reserve.ensures.1 in
-    unwritten_by D.tells D.held D.moment D.images g.O.Outbox.tells c.args.store.now c.prepare.new.self c.args.queues.now c.reserve.new.self c.args.changed standing standing c.args.disk.now c.args.disk.now
+    unwritten_by D.tells D.held D.moment D.images g.O.Outbox.tells c.args.store.now c.prepare.new.self c.args.queues.now c.reserve.new.self c.args.changed out out c.args.disk.now c.args.disk.now
     p.0 (inl p.2) refl c.prepare.ensures.same (λ flow. are_same_queues c.args.queues.now c.reserve.new.self c.reserve.ensures.same flow (kept_by c.args.store.now))
     (λ not. refl) (λ outbox. absurd (cc (p.2, outbox))) (λ limit limited. absurd (cc (p.2, limited)))
     c.from_residual-in_err-reserve.result p.1
@@ -60,11 +61,11 @@ returns-in_err-reserve-clause-written g c =
 pub returns-in_err-send-clause-written : goal.returns-in_err-send-clause-written
 returns-in_err-send-clause-written g c =
     let D = g.D.Disk in
-    let standing = g.O.Outbox.standing c.args.outbox.now in
+    let out = outgoing g.O.Outbox.standing g.O.Outbox.puts c.args.outbox.now in
     let p = err_from_is_err_and c.from_residual-in_err-send.result c.from_residual-in_err-send.ensures.1 in
     let failed = c.in_err-send.ensures.failed in
     let outbox : p.0 ≡ EngineError.Outbox = p.2 ∙ failed.0 in
-    unwritten_by D.tells D.held D.moment D.images g.O.Outbox.tells c.args.store.now c.prepare.new.self c.args.queues.now c.reserve.new.self c.args.changed standing (g.O.Outbox.standing c.send.new.outbox) c.args.disk.now c.args.disk.now
+    unwritten_by D.tells D.held D.moment D.images g.O.Outbox.tells c.args.store.now c.prepare.new.self c.args.queues.now c.reserve.new.self c.args.changed out (outgoing g.O.Outbox.standing g.O.Outbox.puts c.send.new.outbox) c.args.disk.now c.args.disk.now
     p.0 (inr (inl outbox)) refl c.prepare.ensures.same (λ flow. are_same_queues c.args.queues.now c.reserve.new.self c.reserve.ensures.same flow (kept_by c.args.store.now))
     (λ not. absurd (not outbox)) (λ is. failed.1) (λ limit limited. absurd (cc (outbox, limited)))
     c.from_residual-in_err-send.result p.1
@@ -76,7 +77,7 @@ returns-in_err-moment-clause-written g c =
     let t = c.prepare.new.self in
     let p = err_from_is_err_and c.from_residual-in_err-moment.result c.from_residual-in_err-moment.ensures.1 in
     let change = (c.commit.ensures.changed (works_roomy s t t.memory.room c.prepare.ensures.same c.requires.work.1.work.works)).change in
-    cut_off_by D.tells D.held D.moment D.images g.O.Outbox.tells s c.commit.new.self c.args.queues.now c.reserve.new.self c.args.changed (g.O.Outbox.standing c.args.outbox.now) (g.O.Outbox.standing c.send.new.outbox) c.args.disk.now c.commit.new.disk
+    cut_off_by D.tells D.held D.moment D.images g.O.Outbox.tells s c.commit.new.self c.args.queues.now c.reserve.new.self c.args.changed (outgoing g.O.Outbox.standing g.O.Outbox.puts c.args.outbox.now) (outgoing g.O.Outbox.standing g.O.Outbox.puts c.send.new.outbox) c.args.disk.now c.commit.new.disk
     p.0 (p.2 ∙ refused_by_disk c.in_err-moment.field-0.0 c.in_err-moment.ensures.refusal.kinds)
     (λ flow before after work stands makes. committed_between D.held D.moment D.images flow s t t.memory.room c.args.changed.settled c.in_ok-prepared.prepared.settled c.args.disk.now c.commit.new.disk before after
     c.prepare.ensures.same c.in_ok-prepared.ensures.prepared.0 work.flow_is stands makes work.works (λ works. (c.commit.ensures.changed works).states))

@@ -1,6 +1,7 @@
 use Rattle.std.proofs.Common.{◌∙◌, ⊎_elim, List, refl, ap, arith}
 use Rattle.std.specs.Prelude.{Err}
 use Rattle.flowfile_record.specs.NamedFile.{NamedFile}
+use Rattle.flow_run.specs.Puts.{outgoing}
 use Rattle.flow_run.specs.Run.{machine_at}
 use Rattle.run_top.proofs.Over.{left_shut, ran_ends, ran_why, refused_alone, refused_counts, refused_ends, refused_why, run_counts}
 use Rattle.run_top.proofs.Short.{has_ended}
@@ -12,7 +13,7 @@ pub returns-in-Err-clause-failed : goal.returns-in-Err-clause-failed
 returns-in-Err-clause-failed g c disk_told state of =
     let D = g.D.Disk in
     refused_ends D.tells D.held D.moment D.images c.args.flow.now c.args.lot c.args.disk.now c.open.new.disk c.args.inbox.now c.args.outbox.now c.open.result c.in-Err.answer c.in-Err.is c.in-Err.ensures.kinds c.open.ensures.images
-    c.failed_openings_end_a_run.ensures (g.C.Clock.time c.args.clock.now) (g.C.Clock.time c.args.clock.now) c.args.most (omega arith) state (g.I.Inbox.left c.args.inbox.now) (g.O.Outbox.standing c.args.outbox.now)
+    c.failed_openings_end_a_run.ensures g.C.Clock.given (record { time = g.C.Clock.time c.args.clock.now; puts = g.O.Outbox.puts c.args.outbox.now }) (g.C.Clock.time c.args.clock.now) c.args.most c.args.checkpoint (omega arith) state (g.I.Inbox.left c.args.inbox.now) (g.O.Outbox.standing c.args.outbox.now)
     (λ other. (c.open.ensures.other_flow (c.in-Err.is ∙ ap Err other)).found disk_told) of
 
 pub returns-in-Err-clause-shut : goal.returns-in-Err-clause-shut
@@ -52,13 +53,13 @@ returns-clause-ran g c disk_told in_told out_told state of =
     let disk_laws = g.met.D.Disk g.world.𝓛 g.world.𝓜 g.world.𝓡 ((λ s x. x), (λ x. x), (λ x. x), λ x. x) in
     ⊎_elim
     (λ since.
-    let ends = c.run_flow.ensures.headline disk_told in_told out_told state c.args.disk.now (g.C.Clock.time c.args.clock.now)
+    let ends = c.run_flow.ensures.headline disk_told in_told out_told state c.args.disk.now (record { time = g.C.Clock.time c.args.clock.now; puts = g.O.Outbox.puts c.args.outbox.now })
     (starts D.moment D.images c.run_begins.ensures.opened c.what_is_kept_is_a_state.ensures.stands c.what_is_kept_is_a_state.ensures.valid c.events_up_to_the_last_are_in_a_row.ensures.numbered
-    c.args.flow.now D.tells D.held s c.args.lot c.args.disk.now c.open.new.disk state (g.C.Clock.time c.args.clock.now) (g.C.Clock.time c.args.clock.now) (omega arith) left standing opened.0 opened.1
+    c.args.flow.now D.tells D.held s c.args.lot c.args.disk.now c.open.new.disk state (record { time = g.C.Clock.time c.args.clock.now; puts = g.O.Outbox.puts c.args.outbox.now }) (g.C.Clock.time c.args.clock.now) (omega arith) left standing opened.0 opened.1
     c.state-stored.ensures.consistent c.state-stored.ensures.no_batches (c.state-stored.ensures.last_event opened.0.works) (disk_laws.held_is_left c.open.new.disk disk_told) since of.stands) in
-    ran_ends D.tells D.held D.moment D.images c.args.flow.now c.args.lot s.lot opened.1 c.run_flow.result (g.C.Clock.time c.args.clock.now) (g.C.Clock.time c.run_flow.new.clock) c.args.most (machine_at state left standing) c.args.disk.now
-    c.open.new.disk c.run_flow.new.disk (g.I.Inbox.left c.run_flow.new.inbox) (g.O.Outbox.standing c.run_flow.new.outbox) since.begun c.run_flow.ensures.why.limited
-    (ends.0, (ends.1, ends.2)))
+    ran_ends D.tells D.held D.moment D.images c.args.flow.now c.args.lot s.lot opened.1 c.run_flow.result g.C.Clock.given (record { time = g.C.Clock.time c.args.clock.now; puts = g.O.Outbox.puts c.args.outbox.now }) (g.C.Clock.time c.run_flow.new.clock) c.args.most c.args.checkpoint (machine_at state left standing) c.args.disk.now
+    c.open.new.disk c.run_flow.new.disk (g.I.Inbox.left c.run_flow.new.inbox) (outgoing g.O.Outbox.standing g.O.Outbox.puts c.run_flow.new.outbox) since.begun c.run_flow.ensures.why.limited
+    (ends.0, (ends.1, ends.2, ends.3)) c.run_flow.ensures.given c.run_flow.ensures.checkpointed)
     (λ failed. absurd (⊎_elim (λ disk. cc (disk, c.in-Ok.is)) (λ memory. cc (memory.0, c.in-Ok.is)) failed.told))
     c.open.ensures.images
 

@@ -14,7 +14,7 @@ pub checkpoint-requires-clause-number : goal.checkpoint-requires-clause-number
 checkpoint-requires-clause-number g c κs within number is = c.wants_checkpoint.ensures.next c.if-not-wants_checkpoint.false number is
 
 pub returns-in_err-checkpoint-clause-stopped : goal.returns-in_err-checkpoint-clause-stopped
-returns-in_err-checkpoint-clause-stopped g c error is opened first start time left standing run =
+returns-in_err-checkpoint-clause-stopped g c error is opened first start time left out run =
     let tells = g.D.Disk.tells in
     let held = g.D.Disk.held in
     let moment = g.D.Disk.moment in
@@ -28,17 +28,17 @@ returns-in_err-checkpoint-clause-stopped g c error is opened first start time le
     let work = subst (λ (u : EngineState). IsAtWork u.flow tells held moment images u.store old) (sym c.self.view_is) c.requires.work in
     let p = err_from_is_err_and c.from_residual.result c.from_residual.ensures.1 in
     let told : c.in_err-checkpoint.field-0.0 ≡ error = cc (p.1, p.2, is) in
-    stops_by tells held moment images e f same opened first old new start time left standing c.faults_end_a_run.ensures.between error
+    stops_by tells held moment images e f same opened first old new start time left out c.faults_end_a_run.ensures.between error
     (subst (λ (er : EngineError). (er ≡ EngineError.Disk) ⊎ (er ≡ EngineError.Memory)) told c.in_err-checkpoint.ensures.kinds) time (omega arith) refl
     (λ m stands. c.checkpoint.ensures.spared i.flow.now m work stands)
-    (subst (λ (u : EngineState). IsRunning moment images u opened first start time old left standing) (sym c.self.view_is) run)
+    (subst (λ (u : EngineState). IsRunning moment images u opened first start time old left out) (sym c.self.view_is) run)
 
 pub returns-in_err-checkpoint-clause-alone : goal.returns-in_err-checkpoint-clause-alone
 returns-in_err-checkpoint-clause-alone g c =
     subst (λ (u : EngineState). WritesLog g.D.Disk.moment g.D.Disk.images u.store.log.number c.args.disk.now c.checkpoint.new.disk) c.self.view_is c.checkpoint.ensures.alone
 
 pub returns-in_err-checkpoint-clause-goes_on : goal.returns-in_err-checkpoint-clause-goes_on
-returns-in_err-checkpoint-clause-goes_on g c well opened first start time left standing run =
+returns-in_err-checkpoint-clause-goes_on g c well opened first start time left out run =
     let tells = g.D.Disk.tells in
     let held = g.D.Disk.held in
     let moment = g.D.Disk.moment in
@@ -50,12 +50,12 @@ returns-in_err-checkpoint-clause-goes_on g c well opened first start time left s
     let f : EngineState = record e { store = c.checkpoint.new.store; tended = None } in
     let same : IsOfSameRun e f = record { flow = refl; most = refl; checkpoint = refl; too_large = refl; lot = c.checkpoint.ensures.same.1 } in
     let work = subst (λ (u : EngineState). IsAtWork u.flow tells held moment images u.store old) (sym c.self.view_is) c.requires.work in
-    runs_spared tells held moment images e f same opened first old new start time left standing c.run_goes_on.ensures.spared time (omega arith) refl refl refl
+    runs_spared tells held moment images e f same opened first old new start time left out c.run_goes_on.ensures.spared time (omega arith) refl refl refl
     (λ m stands. c.checkpoint.ensures.spared i.flow.now m work stands)
-    (subst (λ (u : EngineState). IsRunning moment images u opened first start time old left standing) (sym c.self.view_is) run)
+    (subst (λ (u : EngineState). IsRunning moment images u opened first start time old left out) (sym c.self.view_is) run)
 
 pub returns-clause-goes_on : goal.returns-clause-goes_on
-returns-clause-goes_on g c well opened first start time left standing run =
+returns-clause-goes_on g c well opened first start time left out run =
     let tells = g.D.Disk.tells in
     let held = g.D.Disk.held in
     let moment = g.D.Disk.moment in
@@ -67,9 +67,9 @@ returns-clause-goes_on g c well opened first start time left standing run =
     let f : EngineState = record e { store = c.checkpoint.new.store; tended = None } in
     let same : IsOfSameRun e f = record { flow = refl; most = refl; checkpoint = refl; too_large = refl; lot = c.checkpoint.ensures.same.1 } in
     let work = subst (λ (u : EngineState). IsAtWork u.flow tells held moment images u.store old) (sym c.self.view_is) c.requires.work in
-    runs_spared tells held moment images e f same opened first old new start time left standing c.run_goes_on.ensures.spared time (omega arith) refl refl refl
+    runs_spared tells held moment images e f same opened first old new start time left out c.run_goes_on.ensures.spared time (omega arith) refl refl refl
     (λ m stands. c.checkpoint.ensures.spared i.flow.now m work stands)
-    (subst (λ (u : EngineState). IsRunning moment images u opened first start time old left standing) (sym c.self.view_is) run)
+    (subst (λ (u : EngineState). IsRunning moment images u opened first start time old left out) (sym c.self.view_is) run)
 
 pub returns-clause-log : goal.returns-clause-log
 returns-clause-log g c =

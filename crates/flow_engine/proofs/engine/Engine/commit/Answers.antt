@@ -3,6 +3,7 @@ use Rattle.std.specs.Prelude.{Err}
 use Rattle.flow_engine.specs.Engine.{EngineState}
 use Rattle.flow_engine.specs.Running.{Stops}
 use Rattle.flow_engine.specs.declared.error.EngineError.{EngineError}
+use Rattle.flow_run.specs.Puts.{outgoing}
 use Rattle.flow_engine.proofs.engine.Engine.commit.Goals as goal
 
 pub returns-in-Err-Disk-clause-run : goal.returns-in-Err-Disk-clause-run
@@ -10,15 +11,15 @@ returns-in-Err-Disk-clause-run g c telling in_telling out_telling =
     let D = g.D.Disk in
     let new = c.commit_job-committed.new.disk in
     let left = g.I.Inbox.left c.commit_job-committed.new.inbox in
-    let standing = g.O.Outbox.standing c.commit_job-committed.new.outbox in
+    let out = outgoing g.O.Outbox.standing g.O.Outbox.puts c.commit_job-committed.new.outbox in
     let i = c.self-2.inside in
     let e : EngineState = record { flow = i.flow.now; store = i.store; queues = i.queues; listing = i.listing; last = i.last; journal = i.journal.items; most = i.most; checkpoint = i.checkpoint; since_reclaim = i.since_reclaim; failed = i.has_failed; tended = i.tended } in
     record {
       goes_on = λ works. absurd cc;
       stopped = λ error is works opened first start time le run.
           let told : error ≡ EngineError.Disk = cc (is, c.in-Err-Disk.field-0-is) in
-          subst (λ (er : EngineError). Stops er D.tells D.held D.moment D.images (record e { failed = true }) opened first start c.args.done.given.moment new left standing) (sym told)
-          (subst (λ (u : EngineState). Stops EngineError.Disk D.tells D.held D.moment D.images u opened first start c.args.done.given.moment new left standing) (sym c.self-2.view_is)
+          subst (λ (er : EngineError). Stops er D.tells D.held D.moment D.images (record e { failed = true }) opened first start c.args.done.given.moment new left out) (sym told)
+          (subst (λ (u : EngineState). Stops EngineError.Disk D.tells D.held D.moment D.images u opened first start c.args.done.given.moment new left out) (sym c.self-2.view_is)
           (c.commit_job-committed.ensures.stopped EngineError.Disk (is ∙ ap Err told) telling in_telling out_telling opened first start time le run));
     }
 

@@ -12,6 +12,8 @@ use Rattle.flow_engine.proofs.RunsOn.{spared_by_none}
 use Rattle.flow_engine.proofs.Ending.{ends_blocked, ends_quiet, rests, went_on}
 use Rattle.flow_engine.proofs.Turning.{same_run_on, works_on}
 use Rattle.flow_engine.proofs.engine.Engine.drive.Goals.{in-None, in-Some-Rest}
+use Rattle.flow_engine.proofs.Growing.{made_on}
+use Rattle.flow_run.specs.Puts.{outgoing}
 use Rattle.flow_engine.proofs.engine.Engine.drive.Goals as goal
 
 pub returns-in_err-turn-clause-stopped : goal.returns-in_err-turn-clause-stopped
@@ -20,7 +22,7 @@ returns-in_err-turn-clause-stopped g c error is telling in_telling out_telling o
     let p = err_from_is_err_and c.from_residual.result c.from_residual.ensures.1 in
     let told : c.in_err-turn.field-0.0 ≡ error = cc (p.1, p.2, is) in
     let on = c.loop-turn.invariant.runs telling in_telling out_telling opened first start time le run in
-    subst (λ t. Stops error D.tells D.held D.moment D.images c.turn.new.self opened first start t c.turn.new.disk (g.I.Inbox.left c.turn.new.inbox) (g.O.Outbox.standing c.turn.new.outbox)) c.now-moment.ensures.moment
+    subst (λ t. Stops error D.tells D.held D.moment D.images c.turn.new.self opened first start t c.turn.new.disk (g.I.Inbox.left c.turn.new.inbox) (outgoing g.O.Outbox.standing g.O.Outbox.puts c.turn.new.outbox)) c.now-moment.ensures.moment
     (c.in_err-turn.ensures.stopped error (ap Err told) telling in_telling out_telling opened first start on.0 (omega (arith, on.1, c.now-moment.ensures.later, c.now-moment.ensures.moment)) on.2)
 
 pub returns-in_err-turn-clause-alone : goal.returns-in_err-turn-clause-alone
@@ -51,11 +53,12 @@ loop-turn-preserved g c =
             c.now-moment.result,
             behind,
             elim c.match-branch-2.branch [
-              | in-None w ↦ went_on D.moment D.images c.turn.new.self opened first c.turn.new.disk start (g.I.Inbox.left c.turn.new.inbox) (g.O.Outbox.standing c.turn.new.outbox) c.now-moment.result c.in_ok-turn.field-0 turned w.in-None.is
-              | in-Some-Rest w ↦ rests D.moment D.images c.turn.new.self opened first c.turn.new.disk start (g.I.Inbox.left c.turn.new.inbox) (g.O.Outbox.standing c.turn.new.outbox) c.now-moment.result c.in_ok-turn.field-0 turned
+              | in-None w ↦ went_on D.moment D.images c.turn.new.self opened first c.turn.new.disk start (g.I.Inbox.left c.turn.new.inbox) (outgoing g.O.Outbox.standing g.O.Outbox.puts c.turn.new.outbox) c.now-moment.result c.in_ok-turn.field-0 turned w.in-None.is
+              | in-Some-Rest w ↦ rests D.moment D.images c.turn.new.self opened first c.turn.new.disk start (g.I.Inbox.left c.turn.new.inbox) (outgoing g.O.Outbox.standing g.O.Outbox.puts c.turn.new.outbox) c.now-moment.result c.in_ok-turn.field-0 turned
                   w.in-Some-Rest.until (w.in-Some-Rest.is ∙ ap (λ (a : Ending). Some a) w.in-Some-Rest.field-0-is)
             ],
           );
+      moments = λ all. made_on g.C.Clock.given c.now-moment.result c.loop-turn.self.journal c.turn.new.self.journal c.turn.ensures.grows c.now-moment.ensures.answer (inv.moments all);
       disk_faults = omega (arith, inv.disk_faults, c.turn.ensures.cause.disk.never_falls);
       inbox_faults = omega (arith, inv.inbox_faults, c.turn.ensures.cause.inbox.never_falls);
       outbox_faults = omega (arith, inv.outbox_faults, c.turn.ensures.cause.outbox.never_falls);
@@ -66,19 +69,19 @@ returns-clause-stopped g c error is telling in_telling out_telling opened first 
     let D = g.D.Disk in
     let e : EngineState = c.loop-turn.self in
     let left = g.I.Inbox.left c.loop-turn.inbox in
-    let standing = g.O.Outbox.standing c.loop-turn.outbox in
+    let out = outgoing g.O.Outbox.standing g.O.Outbox.puts c.loop-turn.outbox in
     let memory : EngineError.Memory ≡ error = cc in
     let on = c.loop-turn.invariant.runs telling in_telling out_telling opened first start time le run in
-    subst (λ (x : EngineError). Stops x D.tells D.held D.moment D.images e opened first start (g.C.Clock.time c.loop-turn.clock) c.loop-turn.disk left standing) memory
-    (stops_unmoved D.tells D.held D.moment D.images e e opened first start on.0 c.loop-turn.disk c.loop-turn.disk left standing on.2 refl refl
+    subst (λ (x : EngineError). Stops x D.tells D.held D.moment D.images e opened first start (g.C.Clock.time c.loop-turn.clock) c.loop-turn.disk left out) memory
+    (stops_unmoved D.tells D.held D.moment D.images e e opened first start on.0 c.loop-turn.disk c.loop-turn.disk left out on.2 refl refl
     c.faults_end_a_run.ensures.between refl (spared_by_none D.tells D.held D.moment D.images e.flow e.store.lot on.2.reached c.loop-turn.disk on.2.to.run.holds)
-    EngineError.Memory (λ limit limited. cc) (g.C.Clock.time c.loop-turn.clock) on.1 left standing refl refl)
+    EngineError.Memory (λ limit limited. cc) (g.C.Clock.time c.loop-turn.clock) on.1 left out refl refl)
 
 pub returns-in-Some-Blocked-clause-ended : goal.returns-in-Some-Blocked-clause-ended
 returns-in-Some-Blocked-clause-ended g c telling in_telling out_telling opened first start time le run =
     let D = g.D.Disk in
     let on = c.loop-turn.invariant.runs telling in_telling out_telling opened first start time le run in
-    ends_blocked D.moment D.images c.turn.new.self opened first c.turn.new.disk start (g.I.Inbox.left c.turn.new.inbox) (g.O.Outbox.standing c.turn.new.outbox) c.now-moment.result c.in_ok-turn.field-0
+    ends_blocked D.moment D.images c.turn.new.self opened first c.turn.new.disk start (g.I.Inbox.left c.turn.new.inbox) (outgoing g.O.Outbox.standing g.O.Outbox.puts c.turn.new.outbox) c.now-moment.result c.in_ok-turn.field-0
     (c.in_ok-turn.ensures.turned telling in_telling out_telling opened first start on.0 (omega (arith, on.1, c.now-moment.ensures.later, c.now-moment.ensures.moment)) on.2)
     c.in-Some-Blocked.connection (g.C.Clock.time c.now-moment.new.self) (c.in-Some-Blocked.is ∙ ap (λ (a : Ending). Some a) c.in-Some-Blocked.field-0-is) c.now-moment.ensures.moment
 
@@ -95,7 +98,7 @@ pub returns-in-Some-Quiet-clause-ended : goal.returns-in-Some-Quiet-clause-ended
 returns-in-Some-Quiet-clause-ended g c telling in_telling out_telling opened first start time le run =
     let D = g.D.Disk in
     let on = c.loop-turn.invariant.runs telling in_telling out_telling opened first start time le run in
-    ends_quiet D.moment D.images c.turn.new.self opened first c.turn.new.disk start (g.I.Inbox.left c.turn.new.inbox) (g.O.Outbox.standing c.turn.new.outbox) c.now-moment.result c.in_ok-turn.field-0
+    ends_quiet D.moment D.images c.turn.new.self opened first c.turn.new.disk start (g.I.Inbox.left c.turn.new.inbox) (outgoing g.O.Outbox.standing g.O.Outbox.puts c.turn.new.outbox) c.now-moment.result c.in_ok-turn.field-0
     (c.in_ok-turn.ensures.turned telling in_telling out_telling opened first start on.0 (omega (arith, on.1, c.now-moment.ensures.later, c.now-moment.ensures.moment)) on.2)
     (g.C.Clock.time c.now-moment.new.self) (c.in-Some-Quiet.is ∙ ap (λ (a : Ending). Some a) c.in-Some-Quiet.field-0-is) c.now-moment.ensures.moment
 
@@ -107,3 +110,18 @@ returns-in-Some-Quiet-clause-alone g c =
     let D = g.D.Disk in
     let inv = c.loop-turn.invariant in
     writes_on D.moment D.images c.args.self.now.store.log.number c.loop-turn.self.store.log.number c.args.disk.now c.loop-turn.disk c.turn.new.disk inv.log inv.alone c.turn.ensures.alone
+
+pub returns-in_err-turn-clause-moments : goal.returns-in_err-turn-clause-moments
+returns-in_err-turn-clause-moments g c all = made_on g.C.Clock.given c.now-moment.result c.loop-turn.self.journal c.turn.new.self.journal c.turn.ensures.grows c.now-moment.ensures.answer (c.loop-turn.invariant.moments all)
+
+pub returns-in-Some-Blocked-clause-moments : goal.returns-in-Some-Blocked-clause-moments
+returns-in-Some-Blocked-clause-moments g c all = made_on g.C.Clock.given c.now-moment.result c.loop-turn.self.journal c.turn.new.self.journal c.turn.ensures.grows c.now-moment.ensures.answer (c.loop-turn.invariant.moments all)
+
+pub returns-in-Some-Blocked-clause-given : goal.returns-in-Some-Blocked-clause-given
+returns-in-Some-Blocked-clause-given g c = subst g.C.Clock.given c.now-moment.ensures.moment c.now-moment.ensures.answer
+
+pub returns-in-Some-Quiet-clause-moments : goal.returns-in-Some-Quiet-clause-moments
+returns-in-Some-Quiet-clause-moments g c all = made_on g.C.Clock.given c.now-moment.result c.loop-turn.self.journal c.turn.new.self.journal c.turn.ensures.grows c.now-moment.ensures.answer (c.loop-turn.invariant.moments all)
+
+pub returns-in-Some-Quiet-clause-given : goal.returns-in-Some-Quiet-clause-given
+returns-in-Some-Quiet-clause-given g c = subst g.C.Clock.given c.now-moment.ensures.moment c.now-moment.ensures.answer

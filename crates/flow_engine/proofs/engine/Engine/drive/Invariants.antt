@@ -1,9 +1,11 @@
 use Rattle.std.proofs.Common.{◌≡◌, ℕ, ◌≤◌, false, IsTrue}
 use Rattle.machine_model.specs.State.{Machine}
+use Rattle.flow_run.specs.Turns.{AreMadeAt}
 use Rattle.flow_run.specs.Work.{IsNoEarlier, WritesLog}
 use Rattle.flow_engine.specs.Engine.{AreTakeable, IsOfSameRun}
 use Rattle.flow_engine.specs.Ready.{IsReady}
 use Rattle.flow_engine.specs.Running.{IsRunning}
+use Rattle.flow_run.specs.Puts.{Start, outgoing}
 use Rattle.flow_engine.proofs.engine.Engine.drive.Given as goal
 
 abbrev pub invariant-loop-turn : goal.invariant-loop-turn
@@ -15,9 +17,10 @@ invariant-loop-turn g l = record {
   log : IsNoEarlier l.fn.self.store.log.number l.self.store.log.number;
   alone : WritesLog g.D.Disk.moment g.D.Disk.images l.fn.self.store.log.number l.fn.disk l.disk;
   later : g.C.Clock.time l.fn.clock ≤ g.C.Clock.time l.clock;
-  runs : IsTrue g.D.Disk.tells → IsTrue g.I.Inbox.tells → IsTrue g.O.Outbox.tells → (opened : Machine) (first : g.row.D.Denot) (start time : ℕ) → time ≤ g.C.Clock.time l.fn.clock
-      → IsRunning g.D.Disk.moment g.D.Disk.images l.fn.self opened first start time l.fn.disk (g.I.Inbox.left l.fn.inbox) (g.O.Outbox.standing l.fn.outbox)
-      → (at : ℕ) × (at ≤ g.C.Clock.time l.clock) × IsRunning g.D.Disk.moment g.D.Disk.images l.self opened first start at l.disk (g.I.Inbox.left l.inbox) (g.O.Outbox.standing l.outbox);
+  runs : IsTrue g.D.Disk.tells → IsTrue g.I.Inbox.tells → IsTrue g.O.Outbox.tells → (opened : Machine) (first : g.row.D.Denot) (start : Start) (time : ℕ) → time ≤ g.C.Clock.time l.fn.clock
+      → IsRunning g.D.Disk.moment g.D.Disk.images l.fn.self opened first start time l.fn.disk (g.I.Inbox.left l.fn.inbox) (outgoing g.O.Outbox.standing g.O.Outbox.puts l.fn.outbox)
+      → (at : ℕ) × (at ≤ g.C.Clock.time l.clock) × IsRunning g.D.Disk.moment g.D.Disk.images l.self opened first start at l.disk (g.I.Inbox.left l.inbox) (outgoing g.O.Outbox.standing g.O.Outbox.puts l.outbox);
+  moments : AreMadeAt g.C.Clock.given l.fn.self.journal → AreMadeAt g.C.Clock.given l.self.journal;
   disk_faults : g.D.Disk.faults l.fn.disk ≤ g.D.Disk.faults l.disk;
   inbox_faults : g.I.Inbox.faults l.fn.inbox ≤ g.I.Inbox.faults l.inbox;
   outbox_faults : g.O.Outbox.faults l.fn.outbox ≤ g.O.Outbox.faults l.outbox;

@@ -23,6 +23,7 @@ use Rattle.flow_engine.proofs.Goes.{enters_written, goes_on_unwritten, named_so,
 use Rattle.flow_engine.proofs.Left.{distinct_without, takeable_fewer, takeable_without}
 use Rattle.flow_engine.proofs.Readied.{as_many, knows_none, not_both, one_more, ready_by, the_error}
 use Rattle.flow_engine.proofs.RunsOn.{spared_by_none}
+use Rattle.flow_run.specs.Puts.{outgoing}
 use Rattle.flow_engine.proofs.engine.Engine.enter.Goals as goal
 
 pub session_change-requires-clause-done : goal.session_change-requires-clause-done
@@ -30,10 +31,10 @@ session_change-requires-clause-done g c =
     let D = g.D.Disk in
     let telling = IsTrue D.tells × IsTrue g.I.Inbox.tells × IsTrue g.O.Outbox.tells in
     let left = g.I.Inbox.left c.args.inbox.now in
-    let standing = g.O.Outbox.standing c.args.outbox.now in (
-      job_in D.tells D.held D.moment D.images _ c.args.self.now c.self.view_is c.args.disk.now c.requires.ready c.holds_its_state.ensures.kept.0 telling left standing c.args.done c.requires.stands,
-      may_in D.tells D.held D.moment D.images _ c.args.self.now c.self.view_is c.args.disk.now c.requires.ready c.holds_its_state.ensures.kept.0 telling left standing c.args.done c.requires.stands,
-      work_in D.tells D.held D.moment D.images _ c.args.self.now c.self.view_is c.args.disk.now c.requires.ready c.holds_its_state.ensures.kept.0 telling left standing c.args.done c.requires.stands,
+    let out = outgoing g.O.Outbox.standing g.O.Outbox.puts c.args.outbox.now in (
+      job_in D.tells D.held D.moment D.images _ c.args.self.now c.self.view_is c.args.disk.now c.requires.ready c.holds_its_state.ensures.kept.0 telling left out c.args.done c.requires.stands,
+      may_in D.tells D.held D.moment D.images _ c.args.self.now c.self.view_is c.args.disk.now c.requires.ready c.holds_its_state.ensures.kept.0 telling left out c.args.done c.requires.stands,
+      work_in D.tells D.held D.moment D.images _ c.args.self.now c.self.view_is c.args.disk.now c.requires.ready c.holds_its_state.ensures.kept.0 telling left out c.args.done c.requires.stands,
     )
 
 pub remove-requires-clause-processor : goal.remove-requires-clause-processor
@@ -42,7 +43,7 @@ remove-requires-clause-processor g c κs within =
     let telling = IsTrue D.tells × IsTrue g.I.Inbox.tells × IsTrue g.O.Outbox.tells in
     let rest : c.self-2.inside.listing ≡ c.args.self.now.listing = ap (λ (x : EngineState). x.listing) c.self-2.view_is ∙ ap (λ (x : EngineState). x.listing) c.write.ensures.rest in
     let same : c.self-2.inside.listing.flow ≡ c.self.inside.flow.now = ap (λ (l : Left). l.flow) rest ∙ c.requires.ready.listing ∙ sym (ap (λ (x : EngineState). x.flow) c.self.view_is) in
-    within_in D.tells D.held D.moment D.images _ c.args.self.now c.self.view_is c.args.disk.now c.requires.ready c.holds_its_state.ensures.kept.0 telling (g.I.Inbox.left c.args.inbox.now) (g.O.Outbox.standing c.args.outbox.now) c.args.done c.requires.stands
+    within_in D.tells D.held D.moment D.images _ c.args.self.now c.self.view_is c.args.disk.now c.requires.ready c.holds_its_state.ensures.kept.0 telling (g.I.Inbox.left c.args.inbox.now) (outgoing g.O.Outbox.standing g.O.Outbox.puts c.args.outbox.now) c.args.done c.requires.stands
     c.what_is_kept_is_seen.ensures.shown c.self-2.inside.listing.flow same
 
 pub remove-requires-clause-first : goal.remove-requires-clause-first
@@ -54,96 +55,96 @@ remove-requires-clause-first g c κs within =
     let same : c.self-2.inside.listing.flow ≡ c.self.inside.flow.now = ap (λ (l : Left). l.flow) rest ∙ c.requires.ready.listing ∙ sym (ap (λ (x : EngineState). x.flow) c.self.view_is) in
     subst (λ (names : List (List ℕ)). IfSome c.in_ok-received.received (λ name. (p : Processor) → slice_get c.self-2.inside.listing.flow.processors c.args.done.processor ≡ Some p → first_passed p.kind names ≡ Some name))
     (ap (λ (l : Left). l.names) (before ∙ sym rest))
-    (first_in D.tells D.held D.moment D.images _ c.args.self.now c.self.view_is c.args.disk.now c.requires.ready c.holds_its_state.ensures.kept.0 telling (g.I.Inbox.left c.args.inbox.now) (g.O.Outbox.standing c.args.outbox.now) c.args.done c.requires.stands
+    (first_in D.tells D.held D.moment D.images _ c.args.self.now c.self.view_is c.args.disk.now c.requires.ready c.holds_its_state.ensures.kept.0 telling (g.I.Inbox.left c.args.inbox.now) (outgoing g.O.Outbox.standing g.O.Outbox.puts c.args.outbox.now) c.args.done c.requires.stands
     c.what_is_kept_is_seen.ensures.shown c.self-2.inside.listing.flow same c.in_ok-received.received c.in_ok-received.ensures)
 
 pub remove-requires-clause-left : goal.remove-requires-clause-left
 remove-requires-clause-left g c κs within =
     let D = g.D.Disk in
     let telling = IsTrue D.tells × IsTrue g.I.Inbox.tells × IsTrue g.O.Outbox.tells in
-    left_in D.tells D.held D.moment D.images _ c.args.self.now c.self.view_is c.args.disk.now c.requires.ready c.holds_its_state.ensures.kept.0 telling (g.I.Inbox.left c.args.inbox.now) (g.O.Outbox.standing c.args.outbox.now) c.args.done c.requires.stands
+    left_in D.tells D.held D.moment D.images _ c.args.self.now c.self.view_is c.args.disk.now c.requires.ready c.holds_its_state.ensures.kept.0 telling (g.I.Inbox.left c.args.inbox.now) (outgoing g.O.Outbox.standing g.O.Outbox.puts c.args.outbox.now) c.args.done c.requires.stands
     c.what_is_kept_is_seen.ensures.shown g.I.Inbox.tells c.requires.left c.in_ok-received.received c.in_ok-received.ensures
 
 pub returns-in_err-received-clause-goes_on : goal.returns-in_err-received-clause-goes_on
 returns-in_err-received-clause-goes_on g c other works unmoved telling in_telling out_telling opened first start time le run =
     waits g.D.Disk.tells g.D.Disk.held g.D.Disk.moment g.D.Disk.images c.run_goes_on.ensures.spared c.args.self.now opened first start time c.args.done.given.moment c.args.disk.now (g.I.Inbox.left c.args.inbox.now)
-    (g.O.Outbox.standing c.args.outbox.now) le run
+    (outgoing g.O.Outbox.standing g.O.Outbox.puts c.args.outbox.now) le run
 
 pub returns-in_err-received-clause-stopped : goal.returns-in_err-received-clause-stopped
 returns-in_err-received-clause-stopped g c error is telling in_telling out_telling opened first start time le run =
     let D = g.D.Disk in
     let e = c.args.self.now in
     let left = g.I.Inbox.left c.args.inbox.now in
-    let standing = g.O.Outbox.standing c.args.outbox.now in
+    let out = outgoing g.O.Outbox.standing g.O.Outbox.puts c.args.outbox.now in
     let p = err_from_is_err_and c.from_residual.result c.from_residual.ensures.1 in
     let memory : error ≡ EngineError.Memory = cc (p.1, p.2, is) in
     let still = spared_by_none D.tells D.held D.moment D.images e.flow e.store.lot run.reached c.args.disk.now run.to.run.holds in
-    stops_unmoved D.tells D.held D.moment D.images e e opened first start time c.args.disk.now c.args.disk.now left standing run refl refl
+    stops_unmoved D.tells D.held D.moment D.images e e opened first start time c.args.disk.now c.args.disk.now left out run refl refl
     c.faults_end_a_run.ensures.between refl still
     error (λ limit limited. let both : EngineError.Memory ≡ EngineError.Limit limit = sym memory ∙ limited in cc)
-    c.args.done.given.moment le left standing refl refl
+    c.args.done.given.moment le left out refl refl
 
 pub returns-in_err-step-clause-goes_on : goal.returns-in_err-step-clause-goes_on
 returns-in_err-step-clause-goes_on g c other works unmoved telling in_telling out_telling opened first start time le run =
     waits g.D.Disk.tells g.D.Disk.held g.D.Disk.moment g.D.Disk.images c.run_goes_on.ensures.spared c.args.self.now opened first start time c.args.done.given.moment c.args.disk.now (g.I.Inbox.left c.args.inbox.now)
-    (g.O.Outbox.standing c.args.outbox.now) le run
+    (outgoing g.O.Outbox.standing g.O.Outbox.puts c.args.outbox.now) le run
 
 pub returns-in_err-step-clause-stopped : goal.returns-in_err-step-clause-stopped
 returns-in_err-step-clause-stopped g c error is telling in_telling out_telling opened first start time le run =
     let D = g.D.Disk in
     let e = c.args.self.now in
     let left = g.I.Inbox.left c.args.inbox.now in
-    let standing = g.O.Outbox.standing c.args.outbox.now in
+    let out = outgoing g.O.Outbox.standing g.O.Outbox.puts c.args.outbox.now in
     let p = err_from_is_err_and c.from_residual-in_err-step.result c.from_residual-in_err-step.ensures.1 in
     let memory : error ≡ EngineError.Memory = cc (p.1, p.2, is) in
     let still = spared_by_none D.tells D.held D.moment D.images e.flow e.store.lot run.reached c.args.disk.now run.to.run.holds in
-    stops_unmoved D.tells D.held D.moment D.images e e opened first start time c.args.disk.now c.args.disk.now left standing run refl refl
+    stops_unmoved D.tells D.held D.moment D.images e e opened first start time c.args.disk.now c.args.disk.now left out run refl refl
     c.faults_end_a_run.ensures.between refl still
     error (λ limit limited. let both : EngineError.Memory ≡ EngineError.Limit limit = sym memory ∙ limited in cc)
-    c.args.done.given.moment le left standing refl refl
+    c.args.done.given.moment le left out refl refl
 
 pub returns-in_err-changed-clause-goes_on : goal.returns-in_err-changed-clause-goes_on
 returns-in_err-changed-clause-goes_on g c other works unmoved telling in_telling out_telling opened first start time le run =
     waits g.D.Disk.tells g.D.Disk.held g.D.Disk.moment g.D.Disk.images c.run_goes_on.ensures.spared c.args.self.now opened first start time c.args.done.given.moment c.args.disk.now (g.I.Inbox.left c.args.inbox.now)
-    (g.O.Outbox.standing c.args.outbox.now) le run
+    (outgoing g.O.Outbox.standing g.O.Outbox.puts c.args.outbox.now) le run
 
 pub returns-in_err-changed-clause-stopped : goal.returns-in_err-changed-clause-stopped
 returns-in_err-changed-clause-stopped g c error is telling in_telling out_telling opened first start time le run =
     let D = g.D.Disk in
     let e = c.args.self.now in
     let left = g.I.Inbox.left c.args.inbox.now in
-    let standing = g.O.Outbox.standing c.args.outbox.now in
+    let out = outgoing g.O.Outbox.standing g.O.Outbox.puts c.args.outbox.now in
     let p = err_from_is_err_and c.from_residual-in_err-changed.result c.from_residual-in_err-changed.ensures.1 in
     let memory : error ≡ EngineError.Memory = cc (p.1, p.2, is) in
     let still = spared_by_none D.tells D.held D.moment D.images e.flow e.store.lot run.reached c.args.disk.now run.to.run.holds in
-    stops_unmoved D.tells D.held D.moment D.images e e opened first start time c.args.disk.now c.args.disk.now left standing run refl refl
+    stops_unmoved D.tells D.held D.moment D.images e e opened first start time c.args.disk.now c.args.disk.now left out run refl refl
     c.faults_end_a_run.ensures.between refl still
     error (λ limit limited. let both : EngineError.Memory ≡ EngineError.Limit limit = sym memory ∙ limited in cc)
-    c.args.done.given.moment le left standing refl refl
+    c.args.done.given.moment le left out refl refl
 
 pub returns-then-entries-self-clause-goes_on : goal.returns-then-entries-self-clause-goes_on
 returns-then-entries-self-clause-goes_on g c other works unmoved telling in_telling out_telling opened first start time le run =
     waits g.D.Disk.tells g.D.Disk.held g.D.Disk.moment g.D.Disk.images c.run_goes_on.ensures.spared c.args.self.now opened first start time c.args.done.given.moment c.args.disk.now (g.I.Inbox.left c.args.inbox.now)
-    (g.O.Outbox.standing c.args.outbox.now) le run
+    (outgoing g.O.Outbox.standing g.O.Outbox.puts c.args.outbox.now) le run
 
 pub returns-then-entries-self-clause-stopped : goal.returns-then-entries-self-clause-stopped
 returns-then-entries-self-clause-stopped g c error is telling in_telling out_telling opened first start time le run =
     let D = g.D.Disk in
     let e = c.args.self.now in
     let left = g.I.Inbox.left c.args.inbox.now in
-    let standing = g.O.Outbox.standing c.args.outbox.now in
+    let out = outgoing g.O.Outbox.standing g.O.Outbox.puts c.args.outbox.now in
     let all = IsTrue D.tells × IsTrue g.I.Inbox.tells × IsTrue g.O.Outbox.tells in
     let old = c.args.disk.now in
     let laws = g.met.D.Disk g.world.𝓛 g.world.𝓜 g.world.𝓡 ((λ s x. x), (λ x. x), (λ x. x), λ x. x) in
-    let at = steps_in D.tells D.held D.moment D.images _ e c.self.view_is old c.requires.ready c.holds_its_state.ensures.kept.0 all left standing c.args.done c.requires.stands
+    let at = steps_in D.tells D.held D.moment D.images _ e c.self.view_is old c.requires.ready c.holds_its_state.ensures.kept.0 all left out c.args.done c.requires.stands
     c.what_is_kept_is_seen.ensures.shown c.what_is_kept_is_seen.ensures.queues c.what_is_kept_is_seen.ensures.sizes c.choices_are_sessions.ensures c.choices_are_seen.ensures c.taken_files_are_live.ensures c.holds_its_state.ensures.kept.1
     (c.holds_its_state.ensures.held telling) (c.holds_its_state.ensures.tied telling) (telling, in_telling, out_telling) opened first start time run c.in_ok-changed.changed c.in_ok-changed.ensures.step in
     let job = c.requires.stands.0 in
-    let one = step_in D.tells D.held D.moment D.images _ e c.self.view_is old c.requires.ready c.holds_its_state.ensures.kept.0 all left standing c.args.done c.requires.stands in
+    let one = step_in D.tells D.held D.moment D.images _ e c.self.view_is old c.requires.ready c.holds_its_state.ensures.kept.0 all left out c.args.done c.requires.stands in
     let full : length e.journal ≡ e.most = omega (arith, c.if-entries-self.true, c.entries.ensures, c.requires.ready.entries, ap (λ (x : EngineState). x.most) c.self.view_is) in
     let told : EngineError.Limit (journal_full e.most) ≡ error = cc (is, c.journal_limit.ensures) in
-    subst (λ (x : EngineError). Stops x D.tells D.held D.moment D.images e opened first start c.args.done.given.moment old left standing) told
-    (stops_at_limit D.tells D.held D.moment D.images e e opened first start time old old left standing run refl refl (content_in (D.held old)) job c.in_ok-changed.changed at.0 (step_done c.args.done) one le
+    subst (λ (x : EngineError). Stops x D.tells D.held D.moment D.images e opened first start c.args.done.given.moment old left out) told
+    (stops_at_limit D.tells D.held D.moment D.images e e opened first start time old old left out run refl refl (content_in (D.held old)) job c.in_ok-changed.changed at.0 (step_done c.args.done) one le
     c.run_goes_on.ensures.spared c.run_goes_on.ensures.turn (journal_full e.most) (spared_by_none D.tells D.held D.moment D.images e.flow e.store.lot run.reached old run.to.run.holds) refl refl refl
     (laws.held_is_left old telling) (inr (ap journal_full (sym full))))
 
@@ -152,20 +153,20 @@ returns-in_err-moment-clause-goes_on g c other works unmoved telling in_telling 
     let D = g.D.Disk in
     let e = c.args.self.now in
     let left = g.I.Inbox.left c.args.inbox.now in
-    let standing = g.O.Outbox.standing c.args.outbox.now in
+    let out = outgoing g.O.Outbox.standing g.O.Outbox.puts c.args.outbox.now in
     let all = IsTrue D.tells × IsTrue g.I.Inbox.tells × IsTrue g.O.Outbox.tells in
     let old = c.args.disk.now in
     let laws = g.met.D.Disk g.world.𝓛 g.world.𝓜 g.world.𝓡 ((λ s x. x), (λ x. x), (λ x. x), λ x. x) in
-    let at = steps_in D.tells D.held D.moment D.images _ e c.self.view_is old c.requires.ready c.holds_its_state.ensures.kept.0 all left standing c.args.done c.requires.stands
+    let at = steps_in D.tells D.held D.moment D.images _ e c.self.view_is old c.requires.ready c.holds_its_state.ensures.kept.0 all left out c.args.done c.requires.stands
     c.what_is_kept_is_seen.ensures.shown c.what_is_kept_is_seen.ensures.queues c.what_is_kept_is_seen.ensures.sizes c.choices_are_sessions.ensures c.choices_are_seen.ensures c.taken_files_are_live.ensures c.holds_its_state.ensures.kept.1
     (c.holds_its_state.ensures.held telling) (c.holds_its_state.ensures.tied telling) (telling, in_telling, out_telling) opened first start time run c.in_ok-changed.changed c.in_ok-changed.ensures.step in
     let job = c.requires.stands.0 in
-    let one = step_in D.tells D.held D.moment D.images _ e c.self.view_is old c.requires.ready c.holds_its_state.ensures.kept.0 all left standing c.args.done c.requires.stands in
+    let one = step_in D.tells D.held D.moment D.images _ e c.self.view_is old c.requires.ready c.holds_its_state.ensures.kept.0 all left out c.args.done c.requires.stands in
     let p = err_from_is_err_and c.from_residual-in_err-moment.result c.from_residual-in_err-moment.ensures.1 in
     let was : c.write.result ≡ Err c.in_err-moment.field-0.0 = c.in_err-moment.was in
     let rest = c.write.ensures.rest in
     let no_put : c.in_err-moment.field-0.0 ≡ EngineError.Outbox → ⊥ = λ put. true≢false (sym (c.write.ensures.failed.1 (inr (was ∙ ap Err put))) ∙ works) in
-    goes_on_unwritten D.tells D.held D.moment D.images e opened first start time old c.write.new.disk left standing (g.O.Outbox.standing c.write.new.outbox) run
+    goes_on_unwritten D.tells D.held D.moment D.images e opened first start time old c.write.new.disk left out (outgoing g.O.Outbox.standing g.O.Outbox.puts c.write.new.outbox) run
     job c.in_ok-changed.changed at.0 (step_done c.args.done) one le e.store c.write.new.self.store e.queues c.write.new.self.queues refl c.requires.ready.work
     (subst (λ (u : StoreState). IsStateOf run.reached (content_in (D.held old)) (kept_by u)) (ap (λ (x : EngineState). x.store) c.self.view_is) at.1) g.O.Outbox.tells out_telling c.write.result c.write.ensures.written
     c.in_err-moment.field-0.0 was c.write.new.self (ap (λ (x : EngineState). x.flow) rest) refl (c.write.ensures.journal ∙ ap (λ (x : Step). journaled c.write.result x e.journal) c.in_ok-step.ensures)
@@ -177,19 +178,19 @@ returns-in_err-moment-clause-stopped g c error is telling in_telling out_telling
     let D = g.D.Disk in
     let e = c.args.self.now in
     let left = g.I.Inbox.left c.args.inbox.now in
-    let standing = g.O.Outbox.standing c.args.outbox.now in
+    let out = outgoing g.O.Outbox.standing g.O.Outbox.puts c.args.outbox.now in
     let all = IsTrue D.tells × IsTrue g.I.Inbox.tells × IsTrue g.O.Outbox.tells in
     let old = c.args.disk.now in
     let laws = g.met.D.Disk g.world.𝓛 g.world.𝓜 g.world.𝓡 ((λ s x. x), (λ x. x), (λ x. x), λ x. x) in
-    let at = steps_in D.tells D.held D.moment D.images _ e c.self.view_is old c.requires.ready c.holds_its_state.ensures.kept.0 all left standing c.args.done c.requires.stands
+    let at = steps_in D.tells D.held D.moment D.images _ e c.self.view_is old c.requires.ready c.holds_its_state.ensures.kept.0 all left out c.args.done c.requires.stands
     c.what_is_kept_is_seen.ensures.shown c.what_is_kept_is_seen.ensures.queues c.what_is_kept_is_seen.ensures.sizes c.choices_are_sessions.ensures c.choices_are_seen.ensures c.taken_files_are_live.ensures c.holds_its_state.ensures.kept.1
     (c.holds_its_state.ensures.held telling) (c.holds_its_state.ensures.tied telling) (telling, in_telling, out_telling) opened first start time run c.in_ok-changed.changed c.in_ok-changed.ensures.step in
     let job = c.requires.stands.0 in
-    let one = step_in D.tells D.held D.moment D.images _ e c.self.view_is old c.requires.ready c.holds_its_state.ensures.kept.0 all left standing c.args.done c.requires.stands in
+    let one = step_in D.tells D.held D.moment D.images _ e c.self.view_is old c.requires.ready c.holds_its_state.ensures.kept.0 all left out c.args.done c.requires.stands in
     let p = err_from_is_err_and c.from_residual-in_err-moment.result c.from_residual-in_err-moment.ensures.1 in
     let same : c.in_err-moment.field-0.0 ≡ error = cc (p.1, p.2, is) in
     let rest = c.write.ensures.rest in
-    stops_written D.tells D.held D.moment D.images e opened first start time old c.write.new.disk left standing (g.O.Outbox.standing c.write.new.outbox) run
+    stops_written D.tells D.held D.moment D.images e opened first start time old c.write.new.disk left out (outgoing g.O.Outbox.standing g.O.Outbox.puts c.write.new.outbox) run
     job c.in_ok-changed.changed at.0 (step_done c.args.done) one le e.store c.write.new.self.store e.queues c.write.new.self.queues refl c.requires.ready.work
     (subst (λ (u : StoreState). IsStateOf run.reached (content_in (D.held old)) (kept_by u)) (ap (λ (x : EngineState). x.store) c.self.view_is) at.1) g.O.Outbox.tells out_telling c.write.result c.write.ensures.written
     c.faults_end_a_run.ensures.between c.faults_end_a_run.ensures.disk c.faults_end_a_run.ensures.outbox c.run_goes_on.ensures.turn c.run_goes_on.ensures.spared (laws.held_is_left old telling)
@@ -222,14 +223,14 @@ returns-in_err-remove-clause-stopped g c error is telling in_telling out_telling
     let D = g.D.Disk in
     let e = c.args.self.now in
     let left = g.I.Inbox.left c.args.inbox.now in
-    let standing = g.O.Outbox.standing c.args.outbox.now in
+    let out = outgoing g.O.Outbox.standing g.O.Outbox.puts c.args.outbox.now in
     let all = IsTrue D.tells × IsTrue g.I.Inbox.tells × IsTrue g.O.Outbox.tells in
     let old = c.args.disk.now in
-    let at = steps_in D.tells D.held D.moment D.images _ e c.self.view_is old c.requires.ready c.holds_its_state.ensures.kept.0 all left standing c.args.done c.requires.stands
+    let at = steps_in D.tells D.held D.moment D.images _ e c.self.view_is old c.requires.ready c.holds_its_state.ensures.kept.0 all left out c.args.done c.requires.stands
     c.what_is_kept_is_seen.ensures.shown c.what_is_kept_is_seen.ensures.queues c.what_is_kept_is_seen.ensures.sizes c.choices_are_sessions.ensures c.choices_are_seen.ensures c.taken_files_are_live.ensures c.holds_its_state.ensures.kept.1
     (c.holds_its_state.ensures.held telling) (c.holds_its_state.ensures.tied telling) (telling, in_telling, out_telling) opened first start time run c.in_ok-changed.changed c.in_ok-changed.ensures.step in
     let job = c.requires.stands.0 in
-    let one = step_in D.tells D.held D.moment D.images _ e c.self.view_is old c.requires.ready c.holds_its_state.ensures.kept.0 all left standing c.args.done c.requires.stands in
+    let one = step_in D.tells D.held D.moment D.images _ e c.self.view_is old c.requires.ready c.holds_its_state.ensures.kept.0 all left out c.args.done c.requires.stands in
     let f : EngineState = record {
       flow = c.self-2.inside.flow.now;
       store = c.self-2.inside.store;
@@ -251,13 +252,13 @@ returns-in_err-remove-clause-stopped g c error is telling in_telling out_telling
     let failed = c.in_err-remove.ensures.failed in
     let told : EngineError.Inbox ≡ error = cc (p.1, p.2, is, failed.0) in
     let named = named_so c.in_ok-received.received failed.1 in
-    let takes = takes_in D.tells D.held D.moment D.images _ e c.self.view_is old c.requires.ready c.holds_its_state.ensures.kept.0 all left standing c.args.done c.requires.stands
+    let takes = takes_in D.tells D.held D.moment D.images _ e c.self.view_is old c.requires.ready c.holds_its_state.ensures.kept.0 all left out c.args.done c.requires.stands
     c.what_is_kept_is_seen.ensures.shown named.0 (sym c.in_ok-received.ensures ∙ named.1) in
     let either = ⊎_elim (λ (same : g.I.Inbox.left c.remove.new.inbox ≡ left). inl same)
     (λ (gone : g.I.Inbox.left c.remove.new.inbox ≡ without_received c.in_ok-received.received left). inr (gone ∙ ap (λ (o : Option (List ℕ)). without_received o left) named.1))
     (failed.2 in_telling) in
-    subst (λ (x : EngineError). Stops x D.tells D.held D.moment D.images f opened first start c.args.done.given.moment c.write.new.disk (g.I.Inbox.left c.remove.new.inbox) (g.O.Outbox.standing c.write.new.outbox)) told
-    (stops_unremoved D.tells D.held D.moment D.images e opened first start time old c.write.new.disk left standing (g.O.Outbox.standing c.write.new.outbox) run
+    subst (λ (x : EngineError). Stops x D.tells D.held D.moment D.images f opened first start c.args.done.given.moment c.write.new.disk (g.I.Inbox.left c.remove.new.inbox) (outgoing g.O.Outbox.standing g.O.Outbox.puts c.write.new.outbox)) told
+    (stops_unremoved D.tells D.held D.moment D.images e opened first start time old c.write.new.disk left out (outgoing g.O.Outbox.standing g.O.Outbox.puts c.write.new.outbox) run
     job c.in_ok-changed.changed at.0 (step_done c.args.done) one le e.store c.write.new.self.store e.queues c.write.new.self.queues refl c.requires.ready.work
     (subst (λ (u : StoreState). IsStateOf run.reached (content_in (D.held old)) (kept_by u)) (ap (λ (x : EngineState). x.store) c.self.view_is) at.1) g.O.Outbox.tells out_telling c.write.result c.write.ensures.written
     c.in_ok-moment.moment c.in_ok-moment.was f flow_is (ap (λ (x : EngineState). x.store.lot) v) journal_is
@@ -268,14 +269,14 @@ returns-clause-goes_on g c other works unmoved telling in_telling out_telling op
     let D = g.D.Disk in
     let e = c.args.self.now in
     let left = g.I.Inbox.left c.args.inbox.now in
-    let standing = g.O.Outbox.standing c.args.outbox.now in
+    let out = outgoing g.O.Outbox.standing g.O.Outbox.puts c.args.outbox.now in
     let all = IsTrue D.tells × IsTrue g.I.Inbox.tells × IsTrue g.O.Outbox.tells in
     let old = c.args.disk.now in
-    let at = steps_in D.tells D.held D.moment D.images _ e c.self.view_is old c.requires.ready c.holds_its_state.ensures.kept.0 all left standing c.args.done c.requires.stands
+    let at = steps_in D.tells D.held D.moment D.images _ e c.self.view_is old c.requires.ready c.holds_its_state.ensures.kept.0 all left out c.args.done c.requires.stands
     c.what_is_kept_is_seen.ensures.shown c.what_is_kept_is_seen.ensures.queues c.what_is_kept_is_seen.ensures.sizes c.choices_are_sessions.ensures c.choices_are_seen.ensures c.taken_files_are_live.ensures c.holds_its_state.ensures.kept.1
     (c.holds_its_state.ensures.held telling) (c.holds_its_state.ensures.tied telling) (telling, in_telling, out_telling) opened first start time run c.in_ok-changed.changed c.in_ok-changed.ensures.step in
     let job = c.requires.stands.0 in
-    let one = step_in D.tells D.held D.moment D.images _ e c.self.view_is old c.requires.ready c.holds_its_state.ensures.kept.0 all left standing c.args.done c.requires.stands in
+    let one = step_in D.tells D.held D.moment D.images _ e c.self.view_is old c.requires.ready c.holds_its_state.ensures.kept.0 all left out c.args.done c.requires.stands in
     let f : EngineState = record {
       flow = c.self-2.inside.flow.now;
       store = c.self-2.inside.store;
@@ -294,9 +295,9 @@ returns-clause-goes_on g c other works unmoved telling in_telling out_telling op
     let journal_is : f.journal ≡ journaled c.write.result (step_done c.args.done) e.journal =
     ap (λ (x : EngineState). x.journal) v ∙ c.write.ensures.journal ∙ ap (λ (x : Step). journaled c.write.result x e.journal) c.in_ok-step.ensures in
     let file : c.in_ok-received.received ≡ job.given.file =
-    c.in_ok-received.ensures ∙ file_in D.tells D.held D.moment D.images _ e c.self.view_is old c.requires.ready c.holds_its_state.ensures.kept.0 all left standing c.args.done c.requires.stands in
+    c.in_ok-received.ensures ∙ file_in D.tells D.held D.moment D.images _ e c.self.view_is old c.requires.ready c.holds_its_state.ensures.kept.0 all left out c.args.done c.requires.stands in
     let names : c.self-2.inside.listing.names ≡ e.listing.names = ap (λ (x : EngineState). x.listing.names) v ∙ ap (λ (x : EngineState). x.listing.names) c.write.ensures.rest in
-    enters_written D.tells D.held D.moment D.images e opened first start time old c.write.new.disk left standing (g.O.Outbox.standing c.write.new.outbox) run
+    enters_written D.tells D.held D.moment D.images e opened first start time old c.write.new.disk left out (outgoing g.O.Outbox.standing g.O.Outbox.puts c.write.new.outbox) run
     job c.in_ok-changed.changed at.0 (step_done c.args.done) one le e.store c.write.new.self.store e.queues c.write.new.self.queues refl c.requires.ready.work
     (subst (λ (u : StoreState). IsStateOf run.reached (content_in (D.held old)) (kept_by u)) (ap (λ (x : EngineState). x.store) c.self.view_is) at.1) g.O.Outbox.tells out_telling c.write.result c.write.ensures.written
     c.in_ok-moment.moment c.in_ok-moment.was f flow_is (ap (λ (x : EngineState). x.store.lot) v) journal_is

@@ -26,24 +26,24 @@ use Rattle.flow_engine.proofs.Tends.{journaled_kept}
 use Rattle.flow_engine.proofs.engine.Engine.expire_due.Goals as goal
 
 pub returns-in_err-expiry-clause-goes_on : goal.returns-in_err-expiry-clause-goes_on
-returns-in_err-expiry-clause-goes_on g c well telling opened first start time left standing by run =
-    runs_idle g.D.Disk.tells g.D.Disk.held g.D.Disk.moment g.D.Disk.images c.args.self.now opened first c.args.disk.now start time c.args.moment by left standing run c.run_goes_on.ensures.spared
+returns-in_err-expiry-clause-goes_on g c well telling opened first start time left out by run =
+    runs_idle g.D.Disk.tells g.D.Disk.held g.D.Disk.moment g.D.Disk.images c.args.self.now opened first c.args.disk.now start time c.args.moment by left out run c.run_goes_on.ensures.spared
 
 pub returns-in_err-expiry-clause-stopped : goal.returns-in_err-expiry-clause-stopped
-returns-in_err-expiry-clause-stopped g c error is telling opened first start time left standing by run =
+returns-in_err-expiry-clause-stopped g c error is telling opened first start time left out by run =
     let p = err_from_is_err_and c.from_residual.result c.from_residual.ensures.1 in
-    stops_wanting g.D.Disk.tells g.D.Disk.held g.D.Disk.moment g.D.Disk.images c.args.self.now opened first c.args.disk.now start time c.args.moment by left standing run c.faults_end_a_run.ensures.between error (cc (p.1, p.2, is))
+    stops_wanting g.D.Disk.tells g.D.Disk.held g.D.Disk.moment g.D.Disk.images c.args.self.now opened first c.args.disk.now start time c.args.moment by left out run c.faults_end_a_run.ensures.between error (cc (p.1, p.2, is))
 
 pub returns-in_default-clause-goes_on : goal.returns-in_default-clause-goes_on
-returns-in_default-clause-goes_on g c well telling opened first start time left standing by run =
-    runs_idle g.D.Disk.tells g.D.Disk.held g.D.Disk.moment g.D.Disk.images c.args.self.now opened first c.args.disk.now start time c.args.moment by left standing run c.run_goes_on.ensures.spared
+returns-in_default-clause-goes_on g c well telling opened first start time left out by run =
+    runs_idle g.D.Disk.tells g.D.Disk.held g.D.Disk.moment g.D.Disk.images c.args.self.now opened first c.args.disk.now start time c.args.moment by left out run c.run_goes_on.ensures.spared
 
 pub returns-then-entries-self-clause-goes_on : goal.returns-then-entries-self-clause-goes_on
-returns-then-entries-self-clause-goes_on g c well telling opened first start time left standing by run =
-    runs_idle g.D.Disk.tells g.D.Disk.held g.D.Disk.moment g.D.Disk.images c.args.self.now opened first c.args.disk.now start time c.args.moment by left standing run c.run_goes_on.ensures.spared
+returns-then-entries-self-clause-goes_on g c well telling opened first start time left out by run =
+    runs_idle g.D.Disk.tells g.D.Disk.held g.D.Disk.moment g.D.Disk.images c.args.self.now opened first c.args.disk.now start time c.args.moment by left out run c.run_goes_on.ensures.spared
 
 pub returns-then-entries-self-clause-stopped : goal.returns-then-entries-self-clause-stopped
-returns-then-entries-self-clause-stopped g c error is telling opened first start time left standing by run =
+returns-then-entries-self-clause-stopped g c error is telling opened first start time left out by run =
     let tells = g.D.Disk.tells in
     let held = g.D.Disk.held in
     let moment = g.D.Disk.moment in
@@ -60,7 +60,7 @@ returns-then-entries-self-clause-stopped g c error is telling opened first start
     let sizes = c.what_is_kept_is_seen.ensures.sizes i.store (held disk) (c.holds_its_state.ensures.held telling) in
     let count : c.entries.result ≡ length i.journal.items = c.entries.ensures ∙ ap (λ (u : EngineState). length u.journal) (sym c.self.view_is) in
     let full : length e.journal ≡ e.most = omega (arith, count, c.if-entries-self.true, ready.entries) in
-    let limited = stops_limited tells held moment images e e (record { flow = refl; most = refl; checkpoint = refl; too_large = refl; lot = refl }) opened first disk disk start time left standing
+    let limited = stops_limited tells held moment images e e (record { flow = refl; most = refl; checkpoint = refl; too_large = refl; lot = refl }) opened first disk disk start time left out
     (Expire expiry.connection expiry.numbers c.args.moment) (journal_full i.most) by
     (λ m stands. due_comes c.what_is_kept_is_seen.ensures.seen c.due_expiries_may_expire.ensures i.flow.now (kept_by i.store) expiry.connection expiry.numbers c.args.moment c.holds_its_state.ensures.kept.0 c.holds_its_state.ensures.kept.1
     ready.work.flow_is kept (content_in (held disk)) m sizes (c.holds_its_state.ensures.tied telling i.flow.now ready.work m stands))
@@ -69,34 +69,34 @@ returns-then-entries-self-clause-stopped g c error is telling opened first start
     let goes = due_goes c.what_is_kept_is_seen.ensures.seen c.due_expiries_may_expire.ensures i.flow.now (kept_by i.store) expiry.connection expiry.numbers c.args.moment c.holds_its_state.ensures.kept.0 c.holds_its_state.ensures.kept.1
     ready.work.flow_is kept (content_in (held disk)) m sizes (c.holds_its_state.ensures.tied telling i.flow.now ready.work m stands) in
     record { after = goes.after; goes = goes.goes; is_so = (stands (held disk) (laws.held_is_left disk telling), inr (ap journal_full (sym full))) })
-    (subst (λ (u : EngineState). IsRunning moment images u opened first start time disk left standing) (sym c.self.view_is) run) in
+    (subst (λ (u : EngineState). IsRunning moment images u opened first start time disk left out) (sym c.self.view_is) run) in
     let told : EngineError.Limit (journal_full c.args.self.now.most) ≡ error = cc (is, c.journal_limit.ensures) in
-    subst (λ (er : EngineError). Stops er tells held moment images c.args.self.now opened first start c.args.moment disk left standing) told
-    (subst (λ (u : EngineState). IsLimited tells held moment images u (journal_full u.most) opened first start c.args.moment disk left standing) c.self.view_is limited)
+    subst (λ (er : EngineError). Stops er tells held moment images c.args.self.now opened first start c.args.moment disk left out) told
+    (subst (λ (u : EngineState). IsLimited tells held moment images u (journal_full u.most) opened first start c.args.moment disk left out) c.self.view_is limited)
 
 pub returns-in_err-step-clause-goes_on : goal.returns-in_err-step-clause-goes_on
-returns-in_err-step-clause-goes_on g c well telling opened first start time left standing by run =
-    runs_idle g.D.Disk.tells g.D.Disk.held g.D.Disk.moment g.D.Disk.images c.args.self.now opened first c.args.disk.now start time c.args.moment by left standing run c.run_goes_on.ensures.spared
+returns-in_err-step-clause-goes_on g c well telling opened first start time left out by run =
+    runs_idle g.D.Disk.tells g.D.Disk.held g.D.Disk.moment g.D.Disk.images c.args.self.now opened first c.args.disk.now start time c.args.moment by left out run c.run_goes_on.ensures.spared
 
 pub returns-in_err-step-clause-stopped : goal.returns-in_err-step-clause-stopped
-returns-in_err-step-clause-stopped g c error is telling opened first start time left standing by run =
+returns-in_err-step-clause-stopped g c error is telling opened first start time left out by run =
     let p = err_from_is_err_and c.from_residual-in_err-step.result c.from_residual-in_err-step.ensures.1 in
-    stops_wanting g.D.Disk.tells g.D.Disk.held g.D.Disk.moment g.D.Disk.images c.args.self.now opened first c.args.disk.now start time c.args.moment by left standing run c.faults_end_a_run.ensures.between error (cc (p.1, p.2, is))
+    stops_wanting g.D.Disk.tells g.D.Disk.held g.D.Disk.moment g.D.Disk.images c.args.self.now opened first c.args.disk.now start time c.args.moment by left out run c.faults_end_a_run.ensures.between error (cc (p.1, p.2, is))
 
 pub returns-in_err-reserve-clause-goes_on : goal.returns-in_err-reserve-clause-goes_on
-returns-in_err-reserve-clause-goes_on g c well telling opened first start time left standing by run =
+returns-in_err-reserve-clause-goes_on g c well telling opened first start time left out by run =
     let tells = g.D.Disk.tells in
     let held = g.D.Disk.held in
     let moment = g.D.Disk.moment in
     let images = g.D.Disk.images in
     let i = c.self.inside in
     let e : EngineState = record { flow = i.flow.now; store = i.store; queues = i.queues; listing = i.listing; last = i.last; journal = i.journal.items; most = i.most; checkpoint = i.checkpoint; since_reclaim = i.since_reclaim; failed = i.has_failed; tended = i.tended } in
-    subst (λ (journal : List Entry). IsRunning moment images (record e { journal = journal }) opened first start c.args.moment c.args.disk.now left standing) (sym {A = List Entry} c.reserve.ensures.items)
-    (runs_idle tells held moment images e opened first c.args.disk.now start time c.args.moment by left standing
-    (subst (λ (u : EngineState). IsRunning moment images u opened first start time c.args.disk.now left standing) (sym c.self.view_is) run) c.run_goes_on.ensures.spared)
+    subst (λ (journal : List Entry). IsRunning moment images (record e { journal = journal }) opened first start c.args.moment c.args.disk.now left out) (sym {A = List Entry} c.reserve.ensures.items)
+    (runs_idle tells held moment images e opened first c.args.disk.now start time c.args.moment by left out
+    (subst (λ (u : EngineState). IsRunning moment images u opened first start time c.args.disk.now left out) (sym c.self.view_is) run) c.run_goes_on.ensures.spared)
 
 pub returns-in_err-reserve-clause-stopped : goal.returns-in_err-reserve-clause-stopped
-returns-in_err-reserve-clause-stopped g c error is telling opened first start time left standing by run =
+returns-in_err-reserve-clause-stopped g c error is telling opened first start time left out by run =
     let tells = g.D.Disk.tells in
     let held = g.D.Disk.held in
     let moment = g.D.Disk.moment in
@@ -104,12 +104,12 @@ returns-in_err-reserve-clause-stopped g c error is telling opened first start ti
     let i = c.self.inside in
     let e : EngineState = record { flow = i.flow.now; store = i.store; queues = i.queues; listing = i.listing; last = i.last; journal = i.journal.items; most = i.most; checkpoint = i.checkpoint; since_reclaim = i.since_reclaim; failed = i.has_failed; tended = i.tended } in
     let p = err_from_is_err_and c.from_residual-in_err-reserve.result c.from_residual-in_err-reserve.ensures.1 in
-    subst (λ (journal : List Entry). Stops error tells held moment images (record e { journal = journal }) opened first start c.args.moment c.args.disk.now left standing) (sym {A = List Entry} c.reserve.ensures.items)
-    (stops_wanting tells held moment images e opened first c.args.disk.now start time c.args.moment by left standing
-    (subst (λ (u : EngineState). IsRunning moment images u opened first start time c.args.disk.now left standing) (sym c.self.view_is) run) c.faults_end_a_run.ensures.between error (cc (p.1, p.2, is)))
+    subst (λ (journal : List Entry). Stops error tells held moment images (record e { journal = journal }) opened first start c.args.moment c.args.disk.now left out) (sym {A = List Entry} c.reserve.ensures.items)
+    (stops_wanting tells held moment images e opened first c.args.disk.now start time c.args.moment by left out
+    (subst (λ (u : EngineState). IsRunning moment images u opened first start time c.args.disk.now left out) (sym c.self.view_is) run) c.faults_end_a_run.ensures.between error (cc (p.1, p.2, is)))
 
 pub returns-in_err-expired-clause-goes_on : goal.returns-in_err-expired-clause-goes_on
-returns-in_err-expired-clause-goes_on g c well telling opened first start time left standing by run =
+returns-in_err-expired-clause-goes_on g c well telling opened first start time left out by run =
     let tells = g.D.Disk.tells in
     let held = g.D.Disk.held in
     let moment = g.D.Disk.moment in
@@ -130,12 +130,12 @@ returns-in_err-expired-clause-goes_on g c well telling opened first start time l
     let error = c.in_err-expired.field-0.0 in
     let other : error ≡ EngineError.Disk → ⊥ = λ disk. let is : c.from_residual-in_err-expired.result ≡ Err EngineError.Disk = cc (p.1, p.2, disk) in well is in
     let was : c.expire-expired.result ≡ Err error = c.in_err-expired.was in
-    runs_unwritten tells held moment images e f same opened first old new start time left standing c.run_goes_on.ensures.spared c.args.moment by ((c.expire-expired.ensures.unwritten error was other).0)
+    runs_unwritten tells held moment images e f same opened first old new start time left out c.run_goes_on.ensures.spared c.args.moment by ((c.expire-expired.ensures.unwritten error was other).0)
     (grown ∙ ap (λ (r : Result ℕ EngineError). journaled r one i.journal.items) was ∙ journaled_kept error one i.journal.items other) refl refl
-    (subst (λ (u : EngineState). IsRunning moment images u opened first start time old left standing) (sym c.self.view_is) run)
+    (subst (λ (u : EngineState). IsRunning moment images u opened first start time old left out) (sym c.self.view_is) run)
 
 pub returns-in_err-expired-clause-idle : goal.returns-in_err-expired-clause-idle
-returns-in_err-expired-clause-idle g c well none telling opened first start time left standing run =
+returns-in_err-expired-clause-idle g c well none telling opened first start time left out run =
     let tells = g.D.Disk.tells in
     let held = g.D.Disk.held in
     let moment = g.D.Disk.moment in
@@ -156,12 +156,12 @@ returns-in_err-expired-clause-idle g c well none telling opened first start time
     let error = c.in_err-expired.field-0.0 in
     let other : error ≡ EngineError.Disk → ⊥ = λ disk. let is : c.from_residual-in_err-expired.result ≡ Err EngineError.Disk = cc (p.1, p.2, disk) in well is in
     let was : c.expire-expired.result ≡ Err error = c.in_err-expired.was in
-    runs_unwritten tells held moment images e f same opened first old new start time left standing c.run_goes_on.ensures.spared time (omega arith) ((c.expire-expired.ensures.unwritten error was other).0)
+    runs_unwritten tells held moment images e f same opened first old new start time left out c.run_goes_on.ensures.spared time (omega arith) ((c.expire-expired.ensures.unwritten error was other).0)
     (grown ∙ ap (λ (r : Result ℕ EngineError). journaled r one i.journal.items) was ∙ journaled_kept error one i.journal.items other) refl refl
-    (subst (λ (u : EngineState). IsRunning moment images u opened first start time old left standing) (sym c.self.view_is) run)
+    (subst (λ (u : EngineState). IsRunning moment images u opened first start time old left out) (sym c.self.view_is) run)
 
 pub returns-in_err-expired-clause-stopped : goal.returns-in_err-expired-clause-stopped
-returns-in_err-expired-clause-stopped g c error is telling opened first start time left standing by run =
+returns-in_err-expired-clause-stopped g c error is telling opened first start time left out by run =
     let tells = g.D.Disk.tells in
     let held = g.D.Disk.held in
     let moment = g.D.Disk.moment in
@@ -188,7 +188,7 @@ returns-in_err-expired-clause-stopped g c error is telling opened first start ti
     let was : c.expire-expired.result ≡ Err error = c.in_err-expired.was ∙ ap Err told in
     let grew : c.note.new.journal.items ≡ journaled (Err error) one i.journal.items = grown ∙ ap (λ (r : Result ℕ EngineError). journaled r one i.journal.items) was in
     let kinds = subst (λ (r : Result ℕ EngineError). IfErr r (λ er. (er ≡ EngineError.Disk) ⊎ (er ≡ EngineError.Memory) ⊎ ((limit : Limit) × (er ≡ EngineError.Limit limit)))) was c.expire-expired.ensures.kinds in
-    stops_failed tells held moment images e f same opened first old new start time left standing c.worlds_follow_steps.ensures.queues one tt by
+    stops_failed tells held moment images e f same opened first old new start time left out c.worlds_follow_steps.ensures.queues one tt by
     (λ m stands. due_comes c.what_is_kept_is_seen.ensures.seen c.due_expiries_may_expire.ensures i.flow.now (kept_by i.store) expiry.connection expiry.numbers c.args.moment c.holds_its_state.ensures.kept.0 c.holds_its_state.ensures.kept.1
     ready.work.flow_is kept (content_in (held old)) m sizes (c.holds_its_state.ensures.tied telling i.flow.now ready.work m stands))
     c.run_goes_on.ensures.spared c.run_goes_on.ensures.turn c.faults_end_a_run.ensures.between c.faults_end_a_run.ensures.disk error refl refl
@@ -196,7 +196,7 @@ returns-in_err-expired-clause-stopped g c error is telling opened first start ti
     (λ disk. c.expire-expired.ensures.cut_off (was ∙ ap Err disk) telling)
     (λ other. ((c.expire-expired.ensures.unwritten error was other).0, grew ∙ journaled_kept error one i.journal.items other))
     (λ limit at. c.expire-expired.ensures.limited limit (was ∙ ap Err at) telling)
-    (subst (λ (u : EngineState). IsRunning moment images u opened first start time old left standing) (sym c.self.view_is) run) kinds
+    (subst (λ (u : EngineState). IsRunning moment images u opened first start time old left out) (sym c.self.view_is) run) kinds
 
 pub returns-in_err-expired-clause-cut_off : goal.returns-in_err-expired-clause-cut_off
 returns-in_err-expired-clause-cut_off g c is =
@@ -246,7 +246,7 @@ returns-clause-due g c =
     subst (λ (u : EngineState). true ≡ is_some (due_expiry u.flow (queue_seen u.queues) c.args.moment)) c.self.view_is (sym (ap is_some due))
 
 pub returns-clause-goes_on : goal.returns-clause-goes_on
-returns-clause-goes_on g c well telling opened first start time left standing by run =
+returns-clause-goes_on g c well telling opened first start time left out by run =
     let tells = g.D.Disk.tells in
     let held = g.D.Disk.held in
     let moment = g.D.Disk.moment in
@@ -271,13 +271,13 @@ returns-clause-goes_on g c well telling opened first start time left standing by
     let made : c.expire-expired.result ≡ Ok (moment new)
     = c.in_ok-expired.was ∙ ap Ok (subst (λ (r : Result ℕ EngineError). IfOk r (λ at. at ≡ moment new)) c.in_ok-expired.was c.expire-expired.ensures.moment) in
     let journal : c.note.new.journal.items ≡ i.journal.items ++ record { step = one; acked = Some (moment new) } ∷ [] = grown ∙ ap (λ (r : Result ℕ EngineError). journaled r one i.journal.items) made in
-    runs_stepped tells held moment images e f same opened first old new start time left standing c.worlds_follow_steps.ensures.queues one tt by
+    runs_stepped tells held moment images e f same opened first old new start time left out c.worlds_follow_steps.ensures.queues one tt by
     (λ m stands. due_comes c.what_is_kept_is_seen.ensures.seen c.due_expiries_may_expire.ensures i.flow.now (kept_by i.store) expiry.connection expiry.numbers c.args.moment c.holds_its_state.ensures.kept.0 c.holds_its_state.ensures.kept.1
     ready.work.flow_is kept (content_in (held old)) m sizes (c.holds_its_state.ensures.tied telling i.flow.now ready.work m stands))
     c.run_goes_on.ensures.step journal refl refl
     (subst (λ (r : Result ℕ EngineError). OnOk r ((m : Machine) → InEach (images old (moment old)) (StandsFor i.flow.now i.store.lot m) → IsDone i.flow.now moment images i.store.lot m one old new)) made
     (on_ok_leads c.expire-expired.result _ _ (λ done. done telling) c.expire-expired.ensures.done))
-    (subst (λ (u : EngineState). IsRunning moment images u opened first start time old left standing) (sym c.self.view_is) run)
+    (subst (λ (u : EngineState). IsRunning moment images u opened first start time old left out) (sym c.self.view_is) run)
 
 pub returns-clause-expired : goal.returns-clause-expired
 returns-clause-expired g c is =

@@ -14,6 +14,7 @@ use Rattle.flow_engine.proofs.Ending.{comes_next, ends_as, full_as, none_expired
 use Rattle.flow_engine.proofs.Goes.{stops_unmoved}
 use Rattle.flow_engine.proofs.RunsOn.{runs_idle, spared_by_none}
 use Rattle.flow_engine.proofs.Turning.{limited, no_limit}
+use Rattle.flow_run.specs.Puts.{outgoing}
 use Rattle.flow_engine.proofs.engine.Engine.go_on.Goals as goal
 
 pub returns-in_err-checkout-clause-stopped : goal.returns-in_err-checkout-clause-stopped
@@ -22,12 +23,12 @@ returns-in_err-checkout-clause-stopped g c error is telling in_telling out_telli
     let e : EngineState = c.args.self.now in
     let disk = c.args.disk.now in
     let left = g.I.Inbox.left c.args.inbox.now in
-    let standing = g.O.Outbox.standing c.args.outbox.now in
+    let out = outgoing g.O.Outbox.standing g.O.Outbox.puts c.args.outbox.now in
     let p = err_from_is_err_and c.from_residual.result c.from_residual.ensures.1 in
     let told : c.in_err-checkout.field-0.0 ≡ error = cc (p.1, p.2, is) in
-    stops_unmoved D.tells D.held D.moment D.images e e opened first start time disk disk left standing run refl refl c.faults_end_a_run.ensures.between refl
+    stops_unmoved D.tells D.held D.moment D.images e e opened first start time disk disk left out run refl refl c.faults_end_a_run.ensures.between refl
     (spared_by_none D.tells D.held D.moment D.images e.flow e.store.lot run.reached disk run.to.run.holds)
-    error (no_limit c.in_err-checkout.field-0.0 error told c.in_err-checkout.ensures.kinds) c.args.moment le left standing refl refl
+    error (no_limit c.in_err-checkout.field-0.0 error told c.in_err-checkout.ensures.kinds) c.args.moment le left out refl refl
 
 pub returns-in_err-run_session-in-Session-clause-stopped : goal.returns-in_err-run_session-in-Session-clause-stopped
 returns-in_err-run_session-in-Session-clause-stopped g c error is =
@@ -42,7 +43,7 @@ returns-in-Limit-clause-stopped g c error is telling in_telling out_telling open
     let disk = c.args.disk.now in
     let moment = c.args.moment in
     let left = g.I.Inbox.left c.args.inbox.now in
-    let standing = g.O.Outbox.standing c.args.outbox.now in
+    let out = outgoing g.O.Outbox.standing g.O.Outbox.puts c.args.outbox.now in
     let laws = g.met.D.Disk g.world.𝓛 g.world.𝓜 g.world.𝓡 ((λ s x. x), (λ x. x), (λ x. x), λ x. x) in
     let shown = c.shows_its_state.ensures telling run.reached run.to.run.holds in
     let it = full_as (length e.journal) e.most (choice_in e moment) (ending_in e moment) c.in-Limit.limit (comes_next e moment (next.Limit c.in-Limit.limit) c.requires.tended (sym c.in-Limit.is ∙ c.in_ok-checkout.ensures.next)) in
@@ -50,14 +51,14 @@ returns-in-Limit-clause-stopped g c error is telling in_telling out_telling open
     let step = goes_on c.choices_are_sessions.ensures c.choices_are_seen.ensures c.sessions_are_steps.ensures.steps e run.reached moment it.0 run.to.run.valid shown.seen shown.counts run.to.coming
     (none_expired e moment c.requires.tended) it.1 in
     let told : Limit c.in-Limit.limit ≡ error = cc in
-    subst (λ (x : EngineError). Stops x D.tells D.held D.moment D.images e opened first start moment disk left standing) told
-    (subst (λ (l : TheLimit). IsLimited D.tells D.held D.moment D.images e l opened first start moment disk left standing) (sym it.2)
-    (limited D.tells D.held D.moment D.images e opened first start time disk left standing c.run_goes_on.ensures.spared moment le c.run_goes_on.ensures.turn run full (laws.held_is_left disk telling) step))
+    subst (λ (x : EngineError). Stops x D.tells D.held D.moment D.images e opened first start moment disk left out) told
+    (subst (λ (l : TheLimit). IsLimited D.tells D.held D.moment D.images e l opened first start moment disk left out) (sym it.2)
+    (limited D.tells D.held D.moment D.images e opened first start time disk left out c.run_goes_on.ensures.spared moment le c.run_goes_on.ensures.turn run full (laws.held_is_left disk telling) step))
 
 pub returns-in-Rest-clause-turned : goal.returns-in-Rest-clause-turned
 returns-in-Rest-clause-turned g c telling in_telling out_telling opened first start time le run =
     let D = g.D.Disk in
-    runs_idle D.tells D.held D.moment D.images c.args.self.now opened first c.args.disk.now start time c.args.moment le (g.I.Inbox.left c.args.inbox.now) (g.O.Outbox.standing c.args.outbox.now) run c.run_goes_on.ensures.spared
+    runs_idle D.tells D.held D.moment D.images c.args.self.now opened first c.args.disk.now start time c.args.moment le (g.I.Inbox.left c.args.inbox.now) (outgoing g.O.Outbox.standing g.O.Outbox.puts c.args.outbox.now) run c.run_goes_on.ensures.spared
 
 pub returns-in-Blocked-clause-turned : goal.returns-in-Blocked-clause-turned
 returns-in-Blocked-clause-turned g c telling in_telling out_telling opened first start time le run =
@@ -65,12 +66,12 @@ returns-in-Blocked-clause-turned g c telling in_telling out_telling opened first
     let e : EngineState = c.args.self.now in
     let moment = c.args.moment in
     let left = g.I.Inbox.left c.args.inbox.now in
-    let standing = g.O.Outbox.standing c.args.outbox.now in
+    let out = outgoing g.O.Outbox.standing g.O.Outbox.puts c.args.outbox.now in
     let it = ends_as (length e.journal) e.most (choice_in e moment) (ending_in e moment) (Blocked c.in-Blocked.connection)
     (comes_next e moment (next.Blocked c.in-Blocked.connection) c.requires.tended (sym c.in-Blocked.is ∙ c.in_ok-checkout.ensures.next)) in
-    let on = runs_idle D.tells D.held D.moment D.images e opened first c.args.disk.now start time moment le left standing run c.run_goes_on.ensures.spared in
+    let on = runs_idle D.tells D.held D.moment D.images e opened first c.args.disk.now start time moment le left out run c.run_goes_on.ensures.spared in
     let shown = c.shows_its_state.ensures telling on.reached on.to.run.holds in
-    turned_at_end c.ends_are_machine_ends.ensures D.moment D.images e opened first c.args.disk.now left standing start moment on shown.seen shown.counts c.requires.tended (Blocked c.in-Blocked.connection) it.1 it.0
+    turned_at_end c.ends_are_machine_ends.ensures D.moment D.images e opened first c.args.disk.now left out start moment on shown.seen shown.counts c.requires.tended (Blocked c.in-Blocked.connection) it.1 it.0
 
 pub returns-in-Quiet-clause-turned : goal.returns-in-Quiet-clause-turned
 returns-in-Quiet-clause-turned g c telling in_telling out_telling opened first start time le run =
@@ -78,8 +79,8 @@ returns-in-Quiet-clause-turned g c telling in_telling out_telling opened first s
     let e : EngineState = c.args.self.now in
     let moment = c.args.moment in
     let left = g.I.Inbox.left c.args.inbox.now in
-    let standing = g.O.Outbox.standing c.args.outbox.now in
+    let out = outgoing g.O.Outbox.standing g.O.Outbox.puts c.args.outbox.now in
     let it = ends_as (length e.journal) e.most (choice_in e moment) (ending_in e moment) Quiet (comes_next e moment next.Quiet c.requires.tended (sym c.in-Quiet.is ∙ c.in_ok-checkout.ensures.next)) in
-    let on = runs_idle D.tells D.held D.moment D.images e opened first c.args.disk.now start time moment le left standing run c.run_goes_on.ensures.spared in
+    let on = runs_idle D.tells D.held D.moment D.images e opened first c.args.disk.now start time moment le left out run c.run_goes_on.ensures.spared in
     let shown = c.shows_its_state.ensures telling on.reached on.to.run.holds in
-    turned_at_end c.ends_are_machine_ends.ensures D.moment D.images e opened first c.args.disk.now left standing start moment on shown.seen shown.counts c.requires.tended Quiet it.1 it.0
+    turned_at_end c.ends_are_machine_ends.ensures D.moment D.images e opened first c.args.disk.now left out start moment on shown.seen shown.counts c.requires.tended Quiet it.1 it.0
