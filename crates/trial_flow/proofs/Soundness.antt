@@ -1,6 +1,6 @@
 -- The flow of a trial is sound.
 use Rattle.std.proofs.Common.{◌≡◌, ℕ, ◌≤◌, List, [], ◌∷◌, refl, sym, subst, arith}
-use Rattle.std.specs.Prelude.{All}
+use Rattle.std.specs.Prelude.{All, codes}
 use Rattle.std.proofs.lemmas.Bool.{le-leb}
 use Rattle.std.proofs.lemmas.List.Elements.{All-from_recursion}
 use Rattle.expr_lang.specs.declared.syntax.Expr.{Expr}
@@ -15,6 +15,11 @@ use Rattle.trial_flow.specs.Trial.{IsTrialFlow, custom_text, tens_text, processo
 none_twice : EachOnce []
 none_twice = λ i j d before within. absurd (omega (arith, within))
 
+routed : (tens : Expr) → HasText tens → All (λ (own : OwnExpression). HasText own.expression) (record { name = codes "tens"; expression = tens } ∷ [])
+routed tens has_tens =
+    let own : List OwnExpression = record { name = codes "tens"; expression = tens } ∷ [] in
+    All-from_recursion (λ (own : OwnExpression). HasText own.expression) own (has_tens, tt)
+
 sound : (count : ℕ) → (text tens : Expr) → (digest : List ℕ) → count ≤ GENERATED_MAX → HasText text → HasText tens
     → IsSound (record { processors = processors count text tens; connections = connections; digest = digest })
 sound count text tens digest few has_text has_tens = record {
@@ -23,10 +28,10 @@ sound count text tens digest few has_text has_tens = record {
   processor_ids = refl;
   connection_ids = refl;
   processors = refl;
-  kinds = All-from_recursion (λ (processor : Processor). IsSoundKind processor.kind) _ (
+  kinds = All-from_recursion (λ (processor : Processor). IsSoundKind processor.kind) (processors count text tens) (
     record { ranges = le-leb count GENERATED_MAX few; texts = has_text },
     (
-      record { ranges = refl; texts = All-from_recursion (λ (own : OwnExpression). HasText own.expression) _ (has_tens, tt) },
+      record { ranges = refl; texts = routed tens has_tens },
       (
         record { ranges = refl; texts = tt },
         (
@@ -38,7 +43,7 @@ sound count text tens digest few has_text has_tens = record {
   );
   connections = refl;
   relationships = refl;
-  prioritizers = All-from_recursion (λ (connection : Connection). EachOnce connection.order) _
+  prioritizers = All-from_recursion (λ (connection : Connection). EachOnce connection.order) connections
       (none_twice, (none_twice, (none_twice, (none_twice, (none_twice, tt)))));
 }
 

@@ -22,13 +22,12 @@ const PUTTER: u16 = 4;
 pub(crate) fn connections(alloc: Global) -> Result<ConnectionList, AllocError>
     ensures { IfOk result (λ list. list ≡ connections) }
 {
-    let list = vec![in alloc;
-        connection(alloc, "made", GENERATOR, "success", ROUTER)?,
-        connection(alloc, "tens", ROUTER, "tens", SPLITTER)?,
-        connection(alloc, "rest", ROUTER, "unmatched", PUTTER)?,
-        connection(alloc, "parts", SPLITTER, "splits", MERGER)?,
-        connection(alloc, "whole", MERGER, "merged", PUTTER)?,
-    ]?;
+    let mut list = Vec::new(alloc);
+    list.push(connection(alloc, "made", GENERATOR, "success", ROUTER)?)?;
+    list.push(connection(alloc, "tens", ROUTER, "tens", SPLITTER)?)?;
+    list.push(connection(alloc, "rest", ROUTER, "unmatched", PUTTER)?)?;
+    list.push(connection(alloc, "parts", SPLITTER, "splits", MERGER)?)?;
+    list.push(connection(alloc, "whole", MERGER, "merged", PUTTER)?)?;
     Ok(Sequence::from(list))
 }
 
