@@ -25,7 +25,7 @@ use Rattle.flow_engine.specs.Engine.{AreBuilt}
 use Rattle.flow_engine.specs.declared.run.Ran.{Ran}
 use Rattle.run_top.specs.Opening.{IsOfFlow, IsOfStore}
 use Rattle.run_top.specs.Printing.{IsLine, IsPrinted, IsRefusal, closing_text, refusal_line}
-use Rattle.run_top.specs.Run.{HasEnded, IsShownAs, IsToldAs}
+use Rattle.run_top.specs.Run.{HasEnded, IsShownAs}
 use Rattle.run_top.specs.Status.{answer_of_end}
 use Rattle.run_top.specs.Trial.{HasTried, IsOfTrial, IsTried, RanInMemory, new_machine, no_files, unless_fault, with_memory}
 use Rattle.run_top.specs.declared.answer.Answer.{Answer}

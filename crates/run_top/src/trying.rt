@@ -59,8 +59,10 @@ fn run_in_memory(alloc: Global, flow: &Flow, lot: u64) -> Result<Ran, Answer>
     ensures memory { IfErr result (λ answer. answer ≡ Answer.Memory) }
 {
     let mut disk = MemoryDisk::new(Vec::new(alloc));
-    let mut inbox = MemoryInbox::new(Vec::new(alloc), Vec::new(alloc));
-    let mut outbox = MemoryOutbox::new(Vec::new(alloc), Vec::new(alloc));
+    let offered = Vec::new(alloc);
+    let mut inbox = MemoryInbox::new(offered, Vec::new(alloc));
+    let standing = Vec::new(alloc);
+    let mut outbox = MemoryOutbox::new(standing, Vec::new(alloc));
     let mut clock = MemoryClock::new(0, 0);
     let run = run_over(
         alloc,

@@ -1,9 +1,8 @@
 -- The texts of the flow's expressions have trees.
 use Rattle.std.proofs.Common.{◌≡◌, ◌==◌, ℕ, List, [], ◌∷◌, false, true, map, not, refl, subst, inl, arith}
 use Rattle.std.specs.Prelude.{IsTrue, codes}
-use Rattle.std.specs.List.{list_all}
 use Rattle.expr_lang.specs.declared.function.Unary.TheVariants.{EndsWith}
-use Rattle.expr_lang.specs.Grammar.{ArePieces, IsArgument, IsBody, IsCall, IsEmbedded, IsExpression, IsPiece, IsQuoted, IsSubject}
+use Rattle.expr_lang.specs.Grammar.{ArePieces, IsArgument, IsBody, IsCall, IsEmbedded, IsExpression, IsPiece, IsSubject}
 use Rattle.expr_lang.specs.Tree.{Term, attribute, constant, with_one, byte, embedded, whole, joined}
 use Rattle.expr_lang.specs.Value.{text}
 use Rattle.trial_flow.specs.Trial.{IsReadable, custom_text, tens_text}
