@@ -25,6 +25,7 @@ use world_io::{MemoryClock, MemoryInbox, MemoryOutbox, Sink};
 /// It runs as `run` does, with the defaults of its options, but for the text of a flow: over a new disk, an empty inbox
 /// and an empty outbox in memory, by a clock in memory that starts at 0 and that only waiting moves. Nothing else is
 /// read or written but the sink, which has the summary at the end. The low 60 bits of the lot are the store's id.
+/// A device in memory fails where it can't grow, so whatever fails but the sink is answered as want of memory.
 pub fn trial<S: Sink>(alloc: Global, count: u64, lot: u64, sink: &mut S) -> u8
     requires { count ≤ TRIAL_MAX }
     ensures { (answer : TheAnswer) × (result ≡ status_of answer)
@@ -78,8 +79,8 @@ fn run_in_memory(alloc: Global, flow: &Flow, lot: u64) -> Result<Ran, Answer>
     with_memory(run)
 }
 
-// No call of a device in memory is listed to fail, so one that counts a fault couldn't grow. What stands on its disk is
-// what was written there. So whatever failed, memory was wanting.
+// What a run over devices in memory came to. No call of theirs is listed to fail, so one that failed couldn't grow:
+// memory was wanting. That no damage comes of such a disk isn't proved; it would be answered so too.
 fn with_memory(run: Result<Ran, Answer>) -> Result<Ran, Answer>
     ensures { result ≡ with_memory run }
 {
