@@ -46,7 +46,7 @@ queues_are : (contents : ContentRef → List ℕ) (from : ℕ) (cs : List Connec
 queues_are contents from [] = refl
 queues_are contents from (c ∷ cs) = ap (λ (rest : List (List QueuedFile)). [] ∷ rest) (queues_are contents (from + 1) cs)
 
-counts_are : (ps : List Processor) → replicate (length ps) 0 ≡ map (λ (p : Processor). 0) ps
+counts_are : (ps : List Processor) → replicate {A = ℕ} (length ps) 0 ≡ map (λ (p : Processor). 0) ps
 counts_are [] = refl
 counts_are (p ∷ ps) = ap (λ (rest : List ℕ). 0 ∷ rest) (counts_are ps)
 
