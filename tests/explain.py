@@ -247,11 +247,11 @@ class Cases:
         flow = ROOT / "flow"
         said = subprocess.run([flow, "--help"], capture_output=True, text=True, check=False)
         need(said.returncode == DONE, f"--help ends with {said.returncode}")
-        for command in ("run", "queues", "events", "lineage UUID", "content UUID", "check", "explain"):
+        for command in ("run", "queues", "events", "lineage UUID", "content UUID", "check", "trial N", "explain"):
             need(f"\n  {command} " in said.stdout, f"--help doesn't name {command}")
         said = subprocess.run([flow, "--version"], capture_output=True, text=True, check=False)
         need(said.returncode == DONE and said.stdout.count("\n") == 1, f"--version says {said.stdout!r}")
-        for words in ((), ("go",), ("trial", "20"), ("-h",), ("",)):
+        for words in ((), ("go",), ("trials", "20"), ("-h",), ("",)):
             ended = subprocess.run([flow, *words], capture_output=True, timeout=10, check=False)
             need((ended.returncode, ended.stdout) == (USAGE, printed.USAGE_LINE), f"{words} ended with {ended.returncode}")
 

@@ -243,7 +243,8 @@ class Cases:
 
     def other_words(self):
         words = ((), ("runs",), ("run", "run"), ("RUN",), ("",), ("run", ""), ("--help",), (" run",), (b"\xff",),
-                 (b"run", b"\xff"), (b"\xffrun",), ("queue",), ("queues", "run"), ("trial", "20"), ("--threads", "1", "run"), ("run", "--"),
+                 (b"run", b"\xff"), (b"\xffrun",), ("queue",), ("queues", "run"), ("trial",), ("trial", "20", "run"),
+                 ("--threads", "1", "run"), ("run", "--"),
                  ("run", "--threads", "0"), ("run", "--threads=17"), ("run", "--max-commits", "4194305"),
                  ("run", "--checkpoint=1000001"), ("run", "--checkpoint"), ("run", "--checkpoint="),
                  ("run", "--threads", "-4"), ("run", "--threads", "4", "--threads=4"), ("run", "-t", "4"))

@@ -109,7 +109,7 @@ unfoldable pub words_of : List Text → Option Command
 words_of [] = None
 words_of (name ∷ rest) = arguments_of rest >>= command_of name
 
--- the numbers with which a flow is run stand in their ranges
+-- the numbers with which a flow is run, or tried, stand in their ranges
 pub record AreInRange (options : RunOptions) : Type 0 where
   pub threads : (1 ≤ options.threads) × (options.threads ≤ THREADS_MAX)
   pub max_commits : (1 ≤ options.max_commits) × (options.max_commits ≤ COMMITS_MAX)
@@ -117,6 +117,7 @@ pub record AreInRange (options : RunOptions) : Type 0 where
 
 abbrev pub IsInRange : Command → Type 0
 IsInRange (Run options) = AreInRange options
+IsInRange (Trial count threads) = (1 ≤ count) × (count ≤ TRIAL_MAX) × (1 ≤ threads) × (threads ≤ THREADS_MAX)
 IsInRange command = Unit {0}
 
 -- what is read is what the words are, and what is refused is nothing, unless memory ran out

@@ -11,6 +11,7 @@ pub const DIGITS_MAX: usize = 10;
 /// The number that a text of digits writes, if it is in the range.
 pub(crate) fn number_in(least: u64, most: u64, text: &str) -> Option<u64>
     ensures number { result ≡ number_in least most text.now }
+    ensures least { IfSome result (λ number. least ≤ number) }
     ensures most { IfSome result (λ number. number ≤ most) }
 {
     if 1 <= text.len() && text.len() <= DIGITS_MAX && are_digits(text.as_bytes()) {
@@ -22,6 +23,7 @@ pub(crate) fn number_in(least: u64, most: u64, text: &str) -> Option<u64>
 
 fn within(least: u64, most: u64, number: u64) -> Option<u64>
     ensures number { result ≡ within least most number }
+    ensures least { IfSome result (λ number. least ≤ number) }
     ensures most { IfSome result (λ number. number ≤ most) }
 {
     if least <= number && number <= most {

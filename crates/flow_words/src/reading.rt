@@ -68,7 +68,8 @@ fn options_of(arguments: &[Argument<'_>]) -> Option<RunOptions>
 }
 
 fn trial_of(arguments: &[Argument<'_>]) -> Option<Command>
-    ensures { result ≡ trial_of (map seen arguments.now) }
+    ensures command { result ≡ trial_of (map seen arguments.now) }
+    ensures range { IfSome result IsInRange }
 {
     if !are_among(arguments, &["threads"]) {
         return None;

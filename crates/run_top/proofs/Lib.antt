@@ -3,13 +3,16 @@ pub mod Answers
 pub mod Asked
 pub mod Broken
 pub mod Built
+pub mod Empty
 pub mod Lines
 pub mod Opened
+pub mod Ordered
 pub mod Over
 pub mod Reading
 pub mod Short
 pub mod Started
 pub mod Texts
+pub mod Tried
 pub mod Runs
 pub mod Summed
 pub mod Writing

@@ -26,7 +26,7 @@ use Rattle.run_top.proofs.Short.{not_shown}
 use Rattle.run_top.proofs.Summed.{text_is}
 
 -- what was printed of what a run left is the text of the machine
-printed_at : (flow : Flow) (answer : Answer) (ended : Ended) (m : Machine) (o : Option Closed) (sink_tells : Bool) (before after : List ℕ) → MatchOption o (IsFault ended) (λ closed. IsFault ended → ⊥)
+pub printed_at : (flow : Flow) (answer : Answer) (ended : Ended) (m : Machine) (o : Option Closed) (sink_tells : Bool) (before after : List ℕ) → MatchOption o (IsFault ended) (λ closed. IsFault ended → ⊥)
     → IfSome o (Shows flow m) → IfSome o (λ closed. IsTrue sink_tells → IsPrinted answer (closing_text flow ended closed) before after)
     → (IsFault ended → ⊥) → IsTrue sink_tells → IsPrinted answer (end_text flow ended m) before after
 printed_at flow answer ended m None sink_tells before after closes shows printed no_fault told = absurd (no_fault closes)

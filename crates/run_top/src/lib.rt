@@ -9,6 +9,7 @@ mod order;
 mod printing;
 mod status;
 mod text;
+mod trying;
 
 pub use answer::Answer;
 pub use asking::ask;
@@ -19,6 +20,7 @@ pub use status::{
     ABSENT, BLOCKED, DAMAGED, DISK_FAULT, DONE, FLOW_REFUSED, INBOX_FAULT, LIMIT, OUT_OF_MEMORY,
     OUTBOX_FAULT, SINK_FAULT, SOURCE_FAULT, USAGE,
 };
+pub use trying::trial;
 
 #[cfg(test)]
 mod tests;
