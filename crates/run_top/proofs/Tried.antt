@@ -14,10 +14,11 @@ use Rattle.machine_model.specs.State.{Machine, State}
 use Rattle.machine_model.specs.Valid.{new_state}
 use Rattle.machine_model.specs.declared.flow.Flow.{Flow}
 use Rattle.machine_model.specs.declared.flow.Processor.{Processor}
-use Rattle.flow_words.specs.declared.command.TheConstants.{DEFAULT_COMMITS}
+use Rattle.flow_words.specs.declared.command.TheConstants.{DEFAULT_CHECKPOINT, DEFAULT_COMMITS}
 use Rattle.trial_flow.specs.Trial.{IsTrialFlow}
 use Rattle.engine_session.specs.Working.{is_built}
 use Rattle.flow_run.specs.Ending.{IsFault}
+use Rattle.flow_run.specs.Puts.{Outgoing, Start}
 use Rattle.flow_run.specs.Run.{machine_at}
 use Rattle.flow_run.specs.declared.ended.Ended.{Ended}
 use Rattle.flow_run.specs.declared.ended.Ended.TheVariants as ending
@@ -27,7 +28,7 @@ use Rattle.run_top.specs.Opening.{IsOfFlow, IsOfStore}
 use Rattle.run_top.specs.Printing.{IsLine, IsPrinted, IsRefusal, closing_text, refusal_line}
 use Rattle.run_top.specs.Run.{HasEnded, IsShownAs}
 use Rattle.run_top.specs.Status.{answer_of_end}
-use Rattle.run_top.specs.Trial.{HasTried, IsOfTrial, IsTried, RanInMemory, new_machine, no_files, unless_fault, with_memory}
+use Rattle.run_top.specs.Trial.{HasTried, IsOfTrial, IsTried, RanInMemory, any_moment, new_machine, new_start, no_files, unless_fault, with_memory}
 use Rattle.run_top.specs.declared.answer.Answer.{Answer}
 use Rattle.run_top.specs.declared.answer.Answer.TheVariants.{Memory, Sink}
 use Rattle.run_top.proofs.Empty.{none_kept}
@@ -52,28 +53,34 @@ none_left files left none same = no_elements left (length_permutation (map file_
 none_stand : (files : List (List ℕ × Vec ℕ Global)) (stood : List ℕ → Option (List ℕ)) → files ≡ [] → stood ≡ bytes_of (map file_of files) → stood ≡ bytes_of []
 none_stand files stood none is = is ∙ ap (λ (l : List (List ℕ × Vec ℕ Global)). bytes_of (map file_of l)) none
 
--- what a run from a new machine came to
-abbrev Ends : Flow → (lot start time : ℕ) → (old new : MemoryDisk) → Machine → List NamedFile → (List ℕ → Option (List ℕ)) → Ran → Type 0
-Ends flow lot start time old new opened left standing ran = HasEnded flow ran start time true held_by moment_of left_by lot DEFAULT_COMMITS opened old new left standing
+-- what a run from a machine came to
+abbrev Ends : Flow → (lot : ℕ) → Start → (time : ℕ) → (old new : MemoryDisk) → Machine → List NamedFile → Outgoing → Ran → Type 0
+Ends flow lot start time old new opened left out ran = HasEnded flow ran any_moment start time true held_by moment_of left_by lot DEFAULT_COMMITS DEFAULT_CHECKPOINT opened old new left out
 
-module _ (flow : Flow) (lot start time : ℕ) (old new : MemoryDisk) (before left : List NamedFile) (stood standing : List ℕ → Option (List ℕ))
-    (empty : held_by old ≡ no_files) (begins : start ≡ 0) (inbox outbox : List (List ℕ × Vec ℕ Global)) (no_inbox : inbox ≡ []) (listed : IsPermutation (map file_of inbox) before)
+module _ (flow : Flow) (lot start time : ℕ) (old new : MemoryDisk) (before left puts : List NamedFile) (stood : List ℕ → Option (List ℕ)) (out : Outgoing)
+    (empty : held_by old ≡ no_files) (begins : start ≡ 0) (nothing : puts ≡ []) (inbox outbox : List (List ℕ × Vec ℕ Global)) (no_inbox : inbox ≡ []) (listed : IsPermutation (map file_of inbox) before)
     (no_outbox : outbox ≡ []) (stands : stood ≡ bytes_of (map file_of outbox)) where
-  from_new : (ran : Ran) → Ends flow lot start time old new (machine_at (new_state flow lot) before stood) left standing ran → RanInMemory flow lot ran
+  abbrev at_first : Start
+  at_first = record { time = start; puts = puts }
+
+  starts : at_first ≡ new_start
+  starts i = record { time = begins i; puts = nothing i }
+
+  from_new : (ran : Ran) → Ends flow lot at_first time old new (machine_at (new_state flow lot) before stood) left out ran → RanInMemory flow lot ran
   from_new ran ended = record {
     old = old;
     new = new;
     empty = empty;
     time = time;
     left = left;
-    standing = standing;
+    out = out;
     ended =
-        subst (λ (from : ℕ). Ends flow lot from time old new (new_machine flow lot) left standing ran) begins
-        (subst (λ (files : List NamedFile). Ends flow lot start time old new (machine_at (new_state flow lot) files (bytes_of [])) left standing ran) (none_left inbox before no_inbox listed)
-        (subst (λ (out : List ℕ → Option (List ℕ)). Ends flow lot start time old new (machine_at (new_state flow lot) before out) left standing ran) (none_stand outbox stood no_outbox stands) ended));
+        subst (λ (from : Start). Ends flow lot from time old new (new_machine flow lot) left out ran) starts
+        (subst (λ (files : List NamedFile). Ends flow lot at_first time old new (machine_at (new_state flow lot) files (bytes_of [])) left out ran) (none_left inbox before no_inbox listed)
+        (subst (λ (standing : List ℕ → Option (List ℕ)). Ends flow lot at_first time old new (machine_at (new_state flow lot) before standing) left out ran) (none_stand outbox stood no_outbox stands) ended));
   }
 
-  pub ran_in_memory : (run : Result Ran Answer) → IfOk run (λ ran. IsTrue true → IsTrue true → IsTrue true → (state : State) → IsOfFlow flow lot (held_by old) state → Ends flow lot start time old new (machine_at state before stood) left standing ran)
+  pub ran_in_memory : (run : Result Ran Answer) → IfOk run (λ ran. IsTrue true → IsTrue true → IsTrue true → (state : State) → IsOfFlow flow lot (held_by old) state → Ends flow lot at_first time old new (machine_at state before stood) left out ran)
       → IfOk run (RanInMemory flow lot)
   ran_in_memory (Ok ran) ended =
       let of : IsOfFlow flow lot (held_by old) (new_state flow lot) = subst (λ (files : Files). IsOfFlow flow lot files (new_state flow lot)) (sym empty) (none_kept flow lot) in
@@ -132,7 +139,7 @@ tried count lot flow (Ok ran) answer sink_tells before after is in_memory closes
       empty = in_memory.empty;
       time = in_memory.time;
       left = in_memory.left;
-      standing = in_memory.standing;
+      out = in_memory.out;
       shown = record {
         ended = ran.ended;
         told = told;

@@ -8,8 +8,9 @@ use Rattle.flowfile_record.specs.NamedFile.{NamedFile, bytes_of}
 use Rattle.machine_model.specs.State.{Machine}
 use Rattle.machine_model.specs.Valid.{new_state}
 use Rattle.machine_model.specs.declared.flow.Flow.{Flow}
-use Rattle.flow_words.specs.declared.command.TheConstants.{DEFAULT_COMMITS}
+use Rattle.flow_words.specs.declared.command.TheConstants.{DEFAULT_CHECKPOINT, DEFAULT_COMMITS}
 use Rattle.trial_flow.specs.Trial.{IsTrialFlow}
+use Rattle.flow_run.specs.Puts.{Outgoing, Start}
 use Rattle.flow_run.specs.Run.{machine_at}
 use Rattle.flow_run.specs.declared.ended.Ended.{Ended}
 use Rattle.flow_run.specs.declared.ended.Ended.TheVariants as ending
@@ -28,6 +29,14 @@ no_files = λ file. []
 abbrev pub new_machine : Flow → (lot : ℕ) → Machine
 new_machine flow lot = machine_at (new_state flow lot) [] (bytes_of [])
 
+-- the clock in memory stands at 0, and nothing was put
+abbrev pub new_start : Start
+new_start = record { time = 0; puts = [] }
+
+-- of a moment that such a clock gave nothing is said
+abbrev pub any_moment : ℕ → Type 0
+any_moment moment = ⊤
+
 -- The flow of a trial ran on a disk in memory that had no files, from a new store, an empty inbox and an empty outbox,
 -- and from the clock's time 0 on. Its end is told, and its text was printed.
 pub record HasTried (count lot : ℕ) (answer : Answer) (sink_tells : Bool) (before after : List ℕ) : Type 0 where
@@ -38,9 +47,9 @@ pub record HasTried (count lot : ℕ) (answer : Answer) (sink_tells : Bool) (bef
   pub empty : held_by old ≡ no_files
   pub time : ℕ
   pub left : List NamedFile
-  pub standing : List ℕ → Option (List ℕ)
-  pub shown : HasShownEnd flow answer 0 time true held_by moment_of left_by lot DEFAULT_COMMITS (new_machine flow lot)
-      old new left standing sink_tells before after
+  pub out : Outgoing
+  pub shown : HasShownEnd flow answer any_moment new_start time true held_by moment_of left_by lot DEFAULT_COMMITS
+      DEFAULT_CHECKPOINT (new_machine flow lot) old new left out sink_tells before after
 
 -- the answers of a trial
 abbrev pub IsOfTrial : Answer → Type 0
@@ -71,9 +80,9 @@ pub record RanInMemory (flow : Flow) (lot : ℕ) (ran : Ran) : Type 0 where
   pub empty : held_by old ≡ no_files
   pub time : ℕ
   pub left : List NamedFile
-  pub standing : List ℕ → Option (List ℕ)
-  pub ended : HasEnded flow ran 0 time true held_by moment_of left_by lot DEFAULT_COMMITS (new_machine flow lot)
-      old new left standing
+  pub out : Outgoing
+  pub ended : HasEnded flow ran any_moment new_start time true held_by moment_of left_by lot DEFAULT_COMMITS
+      DEFAULT_CHECKPOINT (new_machine flow lot) old new left out
 
 -- the run, unless it has ended so by a fault; for that memory was wanting
 abbrev pub unless_fault : Ended → Ran → Result Ran Answer

@@ -18,30 +18,31 @@ use flow_words::{DEFAULT_CHECKPOINT, DEFAULT_COMMITS, TRIAL_MAX};
 use machine_model::Flow;
 use std::alloc::Global;
 use trial_flow::trial_flow;
-use world_io::{MemoryClock, MemoryInbox, MemoryOutbox, Sink};
+use world_io::{Gate, MemoryClock, MemoryInbox, MemoryOutbox, Sink};
 
 /// Tries a flow out, and answers its status. The flow makes so many files, and routes, splits, joins and puts them.
 ///
 /// It runs as `run` does, with the defaults of its options, but for the text of a flow: over a new disk, an empty inbox
 /// and an empty outbox in memory, by a clock in memory that starts at 0 and that only waiting moves. Nothing else is
-/// read or written but the sink, which has the summary at the end. The low 60 bits of the lot are the store's id.
-/// A device in memory fails where it can't grow, so whatever fails but the sink is answered as want of memory.
-pub fn trial<S: Sink>(alloc: Global, count: u64, lot: u64, sink: &mut S) -> u8
+/// read or written but the sink, which has the summary at the end. Each session's processor works inside the gate. The
+/// low 60 bits of the lot are the store's id. A device in memory fails where it can't grow, so whatever fails but the
+/// sink is answered as want of memory.
+pub fn trial<S: Sink, G: Gate>(alloc: Global, count: u64, lot: u64, sink: &mut S, gate: &G) -> u8
     requires { count ≤ TRIAL_MAX }
     ensures { (answer : TheAnswer) × (result ≡ status_of answer)
         × IsTried answer count lot S.tells S.written S.faults sink.old sink.new }
 {
-    try_out(alloc, count, lot, sink).status()
+    try_out(alloc, count, lot, sink, gate).status()
 }
 
 // What a trial comes to.
-fn try_out<S: Sink>(alloc: Global, count: u64, lot: u64, sink: &mut S) -> Answer
+fn try_out<S: Sink, G: Gate>(alloc: Global, count: u64, lot: u64, sink: &mut S, gate: &G) -> Answer
     requires { count ≤ TRIAL_MAX }
     ensures { IsTried result count lot S.tells S.written S.faults sink.old sink.new }
 {
     match trial_flow(alloc, count as u32) {
         Ok(flow) => {
-            let run = run_in_memory(alloc, &flow, lot);
+            let run = run_in_memory(alloc, &flow, lot, gate);
             show(sink, &flow, run)
         }
         Err(_) => refuse(sink, Answer::Memory),
@@ -49,7 +50,12 @@ fn try_out<S: Sink>(alloc: Global, count: u64, lot: u64, sink: &mut S) -> Answer
 }
 
 // Runs a flow over devices in memory.
-fn run_in_memory(alloc: Global, flow: &Flow, lot: u64) -> Result<Ran, Answer>
+fn run_in_memory<G: Gate>(
+    alloc: Global,
+    flow: &Flow,
+    lot: u64,
+    gate: &G,
+) -> Result<Ran, Answer>
     requires sound { IsSound flow.now }
     requires built { AreBuilt flow.now }
     requires digest { IsDigest flow.now.digest }
@@ -75,6 +81,7 @@ fn run_in_memory(alloc: Global, flow: &Flow, lot: u64) -> Result<Ran, Answer>
         &mut inbox,
         &mut outbox,
         &mut clock,
+        gate,
     );
     with_memory(run)
 }

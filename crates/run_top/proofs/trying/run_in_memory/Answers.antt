@@ -1,9 +1,10 @@
 use Rattle.std.proofs.Common.{◌≡◌, subst, sym}
 use Rattle.std.specs.Prelude.{IfErr, IfOk, MatchOption, Result}
 use Rattle.world_io.specs.MemoryInbox.{files_left}
-use Rattle.world_io.specs.MemoryOutbox.{standing_in}
+use Rattle.world_io.specs.MemoryOutbox.{files_put, standing_in}
 use Rattle.flow_engine.specs.declared.run.Ran.{Ran}
 use Rattle.flow_run.specs.Ending.{IsFault}
+use Rattle.flow_run.specs.Puts.{outgoing}
 use Rattle.run_top.specs.Trial.{RanInMemory}
 use Rattle.run_top.specs.declared.answer.Answer.{Answer}
 use Rattle.run_top.specs.declared.answer.Answer.TheVariants.{Memory}
@@ -15,9 +16,9 @@ returns-clause-ran c =
     let run = c.run_over-run in
     subst (λ (r : Result Ran Answer). IfOk r (RanInMemory c.args.flow.now c.args.lot)) (sym c.with_memory.ensures)
     (with_ok (RanInMemory c.args.flow.now c.args.lot) run.result
-    (ran_in_memory c.args.flow.now c.args.lot c.new-clock.result.time run.new.clock.time c.new-disk.result run.new.disk (files_left c.new-inbox.result) (files_left run.new.inbox)
-    (standing_in c.new-outbox.result) (standing_in run.new.outbox) c.new-disk.ensures.held c.new-clock.ensures.time c.new-offered.result.items c.new-standing.result.items c.new-offered.ensures.items c.new-inbox.ensures.left
-    c.new-standing.ensures.items c.new-outbox.ensures.standing run.result run.ensures.ran))
+    (ran_in_memory c.args.flow.now c.args.lot c.new-clock.result.time run.new.clock.time c.new-disk.result run.new.disk (files_left c.new-inbox.result) (files_left run.new.inbox) (files_put c.new-outbox.result)
+    (standing_in c.new-outbox.result) (outgoing standing_in files_put run.new.outbox) c.new-disk.ensures.held c.new-clock.ensures.time c.new-outbox.ensures.puts c.new-offered.result.items c.new-standing.result.items
+    c.new-offered.ensures.items c.new-inbox.ensures.left c.new-standing.ensures.items c.new-outbox.ensures.standing run.result run.ensures.ran))
 
 pub returns-clause-closed : goal.returns-clause-closed
 returns-clause-closed c =
