@@ -24,14 +24,15 @@ import subprocess
 import threading
 import time
 
-from support import (DONE, INBOX, Report, find_program, names, need, new_folder, options, parse_seeded, read_files,
-                     run, stopped_in, work_folder, write_files)
+from support import (DONE, INBOX, Report, find_program, in_memory, names, need, new_folder, options, parse_seeded,
+                     read_files, run, stopped_in, work_folder, write_files)
 
 # Each file gets its identifier as its name.
 FLOW = json.dumps({
     "processors": [
         {"id": "get", "type": "GetFile"},
-        {"id": "name", "type": "UpdateAttribute", "properties": {"filename": "${uuid}"}},
+        {"id": "name", "type": "UpdateAttribute", "properties": {"filename": "${uuid}"},
+         "terminated": ["failure"]},
         {"id": "put", "type": "PutFile", "properties": {"Conflict Resolution Strategy": "replace"},
          "terminated": ["success", "failure"]},
     ],
@@ -63,13 +64,14 @@ class Stop:
 class Cases:
     def __init__(self, program, parent, hands, writers):
         self.program = program
-        self.parent = parent
+        self.parent = in_memory(parent)
+        self.disk = parent
         self.hands = hands
         self.writers = writers
 
     @contextlib.contextmanager
-    def folder(self, files=None):
-        with work_folder(self.parent, FLOW) as folder:
+    def folder(self, files=None, on_disk=False):
+        with work_folder(self.disk if on_disk else self.parent, FLOW) as folder:
             write_files(folder / "in", {"a": FIRST, "b": OTHER} if files is None else files)
             yield folder
 
@@ -117,7 +119,8 @@ class Cases:
         need(not left, f"in keeps {left}")
 
     def told(self, number, status, until, place):
-        if self.seen <= number < until:
+        # Behind the second reading's look and before its read the engine still sees the change.
+        if self.seen < number < until:
             need(status == INBOX, f"{place}: the change isn't told, status {status}")
 
     def appended(self):
@@ -276,7 +279,8 @@ class Cases:
         need(found == (INBOX, {"a": FIRST + MORE, "b": OTHER}), f"status and in: {found}")
 
     def killed_while_given_back(self):
-        for call, left in (("rename", {ASIDE}), ("link", {"a", ASIDE}), ("unlink", {"a"})):
+        # Each is killed before it is made.
+        for call, left in (("rename", {"a"}), ("link", {ASIDE}), ("unlink", {"a", ASIDE})):
             status, found = self.put_back(["-e", f"inject={call}:signal=SIGKILL:when=1"])
             need(status == -signal.SIGKILL, f"{call}: status {status}")
             need(set(found) == left | {"b"}, f"{call}: in holds {sorted(found)}")
@@ -384,7 +388,7 @@ class Cases:
     def handed_over(self):
         """Each version takes the place of what stands under the name, and that comes back to who hands it in. So a version
         is back there or it was taken, and what was taken is delivered."""
-        with self.folder({}) as folder:
+        with self.folder({}, on_disk=True) as folder:
             (folder / "hand").mkdir()
             back = set()
             with self.runs_beside(folder) as found:
@@ -393,7 +397,7 @@ class Cases:
                     replaced = exchange_in(folder, version)
                     if replaced is not None:
                         back.add(replaced)
-                    time.sleep(random.random() * 0.03)
+                    wait_until(lambda: not (folder / "in" / "a").exists(), random.random() * 0.2)
             self.to_the_end(folder)
             got = {int(bytes_.split()[1]) for bytes_ in delivered(folder)}
             whole = all(bytes_ == f"version {bytes_.split()[1].decode()} ".encode() * (len(bytes_)
@@ -406,7 +410,7 @@ class Cases:
 
     def written_beside(self):
         """Writers append to files in `in` for a second each. A file whose writer still writes when it is removed is cut."""
-        with self.folder({}) as folder:
+        with self.folder({}, on_disk=True) as folder:
             texts = {}
             with self.runs_beside(folder) as found:
                 for first in range(0, self.writers, 10):
@@ -427,6 +431,13 @@ class Cases:
 def run_quietly(program, folder):
     return subprocess.run([program, "run"], cwd=folder, check=False, stdin=subprocess.DEVNULL, stdout=subprocess.DEVNULL,
                           stderr=subprocess.DEVNULL).returncode
+
+
+def wait_until(holds, seconds):
+    """Waits until something holds, and so long at most."""
+    end = time.monotonic() + seconds
+    while not holds() and time.monotonic() < end:
+        time.sleep(0.001)
 
 
 def append_for_a_second(folder, number, texts):
@@ -496,6 +507,7 @@ def main():
     parser = options(__doc__)
     parser.add_argument("--hands", type=int, default=500, help="how many versions are handed in beside runs")
     parser.add_argument("--writers", type=int, default=500, help="how many files are written beside runs")
+    parser.add_argument("--only", default="", help="only the cases whose lines have these words")
     given, seed = parse_seeded(parser)
     print(f"seed {seed}")
     cases = Cases(find_program(given.program), given.folder, given.hands, given.writers)
@@ -521,7 +533,8 @@ def main():
             ("names like those of files aside", cases.names_aside),
             ("handed over by rename beside runs: each version is accounted for", cases.handed_over),
             ("written to beside runs", cases.written_beside)):
-        report.case(text, body)
+        if given.only in text:
+            report.case(text, body)
     report.end()
 
 
