@@ -62,10 +62,11 @@ class Stop:
 
 
 class Cases:
-    def __init__(self, program, parent, hands, writers):
+    def __init__(self, program, parent, runs, hands, writers):
         self.program = program
         self.parent = in_memory(parent)
         self.disk = parent
+        self.runs = runs
         self.hands = hands
         self.writers = writers
 
@@ -114,8 +115,9 @@ class Cases:
         for _ in range(runs):
             ended = run(self.program, folder)
             need(ended.status == DONE, f"a later run ends with {ended.status}")
-        left = [name for name in names(folder / "in") if (folder / "in" / name).is_file()
-                and not (folder / "in" / name).is_symlink()]
+            left = sorted(read_files(folder / "in"))
+            if not left:
+                return
         need(not left, f"in keeps {left}")
 
     def told(self, number, status, until, place):
@@ -206,7 +208,7 @@ class Cases:
         return f"{number} places"
 
     def never_removable(self):
-        """30 runs over a file that can be read and not removed deliver nothing of it."""
+        """Many runs over a file that can be read and not removed deliver nothing of it."""
         ways = 0
         for name, keep, free in (
                 ("chattr +i", lambda folder: chattr("+i", folder / "in" / "a"),
@@ -224,7 +226,7 @@ class Cases:
                     os.chmod(folder, 0o777)
                 keep(folder)
                 try:
-                    for _ in range(30):
+                    for _ in range(self.runs):
                         status = self.run_as(folder, as_user)
                         need(status == INBOX, f"{name}: status {status}")
                         need(not (folder / "out").exists() or not delivered(folder), f"{name}: it was delivered")
@@ -232,7 +234,7 @@ class Cases:
                     free(folder)
                 need(self.run_as(folder, as_user) == DONE, f"{name}: the last run doesn't end with 0")
                 need(delivered(folder) == [FIRST] and names(folder / "in") == [], f"{name}: it isn't delivered once")
-        return f"{ways} ways"
+        return f"{ways} ways, {self.runs} runs each"
 
     def run_as(self, folder, as_user):
         """The status of a run, as a user who owns nothing here where that is asked."""
@@ -245,7 +247,8 @@ class Cases:
         stops = self.stops()
         for stop in stops:
             with self.folder() as folder:
-                status, _ = stopped_in(self.program, folder, PATHS, stop.call, stop.when, lambda folder: None, signal.SIGKILL)
+                status, _ = stopped_in(self.program, folder, PATHS, stop.call, stop.when, lambda folder: None,
+                                       signal.SIGKILL)
                 need(status == -signal.SIGKILL, f"behind {stop.line}: status {status}")
                 self.to_the_end(folder)
                 count = delivered(folder).count(FIRST)
@@ -505,12 +508,13 @@ def can_be_kept(parent):
 
 def main():
     parser = options(__doc__)
+    parser.add_argument("--runs", type=int, default=30, help="how many runs meet a file that can't be removed")
     parser.add_argument("--hands", type=int, default=500, help="how many versions are handed in beside runs")
     parser.add_argument("--writers", type=int, default=500, help="how many files are written beside runs")
     parser.add_argument("--only", default="", help="only the cases whose lines have these words")
     given, seed = parse_seeded(parser)
     print(f"seed {seed}")
-    cases = Cases(find_program(given.program), given.folder, given.hands, given.writers)
+    cases = Cases(find_program(given.program), given.folder, given.runs, given.hands, given.writers)
     report = Report()
     for text, body in (
             ("appended to behind each call: whole in the end, and told", cases.appended),
@@ -520,7 +524,7 @@ def main():
             ("replaced by a link behind each call: that stays, and isn't followed", cases.linked),
             ("removed behind each call", cases.removed),
             ("made unremovable behind each call: delivered once at most", cases.made_unremovable),
-            ("30 runs over what can't be removed deliver nothing", cases.never_removable),
+            ("many runs over what can't be removed deliver nothing", cases.never_removable),
             ("killed behind each call", cases.killed),
             ("a file that changed gets its name back: 6", cases.given_back),
             ("the same where the system makes no links", cases.given_back_without_links),
