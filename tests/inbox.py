@@ -180,7 +180,7 @@ class Cases:
                                  self.told(number, status, self.aside, place))
 
     def made_unremovable(self):
-        """It is delivered once at most until it can be removed, and then it goes."""
+        """It is taken once at most until it can be removed, and then it goes."""
         if not can_be_kept(self.parent):
             return "left out: chattr +i isn't to be had here"
         stops = self.stops()
@@ -197,14 +197,15 @@ class Cases:
                     status, _ = stopped_in(self.program, folder, PATHS, stop.call, stop.when, keep)
                     for _ in range(3):
                         need(status == INBOX, f"behind {stop.line}: status {status}")
-                        wanted = [FIRST] if number >= self.probed else []
-                        need(delivered(folder) == wanted, f"behind {stop.line}: {delivered(folder)} were delivered")
+                        # The store may have it by then. Nothing goes on as long as each run ends so.
+                        need(delivered(folder) == [], f"behind {stop.line}: {delivered(folder)} were delivered")
                         status = run(self.program, folder).status
                 finally:
                     for name in kept:
                         chattr("-i", folder / "in" / name)
                 self.to_the_end(folder)
-                need(FIRST in delivered(folder), f"behind {stop.line}: it isn't delivered")
+                most = 2 if number >= self.probed else 1
+                need(1 <= len(delivered(folder)) <= most, f"behind {stop.line}: {delivered(folder)} were delivered")
         return f"{number} places"
 
     def never_removable(self):
@@ -523,7 +524,7 @@ def main():
             ("renamed over behind each call: the newer one arrives", cases.renamed_over),
             ("replaced by a link behind each call: that stays, and isn't followed", cases.linked),
             ("removed behind each call", cases.removed),
-            ("made unremovable behind each call: delivered once at most", cases.made_unremovable),
+            ("made unremovable behind each call: taken once at most until it can be removed", cases.made_unremovable),
             ("many runs over what can't be removed deliver nothing", cases.never_removable),
             ("killed behind each call", cases.killed),
             ("a file that changed gets its name back: 6", cases.given_back),
