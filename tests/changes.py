@@ -15,61 +15,17 @@ import shutil
 import signal
 import stat
 import subprocess
-import time
 
 import store_format
-from support import (DONE, INBOX, MARK, MARKER, OUTBOX, THE_TEXT, Report, Wrong, find_program, names, need, new_folder,
-                     none_aside, options, read_files, run, work_folder, write_files)
+from support import (DONE, INBOX, MARK, MARKER, OUTBOX, THE_TEXT, Report, find_program, names, need, new_folder,
+                     none_aside, options, read_files, run, stopped_in, work_folder, write_files)
 
 CONTENT_MAX = 16_777_216
-
-# In so many seconds the program has to end behind a change.
-LONGEST = 120
 
 FILES = {"a": b"the first bytes", "b": b"another file"}
 
 # The folder in which puts are written.
 ASIDE = ".flow-aside-0"
-
-
-def stopped_in(program, folder, path, call, when, change, then=signal.SIGCONT):
-    """Runs the program, makes a change in the folder behind one of its calls of this name on a path, or on any for None,
-    and lets it go on or kills it. Gives its status, and the names of the calls there: of this name, and those that open
-    it."""
-    with new_folder() as aside:
-        trace = aside / "trace"
-        on_path = [] if path is None else ["-P", path]
-        child = subprocess.Popen(["strace", "-f", "-q", "-y", *on_path, "-e", f"trace={call},openat",
-                                  "-e", f"inject={call}:signal=SIGSTOP:when={when}", "-o", trace, program, "run"],
-                                 cwd=folder, stdin=subprocess.DEVNULL, stdout=subprocess.DEVNULL,
-                                 stderr=subprocess.DEVNULL)
-        process = wait_for_stop(child, trace)
-        try:
-            change(folder)
-        finally:
-            os.kill(process, then)
-        try:
-            status = child.wait(LONGEST)
-        except subprocess.TimeoutExpired as waited:
-            os.kill(process, signal.SIGKILL)
-            raise Wrong("the program doesn't end") from waited
-        return status, re.findall(r"^\d+ +(\w+)\(", trace.read_text(errors="replace"), re.MULTILINE)
-
-
-def wait_for_stop(child, trace):
-    for _ in range(60_000):
-        said = trace.read_text(errors="replace") if trace.exists() else ""
-        # A short number has spaces behind it.
-        found = re.search(r"^(\d+) +--- stopped by SIGSTOP", said, re.MULTILINE)
-        if found:
-            return int(found.group(1))
-        if child.poll() is not None:
-            raise Wrong(f"the program ended before it was stopped, with {child.returncode}")
-        time.sleep(0.001)
-    for line in said.splitlines()[:1]:
-        os.kill(int(line.split()[0]), signal.SIGKILL)
-    child.kill()
-    raise Wrong("the program wasn't stopped within a minute")
 
 
 class Cases:

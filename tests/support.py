@@ -7,6 +7,7 @@ import hashlib
 import os
 import pathlib
 import random
+import re
 import shutil
 import signal
 import stat
@@ -140,6 +141,47 @@ def wait_for(holds, child):
             raise Wrong(f"the process ended early, with {child.returncode}")
         time.sleep(0.001)
     raise Wrong("it took more than a minute")
+
+
+def stopped_in(program, folder, paths, call, when, change, then=signal.SIGCONT, more=()):
+    """Runs the program, makes a change in the folder behind one of its calls of this name on a path, on one of several, or
+    on any for None, and lets it go on or kills it. `more` are further rules for strace. Gives its status, and the names of
+    the calls there: of this name, and those that open it."""
+    paths = [] if paths is None else [paths] if isinstance(paths, str) else paths
+    with new_folder() as aside:
+        trace = aside / "trace"
+        on_paths = [word for path in paths for word in ("-P", path)]
+        child = subprocess.Popen(["strace", "-f", "-q", "-y", *on_paths, "-e", f"trace={call},openat",
+                                  "-e", f"inject={call}:signal=SIGSTOP:when={when}", *more, "-o", trace, program, "run"],
+                                 cwd=folder, stdin=subprocess.DEVNULL, stdout=subprocess.DEVNULL,
+                                 stderr=subprocess.DEVNULL)
+        process = wait_for_stop(child, trace)
+        try:
+            change(folder)
+        finally:
+            os.kill(process, then)
+        try:
+            status = child.wait(LONGEST)
+        except subprocess.TimeoutExpired as waited:
+            os.kill(process, signal.SIGKILL)
+            raise Wrong("the program doesn't end") from waited
+        return status, re.findall(r"^\d+ +(\w+)\(", trace.read_text(errors="replace"), re.MULTILINE)
+
+
+def wait_for_stop(child, trace):
+    for _ in range(60_000):
+        said = trace.read_text(errors="replace") if trace.exists() else ""
+        # A short number has spaces behind it.
+        found = re.search(r"^(\d+) +--- stopped by SIGSTOP", said, re.MULTILINE)
+        if found:
+            return int(found.group(1))
+        if child.poll() is not None:
+            raise Wrong(f"the program ended before it was stopped, with {child.returncode}")
+        time.sleep(0.001)
+    for line in said.splitlines()[:1]:
+        os.kill(int(line.split()[0]), signal.SIGKILL)
+    child.kill()
+    raise Wrong("the program wasn't stopped within a minute")
 
 
 class Memory(threading.Thread):

@@ -6,7 +6,8 @@ ghost use Rattle.world_real.specs.Untold.{told_by_none};
 
 use crate::faults::{counted, is_out_of_memory};
 use crate::folder::{Entry, Folder, Place, entry_at};
-use crate::open_file::{FileId, OpenFile, for_reading, open_named};
+use crate::open_file::{Look, OpenFile, for_reading, open_named};
+use crate::set_aside::{give_back, may_go, name_before, take_away};
 use disk_trait::Failed;
 use flowfile_record::{CONTENT_MAX, Name, NameError};
 use std::alloc::Global;
@@ -18,6 +19,10 @@ use world_io::{Inbox, WorldError};
 
 /// The regular files of a folder. Links, folders, pipes and the like don't count. An entry whose name
 /// isn't UTF-8 makes the listing fail.
+///
+/// A file that the system wouldn't let go isn't read. Only the file that was read last is removed, and only where it
+/// didn't change since. For that it is set aside for a moment, as `.flow-taken-0-` and its name: what a stop leaves so
+/// gets its name back at the next listing, or at a later one where another file has that name.
 #[derive(Drop)]
 pub struct InboxFolder<'r, R> {
     place: Place<'r, R>,
@@ -25,8 +30,10 @@ pub struct InboxFolder<'r, R> {
     /// until a file is read or removed.
     listed: Vec<ListedFile>,
     /// The file that was read last since the last listing. It stays open: where it still stands under its
-    /// name it is read again without being opened anew, and to remove it takes no other look.
+    /// name it is read again without being opened anew, and no other file has its id.
     seen: Option<SeenFile>,
+    /// Whether files that were set aside may still be there.
+    are_left: bool,
     faults: u64,
 }
 
@@ -39,7 +46,8 @@ pub(crate) struct ListedFile {
 #[derive(Drop)]
 pub(crate) struct SeenFile {
     name: Name,
-    id: FileId,
+    /// Before it was read.
+    look: Look,
     file: OpenFile,
 }
 
@@ -52,6 +60,7 @@ impl<'r, R: Files<File = File> + Alloc + Sync> InboxFolder<'r, R> {
             place: Place { rt, alloc, folder },
             listed: Vec::new(alloc),
             seen: None,
+            are_left: true,
             faults: 0,
         }
     }
@@ -69,7 +78,8 @@ impl<'r, R: Files<File = File> + Alloc + Sync> Inbox for InboxFolder<'r, R> {
     fn list(&mut self, names: &mut Vec<Name>) -> Result<(), WorldError> {
         self.seen = None;
         self.listed.clear();
-        match list_names(&self.place, &mut self.listed, names) {
+        self.are_left = true;
+        match list_names(&self.place, &mut self.listed, &mut self.are_left, names) {
             Ok(()) => Ok(()),
             Err(error) => {
                 names.clear();
@@ -95,7 +105,7 @@ impl<'r, R: Files<File = File> + Alloc + Sync> Inbox for InboxFolder<'r, R> {
 
     fn remove(&mut self, name: &Name) -> Result<(), Failed> {
         self.listed = Vec::new(self.place.alloc);
-        let answer = remove(&self.place, &mut self.seen, name);
+        let answer = remove(&self.place, &mut self.seen, &mut self.are_left, name);
         counted(&mut self.faults, answer)
     }
 }
@@ -113,23 +123,54 @@ fn counted_world(faults: &mut u64, answer: io::Result<()>) -> Result<(), WorldEr
 fn list_names<R: Files<File = File> + Alloc>(
     place: &Place<'_, R>,
     listed: &mut Vec<ListedFile>,
+    are_left: &mut bool,
     names: &mut Vec<Name>,
 ) -> io::Result<()>
     requires { names.old.items ≡ [] }
     ensures ascending { OnOk result (IsAscending names.new.items) }
 {
-    for entry in fs::read_dir(&place.rt, place.path()?)? {
-        let entry = entry?;
-        if let Entry::File(found) = entry_at(place.rt, entry.path())?
-            && let Some(name) = read_name(place.alloc, entry.file_name())?
-        {
-            let size = found.len();
-            listed.push(ListedFile { name, size })?;
-        }
+    let mut aside = gather(place, listed)?;
+    if !aside.is_empty() {
+        give_all_back(place, aside.as_slice())?;
+        listed.clear();
+        aside = gather(place, listed)?;
     }
+    *are_left = !aside.is_empty();
     listed.sort_unstable_by(|a: &ListedFile, b: &ListedFile| a.name.text().cmp(b.name.text()));
     keep_ascending(listed.as_slice(), names)?;
     listed.reverse();
+    Ok(())
+}
+
+/// Adds the regular files of the folder, and gives the entries of those that are set aside, which it leaves out.
+fn gather<R: Files<File = File> + Alloc>(
+    place: &Place<'_, R>,
+    listed: &mut Vec<ListedFile>,
+) -> io::Result<Vec<String>> {
+    let mut aside = Vec::new(place.alloc);
+    for entry in fs::read_dir(&place.rt, place.path()?)? {
+        let entry = entry?;
+        if let Entry::File(found) = entry_at(place.rt, entry.path())? {
+            if name_before(entry.file_name()).is_some() {
+                aside.push(String::from_str(place.alloc, entry.file_name())?)?;
+            } else if let Some(name) = read_name(place.alloc, entry.file_name())? {
+                let size = found.len();
+                listed.push(ListedFile { name, size })?;
+            }
+        }
+    }
+    Ok(aside)
+}
+
+/// Gives each of these entries its name back where nothing else has it.
+fn give_all_back<R: Files>(place: &Place<'_, R>, entries: &[String]) -> io::Result<()> {
+    for entry in entries {
+        if let Some(name) = name_before(entry.as_str()) {
+            let aside = place.entry(entry.as_str())?;
+            let path = place.entry(name)?;
+            give_back(place.rt, aside.as_str(), path.as_str())?;
+        }
+    }
     Ok(())
 }
 
@@ -187,43 +228,35 @@ fn found_at<R: Files>(rt: &R, path: &str) -> io::Result<Metadata> {
     }
 }
 
-/// The file, open: the one that was looked at last, where it still stands under its name.
+/// The file, open, as it is before it is read: the one that was read last, where it still stands under its name. Another
+/// one is opened only where the system would let it go.
 fn open_at<R: Files<File = File>>(
     place: &Place<'_, R>,
     name: &Name,
     last: Option<SeenFile>,
-) -> io::Result<(FileId, OpenFile)> {
+) -> io::Result<(Look, OpenFile)> {
     let path = place.entry(name.text())?;
     let found = found_at(place.rt, path.as_str())?;
-    let file = match still_open(last, &found) {
-        Some(file) => file,
-        None => open_named(place.rt, path.as_str(), &for_reading(), &found)?,
-    };
-    Ok((FileId::of(&found), file))
+    let look = Look::at(&found);
+    if let Some(file) = still_open(last, &look) {
+        return Ok((look, file.of_size(found.len())));
+    }
+    may_go(place.rt, path.as_str())?;
+    let file = open_named(place.rt, path.as_str(), &for_reading(), &found)?;
+    Ok((look, file))
 }
 
-/// The file that was looked at last, where it is the one that was found.
-fn still_open(last: Option<SeenFile>, found: &Metadata) -> Option<OpenFile> {
+/// The file that was read last, where it is the one that was looked at.
+fn still_open(last: Option<SeenFile>, now: &Look) -> Option<OpenFile> {
     let SeenFile {
         name: _name,
-        id,
+        look,
         file,
     } = last?;
-    if id == FileId::of(found) {
-        Some(file.of_size(found.len()))
-    } else {
-        None
-    }
+    if look.id == now.id { Some(file) } else { None }
 }
 
-// With no memory for the name the file is closed, and opened again where it is needed.
-fn keep(seen: &mut Option<SeenFile>, name: &Name, id: FileId, file: OpenFile) {
-    if let Ok(name) = name.clone() {
-        *seen = Some(SeenFile { name, id, file });
-    }
-}
-
-/// Takes the file out where it was looked at last.
+/// Takes the file out where it was read last.
 fn take_seen(seen: &mut Option<SeenFile>, name: &Name) -> Option<SeenFile> {
     let last = seen.take()?;
     if last.name == *name { Some(last) } else { None }
@@ -239,27 +272,29 @@ fn read_whole<R: Files<File = File>>(
     ensures { OnOk result (length into.new.items ≤ CONTENT_MAX) }
 {
     let last = take_seen(seen, name);
-    let (id, mut file) = open_at(place, name, last)?;
+    let (look, mut file) = open_at(place, name, last)?;
     let size = file.size()?;
     if size > CONTENT_MAX {
         return Err(ErrorKind::FileTooLarge.into());
     }
     into.resize(size as usize + 1, 0)?;
-    let read = file.file.read_at(into.as_mut_slice(), 0);
+    let count = read_once(&file, into.as_mut_slice())?;
     into.truncate(size as usize);
-    if !is_count(read, size) {
+    if count as u64 != size {
         file.read(0, into.as_mut_slice())?;
         ends_at(&file, size)?;
     }
-    keep(seen, name, id, file);
+    let name = name.clone()?;
+    *seen = Some(SeenFile { name, look, file });
     Ok(())
 }
 
 // One read of a byte more than there should be gives all of them, and tells that it is all.
-fn is_count(read: io::Result<usize>, size: u64) -> bool {
-    match read {
-        Ok(count) => count as u64 == size,
-        Err(_) => false,
+fn read_once(file: &OpenFile, into: &mut [u8]) -> io::Result<usize> {
+    match file.file.read_at(into, 0) {
+        // Nothing was read.
+        Err(error) if error.kind() == ErrorKind::Interrupted => Ok(0),
+        read => read,
     }
 }
 
@@ -277,12 +312,12 @@ fn ends_at(file: &OpenFile, size: u64) -> io::Result<()> {
 fn remove<R: Files>(
     place: &Place<'_, R>,
     seen: &mut Option<SeenFile>,
+    are_left: &mut bool,
     name: &Name,
 ) -> io::Result<()> {
-    let path = place.entry(name.text())?;
-    if take_seen(seen, name).is_some() {
-        return fs::remove_file(place.rt, path.as_str());
+    match take_seen(seen, name) {
+        // It stays open until it is gone.
+        Some(last) => take_away(place, are_left, name, &last.look),
+        None => Err(ErrorKind::InvalidInput.into()),
     }
-    found_at(place.rt, path.as_str())?;
-    fs::remove_file(place.rt, path.as_str())
 }

@@ -16,6 +16,7 @@ mod open_files;
 mod outbox;
 mod pending;
 mod renew;
+mod set_aside;
 mod standing;
 mod store;
 mod stream;

@@ -22,6 +22,26 @@ impl FileId {
     }
 }
 
+/// What the system told of a file at a look: which one it is, its size, and when it was last written to.
+#[derive(Clone, Copy, PartialEq, Eq)]
+pub(crate) struct Look {
+    pub(crate) id: FileId,
+    size: u64,
+    written_second: i64,
+    written_nanosecond: i64,
+}
+
+impl Look {
+    pub(crate) fn at(found: &Metadata) -> Look {
+        Look {
+            id: FileId::of(found),
+            size: found.len(),
+            written_second: found.mtime(),
+            written_nanosecond: found.mtime_nsec(),
+        }
+    }
+}
+
 /// An open file and its size, which nobody else changes. Where a change of it failed, the size isn't
 /// known until the system is asked again.
 #[derive(Drop)]
