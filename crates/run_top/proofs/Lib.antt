@@ -3,6 +3,7 @@ pub mod Answers
 pub mod Asked
 pub mod Broken
 pub mod Built
+pub mod Complete
 pub mod Empty
 pub mod Lines
 pub mod Opened

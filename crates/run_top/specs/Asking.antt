@@ -10,7 +10,7 @@ use Rattle.store_core.specs.Seen.{no_flow}
 use Rattle.store_core.specs.State.{stands_for}
 use Rattle.flow_report.specs.Texts.{damage_text, text_of}
 use Rattle.flow_report.specs.declared.line.Line.TheVariants as line
-use Rattle.flow_query.specs.Answers.{IsAnswer, IsSoundAnswer}
+use Rattle.flow_query.specs.Answers.{IsAnswer, IsSoundAnswer, TellsAbsence}
 use Rattle.flow_query.specs.OwnFlow.{IsMade}
 use Rattle.flow_query.specs.declared.asking.Query.{Query}
 use Rattle.flow_query.specs.declared.asking.Query.TheVariants as query
@@ -61,6 +61,9 @@ pub record HasAnswered {S : Type 0} (query : Query) (status : ℕ) (disk_tells s
   pub of_run : IsTrue disk_tells → IsTrue sink_tells → IsMade files → (flow : Flow) (lot : ℕ) (kept : Kept)
       → kept_in flow lot files ≡ Ok kept → (state : State) → stands_for flow lot files ≡ Ok state
       → IsAnswer query kept.connections state (written old) (written between) result
+  -- whatever the sink tells, an absence is told exactly where it is one
+  pub absence : IsTrue disk_tells → (state : State) → stands_for no_flow 0 files ≡ Ok state
+      → TellsAbsence query state result
   pub sound : IsTrue disk_tells → IsSoundAnswer files old between result
   pub line : IsTrue sink_tells → IsLine faults written (line_behind query result) between new
   pub failed : CountsFaults (faults old) (faults between) (IsErrOf result Sink)

@@ -12,6 +12,7 @@ ghost use Rattle.flow_run.specs.Ending.{IsFault};
 ghost use Rattle.flow_run.specs.Puts.{outgoing};
 ghost use Rattle.flow_run.specs.Run.{machine_at};
 ghost use Rattle.flow_engine.specs.Engine.{AreBuilt};
+ghost use Rattle.run_top.specs.Complete.{IsEndOrMemory, StandsStill};
 ghost use Rattle.run_top.specs.Opening.{IsOfFlow, IsOfStore};
 ghost use Rattle.run_top.specs.Printing.{IsLine, refusal_line};
 ghost use Rattle.run_top.specs.Run.{CountsEachFault, HasCause, HasEnded, HasFailed, HasWritten, IsLeftShut, IsNotOpened, IsNotRead, IsUntouched, Runs};
@@ -81,6 +82,17 @@ pub fn run<R, D: Disk, I: Inbox, O: Outbox, F: Source, P: Patterns, S: Sink, C: 
         × IsNotRead answer (told P.faults P.refused patterns.old) (told P.faults P.refused patterns.new) F.tells
         (F.rest flow.old) S.tells S.written S.faults
         disk.old disk.new inbox.old inbox.new outbox.old outbox.new sink.old sink.new }
+
+    // Where the text breaks no rule, the files stand for a state of its flow and nothing fails, the run comes to its end
+    // and tells it, or memory is wanting.
+    ensures complete { (options : TheOptions) → AskToRun words.now options
+        → IsTrue F.tells → (IsBroken (F.rest flow.old) → ⊥) → (one : TheFlow) → IsRead F.tells (F.rest flow.old) one
+        → IsTrue D.tells → (state : State) → IsOfFlow one lot (D.held disk.old) state
+        → StandsStill (F.faults flow.old) (F.faults flow.new)
+        → StandsStill (P.faults patterns.old) (P.faults patterns.new)
+        → StandsStill (D.faults disk.old) (D.faults disk.new) → StandsStill (I.faults inbox.old) (I.faults inbox.new)
+        → StandsStill (O.faults outbox.old) (O.faults outbox.new) → StandsStill (S.faults sink.old) (S.faults sink.new)
+        → (answer : TheAnswer) × (result ≡ status_of answer) × IsEndOrMemory answer }
 
     // Words that ask for something else, or for nothing: nothing is done, and a line says so.
     ensures usage { AskForNoRun words.now → (answer : TheAnswer) × (result ≡ status_of answer)

@@ -50,12 +50,7 @@ fn try_out<S: Sink, G: Gate>(alloc: Global, count: u64, lot: u64, sink: &mut S, 
 }
 
 // Runs a flow over devices in memory.
-fn run_in_memory<G: Gate>(
-    alloc: Global,
-    flow: &Flow,
-    lot: u64,
-    gate: &G,
-) -> Result<Ran, Answer>
+fn run_in_memory<G: Gate>(alloc: Global, flow: &Flow, lot: u64, gate: &G) -> Result<Ran, Answer>
     requires sound { IsSound flow.now }
     requires built { AreBuilt flow.now }
     requires digest { IsDigest flow.now.digest }

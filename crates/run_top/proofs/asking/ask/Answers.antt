@@ -12,6 +12,7 @@ returns-in-Ok-clause-answered g c = record {
   of_run = λ disk_told sink_told made flow lot kept keeps state stands.
       c.in-Ok.ensures.printed disk_told sink_told kept (c.a_query_sees_the_state_of_a_run.ensures.kept flow lot 0 _ kept made keeps) state
       (c.a_query_sees_the_state_of_a_run.ensures.state flow lot 0 _ state made stands);
+  absence = c.in-Ok.ensures.absence;
   sound = c.in-Ok.ensures.sound;
   line = λ told. nothing_behind _ _ _;
   failed = c.in-Ok.ensures.sink;
@@ -36,6 +37,7 @@ returns-in-Err-clause-answered g c = record {
   of_run = λ disk_told sink_told made flow lot kept keeps state stands.
       c.in-Err.ensures.printed disk_told sink_told kept (c.a_query_sees_the_state_of_a_run.ensures.kept flow lot 0 _ kept made keeps) state
       (c.a_query_sees_the_state_of_a_run.ensures.state flow lot 0 _ state made stands);
+  absence = c.in-Err.ensures.absence;
   sound = c.in-Err.ensures.sound;
   line = c.tell.ensures.line;
   failed = c.in-Err.ensures.sink;
