@@ -21,7 +21,7 @@ def of(flow):
         if one.type is not None:
             found += terminated(one) + constants(one) + templates(one) + merges(one)
     for one in flow.connections:
-        found += expirations(one)
+        found += expirations(one) + narrow(flow, one)
     return sorted(found + rings(flow), key=lambda warning: warning.line)
 
 
@@ -102,6 +102,20 @@ def merges(one):
         return [Warning_(one.line("properties", "Minimum Number of Entries"),
                          f"{one.name}: fewer than {least} files wait without end, and the run ends with 0 or 10")]
     return []
+
+
+def narrow(flow, one):
+    """A queue that is full before the merge behind it has as many files as it waits for."""
+    value, target = one.fields.get("objects"), flow.named_as(one.target)
+    if value is None or value.kind != "number" or target is None or target.text("type") != "MergeContent":
+        return []
+    most, least = value.data, target.property("Minimum Number of Entries") or ""
+    if target.property("Merge Strategy") == "Defragment" or not (most.isdigit() and least.isdigit()):
+        return []
+    if not 0 < int(most) < int(least):
+        return []
+    return [Warning_(one.line("objects"), f"{one.name}: it is full with {most} files, and {target.name} waits for "
+                     f"{least}: the flow is blocked then")]
 
 
 def expirations(one):
