@@ -4,8 +4,8 @@ their file names, and public functions in src/ that stand nowhere but where they
 
     tests/names.py [ROOT]
 
-It reads words and proves nothing: a function's name that is used for another one counts as used. A law is a function that
-takes nothing and gives nothing: it states something, and is only counted. It needs no program. The last line is
+It reads words and proves nothing: a function's name that is used for another one counts as used. A law is a function
+that takes nothing and gives nothing: it states something, and is only counted. It needs no program. The last line is
 'N definitions and M functions that nothing uses', and the status 1 if that isn't none."""
 
 import collections

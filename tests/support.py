@@ -115,7 +115,7 @@ def run(program, folder, words=("run",), limits=None):
 
 
 def traced(program, folder, calls, *asked):
-    """Runs the program under strace. Gives its status, and what strace wrote of these calls, with the paths of files."""
+    """Runs the program under strace. Gives its status, and what strace wrote of these calls, with their paths."""
     with new_folder() as aside:
         trace = aside / "trace"
         child = subprocess.run(["strace", "-f", "-qq", "-y", "-e", f"trace={calls}", "-e", "signal=none", *asked,

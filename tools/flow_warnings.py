@@ -46,8 +46,8 @@ def terminated(one):
     if "failure" not in names:
         return []
     if kind == "PutFile" and one.property("Conflict Resolution Strategy") == "fail":
-        return [Warning_(line, f"{one.name}: a file is deleted if `out` has its name already (the strategy is fail, and "
-                         "failure is terminated)")]
+        return [Warning_(line, f"{one.name}: a file is deleted if `out` has its name already (the strategy is fail, "
+                         "and failure is terminated)")]
     if kind == "PutFile":
         return [Warning_(line, f"{one.name}: a file whose name `out` can't have is deleted (failure is terminated)")]
     return [Warning_(line, f"{one.name}: files that fail are deleted (failure is terminated)")]
@@ -95,8 +95,8 @@ def merges(one):
     if one.text("type") != "MergeContent":
         return []
     if one.property("Merge Strategy") == "Defragment":
-        return [Warning_(one.value.line, f"{one.name}: fragments wait without end if one of their whole is missing, and "
-                         "the run ends with 0 or 10; a whole of more than 1,000 goes to failure")]
+        return [Warning_(one.value.line, f"{one.name}: fragments wait without end if one of their whole is missing, "
+                         "and the run ends with 0 or 10; a whole of more than 1,000 goes to failure")]
     least = one.property("Minimum Number of Entries")
     if least not in (None, "1"):
         return [Warning_(one.line("properties", "Minimum Number of Entries"),
@@ -139,8 +139,8 @@ def rings(flow):
         connection = back_to(start, onward)
         if connection is not None and connection.place not in told:
             told.add(connection.place)
-            found.append(Warning_(connection.value.line, f"{connection.name}: closes a ring without a pause: a file may "
-                                  "go round until it expires or the run ends with 11"))
+            found.append(Warning_(connection.value.line, f"{connection.name}: closes a ring without a pause: a file "
+                                  "may go round until it expires or the run ends with 11"))
     return found
 
 
