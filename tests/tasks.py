@@ -124,14 +124,12 @@ TASKS = {
 }
 
 # A merge that waits for five files, after a queue that is full with three.
-NARROW = (processor("join", "MergeContent", {"Minimum Number of Entries": "5"}, ["original"]),
-          update("name", filename="joined-${merge.count}"))
+JOIN = processor("join", "MergeContent", {"Minimum Number of Entries": "5"}, ["original"])
 
 
 def narrow(objects):
-    return flow([source("get"), *NARROW, let_go("put", "replace")],
-                [queue("new", "get", "join", objects=objects), both("joined", "join", "name", "merged", "failure"),
-                 both("named", "name", "put")])
+    return flow([source("get"), JOIN, let_go("put", "replace")],
+                [queue("new", "get", "join", objects=objects), both("joined", "join", "put", "merged", "failure")])
 
 
 class Cases:
@@ -182,7 +180,9 @@ class Cases:
                 uuid, _, _, name, _ = line.split("\t")
                 os.rename(saved / uuid, folder / "in" / name)
             need_status(run(self.program, folder), DONE)
-            self.arrived(folder, {"joined-10": b"".join(files[name] for name in sorted(files))})
+            joined = sorted(read_files(folder / "out").values())
+            need(joined == [b"0\n1\n2\n3\n4\n", b"5\n6\n7\n8\n9\n"], f"out has {joined}")
+            need(not state_of(folder).files, "files wait in the store")
 
     def one_after_the_other(self):
         """Two flows one after the other, which run at the same time, deliver each file once."""
