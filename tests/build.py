@@ -23,7 +23,8 @@ fi
 
 def crates():
     """The crates of crates.txt, each with those of the repository that it names."""
-    rows = [line.split(":") for line in (ROOT / "crates.txt").read_text().splitlines() if line]
+    lines = [line.partition("#")[0].strip() for line in (ROOT / "crates.txt").read_text().splitlines()]
+    rows = [line.split(":") for line in lines if line]
     named = {row[0].split()[0]: row[1].split() for row in rows}
     return {name: [one for one in below if one in named] for name, below in named.items()}
 

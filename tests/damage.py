@@ -18,7 +18,7 @@ import random
 import store_format
 from store_format import CLAIM_OPEN, NUMBER_LIMIT, SLOTS, Content, Damage, FlowFile, Writer, state_of
 from support import (DAMAGED, DONE, LIMIT, REFUSED, THE_TEXT, Report, find_program, in_memory, names, need, need_status,
-                     options, parse_seeded, photo, read_files, run, work_folder, write_files)
+                     options, parse_seeded, photo, put_store, read_files, run, work_folder, write_files)
 
 # In the quick form every so many of the cases.
 STEP = 7
@@ -72,10 +72,9 @@ def cuts(files):
             yield f"{name} is cut to {size}", {**files, name: data[:size]}
 
 
-def put_store(folder, files):
-    for part in ("in", "out"):
-        (folder / part).mkdir()
-    write_files(folder / "store", {**{name: data for name, data in files.items() if data}, "lock": b"\0"})
+def put_some(folder, files):
+    """A store of these files, of which the empty ones aren't there."""
+    put_store(folder, {name: data for name, data in files.items() if data})
 
 
 def refusal(said):
@@ -97,7 +96,7 @@ def ends_as_said(program, parent, what, files):
     said = state_of(files)
     refused = refusal(said)
     with work_folder(parent) as folder:
-        put_store(folder, files)
+        put_some(folder, files)
         before = photo(folder)
         ended = run(program, folder)
         if refused is not None:
@@ -137,7 +136,7 @@ def all_cases(program, parent, cases, step):
 def is_refused(program, parent, files, status):
     """The program ends with this status, and nothing is written, also when it is tried again."""
     with work_folder(parent) as folder:
-        put_store(folder, files)
+        put_some(folder, files)
         write_files(folder / "in", {"waits": b"untouched"})
         write_files(folder / "out", {"other": b"stays"})
         before = photo(folder)
@@ -189,7 +188,7 @@ def numbers_are_used_up(program, parent):
             setattr(writer.state, name, value)
         writer.start()
         with work_folder(parent) as folder:
-            put_store(folder, writer.files())
+            put_some(folder, writer.files())
             write_files(folder / "in", {"a": b"one", "b": b"two"})
             before = photo(folder / "in", folder / "out", folder / "store" / "log-1")
             for _ in range(2):
@@ -210,7 +209,7 @@ def one_number_is_left(program, parent):
     writer.state.next_number = NUMBER_LIMIT - 2
     writer.start()
     with work_folder(parent) as folder:
-        put_store(folder, writer.files())
+        put_some(folder, writer.files())
         write_files(folder / "in", {"a": b"one", "b": b"two"})
         need_status(run(program, folder), LIMIT)
         need(read_files(folder / "out") == {"a": b"one"}, f"out holds {names(folder / 'out')}")
@@ -237,7 +236,7 @@ def claims_are_used_up(program, parent):
     state.next_number = state.next_arrival = SLOTS + 1
     writer.start()
     with work_folder(parent, text) as folder:
-        put_store(folder, {"log-1": writer.log(), "snapshot-1": writer.first})
+        put_some(folder, {"log-1": writer.log(), "snapshot-1": writer.first})
         for slot in range(SLOTS):
             path = folder / "store" / f"claim-{slot}"
             path.touch()

@@ -35,7 +35,7 @@ WIDE = json.dumps({
     "connections": [
         {"id": "new", "from": "get", "to": "route", "relationships": ["success"], "prioritizers": ["PriorityAttribute"]},
         {"id": "big", "from": "route", "to": "swap", "relationships": ["big"], "objects": 5, "bytes": 100},
-        {"id": "small", "from": "route", "to": "join", "relationships": ["unmatched"]},
+        {"id": "small", "from": "route", "to": "join", "relationships": ["unmatched"], "objects": 3},
         {"id": "swapped", "from": "swap", "to": "put", "relationships": ["success", "failure"]},
         {"id": "joined", "from": "join", "to": "put", "relationships": ["merged"], "expiration": 0}]}, indent=1)
 
@@ -108,6 +108,7 @@ ODDITIES = [
     ("${1}c", "${2}c", "the pattern has no group `2`"),
     ("${1}c", "${name}", "the pattern has no group `name`"),
     ('"Minimum Number of Entries": "1"', '"Minimum Number of Entries": "5"', "fewer than 5 files wait without end"),
+    ('"Minimum Number of Entries": "1"', '"Minimum Number of Entries": "4"', "it is full with 3 files"),
     ('"Minimum Number of Entries": "1"', '"Merge Strategy": "Defragment"', "fragments wait without end"),
     ('"expiration": 0', '"expiration": 1000', "is deleted 1000 ms after"),
     ('"replace"', '"fail"', "is deleted if `out` has its name already"),

@@ -12,8 +12,8 @@ import struct
 import store_format
 from store_format import (CLOSED, EVENT, GET, OPEN, PUT, SWAP_IN, Batch, Begin, Content, Damage, Expire, Session,
                           SwapOut, Writer, block, event_payload, events_files, frame, log, snapshot, state_of)
-from support import (DAMAGED, DONE, ROOT, Report, find_program, names, need, need_status, options, photo, read_files,
-                     run, work_folder, write_files)
+from support import (DAMAGED, DONE, ROOT, Report, find_program, names, need, need_status, options, photo, put_store,
+                     read_files, run, work_folder, write_files)
 
 ABC = {"a": b"one", "b": b"", "größe": "drei".encode()}
 
@@ -373,12 +373,6 @@ DAMAGE = {
     "no log, and a batch": ({"swap-1": b"x", "claim-0": b"x"}, ended(kind="swap")),
     "no log, and events": ({"events-0": b"x"}, ended(0, kind="events")),
 }
-
-
-def put_store(folder, files):
-    for part in ("in", "out"):
-        (folder / part).mkdir()
-    write_files(folder / "store", {**files, "lock": b"\0"})
 
 
 def is_at_rest(folder):

@@ -12,7 +12,7 @@ import random
 import subprocess
 
 import store_format
-from flow_texts import flow, generator, kinds, let_go, processor, put, queue, source, state_of, told
+from flow_texts import flow, generator, kinds, let_go, processor, queue, source, state_of, told
 from store_format import ATTRIBUTES_MODIFIED, CLONE, CONTENT_MODIFIED, CREATE, DROP, RECEIVE, ROUTE, SEND
 from support import (DONE, REFUSED, Report, find_program, in_memory, names, need, need_status, options, parse_seeded,
                      photo, read_files, run, start, work_folder, write_files)

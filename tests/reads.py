@@ -8,22 +8,18 @@ inbox later. The next run has to end with 0 and to deliver every file.
 
 import re
 import shutil
-import subprocess
 
 from support import (DISK, DONE, INBOX, OUTBOX, SOURCE, Report, find_program, need, need_status, new_folder, none_aside,
-                     options, read_files, run, work_folder, write_files)
+                     options, read_files, run, traced, work_folder, write_files)
 
 FILES = {"a": b"first", "b": bytes(range(256)) * 9, "c": b"third"}
 
 
-def traced(program, folder, call, *asked):
+def calls_of(program, folder, call, *asked):
     """Runs the program under strace. Gives its status, and the calls of that name in order, each with its path."""
-    with new_folder() as aside:
-        trace = aside / "trace"
-        child = subprocess.run(["strace", "-f", "-qq", "-y", "-e", f"trace={call}", "-e", "signal=none", *asked, "-o", trace,
-                                program, "run"], cwd=folder, check=False, stdout=subprocess.PIPE, stderr=subprocess.PIPE)
-        paths = re.findall(rf"{call}\(\d+<([^>]*)>", trace.read_text(errors="replace"))
-    return child.returncode, [path.removeprefix(f"{folder.resolve()}/") for path in paths]
+    status, trace = traced(program, folder, call, *asked)
+    paths = re.findall(rf"{call}\(\d+<([^>]*)>", trace)
+    return status, [path.removeprefix(f"{folder.resolve()}/") for path in paths]
 
 
 def status_of(path):
@@ -49,7 +45,7 @@ class Cases:
             self.prepare(folder)
             with new_folder(self.parent) as first:
                 copy = shutil.copytree(folder, first / "copy")
-                status, paths = traced(self.program, copy, call)
+                status, paths = calls_of(self.program, copy, call)
                 need(status == DONE, f"a run without a refusal ended with {status}")
             ours = [number for number, path in enumerate(paths) if not path.startswith("/")]
             missing = wanted - {paths[number] for number in ours}
@@ -61,7 +57,7 @@ class Cases:
 
     def refused(self, copy, call, paths, number):
         what = f"read {number} of {paths[number]}"
-        status, _ = traced(self.program, copy, call, "-e", f"inject={call}:error=EIO:when={number + 1}+")
+        status, _ = calls_of(self.program, copy, call, "-e", f"inject={call}:error=EIO:when={number + 1}+")
         need(status == status_of(paths[number]), f"{what} was refused, and the run ended with {status}")
         none_aside(copy)
         need_status(run(self.program, copy), DONE)

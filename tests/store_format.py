@@ -12,7 +12,6 @@ import hashlib
 import json
 import pathlib
 import re
-import struct
 import typing
 import uuid
 

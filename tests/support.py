@@ -115,6 +115,16 @@ def run(program, folder, words=("run",), limits=None):
         return Run(child.returncode, seconds, used.ru_utime + used.ru_stime, memory.peak, said.read())
 
 
+def traced(program, folder, calls, *asked):
+    """Runs the program under strace. Gives its status, and what strace wrote of these calls, with their paths."""
+    with new_folder() as aside:
+        trace = aside / "trace"
+        child = subprocess.run(["strace", "-f", "-qq", "-y", "-e", f"trace={calls}", "-e", "signal=none", *asked,
+                                "-o", trace, program, "run"], cwd=folder, check=False, stdin=subprocess.DEVNULL,
+                               stdout=subprocess.DEVNULL, stderr=subprocess.DEVNULL)
+        return child.returncode, trace.read_text(errors="replace")
+
+
 def start(program, folder):
     """Starts the program, and doesn't wait for it."""
     return subprocess.Popen([program, "run"], cwd=folder, stdin=subprocess.DEVNULL, stdout=subprocess.DEVNULL,
@@ -219,6 +229,13 @@ def write_files(folder, files):
     for name, content in files.items():
         with open(os.path.join(os.fsencode(folder), os.fsencode(name)), "wb") as file:
             file.write(content)
+
+
+def put_store(folder, files):
+    """A folder in which a run finds a store of these files, and an inbox and an outbox of none."""
+    for part in ("in", "out"):
+        (folder / part).mkdir()
+    write_files(folder / "store", {**files, "lock": b"\0"})
 
 
 def read_files(folder):

@@ -9,11 +9,10 @@ and the run after that has to change nothing.
 
 import os
 import re
-import subprocess
 
 import store_format
 from support import (DAMAGED, DISK, DONE, INBOX, MARKER, OUTBOX, REFUSED, Report, find_program, names, need, need_status,
-                     new_folder, none_aside, options, photo, read_files, run, work_folder, write_files)
+                     none_aside, options, photo, read_files, run, traced, work_folder, write_files)
 
 FILES = {"a": b"first", "b": b"", "c": bytes(range(256)) * 9}
 
@@ -66,17 +65,12 @@ ALL = with_marker([*FILE_FIRST, *FILE_EMPTY, *FILE, *CLOSING])
 COPY = ("fsync", "store/.flow-aside")
 
 
-def traced(program, folder, *asked):
+def syncs_of(program, folder, *asked):
     """Runs the program under strace. Gives its status, and its syncs in order, each with its path."""
-    with new_folder() as aside:
-        trace = aside / "trace"
-        child = subprocess.run(["strace", "-f", "-qq", "-y", "-e", "trace=fsync,fdatasync", "-e", "signal=none", *asked,
-                                "-o", trace, program, "run"], cwd=folder,
-                               stdin=subprocess.DEVNULL, stdout=subprocess.DEVNULL)
-        top = os.path.realpath(folder)
-        syncs = [(kind, PART.sub("part", os.path.relpath(path, top)))
-                 for kind, path in re.findall(r"\b(fsync|fdatasync)\(\d+<(.*)>\)", trace.read_text())]
-        return child.returncode, syncs
+    status, trace = traced(program, folder, "fsync,fdatasync", *asked)
+    top = os.path.realpath(folder)
+    return status, [(kind, PART.sub("part", os.path.relpath(path, top)))
+                    for kind, path in re.findall(r"\b(fsync|fdatasync)\(\d+<(.*)>\)", trace)]
 
 
 def in_any_order(syncs):
@@ -90,7 +84,7 @@ def refused(program, folder, syncs, number):
     """Runs the program with one of its syncs refused, and gives its status."""
     kind = syncs[number][0]
     when = sum(earlier == kind for earlier, _ in syncs[:number + 1])
-    status, asked = traced(program, folder, "-e", f"inject={kind}:error=EIO:when={when}")
+    status, asked = syncs_of(program, folder, "-e", f"inject={kind}:error=EIO:when={when}")
     need(in_any_order(asked)[:number + 1] == in_any_order(syncs)[:number + 1]
          or in_any_order(asked) == in_any_order(syncs[:number + 1]), f"other syncs are asked for: {asked[:number + 1]}")
     return status
@@ -155,7 +149,7 @@ class Cases:
         with self.folder() as folder:
             before(folder)
             write_files(folder / "in", {f"{number:03}": b"x" for number in range(count)})
-            status, syncs = traced(self.program, folder)
+            status, syncs = syncs_of(self.program, folder)
             need(status == DONE, f"status {status}")
             each = [sync for number in range(count) for sync in (FILE if number % RECLAIMED else FILE_FIRST)]
             wanted = [*opening, *each, *(CLOSING if count else [])]
@@ -169,7 +163,7 @@ class Cases:
     def of_all_kinds(self):
         with self.folder() as folder:
             write_files(folder / "in", FILES)
-            status, syncs = traced(self.program, folder)
+            status, syncs = syncs_of(self.program, folder)
             need(status == DONE and syncs == [*OPENING_NEW, *ALL], f"status {status}, {syncs}")
 
     def of_a_queue(self):
@@ -179,7 +173,7 @@ class Cases:
             writer.get(name, content)
         with self.folder() as folder:
             write_files(folder / "store", writer.files())
-            status, syncs = traced(self.program, folder)
+            status, syncs = syncs_of(self.program, folder)
             need(status == DONE, f"status {status}")
             wanted = [*FOLDERS, LOG, SNAPSHOT, CLAIM, EVENTS, STORE, *[*PUT, *ENTRY] * len(FILES), *CLOSING]
             need(in_any_order(syncs) == in_any_order(with_marker(wanted)), f"{syncs}")
@@ -193,7 +187,7 @@ class Cases:
                   "events-0": files["events-0"] + b"more", "claim-9": b"x"}
         with self.folder() as folder:
             write_files(folder / "store", files)
-            status, syncs = traced(self.program, folder)
+            status, syncs = syncs_of(self.program, folder)
             need(status == DONE, f"status {status}")
             standing = [("fdatasync", f"store/{name}") for name in files]
             wanted = [*FOLDERS, *standing, STORE, LOG, LOG, ("fdatasync", "store/log-3"), *PUT, LOG, CLAIM, EVENTS,
@@ -208,7 +202,7 @@ class Cases:
         for files, wanted in ((other.start().files(), REFUSED), (torn, DAMAGED)):
             with self.folder() as folder:
                 write_files(folder / "store", files)
-                status, syncs = traced(self.program, folder)
+                status, syncs = syncs_of(self.program, folder)
                 need(status == wanted, f"status {status}")
                 standing = [("fdatasync", f"store/{name}") for name in files]
                 need(in_any_order(syncs) == in_any_order([*FOLDERS, *standing, STORE]), f"{syncs}")
@@ -219,7 +213,7 @@ class Cases:
         """Has each sync of a run refused alone. The run begins in a folder that `prepare` fills."""
         with self.folder() as folder:
             prepare(folder)
-            status, syncs = traced(self.program, folder)
+            status, syncs = syncs_of(self.program, folder)
             need(status == DONE, f"status {status}")
         for number in range(len(syncs)):
             with self.folder() as folder:
@@ -245,7 +239,7 @@ class Cases:
 
     def delivers_anew(self, folder, copies, what):
         """The next run delivers, and first writes so many files of the store anew."""
-        status, syncs = traced(self.program, folder)
+        status, syncs = syncs_of(self.program, folder)
         need(status == DONE, f"{what}: status {status} of the second run")
         need(syncs.count(COPY) == copies, f"{what}: {syncs.count(COPY)} files are written anew, and not {copies}")
         need(syncs[len(FOLDERS):len(FOLDERS) + copies] == [COPY] * copies, f"{what}: the opening asks for {syncs[:8]}")
@@ -282,7 +276,7 @@ class Cases:
             others = {"notes": b"mine", "log-01": b"x"}
             write_files(folder / "store", {**others, "claim-7": b"content" * 30_000, "snapshot-0": b"x"})
             before = inodes(folder)
-            status, syncs = traced(self.program, folder)
+            status, syncs = syncs_of(self.program, folder)
             need(status == DONE, f"status {status}")
             need(syncs[3:10] == [*[COPY] * 6, STORE], f"the opening asks for {syncs[:11]}")
             after = inodes(folder)

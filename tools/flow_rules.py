@@ -198,7 +198,8 @@ class Flow:
             self.found(10, ("processors",), line("processors"), f"there are over {PROCESSORS_MAX} processors")
         count = len(fields["connections"].items()) if "connections" in fields else 0
         if count > CONNECTIONS_MAX:
-            self.found(10, ("connections",), line("connections"), f"there are more than {CONNECTIONS_MAX:,} connections")
+            self.found(10, ("connections",), line("connections"),
+                       f"there are more than {CONNECTIONS_MAX:,} connections")
         crowded = [(processor, name) for processor in self.processors for name in processor.relationships
                    if len(self.carriers(processor, name)) > FAN_OUT_MAX]
         for processor, name in crowded[:1]:

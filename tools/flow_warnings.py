@@ -21,7 +21,7 @@ def of(flow):
         if one.type is not None:
             found += terminated(one) + constants(one) + templates(one) + merges(one)
     for one in flow.connections:
-        found += expirations(one)
+        found += expirations(one) + narrow(flow, one)
     return sorted(found + rings(flow), key=lambda warning: warning.line)
 
 
@@ -46,8 +46,8 @@ def terminated(one):
     if "failure" not in names:
         return []
     if kind == "PutFile" and one.property("Conflict Resolution Strategy") == "fail":
-        return [Warning_(line, f"{one.name}: a file is deleted if `out` has its name already (the strategy is fail, and "
-                         "failure is terminated)")]
+        return [Warning_(line, f"{one.name}: a file is deleted if `out` has its name already (the strategy is fail, "
+                         "and failure is terminated)")]
     if kind == "PutFile":
         return [Warning_(line, f"{one.name}: a file whose name `out` can't have is deleted (failure is terminated)")]
     return [Warning_(line, f"{one.name}: files that fail are deleted (failure is terminated)")]
@@ -95,13 +95,27 @@ def merges(one):
     if one.text("type") != "MergeContent":
         return []
     if one.property("Merge Strategy") == "Defragment":
-        return [Warning_(one.value.line, f"{one.name}: fragments wait without end if one of their whole is missing, and "
-                         "the run ends with 0 or 10; a whole of more than 1,000 goes to failure")]
+        return [Warning_(one.value.line, f"{one.name}: fragments wait without end if one of their whole is missing, "
+                         "and the run ends with 0 or 10; a whole of more than 1,000 goes to failure")]
     least = one.property("Minimum Number of Entries")
     if least not in (None, "1"):
         return [Warning_(one.line("properties", "Minimum Number of Entries"),
                          f"{one.name}: fewer than {least} files wait without end, and the run ends with 0 or 10")]
     return []
+
+
+def narrow(flow, one):
+    """A queue that is full before the merge behind it has as many files as it waits for."""
+    value, target = one.fields.get("objects"), flow.named_as(one.target)
+    if value is None or value.kind != "number" or target is None or target.text("type") != "MergeContent":
+        return []
+    most, least = value.data, target.property("Minimum Number of Entries") or ""
+    if target.property("Merge Strategy") == "Defragment" or not (most.isdigit() and least.isdigit()):
+        return []
+    if not 0 < int(most) < int(least):
+        return []
+    return [Warning_(one.line("objects"), f"{one.name}: it is full with {most} files, and {target.name} waits for "
+                     f"{least}: the flow is blocked then")]
 
 
 def expirations(one):
@@ -125,8 +139,8 @@ def rings(flow):
         connection = back_to(start, onward)
         if connection is not None and connection.place not in told:
             told.add(connection.place)
-            found.append(Warning_(connection.value.line, f"{connection.name}: closes a ring without a pause: a file may "
-                                  "go round until it expires or the run ends with 11"))
+            found.append(Warning_(connection.value.line, f"{connection.name}: closes a ring without a pause: a file "
+                                  "may go round until it expires or the run ends with 11"))
     return found
 
 
