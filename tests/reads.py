@@ -10,6 +10,7 @@ import re
 import shutil
 import subprocess
 
+import printed
 from support import (DISK, DONE, INBOX, OUTBOX, SOURCE, Report, find_program, need, need_status, new_folder, none_aside,
                      options, read_files, run, work_folder, write_files)
 
@@ -17,11 +18,13 @@ FILES = {"a": b"first", "b": bytes(range(256)) * 9, "c": b"third"}
 
 
 def traced(program, folder, call, *asked):
-    """Runs the program under strace. Gives its status, and the calls of that name in order, each with its path."""
+    """Runs the program under strace. Gives its status, and the calls of that name in order, each with its path. What it
+    prints is the line of its status, if that has one."""
     with new_folder() as aside:
         trace = aside / "trace"
         child = subprocess.run(["strace", "-f", "-qq", "-y", "-e", f"trace={call}", "-e", "signal=none", *asked, "-o", trace,
                                 program, "run"], cwd=folder, check=False, stdout=subprocess.PIPE, stderr=subprocess.PIPE)
+        need(child.stdout == printed.LINES.get(child.returncode, child.stdout), f"it printed {child.stdout!r}")
         paths = re.findall(rf"{call}\(\d+<([^>]*)>", trace.read_text(errors="replace"))
     return child.returncode, [path.removeprefix(f"{folder.resolve()}/") for path in paths]
 

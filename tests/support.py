@@ -142,6 +142,11 @@ def wait_for(holds, child):
     raise Wrong("it took more than a minute")
 
 
+def process_state(pid):
+    """`T` is that of a process that was stopped."""
+    return pathlib.Path(f"/proc/{pid}/stat").read_text().rpartition(")")[2].split()[0]
+
+
 class Memory(threading.Thread):
     """Follows the peak of a process's memory, in bytes.
 

@@ -11,6 +11,7 @@ import os
 import re
 import subprocess
 
+import printed
 import store_format
 from support import (DAMAGED, DISK, DONE, INBOX, MARKER, OUTBOX, REFUSED, Report, find_program, names, need, need_status,
                      new_folder, none_aside, options, photo, read_files, run, work_folder, write_files)
@@ -67,12 +68,14 @@ COPY = ("fsync", "store/.flow-aside")
 
 
 def traced(program, folder, *asked):
-    """Runs the program under strace. Gives its status, and its syncs in order, each with its path."""
+    """Runs the program under strace. Gives its status, and its syncs in order, each with its path. What it prints is the
+    line of its status, if that has one."""
     with new_folder() as aside:
         trace = aside / "trace"
         child = subprocess.run(["strace", "-f", "-qq", "-y", "-e", "trace=fsync,fdatasync", "-e", "signal=none", *asked,
                                 "-o", trace, program, "run"], cwd=folder,
-                               stdin=subprocess.DEVNULL, stdout=subprocess.DEVNULL)
+                               stdin=subprocess.DEVNULL, stdout=subprocess.PIPE, check=False)
+        need(child.stdout == printed.LINES.get(child.returncode, child.stdout), f"it printed {child.stdout!r}")
         top = os.path.realpath(folder)
         syncs = [(kind, PART.sub("part", os.path.relpath(path, top)))
                  for kind, path in re.findall(r"\b(fsync|fdatasync)\(\d+<(.*)>\)", trace.read_text())]
