@@ -267,7 +267,8 @@ class Cases:
     def output_is_closed(self):
         with work_folder(self.parent, WAITS) as folder:
             state = self.waiting(folder)
-            one = store_format.uuid_of(state.store, min(state.files))
+            # One with a content: of an empty one there is nothing to print.
+            one = store_format.uuid_of(state.store, max(state.files, key=lambda number: len(state.contents[number])))
             before = photo(folder)
             for words in (["queues"], ["events"], ["check"], ["lineage", one], ["content", one]):
                 ended = subprocess.run(["sh", "-c", 'exec "$0" "$@" >&-', self.program, *words], cwd=folder,
