@@ -1,9 +1,9 @@
 #!/usr/bin/env python3
 """How the queries' time and memory grow with the events of a store, and with the files that wait.
 
-The stores are made by runs of the program, in memory, if the system has a folder there: generated files are copied a
-thousand times each, and all of these go, which makes 2,002 events for each; beside them a text of ten lines and one of
-9,999 are split. Each query's text goes nowhere. What is told of a query is the processor's time, the time for each event
+The stores are made by runs of the program, in memory, if the system has a folder there: generated files are copied 999
+times each, and all of these go, which makes 2,000 events for each; beside them a text of ten lines and one of 9,999 are
+split. Each query's text goes nowhere. What is told of a query is the processor's time, the time for each event
 beside that of the first store, and the peak of memory: 1.00 is a straight line. The same for files that wait.
 """
 
@@ -21,12 +21,12 @@ from support import DONE, LIMIT, Memory, find_program, in_memory, need, options,
 
 # The files that are generated for a store: some 62,500, 250,000 and 1,000,000 events come of them.
 GENERATED = (31, 125, 500)
-COPIES = 1_000
+COPIES = 999
 
 # How many lines the two texts have that are split: as many relatives has each.
 RELATIVES = {"10": 10, "10000": 9_999}
 
-# How many files wait: after each copying a session lets one of the 1,001 go.
+# How often a file is copied: after each time a session lets one of the 1,000 files go, and the others wait.
 WAITING = (25, 100)
 
 # Connections in which nothing waits, beside the two that lead to the files which do.
