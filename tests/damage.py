@@ -15,6 +15,7 @@ import json
 import os
 import random
 
+import printed
 import store_format
 from store_format import CLAIM_OPEN, NUMBER_LIMIT, SLOTS, Content, Damage, FlowFile, Writer, state_of
 from support import (DAMAGED, DONE, LIMIT, REFUSED, THE_TEXT, Report, find_program, in_memory, names, need, need_status,
@@ -84,11 +85,9 @@ def refusal(said):
     return None if said.flow == store_format.THE_FLOW.digest else REFUSED
 
 
-def refusal_line(said):
-    """How the line begins that a run prints of this refusal."""
-    if isinstance(said, Damage):
-        return f"damaged: {said.kind} {said.number} at {said.offset} ".encode()
-    return b"flow refused: rule 13 at /\n"
+def is_refusal(told, said):
+    """Whether that is what a run prints of this refusal."""
+    return printed.is_damage(told, said) if isinstance(said, Damage) else told == b"flow refused: rule 13 at /\n"
 
 
 def ends_as_said(program, parent, what, files):
@@ -101,7 +100,7 @@ def ends_as_said(program, parent, what, files):
         ended = run(program, folder)
         if refused is not None:
             need(ended.status == refused, f"{what}: status {ended.status}, and the reader says {said}")
-            need(ended.said.startswith(refusal_line(said)), f"{what}: it printed {ended.said!r}, and the reader says {said}")
+            need(is_refusal(ended.said, said), f"{what}: it printed {ended.said!r}, and the reader says {said}")
             need(photo(folder) == before, f"{what}: something was written")
             return False
         need(ended.status == DONE, f"{what}: status {ended.status}, and the reader says that it is sound")
@@ -242,7 +241,9 @@ def claims_are_used_up(program, parent):
             path.touch()
             os.truncate(path, CLAIM_OPEN)
         write_files(folder / "in", {"a": b"one"})
-        need_status(run(program, folder), LIMIT)
+        ended = run(program, folder)
+        need_status(ended, LIMIT)
+        need(ended.said == b"connection c1 65536 0\ninbox 1\nlimit: claims 65536\n", f"it printed {ended.said!r}")
         need(read_files(folder / "in") == {"a": b"one"} and not names(folder / "out"), "in or out changed")
         (folder / "in" / "a").unlink()
         need_status(run(program, folder), DONE)

@@ -3,7 +3,6 @@
 
 import fcntl
 import os
-import pathlib
 import random
 import resource
 import signal
@@ -13,8 +12,8 @@ import time
 import printed
 import store_format
 from support import (DISK, DONE, INBOX, MARK, MARKER, MEMORY, OUTBOX, SINK, SOURCE, THE_TEXT, USAGE, Report,
-                     find_program, names, need, need_status, new_folder, none_aside, options, parse_seeded, photo, put_flow,
-                     read_files, run, run_for, start, wait_for, work_folder, write_files)
+                     find_program, names, need, need_status, new_folder, none_aside, options, parse_seeded, photo,
+                     process_state, put_flow, read_files, run, run_for, start, wait_for, work_folder, write_files)
 
 CONTENT_MAX = 16_777_216
 
@@ -31,7 +30,10 @@ class Cases:
         return work_folder(self.parent)
 
     def run(self, folder, *words, limits=None):
-        return run(self.program, folder, words or ("run",), limits)
+        ended = run(self.program, folder, words or ("run",), limits)
+        need(ended.said == printed.LINES.get(ended.status, ended.said),
+             f"with status {ended.status} it printed {ended.said!r}")
+        return ended
 
     def delivers(self, folder, files):
         """The next run ends with 0, and `out` then holds these files and nothing else."""
@@ -491,10 +493,6 @@ def waiting(folder):
 
 def claims(folder):
     return store_format.claims_in(store_format.files_in(folder / "store"))
-
-
-def process_state(pid):
-    return pathlib.Path(f"/proc/{pid}/stat").read_text().rpartition(")")[2].split()[0]
 
 
 def main():

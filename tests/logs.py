@@ -9,6 +9,7 @@ say the same as the table here.
 import re
 import struct
 
+import printed
 import store_format
 from store_format import (CLOSED, EVENT, GET, OPEN, PUT, SWAP_IN, Batch, Begin, Content, Damage, Expire, Session,
                           SwapOut, Writer, block, event_payload, events_files, frame, log, snapshot, state_of)
@@ -418,7 +419,9 @@ def damaged(program, parent, case):
         write_files(folder / "in", {"waits": b"untouched"})
         write_files(folder / "out", {"a": b"from before"})
         before = photo(folder)
-        need_status(run(program, folder), DAMAGED)
+        ended = run(program, folder)
+        need_status(ended, DAMAGED)
+        need(printed.is_damage(ended.said, damage), f"it printed {ended.said!r}")
         need(photo(folder) == before, "something was written")
         need(names(folder) == ["flow.json", "in", "out", "store"], f"it made {names(folder)}")
 

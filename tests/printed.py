@@ -1,6 +1,8 @@
-"""What a run prints at its end, as the store's format and the folders say it: nothing of the program is used."""
+"""What runs and queries print, as the store's format and the folders say it: nothing of the program is used."""
 
+import json
 import os
+import re
 import stat
 
 import store_format
@@ -16,6 +18,23 @@ USAGE_LINE = (b"usage: flow run, queues, events, lineage UUID, content UUID, che
 # By status; a refused text and a damaged store say more.
 LINES = {2: USAGE_LINE, 5: b"disk fault\n", 6: b"inbox fault\n", 7: b"outbox fault\n", 8: b"source fault\n",
          12: b"out of memory\n"}
+
+
+def event_line(store, event):
+    """The line of an event of a store of this id."""
+    def uuids(files):
+        return [store_format.uuid_of(store, number) for number in files]
+    told = {"children": uuids(event.children), "component": event.component, "detail": event.detail,
+            "digest": event.digest.hex(), "event": event.number, "kind": KINDS[event.kind], "moment": event.moment,
+            "parents": uuids(event.parents), "size": event.size, "uuid": store_format.uuid_of(store, event.file)}
+    return json.dumps(told, separators=(",", ":"), ensure_ascii=False) + "\n"
+
+
+def is_damage(said, damage):
+    """Whether that is what is printed of a damage. Which digests it names isn't looked at."""
+    place = re.escape(f"damaged: {damage.kind} {damage.number} at {damage.offset} ")
+    wrong = "kept [0-9a-f]{64} found [0-9a-f]{64}" if damage.cause == "Digest" else damage.cause.lower()
+    return re.fullmatch(place + wrong + "\n", said.decode()) is not None
 
 
 def listed(folder):

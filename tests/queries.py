@@ -2,10 +2,12 @@
 """Tries the queries of the built program (`queues`, `events`, `lineage`, `content`, `check`) over stores that its runs left:
 what each prints, beside what the store's format says, and that nothing but that is done."""
 
+import contextlib
 import fcntl
 import json
 import os
 import random
+import signal
 import subprocess
 import time
 
@@ -13,7 +15,8 @@ import printed
 import store_format
 from flow_texts import flow, generator, let_go, processor, queue, source
 from support import (ABSENT, DAMAGED, DISK, DONE, SINK, SOURCE, USAGE, Report, find_program, in_memory, names, need,
-                     need_status, new_folder, options, parse_seeded, run, work_folder, write_files)
+                     need_status, new_folder, options, parse_seeded, photo, process_state, run, wait_for,
+                     work_folder, write_files)
 
 TELLS_KIN = (store_format.FORK, store_format.JOIN, store_format.CLONE)
 
@@ -29,12 +32,7 @@ WAITS = flow([source("parts", r".*\.part"), source("whole", r".*\.txt"),
 
 
 def expected_line(state, event):
-    def uuids(files):
-        return [store_format.uuid_of(state.store, number) for number in files]
-    told = {"children": uuids(event.children), "component": event.component, "detail": event.detail,
-            "digest": event.digest.hex(), "event": event.number, "kind": printed.KINDS[event.kind], "moment": event.moment,
-            "parents": uuids(event.parents), "size": event.size, "uuid": store_format.uuid_of(state.store, event.file)}
-    return json.dumps(told, separators=(",", ":"), ensure_ascii=False) + "\n"
+    return printed.event_line(state.store, event)
 
 
 def expected_queues(state):
@@ -69,12 +67,6 @@ def expected_lineage(state, file):
     return "".join([*(f"{word} {store_format.uuid_of(state.store, one)}\n" for word, one in told),
                     *(expected_line(state, event) for event in state.events
                       if event.file == file or event.file in up or event.file in down)])
-
-
-def photo(folder):
-    """Each entry of a folder, with its bytes and its time."""
-    return {path.relative_to(folder): (path.stat().st_mtime_ns, path.read_bytes() if path.is_file() else None)
-            for path in sorted(folder.rglob("*"))} if folder.exists() else None
 
 
 class Cases:
@@ -172,10 +164,10 @@ class Cases:
                 (folder / "store" / name).write_bytes(data[:at] + bytes([data[at] ^ 1]) + data[at + 1:])
                 found = store_format.state_of(store_format.files_in(folder / "store"), store_format.flow_of(WAITS))
                 if isinstance(found, store_format.Damage):
-                    for words in (["check"], ["queues"], ["events"], ["content", store_format.uuid_of(state.store, 1)]):
+                    one = store_format.uuid_of(state.store, 1)
+                    for words in (["check"], ["queues"], ["events"], ["content", one], ["lineage", one]):
                         said = self.ask(folder, *words, status=DAMAGED)
-                        start = f"damaged: {found.kind} {found.number} at {found.offset} "
-                        need(said.startswith(start) and said.count("\n") == 1, f"{words} printed {said!r}, not {start!r}")
+                        need(printed.is_damage(said.encode(), found), f"{words} printed {said!r}, not {found}")
                 else:
                     self.ask(folder, "check")
                 (folder / "store" / name).write_bytes(data)
@@ -210,6 +202,115 @@ class Cases:
             os.close(writer)
             need(ended.returncode == SINK, f"events into a closed pipe ended with {ended.returncode}")
             need(photo(folder) == before, "a query changed something")
+
+    @contextlib.contextmanager
+    def told(self):
+        """A folder whose store has far more events than a pipe takes, and the text of these."""
+        text = flow([generator("make", self.count * 10), processor("note", "UpdateAttribute", {"seen": "yes"},
+                                                                   ["success", "failure"])],
+                    [queue("made", "make", "note")])
+        with work_folder(in_memory(self.parent), text) as folder:
+            need_status(run(self.program, folder), DONE)
+            state = store_format.state_of(store_format.files_in(folder / "store"), store_format.flow_of(text))
+            yield folder, "".join(expected_line(state, event) for event in state.events)
+
+    def start(self, folder, *words, **fields):
+        return subprocess.Popen([self.program, *words], cwd=folder, stdin=subprocess.DEVNULL, **fields)
+
+    def one_line_is_read(self):
+        """`flow events | head -n 1`."""
+        with self.told() as (folder, text):
+            before = photo(folder)
+            ended = subprocess.run(["bash", "-c", '"$0" events | head -n 1; echo "${PIPESTATUS[0]}"', self.program],
+                                   cwd=folder, stdout=subprocess.PIPE, timeout=60, check=False)
+            need(ended.stdout.decode() == text[:text.index("\n") + 1] + "9\n", f"it printed {ended.stdout[:400]!r}")
+            need(photo(folder) == before, "something changed")
+
+    def nobody_reads(self):
+        """A query whose text nobody reads waits, and so does a run beside it, but no query. It ends once its pipe is
+        closed, or all of it is read."""
+        with self.told() as (folder, text):
+            before = photo(folder)
+            waits = self.start(folder, "events", stdout=subprocess.PIPE)
+            os.read(waits.stdout.fileno(), 1)
+            self.says(folder, ["events"], text)
+            need(waits.poll() is None, f"it ended with {waits.poll()}")
+            waits.stdout.close()
+            need(waits.wait(60) == SINK, f"it ended with {waits.returncode} as its pipe was closed")
+            waits = self.start(folder, "events", stdout=subprocess.PIPE)
+            front = os.read(waits.stdout.fileno(), 1)
+            goes_on = self.start(folder, "run", stdout=subprocess.DEVNULL)
+            time.sleep(0.3)
+            need(waits.poll() is None and goes_on.poll() is None, f"they ended with {waits.poll()} and {goes_on.poll()}")
+            need(photo(folder) == before, "something changed")
+            rest, _ = waits.communicate(timeout=60)
+            need((waits.returncode, (front + rest).decode()) == (DONE, text),
+                 f"it ended with {waits.returncode}, or told other events")
+            need(goes_on.wait(60) == DONE, f"the run beside it ended with {goes_on.returncode}")
+
+    def takes_no_more(self):
+        """A pipe that is full and doesn't wait."""
+        with self.told() as (folder, _):
+            before = photo(folder)
+            for words in (["events"], ["check"], ["queues"]):
+                reader, writer = os.pipe()
+                os.set_blocking(writer, False)
+                with contextlib.suppress(BlockingIOError):
+                    while True:
+                        os.write(writer, b"x")
+                ended = self.start(folder, *words, stdout=writer)
+                need(ended.wait(60) == SINK, f"{words} ended with {ended.returncode}")
+                os.close(writer)
+                os.close(reader)
+            need(photo(folder) == before, "something changed")
+
+    def output_is_closed(self):
+        with work_folder(self.parent, WAITS) as folder:
+            state = self.waiting(folder)
+            # One with a content: of an empty one there is nothing to print.
+            one = store_format.uuid_of(state.store, max(state.files, key=lambda number: len(state.contents[number])))
+            before = photo(folder)
+            for words in (["queues"], ["events"], ["check"], ["lineage", one], ["content", one]):
+                ended = subprocess.run(["sh", "-c", 'exec "$0" "$@" >&-', self.program, *words], cwd=folder,
+                                       check=False)
+                need(ended.returncode == SINK, f"{words} ended with {ended.returncode}")
+            need(photo(folder) == before, "something changed")
+
+    def killed(self):
+        """A query is killed while it prints. The store is as it was, and free."""
+        with self.told() as (folder, text):
+            before = photo(folder)
+            for words in (["events"], ["lineage", json.loads(text[:text.index("\n")])["uuid"]], ["check"]):
+                child = self.start(folder, *words, stdout=subprocess.PIPE)
+                if words == ["events"]:
+                    need(child.stdout.read(1000) == text[:1000].encode(), "it begins otherwise")
+                child.kill()
+                child.wait()
+                child.stdout.close()
+                need(photo(folder) == before, f"{words} changed something")
+            self.says(folder, ["events"], text)
+            need_status(run(self.program, folder), DONE)
+
+    def beside_one_that_goes_on(self):
+        """A run is stopped on its way: queries get 5 and touch nothing, and it goes on to its end."""
+        with work_folder(self.parent) as folder:
+            files = {f"{n:05}": random.randbytes(2000) for n in range(max(200, self.count))}
+            write_files(folder / "in", files)
+            child = self.start(folder, "run", stdout=subprocess.DEVNULL)
+            try:
+                wait_for(lambda: (folder / "out").is_dir() and len(names(folder / "out")) > 3, child)
+                child.send_signal(signal.SIGSTOP)
+                wait_for(lambda: process_state(child.pid) == "T", child)
+                one = store_format.uuid_of(1, 1)
+                for words in (["queues"], ["events"], ["check"], ["lineage", one], ["content", one]):
+                    self.says(folder, words, "disk fault\n", DISK)
+                child.send_signal(signal.SIGCONT)
+                need(child.wait(120) == DONE, f"the run ended with {child.returncode}")
+            finally:
+                child.kill()
+                child.wait()
+            need(names(folder / "out") == sorted(files) and names(folder / "in") == [], "a file is missing")
+            self.says(folder, ["check"], f"store sound: files 0, events {3 * len(files)}\n")
 
     def run_cant_print(self):
         """A run whose output takes nothing ends with 9, and did all else; one that failed keeps its status."""
@@ -278,6 +379,12 @@ def main():
             ("a query beside a run gets 5, queries share the store, and a run waits for them", cases.beside_a_run),
             ("an output that takes nothing: 9", cases.sink_fails),
             ("a run whose output takes nothing: 9, and all else is done", cases.run_cant_print),
+            ("of all events one line is read: 9", cases.one_line_is_read),
+            ("a query whose text nobody reads", cases.nobody_reads),
+            ("a pipe that is full: 9", cases.takes_no_more),
+            ("the output is closed: 9", cases.output_is_closed),
+            ("a query that is killed leaves the store as it was", cases.killed),
+            ("queries beside a run on its way", cases.beside_one_that_goes_on),
             ("words with too much or too little: 2", cases.other_words),
             ("events of 10,000 files take no more memory than those of 1,000", cases.many_events)):
         report.case(text, body)

@@ -9,6 +9,7 @@ inbox later. The next run has to end with 0 and to deliver every file.
 import re
 import shutil
 
+import printed
 from support import (DISK, DONE, INBOX, OUTBOX, SOURCE, Report, find_program, need, need_status, new_folder, none_aside,
                      options, read_files, run, traced, work_folder, write_files)
 
@@ -16,8 +17,10 @@ FILES = {"a": b"first", "b": bytes(range(256)) * 9, "c": b"third"}
 
 
 def calls_of(program, folder, call, *asked):
-    """Runs the program under strace. Gives its status, and the calls of that name in order, each with its path."""
-    status, trace = traced(program, folder, call, *asked)
+    """Runs the program under strace. Gives its status, and the calls of that name in order, each with its path.
+    What it prints is the line of its status, if that has one."""
+    status, said, trace = traced(program, folder, call, *asked)
+    need(said == printed.LINES.get(status, said), f"it printed {said!r}")
     paths = re.findall(rf"{call}\(\d+<([^>]*)>", trace)
     return status, [path.removeprefix(f"{folder.resolve()}/") for path in paths]
 

@@ -116,13 +116,14 @@ def run(program, folder, words=("run",), limits=None):
 
 
 def traced(program, folder, calls, *asked):
-    """Runs the program under strace. Gives its status, and what strace wrote of these calls, with their paths."""
+    """Runs the program under strace. Gives its status, what it printed, and what strace wrote of these calls, with their
+    paths."""
     with new_folder() as aside:
         trace = aside / "trace"
         child = subprocess.run(["strace", "-f", "-qq", "-y", "-e", f"trace={calls}", "-e", "signal=none", *asked,
                                 "-o", trace, program, "run"], cwd=folder, check=False, stdin=subprocess.DEVNULL,
-                               stdout=subprocess.DEVNULL, stderr=subprocess.DEVNULL)
-        return child.returncode, trace.read_text(errors="replace")
+                               stdout=subprocess.PIPE, stderr=subprocess.DEVNULL)
+        return child.returncode, child.stdout, trace.read_text(errors="replace")
 
 
 def start(program, folder):
@@ -192,6 +193,11 @@ def wait_for_stop(child, trace):
         os.kill(int(line.split()[0]), signal.SIGKILL)
     child.kill()
     raise Wrong("the program wasn't stopped within a minute")
+
+
+def process_state(pid):
+    """`T` is that of a process that was stopped."""
+    return pathlib.Path(f"/proc/{pid}/stat").read_text().rpartition(")")[2].split()[0]
 
 
 class Memory(threading.Thread):

@@ -10,6 +10,7 @@ and the run after that has to change nothing.
 import os
 import re
 
+import printed
 import store_format
 from support import (DAMAGED, DISK, DONE, INBOX, MARKER, OUTBOX, REFUSED, Report, find_program, names, need, need_status,
                      none_aside, options, photo, read_files, run, traced, work_folder, write_files)
@@ -66,8 +67,10 @@ COPY = ("fsync", "store/.flow-aside")
 
 
 def syncs_of(program, folder, *asked):
-    """Runs the program under strace. Gives its status, and its syncs in order, each with its path."""
-    status, trace = traced(program, folder, "fsync,fdatasync", *asked)
+    """Runs the program under strace. Gives its status, and its syncs in order, each with its path. What it
+    prints is the line of its status, if that has one."""
+    status, said, trace = traced(program, folder, "fsync,fdatasync", *asked)
+    need(said == printed.LINES.get(status, said), f"it printed {said!r}")
     top = os.path.realpath(folder)
     return status, [(kind, PART.sub("part", os.path.relpath(path, top)))
                     for kind, path in re.findall(r"\b(fsync|fdatasync)\(\d+<(.*)>\)", trace)]

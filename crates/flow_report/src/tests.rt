@@ -94,7 +94,7 @@ const DAMAGED: [&str; 5] = [
 ];
 
 // Lines with no identifier.
-const PLAIN: [(Line<'static>, &'static str); 17] = [
+const PLAIN: [(Line<'static>, &'static str); 19] = [
     (
         Line::Connection {
             id: "made",
@@ -170,6 +170,20 @@ const PLAIN: [(Line<'static>, &'static str); 17] = [
             number: 1,
         },
         "limit: claims 1\n",
+    ),
+    (
+        Line::Limit {
+            name: "files",
+            number: 1_048_576,
+        },
+        "limit: files 1048576\n",
+    ),
+    (
+        Line::Limit {
+            name: "numbers",
+            number: 4_611_686_018_427_387_903,
+        },
+        "limit: numbers 4611686018427387903\n",
     ),
 ];
 
