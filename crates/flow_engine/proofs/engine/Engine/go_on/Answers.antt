@@ -10,12 +10,33 @@ use Rattle.flow_engine.specs.declared.checkout.Checkout.TheVariants as next
 use Rattle.flow_engine.specs.declared.error.EngineError.{EngineError}
 use Rattle.flow_engine.specs.declared.error.EngineError.TheVariants.{Limit}
 use Rattle.flow_engine.proofs.Choosing.{goes_on}
+use Rattle.store_core.specs.Flow.{Flow}
+use Rattle.store_core.specs.Store.{kept_by}
 use Rattle.flow_engine.proofs.Ending.{comes_next, ends_as, full_as, none_expired, turned_at_end}
+use Rattle.flow_engine.proofs.Expired.{are_of}
 use Rattle.flow_engine.proofs.Goes.{stops_unmoved}
 use Rattle.flow_engine.proofs.RunsOn.{runs_idle, spared_by_none}
 use Rattle.flow_engine.proofs.Turning.{limited, no_limit}
 use Rattle.flow_run.specs.Puts.{outgoing}
 use Rattle.flow_engine.proofs.engine.Engine.go_on.Goals as goal
+
+pub checkout-requires : goal.checkout-requires
+checkout-requires g c =
+    let e : EngineState = c.args.self.now in
+    let ready = c.requires.ready in
+    record {
+      may = λ works. record {
+        choose = record {
+          queues = are_of e.flow (kept_by e.store) e.queues ready.queues;
+          connections = ready.sound.connection_count;
+          processors = ready.sound.processor_count;
+          counts = ap (λ (f : Flow). f.processors) ready.work.flow_is;
+          listing = ready.listing;
+        };
+        due = ready.due;
+        most = ready.most;
+      };
+    }
 
 pub returns-in_err-checkout-clause-stopped : goal.returns-in_err-checkout-clause-stopped
 returns-in_err-checkout-clause-stopped g c error is telling in_telling out_telling opened first start time le run =
