@@ -1,6 +1,6 @@
 -- A run in which nothing fails comes to its end, or memory is wanting.
-use Rattle.std.proofs.Common.{◌≡◌, ◌⊎◌, inl, inr, ⊎_elim, ℕ, ◌-◌, ◌^◌, ◌<◌, Bool, true, false, List, [], ◌∷◌, ◌∙◌, refl, sym, ap, subst, arith}
-use Rattle.std.specs.Prelude.{IsTrue, MatchBool, MatchOption, Option, Some, None, Result, Ok, Err, length, nat_lt}
+use Rattle.std.proofs.Common.{◌≡◌, ⊎_elim, ℕ, Bool, true, false, List, [], ◌∷◌, ◌∙◌, refl, sym, ap, subst, arith}
+use Rattle.std.specs.Prelude.{IsTrue, MatchBool, MatchOption, Option, Some, None, Err, length, nat_lt}
 use Rattle.disk_trait.specs.Faults.{CountsFaults}
 use Rattle.disk_trait.specs.Files.{Files}
 use Rattle.disk_trait.specs.declared.damage.Damage.{Damage}
@@ -19,13 +19,13 @@ use Rattle.flow_definition.specs.declared.made.Refusal.TheVariants.{NoType, Unre
 use Rattle.flow_definition.specs.declared.own_patterns.Attempt.{Attempt}
 use Rattle.flow_definition.specs.declared.own_patterns.Attempt.TheVariants as attempt
 use Rattle.flow_definition.specs.declared.rule.Rule.{Rule}
-use Rattle.flow_definition.specs.declared.rule.Rule.TheVariants.{NotJson, TooMany}
+use Rattle.flow_definition.specs.declared.rule.Rule.TheVariants.{TooMany}
 use Rattle.flow_definition.specs.Looks.{items_at}
 use Rattle.flow_definition.specs.Made.{AreMade, IsMade, IsRefusal}
 use Rattle.flow_definition.specs.OwnPatterns.{AreAttempts}
 use Rattle.flow_definition.specs.Patterns.{HasRisen, Told}
 use Rattle.flow_definition.specs.Rules.{Path}
-use Rattle.flow_definition.specs.Verdict.{Accepts, IsAnswer, IsAnswerBehind, IsAnswerOf, IsAnswerTo, IsSettled, Refuses, first_behind, object_in}
+use Rattle.flow_definition.specs.Verdict.{IsAnswer, IsAnswerBehind, IsAnswerTo, Refuses, object_in}
 use Rattle.flow_definition.specs.Walk.{first_of, first_rules}
 use Rattle.run_top.specs.Complete.{IsEndOrMemory, StandsStill}
 use Rattle.run_top.specs.Opening.{IsOfFlow, IsShutAnswer}
@@ -97,7 +97,7 @@ module _ (R : Type 0) (none : R → ⊥) where
   refusal_stands d (TooBig property) is = absurd (none is.1)
   refusal_stands d (NoExpression property) is = is
   refusal_stands d (NoOwnExpression name) is = is
-  refusal_stands d (NoOwnPatterns attempts) is = (is.0, attempts_stand _ _ attempts is.1.0, is.1.1)
+  refusal_stands d (NoOwnPatterns attempts) is = (is.0, (attempts_stand _ _ attempts is.1.0, is.1.1))
 
   made_stands : (d : Data) (m : Made) → IsMade R d m → IsMade ⊥ d m
   made_stands d (made.Processor processor) is = is

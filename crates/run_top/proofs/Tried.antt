@@ -1,9 +1,8 @@
 -- What a trial came to.
-use Rattle.std.proofs.Common.{◌≡◌, ◌⊎◌, inl, inr, ⊎_elim, ℕ, ◌≤◌, Bool, true, List, [], ◌∷◌, length, map, All, ap, refl, sym, ◌∙◌, subst}
+use Rattle.std.proofs.Common.{◌≡◌, ◌⊎◌, inl, inr, ⊎_elim, ℕ, ◌≤◌, Bool, true, List, [], ◌∷◌, length, map, ap, refl, sym, ◌∙◌, subst}
 use Rattle.std.specs.List.Sorted.{IsPermutation}
 use Rattle.std.specs.Prelude.{IfErr, IfOk, IfSome, IsTrue, MatchOption, Option, Result, Ok, Err, Vec}
 use Rattle.std.specs.declared.alloc.Global.{Global}
-use Rattle.std.proofs.lemmas.List.Elements.{All-from_recursion}
 use Rattle.std.proofs.lemmas.List.Sorted.{length_permutation}
 use Rattle.disk_trait.specs.Files.{Files}
 use Rattle.disk_trait.specs.MemoryDisk.{held_by, left_by, moment_of}
@@ -13,16 +12,13 @@ use Rattle.world_io.specs.Memory.{file_of}
 use Rattle.machine_model.specs.State.{Machine, State}
 use Rattle.machine_model.specs.Valid.{new_state}
 use Rattle.machine_model.specs.declared.flow.Flow.{Flow}
-use Rattle.machine_model.specs.declared.flow.Processor.{Processor}
 use Rattle.flow_words.specs.declared.command.TheConstants.{DEFAULT_CHECKPOINT, DEFAULT_COMMITS}
 use Rattle.trial_flow.specs.Trial.{IsTrialFlow}
-use Rattle.engine_session.specs.Working.{is_built}
 use Rattle.flow_run.specs.Ending.{IsFault}
 use Rattle.flow_run.specs.Puts.{Outgoing, Start}
 use Rattle.flow_run.specs.Run.{machine_at}
 use Rattle.flow_run.specs.declared.ended.Ended.{Ended}
 use Rattle.flow_run.specs.declared.ended.Ended.TheVariants as ending
-use Rattle.flow_engine.specs.Engine.{AreBuilt}
 use Rattle.flow_engine.specs.declared.run.Ran.{Ran}
 use Rattle.run_top.specs.Opening.{IsOfFlow, IsOfStore}
 use Rattle.run_top.specs.Printing.{IsLine, IsPrinted, IsRefusal, closing_text, refusal_line}
@@ -33,13 +29,6 @@ use Rattle.run_top.specs.declared.answer.Answer.{Answer}
 use Rattle.run_top.specs.declared.answer.Answer.TheVariants.{Memory, Sink}
 use Rattle.run_top.proofs.Empty.{none_kept}
 use Rattle.run_top.proofs.Runs.{printed_at}
-
--- ---- the flow
-
-pub built : (count : ℕ) (flow : Flow) → IsTrialFlow count flow → AreBuilt flow
-built count flow is =
-    subst (λ (ps : List Processor). All (λ p. IsTrue (is_built p.kind)) ps) (sym is.processors.are)
-    (All-from_recursion (λ (p : Processor). IsTrue (is_built p.kind)) _ (refl, (refl, (refl, (refl, (refl, tt))))))
 
 -- ---- devices that hold nothing
 

@@ -12,7 +12,7 @@ use Rattle.run_top.proofs.Tried.{ran_in_memory, with_memory_alone, with_no_fault
 use Rattle.run_top.proofs.trying.run_in_memory.Goals as goal
 
 pub returns-clause-ran : goal.returns-clause-ran
-returns-clause-ran c =
+returns-clause-ran g c =
     let run = c.run_over-run in
     subst (λ (r : Result Ran Answer). IfOk r (RanInMemory c.args.flow.now c.args.lot)) (sym c.with_memory.ensures)
     (with_ok (RanInMemory c.args.flow.now c.args.lot) run.result
@@ -21,12 +21,12 @@ returns-clause-ran c =
     c.new-offered.ensures.items c.new-inbox.ensures.left c.new-standing.ensures.items c.new-outbox.ensures.standing run.result run.ensures.ran))
 
 pub returns-clause-closed : goal.returns-clause-closed
-returns-clause-closed c =
+returns-clause-closed g c =
     let P : Ran → Type 0 = λ ran. MatchOption ran.closed (IsFault ran.ended) (λ closed. IsFault ran.ended → ⊥) in
     subst (λ (r : Result Ran Answer). IfOk r P) (sym c.with_memory.ensures) (with_ok P c.run_over-run.result c.run_over-run.ensures.closed)
 
 pub returns-clause-no_fault : goal.returns-clause-no_fault
-returns-clause-no_fault c = subst (λ (r : Result Ran Answer). IfOk r (λ ran. IsFault ran.ended → ⊥)) (sym c.with_memory.ensures) (with_no_fault c.run_over-run.result)
+returns-clause-no_fault g c = subst (λ (r : Result Ran Answer). IfOk r (λ ran. IsFault ran.ended → ⊥)) (sym c.with_memory.ensures) (with_no_fault c.run_over-run.result)
 
 pub returns-clause-memory : goal.returns-clause-memory
-returns-clause-memory c = subst (λ (r : Result Ran Answer). IfErr r (λ answer. answer ≡ Memory)) (sym c.with_memory.ensures) (with_memory_alone c.run_over-run.result)
+returns-clause-memory g c = subst (λ (r : Result Ran Answer). IfErr r (λ answer. answer ≡ Memory)) (sym c.with_memory.ensures) (with_memory_alone c.run_over-run.result)

@@ -1,8 +1,5 @@
-use Rattle.run_top.proofs.Tried.{built, memory_alone, memory_line, of_store, of_trial, tried}
+use Rattle.run_top.proofs.Tried.{memory_alone, memory_line, of_store, of_trial, tried}
 use Rattle.run_top.proofs.trying.try_out.Goals as goal
-
-pub run_in_memory-run-requires-clause-built : goal.run_in_memory-run-requires-clause-built
-run_in_memory-run-requires-clause-built g c = built c.args.count c.in-Ok.flow c.in-Ok.ensures.is
 
 pub show-requires-clause-closed : goal.show-requires-clause-closed
 show-requires-clause-closed g c = c.run_in_memory-run.ensures.closed
