@@ -1,9 +1,10 @@
-//! What follows of slots where a content was appended, or a count changed.
+//! What follows of slots where a content was appended, or a count changed, and of references to ranges.
 ghost use Rattle.std.specs.Prelude.{◌≡◌, ℕ, ◌<◌, ◌≤◌, ◌-◌, ◌^◌, List};
 ghost use Rattle.disk_trait.specs.Files.{Files};
+ghost use Rattle.flowfile_record.specs.Ranges.{HaveRanges};
 ghost use Rattle.flowfile_record.specs.declared.content.ContentRef.{ContentRef as TheRef};
 ghost use Rattle.content_repo.specs.Append.{IsAppended};
-ghost use Rattle.content_repo.specs.Claims.{HasSizes};
+ghost use Rattle.content_repo.specs.Claims.{HasSizes, content_in};
 ghost use Rattle.content_repo.specs.Slots.{count_of, size_of, end_of, with_count};
 ghost use Rattle.content_repo.specs.declared.slot.Slot.{Slot as TheSlot};
 
@@ -28,4 +29,9 @@ pub fn appended_contents_are_held()
 pub fn counts_leave_the_sizes()
     ensures { (slots : List TheSlot) (k count : ℕ) (files : Files) → 0 < count_of slots k → HasSizes slots files
         → HasSizes (with_count slots k count) files }
+{}
+
+/// In any files a reference to a range of a content stands for that range of its bytes.
+pub fn contents_have_ranges()
+    ensures { (files : Files) → HaveRanges (content_in files) }
 {}

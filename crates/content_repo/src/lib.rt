@@ -17,7 +17,9 @@ mod slot_set;
 
 pub use content::{Content, HELD_MAX};
 pub use error::ContentError;
-pub use law::{appended_contents_are_held, counts_leave_the_sizes, limits_of_claims};
+pub use law::{
+    appended_contents_are_held, contents_have_ranges, counts_leave_the_sizes, limits_of_claims,
+};
 pub use load::LIVE_MAX;
 pub use read::read_content;
 pub use reclaim::Reclaimed;

@@ -43,10 +43,3 @@ AreNumbers ns = AreListed IsNumber ns
 
 abbrev pub IsDigest : List ℕ → Type 0
 IsDigest digest = length digest ≡ DIGEST_SIZE
-
--- ---- writing
-
--- what stood there stands in front still
-pub record Keeps (old new : List ℕ) : Type 0 where
-  pub more : List ℕ
-  pub whole : new ≡ old ++ more

@@ -12,6 +12,7 @@ pub mod OptionalText
 pub mod NumberedItems
 pub mod Outcome
 pub mod Places
+pub mod Ranges
 pub mod Shared
 pub mod Slots
 pub mod Stored

@@ -1,15 +1,10 @@
 -- What a name is known to be.
-use Rattle.std.specs.Prelude.{ℕ, ◌<◌, ◌≤◌, List, length}
+use Rattle.std.specs.Prelude.{ℕ, ◌≤◌, List, length}
 use Rattle.std.specs.Str.{IsUtf8}
-use Rattle.std.proofs.lemmas.Bool.{and_parts, ltb-true, leb-true}
+use Rattle.std.proofs.lemmas.Bool.{and_parts, leb-true}
 use Rattle.std.proofs.lemmas.Str.{IsUtf8-from_is_utf8}
 use Rattle.flowfile_record.specs.declared.name.TheConstants.{NAME_MAX}
 use Rattle.flowfile_record.specs.Name.{IsName, is_name}
-
-pub name-some : (text : List ℕ) → IsName text → 0 < length text
-unfolding is_name
-name-some text is = ltb-true _ _
-    (and_parts _ _ (and_parts _ _ (and_parts _ _ (and_parts _ _ (and_parts _ _ (and_parts _ _ is).0).0).0).0).0).0
 
 pub name-most : (text : List ℕ) → IsName text → length text ≤ NAME_MAX
 unfolding is_name

@@ -1,5 +1,5 @@
 -- What a session ends with, and what holds of every outcome.
-use Rattle.std.specs.Prelude.{◌≡◌, ℕ, ◌==◌, ◌+◌, ◌<◌, ◌≤◌, ◌&&◌, Bool, true, false, not, List, [], ◌∷◌, length, take, drop, unwrap_or, slice_get, slice_index, sum_by, codes, bytes_eq, All, IfSome, if◌then◌else◌}
+use Rattle.std.specs.Prelude.{◌≡◌, ℕ, ◌==◌, ◌+◌, ◌<◌, ◌≤◌, ◌&&◌, Bool, true, false, not, List, [], ◌∷◌, length, take, drop, unwrap_or, slice_get, slice_index, sum_by, codes, bytes_eq, filter_map, All, Option, None, Some, IfSome, if◌then◌else◌}
 use Rattle.std.specs.List.{IsDistinct}
 use Rattle.std.specs.FinMap.{entries, contains_key}
 use Rattle.flowfile_record.specs.Attributes.{AttributeMap, IsWithinLimits, encoded_size}
@@ -35,6 +35,15 @@ abbrev pub content_of : List (List ℕ) → Body → List ℕ
 content_of taken (body.Whole of) = unwrap_or (slice_get taken of) []
 content_of taken (body.Part of offset size) = take size (drop offset (unwrap_or (slice_get taken of) []))
 content_of taken (body.New bytes) = bytes
+
+-- the bytes that the session wrote, where the content of a body is new
+abbrev pub written_in : Body → Option (List ℕ)
+written_in (body.New bytes) = Some bytes
+written_in _ = None
+
+-- the contents that it wrote
+abbrev pub written_by : Outcome → List (List ℕ)
+written_by outcome = filter_map (λ file. written_in file.body) outcome.files
 
 abbrev pub same_pairs : List (List ℕ × List ℕ) → List (List ℕ × List ℕ) → Bool
 same_pairs [] [] = true

@@ -8,7 +8,7 @@ use crate::Sequence;
 use std::alloc::{AllocError, Global};
 use std::marker::Model;
 
-/// A text of UTF-8. It is made from a `String` and gives it back without taking memory.
+/// A text of UTF-8. It is made from a `String` without taking memory.
 #[derive(Debug, Drop)]
 pub struct Text {
     text: String,
@@ -70,11 +70,5 @@ impl Text {
         ensures utf8 { IsUtf8 self.now }
     {
         self.text.as_str()
-    }
-
-    pub fn into_string(self) -> String
-        ensures { string_bytes result ≡ self }
-    {
-        self.text
     }
 }

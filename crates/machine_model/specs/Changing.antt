@@ -1,11 +1,12 @@
 -- What a settled session makes of a state, where references stand for these bytes.
-use Rattle.std.specs.Prelude.{ℕ, ◌+◌, ◌==◌, List, ◌++◌, length, map, filter, fold, unwrap_or, None}
+use Rattle.std.specs.Prelude.{◌≡◌, ℕ, ◌+◌, ◌==◌, true, List, ◌++◌, length, map, filter, fold, unwrap_or, All, None}
 use Rattle.std.specs.FinSet.{union, from_list}
 use Rattle.std.specs.List.{enumerate_from}
+use Rattle.sha2.specs.Sha256.{sha256}
 use Rattle.flowfile_record.specs.Counts.{with_count}
 use Rattle.flowfile_record.specs.Kin.{kin_of_all}
 use Rattle.flowfile_record.specs.NumberedItems.{with_item}
-use Rattle.flowfile_record.specs.Shared.{bytes_among}
+use Rattle.flowfile_record.specs.Shared.{bytes_among, is_stored}
 use Rattle.flowfile_record.specs.declared.change.Settled.{Settled}
 use Rattle.flowfile_record.specs.declared.content.ContentRef.{ContentRef}
 use Rattle.flowfile_record.specs.declared.flow_file.FlowFile.{FlowFile}
@@ -29,6 +30,11 @@ queued_file contents file = record {
 abbrev pub placed_file : (contents : ContentRef → List ℕ) → (all : List Placed) → Placed → QueuedFile
 placed_file contents all p =
     record (queued_file contents p.file) { bytes = unwrap_or (bytes_among all p.fresh) (contents p.file.content) }
+
+-- a content that is in the store has the digest of the bytes that its reference stands for
+abbrev pub HaveDigests : (contents : ContentRef → List ℕ) → List Placed → Type 0
+HaveDigests contents placed =
+    All (λ p. is_stored p.fresh ≡ true → sha256 (contents p.file.content) ≡ p.file.content.digest) placed
 
 -- what of them is placed into the queue of a connection
 abbrev pub placed_into : (contents : ContentRef → List ℕ) → (all : List Placed) → (connection : ℕ) → List Placed

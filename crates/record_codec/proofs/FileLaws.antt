@@ -1,5 +1,5 @@
 -- Flow files: what is read is encoded so, and what is encoded so is read again.
-use Rattle.std.proofs.Common.{ℕ, ◌^◌, ◌<◌, ◌≤◌, nat_lt, nat_le, List, IsTrue, refl, append_assoc, arith}
+use Rattle.std.proofs.Common.{ℕ, ◌+◌, ◌^◌, ◌<◌, ◌≤◌, nat_lt, nat_le, List, ◌++◌, IsTrue, refl, append_assoc, arith}
 use Rattle.std.specs.Int.{w32, w64, to_be_bytes}
 use Rattle.std.proofs.lemmas.Bool.{ltb-true, lt-ltb, leb-true, le-leb}
 use Rattle.flowfile_record.specs.Attributes.{AttributeMap, IsWithinLimits}
@@ -11,8 +11,8 @@ use Rattle.flowfile_record.specs.declared.content.ContentRef.{ContentRef}
 use Rattle.flowfile_record.specs.declared.flow_file.FlowFile.{FlowFile}
 use Rattle.flowfile_record.proofs.FieldLaws.{pair_is, made_is, such_is, said_is, u32_is, u64_is, number_is, digest_is}
 use Rattle.record_codec.specs.declared.content.TheConstants.{SLOT_LIMIT}
-use Rattle.flowfile_record.specs.declared.limits.TheConstants.{DIGEST_SIZE}
-use Rattle.record_codec.specs.FileReading.{attributes_at, slot_at, size_at, content_ref_at, file_number_at, flow_file_at}
+use Rattle.flowfile_record.specs.declared.limits.TheConstants.{DIGEST_SIZE, NUMBER_LIMIT}
+use Rattle.record_codec.specs.FileReading.{attributes_at, slot_at, range_at, size_at, content_ref_at, file_number_at, flow_file_at}
 use Rattle.record_codec.specs.FileEncoding.{attributes, content_ref, IsContentRef, flow_file, IsFlowFile}
 use Rattle.record_codec.proofs.AttributeLaws.{attributes_is}
 
@@ -21,6 +21,9 @@ IsSlot slot = slot < SLOT_LIMIT
 
 abbrev IsSize : ℕ → Type 0
 IsSize size = size ≤ CONTENT_MAX
+
+abbrev IsRange : ℕ × ℕ → Type 0
+IsRange range = IsSize range.1 × IsNumber (range.0 + range.1)
 
 abbrev IsWord : ℕ → Type 0
 IsWord n = n < 2 ^ 64
@@ -41,6 +44,16 @@ unfolding size_at
 size_is = said_is size_at (to_be_bytes w64) (λ n. (n < 2 ^ 64) × IsTrue (nat_le n CONTENT_MAX)) IsSize (such_is (λ n. nat_le n CONTENT_MAX) (uint_at w64) (to_be_bytes w64) IsWord u64_is)
     (λ n h. leb-true n CONTENT_MAX h.1) (λ n h. (omega arith, le-leb n CONTENT_MAX h))
 
+abbrev offset_and_size : ℕ × ℕ → List ℕ
+offset_and_size range = to_be_bytes w64 range.0 ++ to_be_bytes w64 range.1
+
+range_is : IsField range_at offset_and_size IsRange
+unfolding range_at
+range_is = said_is range_at offset_and_size (λ range. (IsNumber range.0 × IsSize range.1) × IsTrue (nat_lt (range.0 + range.1) NUMBER_LIMIT)) IsRange
+    (such_is (λ range. nat_lt (range.0 + range.1) NUMBER_LIMIT) (number_at then size_at) offset_and_size (λ range. IsNumber range.0 × IsSize range.1)
+    (pair_is number_at size_at (to_be_bytes w64) (to_be_bytes w64) IsNumber IsSize number_is size_is))
+    (λ range h. (h.0.1, ltb-true (range.0 + range.1) NUMBER_LIMIT h.1)) (λ range h. ((omega (arith, h.1), h.0), lt-ltb (range.0 + range.1) NUMBER_LIMIT h.1))
+
 file_number_is : IsField file_number_at (to_be_bytes w64) IsFileNumber
 unfolding file_number_at
 file_number_is = said_is file_number_at (to_be_bytes w64) (λ n. IsNumber n × IsTrue (nat_le 1 n)) IsFileNumber (such_is (λ n. nat_le 1 n) number_at (to_be_bytes w64) IsNumber number_is)
@@ -49,22 +62,21 @@ file_number_is = said_is file_number_at (to_be_bytes w64) (λ n. IsNumber n × I
 -- ---- content references
 
 abbrev ContentParts : Type 0
-ContentParts = ℕ × (ℕ × (ℕ × List ℕ))
+ContentParts = ℕ × ((ℕ × ℕ) × List ℕ)
 
 content_parts : ContentRef → ContentParts
-content_parts c = (c.slot, (c.offset, (c.size, c.digest)))
+content_parts c = (c.slot, ((c.offset, c.size), c.digest))
 
 pub content_ref_is : IsField content_ref_at content_ref IsContentRef
 unfolding content_ref_at content_ref content_parts
 content_ref_is =
-    let three = pair_is size_at (raw_at DIGEST_SIZE) (to_be_bytes w64) raw IsSize IsDigest size_is digest_is in
-    let two = pair_is number_at (size_at then raw_at DIGEST_SIZE) (to_be_bytes w64) _ IsNumber _ number_is three in
-    let one = pair_is slot_at (number_at then size_at then raw_at DIGEST_SIZE) (to_be_bytes w32) _ IsSlot _ slot_is two in
-    made_is (λ c. record { slot = c.0; offset = c.1.0; size = c.1.1.0; digest = c.1.1.1 }) content_parts (slot_at then number_at then size_at then raw_at DIGEST_SIZE) _ content_ref _ IsContentRef one
+    let two = pair_is range_at (raw_at DIGEST_SIZE) offset_and_size raw IsRange IsDigest range_is digest_is in
+    let one = pair_is slot_at (range_at then raw_at DIGEST_SIZE) (to_be_bytes w32) _ IsSlot _ slot_is two in
+    made_is (λ c. record { slot = c.0; offset = c.1.0.0; size = c.1.0.1; digest = c.1.1 }) content_parts (slot_at then range_at then raw_at DIGEST_SIZE) _ content_ref _ IsContentRef one
     (λ c. refl)
     (λ c. simp append_assoc)
-    (λ c h. record { slot = h.0; offset = h.1.0; size = h.1.1.0; digest = h.1.1.1 })
-    (λ c h. (h.slot, (h.offset, (h.size, h.digest))))
+    (λ c h. record { slot = h.0; size = h.1.0.0; ends = h.1.0.1; digest = h.1.1 })
+    (λ c h. (h.slot, ((h.size, h.ends), h.digest)))
 
 -- ---- flow files
 

@@ -1,5 +1,5 @@
 -- How a flow file is encoded, and which flow files have an encoding. Numbers are big-endian.
-use Rattle.std.specs.Prelude.{ℕ, ◌<◌, ◌≤◌, ◌^◌, List, ◌++◌}
+use Rattle.std.specs.Prelude.{ℕ, ◌+◌, ◌<◌, ◌≤◌, ◌^◌, List, ◌++◌}
 use Rattle.std.specs.List.{flat_map}
 use Rattle.std.specs.Int.{w16, w32, w64, to_be_bytes}
 use Rattle.std.specs.FinMap.{len, entries}
@@ -23,8 +23,8 @@ content_ref c = to_be_bytes w32 c.slot ++ to_be_bytes w64 c.offset ++ to_be_byte
 
 pub record IsContentRef (c : ContentRef) : Type 0 where
   pub slot : c.slot < SLOT_LIMIT
-  pub offset : IsNumber c.offset
   pub size : c.size ≤ CONTENT_MAX
+  pub ends : IsNumber (c.offset + c.size)
   pub digest : IsDigest c.digest
 
 unfoldable pub flow_file : FlowFile → List ℕ

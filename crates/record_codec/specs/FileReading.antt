@@ -1,5 +1,5 @@
 -- Reading a flow file from left to right, up to the first field that can't be read.
-use Rattle.std.specs.Prelude.{ℕ, zero, suc, ◌&&◌, ◌==◌, nat_lt, nat_le, Bool, not, List, length, Ok, Err, if◌then◌else◌}
+use Rattle.std.specs.Prelude.{ℕ, zero, suc, ◌+◌, ◌&&◌, ◌==◌, nat_lt, nat_le, Bool, not, List, length, Ok, Err, if◌then◌else◌}
 use Rattle.std.specs.List.{list_all}
 use Rattle.std.specs.Int.{w16, w32, w64}
 use Rattle.std.specs.Ordering.{nat_cmp, is_lt}
@@ -12,7 +12,7 @@ use Rattle.flowfile_record.specs.declared.attributes.TheConstants.{ATTRIBUTES_MA
 use Rattle.flowfile_record.specs.declared.content.ContentRef.{ContentRef}
 use Rattle.flowfile_record.specs.declared.flow_file.FlowFile.{FlowFile}
 use Rattle.record_codec.specs.declared.content.TheConstants.{SLOT_LIMIT}
-use Rattle.flowfile_record.specs.declared.limits.TheConstants.{DIGEST_SIZE}
+use Rattle.flowfile_record.specs.declared.limits.TheConstants.{DIGEST_SIZE, NUMBER_LIMIT}
 
 -- ---- attributes
 
@@ -58,9 +58,13 @@ slot_at = such (λ slot. nat_lt slot SLOT_LIMIT) (uint_at w32)
 unfoldable pub size_at : Reading ℕ
 size_at = such (λ size. nat_le size CONTENT_MAX) (uint_at w64)
 
+-- an offset and a size: where the content ends is a number too
+unfoldable pub range_at : Reading (ℕ × ℕ)
+range_at = such (λ range. nat_lt (range.0 + range.1) NUMBER_LIMIT) (number_at then size_at)
+
 unfoldable pub content_ref_at : Reading ContentRef
-content_ref_at = made (λ c. record { slot = c.0; offset = c.1.0; size = c.1.1.0; digest = c.1.1.1 })
-    (slot_at then number_at then size_at then raw_at DIGEST_SIZE)
+content_ref_at = made (λ c. record { slot = c.0; offset = c.1.0.0; size = c.1.0.1; digest = c.1.1 })
+    (slot_at then range_at then raw_at DIGEST_SIZE)
 
 -- ---- flow file
 

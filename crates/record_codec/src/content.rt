@@ -2,13 +2,13 @@
 ghost use Rattle.std.specs.Prelude.{◌≡◌, ◌+◌, ◌≤◌, ◌++◌, length, vec_len, vec_capacity};
 ghost use Rattle.flowfile_record.specs.Reading.{Reads};
 ghost use Rattle.flowfile_record.specs.Encoding.{IsDigest};
-ghost use Rattle.record_codec.specs.FileReading.{slot_at, size_at, content_ref_at};
+ghost use Rattle.record_codec.specs.FileReading.{slot_at, range_at, size_at, content_ref_at};
 ghost use Rattle.record_codec.specs.FileEncoding as encoding;
 
 use flowfile_record::fields::{
     Unread, put, put_u32, put_u64, read_digest, read_number, read_u32, read_u64,
 };
-use flowfile_record::{CONTENT_MAX, ContentRef};
+use flowfile_record::{CONTENT_MAX, ContentRef, NUMBER_LIMIT};
 
 /// The slots of resource claims are below it.
 pub const SLOT_LIMIT: u32 = 65_536;
@@ -18,8 +18,7 @@ pub(crate) fn read_content_ref(bytes: &[u8]) -> Result<(ContentRef, &[u8]), Unre
     ensures { Reads (λ x. (x.0, x.1.now)) result (content_ref_at bytes.now) }
 {
     let (slot, rest) = read_slot(bytes)?;
-    let (offset, rest) = read_number(rest)?;
-    let (size, rest) = read_size(rest)?;
+    let ((offset, size), rest) = read_range(rest)?;
     let (digest, rest) = read_digest(rest)?;
     let content = ContentRef {
         slot,
@@ -41,6 +40,21 @@ fn read_slot(bytes: &[u8]) -> Result<(u32, &[u8]), Unread>
         });
     }
     Ok((slot, rest))
+}
+
+/// An offset and a size. Where the content ends is below the limit of numbers, so that a part of it has such an offset.
+#[tactic(auto, unfolding(crate::specs::FileReading::range_at))]
+fn read_range(bytes: &[u8]) -> Result<((u64, u64), &[u8]), Unread>
+    ensures { Reads (λ x. (x.0, x.1.now)) result (range_at bytes.now) }
+{
+    let (offset, rest) = read_number(bytes)?;
+    let (size, rest) = read_size(rest)?;
+    if offset.saturating_add(size) >= NUMBER_LIMIT {
+        return Err(Unread {
+            left: bytes.len() as u64,
+        });
+    }
+    Ok(((offset, size), rest))
 }
 
 #[tactic(auto, unfolding(crate::specs::FileReading::size_at))]
