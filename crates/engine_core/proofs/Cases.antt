@@ -1,10 +1,11 @@
 -- The settled session of what a store keeps, and that it is one of the state which this stands for.
-use Rattle.std.proofs.Common.{◌≡◌, ℕ, ◌^◌, ◌<◌, ◌≤◌, ◌==◌, List, [], ◌∷◌, length, zero, suc, refl, sym, ap, subst, ◌∙◌, arith}
+use Rattle.std.proofs.Common.{◌≡◌, ℕ, ◌+◌, ◌-◌, ◌^◌, ◌<◌, ◌≤◌, ◌==◌, List, [], ◌∷◌, length, take, drop, zero, suc, refl, sym, ap, subst, ◌∙◌, arith}
 use Rattle.std.specs.Prelude.{All, Contains, Some, slice_get, unwrap_or}
 use Rattle.std.specs.List.{flat_map}
 use Rattle.std.proofs.lemmas.List.{length-map}
-use Rattle.std.proofs.lemmas.List.Elements.{All-map, All-weaker, Contains-append_left, Contains-append_right}
+use Rattle.std.proofs.lemmas.List.Elements.{All-contains, All-map, All-weaker, Contains-append_left, Contains-append_right}
 use Rattle.flowfile_record.specs.Outcome.{AreInTurn}
+use Rattle.flowfile_record.specs.Ranges.{HaveRanges}
 use Rattle.flowfile_record.specs.Stored.{Kept}
 use Rattle.flowfile_record.specs.declared.change.Settled.{Settled}
 use Rattle.flowfile_record.specs.declared.content.ContentRef.{ContentRef}
@@ -13,7 +14,7 @@ use Rattle.flowfile_record.specs.declared.flow_file.FlowFile.{FlowFile}
 use Rattle.flowfile_record.specs.declared.name.TheConstants.{NAME_MAX}
 use Rattle.record_codec.specs.ActiveFile.{active}
 use Rattle.record_codec.specs.declared.entry.SessionEntry.{SessionEntry}
-use Rattle.checkpoint_store.specs.Consistent.{IsConsistent}
+use Rattle.checkpoint_store.specs.Consistent.{IsConsistent, IsFileIn}
 use Rattle.kept_state.specs.Changes.{session_of as session_entry}
 use Rattle.machine_model.specs.declared.flow.Connection.{Connection}
 use Rattle.machine_model.specs.declared.flow.Flow.{Flow}
@@ -22,13 +23,14 @@ use Rattle.machine_model.specs.declared.given.Given.{Given}
 use Rattle.machine_model.specs.Changing.{state_after}
 use Rattle.machine_model.specs.Files.{queue_at}
 use Rattle.machine_model.specs.Placing.{EndedSession}
+use Rattle.machine_model.specs.Settling.{settle}
 use Rattle.machine_model.specs.Sound.{IsSound}
 use Rattle.machine_model.specs.State.{QueuedFile, State}
 use Rattle.machine_model.specs.Valid.{IsWellNumbered, files_of_all}
 use Rattle.machine_model.proofs.Keyed.{differ_from_once, once_from_differ}
 use Rattle.machine_model.proofs.SettlingKeeps.{settle-keeps}
 use Rattle.machine_model.proofs.Tally.{bit, tally-map}
-use Rattle.settlement.specs.Handed.{AreRead, IsHanded, MaySettle, session_of}
+use Rattle.settlement.specs.Handed.{IsHanded, MaySettle, session_of}
 use Rattle.settlement.specs.Recording.{RecordsAll}
 use Rattle.settlement.specs.StateAfter.{Settles}
 use Rattle.settlement.specs.TellsOf.{TellsOf}
@@ -98,6 +100,8 @@ pub may_settle : (flow : Flow) (given : Given) (k : Kept) (ended : Ended) → Is
 may_settle flow given k ended sound may consistent = record {
   processor = may.processor;
   connections = let few = sound.connection_count in omega (arith, few);
+  ends = All-weaker (λ file. Contains k.files (active ended.connection file)) (λ file. file.content.offset + file.content.size < 2 ^ 64)
+      (λ file there. let end = (All-contains (IsFileIn k) k.files (active ended.connection file) consistent.files there).encoded.file.content.ends in omega (arith, end)) ended.taken may.there;
   relationships = may.relationships;
   outcome = may.outcome;
   parts = may.parts;
@@ -137,16 +141,14 @@ settled_over c stored same sound identity may consistent batches settles tells r
 -- ---- the session is one of that state
 
 pub handed_over : (c : Case) → IsSettled c → (processor : Processor) → slice_get c.flow.processors c.ended.processor ≡ Some processor → (contents : ContentRef → List ℕ)
-    → AreRead contents c.ended.taken c.ended.sources → (events : List Event) → AreEventsUpTo c.k.last_event events
-    → IsHanded c.flow (counters_of c.k) c.ended processor contents (state_with contents events c.k)
-handed_over c is processor at contents read events up_to = record {
+    → (events : List Event) → AreEventsUpTo c.k.last_event events → IsHanded c.flow (counters_of c.k) c.ended processor contents (state_with contents events c.k)
+handed_over c is processor at contents events up_to = record {
   found = at;
   valid = is.valid c.flow contents events c.k is.consistent is.batches up_to.1 up_to.0 (connections_same c is) (counts_same c is);
   store = refl;
   next_number = refl;
   next_arrival = refl;
   last_event = refl;
-  read = read;
   there =
       let state = state_with contents events c.k in
       All-map (Contains (queue_at state c.ended.connection)) (λ (file : FlowFile). queued contents (active c.ended.connection file)) c.ended.taken
@@ -156,27 +158,47 @@ handed_over c is processor at contents read events up_to = record {
 }
 
 pub handed : (c : Case) → IsSettled c → (processor : Processor) → slice_get c.flow.processors c.ended.processor ≡ Some processor → (contents : ContentRef → List ℕ)
-    → AreRead contents c.ended.taken c.ended.sources → IsHanded c.flow (counters_of c.k) c.ended processor contents (state_of c contents)
-handed c is processor at contents read = handed_over c is processor at contents read (past c.k.last_event) (past_is c.k.last_event)
+    → IsHanded c.flow (counters_of c.k) c.ended processor contents (state_of c contents)
+handed c is processor at contents = handed_over c is processor at contents (past c.k.last_event) (past_is c.k.last_event)
 
 in_some_queue : (queues : List (List QueuedFile)) (place : ℕ) (file : QueuedFile) → Contains (unwrap_or (slice_get queues place) []) file → Contains (flat_map (λ queue. queue) queues) file
 in_some_queue [] place file h = h
 in_some_queue (queue ∷ queues) zero file h = Contains-append_left queue (flat_map (λ queue. queue) queues) file h
 in_some_queue (queue ∷ queues) (suc place) file h = Contains-append_right queue (flat_map (λ queue. queue) queues) file (in_some_queue queues place file h)
 
--- behind the session the queues are well numbered
-pub numbered_after : (c : Case) → IsSettled c → (processor : Processor) → slice_get c.flow.processors c.ended.processor ≡ Some processor → (contents : ContentRef → List ℕ)
-    → AreRead contents c.ended.taken c.ended.sources → IsWellNumbered (state_after contents (state_of c contents) c.settled)
-numbered_after c is processor at contents read =
-    let state = state_of c contents in
-    let session = session_in c processor contents in
-    let hand = handed c is processor at contents read in
+-- references stand for no bytes
+abbrev pub nothing : ContentRef → List ℕ
+nothing at = []
+
+nothing_ranged : HaveRanges nothing
+nothing_ranged whole offset size digest within = sym (ap (take ((offset + size) - offset)) (drop_none offset) ∙ take_none ((offset + size) - offset))
+  where
+    drop_none : (n : ℕ) → ◌≡◌ {A = List ℕ} (drop n []) []
+    drop_none zero = refl
+    drop_none (suc n) = refl
+
+    take_none : (n : ℕ) → ◌≡◌ {A = List ℕ} (take n []) []
+    take_none zero = refl
+    take_none (suc n) = refl
+
+-- behind the session the queues are well numbered, whatever bytes there are
+pub numbered_after : (c : Case) → IsSettled c → (processor : Processor) → slice_get c.flow.processors c.ended.processor ≡ Some processor
+    → IsWellNumbered (state_after nothing (state_of c nothing) c.settled)
+numbered_after c is processor at =
+    let state = state_of c nothing in
+    let session = session_in c processor nothing in
+    let hand = handed c is processor at nothing in
+    let left = is.settles processor nothing state hand in
+    let wanted = settle session c.ended.outcome in
+    let after = state_after nothing state c.settled in
+    let same : record after { events = wanted.events; kin = wanted.kin; last_event = wanted.last_event } ≡ wanted
+    = (λ i. record after { queues = left.queues nothing_ranged i; events = wanted.events; kin = wanted.kin; last_event = wanted.last_event }) ∙ left.rest in
     let sizes = length-map c.ended.taken (λ (file : FlowFile). file.content.size) in
-    let files = length-map c.ended.taken (λ (file : FlowFile). queued contents (active c.ended.connection file)) in
+    let files = length-map c.ended.taken (λ (file : FlowFile). queued nothing (active c.ended.connection file)) in
     let in_turn : AreInTurn 0 (length session.taken) c.ended.outcome.files = subst (λ n. AreInTurn 0 n c.ended.outcome.files) (sizes ∙ sym files) is.may.outcome.in_turn in
-    subst IsWellNumbered (sym (is.settles processor contents state hand))
-    (settle-keeps session c.ended.outcome hand.valid.numbered (record {
+    let numbered = subst IsWellNumbered (sym same) (settle-keeps session c.ended.outcome hand.valid.numbered (record {
       differ = differ_from_once (λ (file : QueuedFile). file.number) session.taken
-          (λ n. omega (arith, tally-map (λ (file : QueuedFile). bit (file.number == n)) (λ (file : FlowFile). queued contents (active c.ended.connection file)) c.ended.taken, once_from_differ (λ (file : FlowFile). file.number) c.ended.taken is.may.differ n));
+          (λ n. omega (arith, tally-map (λ (file : QueuedFile). bit (file.number == n)) (λ (file : FlowFile). queued nothing (active c.ended.connection file)) c.ended.taken, once_from_differ (λ (file : FlowFile). file.number) c.ended.taken is.may.differ n));
       there = All-weaker (Contains (queue_at state c.ended.connection)) (Contains (files_of_all state)) (λ file there. in_some_queue state.queues c.ended.connection file there) session.taken hand.there;
-    }) in_turn)
+    }) in_turn) in
+    record { numbers = numbered.numbers; arrivals = numbered.arrivals; first_batch = numbered.first_batch; batches = numbered.batches }

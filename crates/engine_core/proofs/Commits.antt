@@ -1,6 +1,7 @@
 -- A settled session may be handed to the store, and makes of its state what the machine makes.
-use Rattle.std.proofs.Common.{◌≡◌, ℕ, true, List, get_or, map, sym, subst, arith}
+use Rattle.std.proofs.Common.{◌≡◌, ℕ, true, List, get_or, map, sym, subst, ◌∙◌, arith}
 use Rattle.std.specs.Prelude.{All, Contains}
+use Rattle.flowfile_record.specs.Ranges.{IsRangeOfOne}
 use Rattle.flowfile_record.specs.Shared.{is_stored}
 use Rattle.flowfile_record.specs.Stored.{Kept}
 use Rattle.flowfile_record.specs.declared.content.ContentRef.{ContentRef}
@@ -9,6 +10,7 @@ use Rattle.flowfile_record.specs.declared.stored.ActiveFile.{ActiveFile}
 use Rattle.flowfile_record.specs.declared.stored.Fresh.{Fresh}
 use Rattle.flowfile_record.specs.declared.stored.Fresh.TheVariants.{No, Bytes, Staged, As}
 use Rattle.record_codec.specs.ActiveFile.{active}
+use Rattle.machine_model.specs.Changing.{state_after}
 use Rattle.machine_model.proofs.Among.{Among, all_among, among_contained, contains_among, is_made, makes}
 use Rattle.settlement.specs.TellsOf.{IsContentBy}
 use Rattle.store_core.specs.Change.{HasLiveContents, MayChange}
@@ -53,8 +55,8 @@ live_content files connection taken content there has =
     let among = makes (λ (a : ActiveFile). a.file.content) files (active connection from.source) (among_contained (active connection from.source) files stands) in
     contains_among content (map (λ (a : ActiveFile). a.file.content) files) (subst (λ (at : ContentRef). Among at (map (λ (a : ActiveFile). a.file.content) files)) from.is among)
 
-live_by : (c : Case) → IsSettled c → (content : ContentRef) (fresh : Fresh) → IsContentBy c.ended.taken content fresh → is_stored fresh ≡ true → Contains (map (λ a. a.file.content) c.k.files) content
-live_by c is content No has stored = live_content c.k.files c.ended.connection c.ended.taken content is.may.there has
+live_by : (c : Case) → IsSettled c → (content : ContentRef) (fresh : Fresh) → IsContentBy c.ended.taken content fresh → is_stored fresh ≡ true → IsRangeOfOne (map (λ a. a.file.content) c.k.files) content
+live_by c is content No has stored = (has.0.0, live_content c.k.files c.ended.connection c.ended.taken has.0.0 is.may.there has.0.1, has.0.2)
 live_by c is content Staged has stored = absurd has
 live_by c is content (Bytes bytes) has stored = absurd cc
 live_by c is content (As of) has stored = absurd cc
@@ -63,11 +65,14 @@ pub live_contents : (c : Case) → IsSettled c → (s : StoreState) → kept_by 
 live_contents c is s same =
     λ i d lt stored.
     let p = get_or c.settled.placed i d in
-    subst (λ (k : Kept). Contains (map (λ (a : ActiveFile). a.file.content) k.files) p.file.content) (sym same)
+    subst (λ (k : Kept). IsRangeOfOne (map (λ (a : ActiveFile). a.file.content) k.files) p.file.content) (sym same)
     (live_by c is p.file.content p.fresh (is.tells.contents i d lt) stored)
 
 -- ---- the state behind it
 
 pub state_behind : (c : Case) → IsSettled c → LeavesState c.flow c.given c.ended c.k c.settled
-state_behind c is processor at contents read events up_to =
-    is.settles processor contents (state_with contents events c.k) (handed_over c is processor at contents read events up_to)
+state_behind c is processor at contents ranges read events up_to =
+    let state = state_with contents events c.k in
+    let after = state_after contents state c.settled in
+    let left = is.settles processor contents state (handed_over c is processor at contents events up_to) in
+    (λ i. record after { queues = left.queues ranges i; events = left.events read i; kin = left.kin read i; last_event = left.last_event read i }) ∙ left.rest

@@ -4,7 +4,7 @@ use Rattle.std.specs.Prelude.{All, IfSome, Option, None, Some, nat_lt, slice_get
 use Rattle.std.specs.Option.{option_or}
 use Rattle.std.proofs.lemmas.Bool.{cases_Bool, ltb-false}
 use Rattle.std.proofs.lemmas.List.{length-map}
-use Rattle.std.proofs.lemmas.List.Elements.{All-map, All-same, All-weaker, All-contains}
+use Rattle.std.proofs.lemmas.List.Elements.{All-map, All-same, All-weaker}
 use Rattle.std.proofs.lemmas.Option.{slice_get-get_or}
 use Rattle.sha2.specs.Sha256.{sha256}
 use Rattle.sha2.proofs.Facts256.{length-sha256}
@@ -19,7 +19,6 @@ use Rattle.flowfile_record.specs.declared.stored.Fresh.TheVariants.{No, Bytes, S
 use Rattle.flowfile_record.specs.declared.stored.Placed.{Placed}
 use Rattle.record_codec.specs.ActiveFile.{IsActiveFile, active}
 use Rattle.record_codec.specs.EntryEncoding.{IsEntry, IsGenerator, IsMoment}
-use Rattle.record_codec.specs.FileEncoding.{IsContentRef}
 use Rattle.record_codec.specs.Placeless.{placeless}
 use Rattle.record_codec.specs.declared.entry.LogEntry.TheVariants.{Session}
 use Rattle.checkpoint_store.specs.Consistent.{IsFileIn}
@@ -36,7 +35,7 @@ use Rattle.settlement.specs.Whole.{count_of}
 use Rattle.store_core.specs.Change.{IsFresh}
 use Rattle.engine_core.proofs.Cases.{Case, IsSettled, entry_in}
 use Rattle.engine_core.proofs.Parts.{new_arrivals, new_numbers}
-use Rattle.engine_core.proofs.Recorded.{IsOfNew, kept_contents, few_taken, records, shared_new, taken_kept}
+use Rattle.engine_core.proofs.Recorded.{IsOfNew, few_taken, range_kept, records, shared_new, taken_kept}
 
 -- ---- limits
 
@@ -86,8 +85,8 @@ active_new connection file is new = record {
     attributes = is.attributes;
     content = record {
       slot = omega arith;
-      offset = omega arith;
       size = let same = new.size in let small = new.small in omega (arith, same, small);
+      ends = let same = new.size in let small = new.small in omega (arith, same, small);
       digest = ap length new.digest ∙ length-sha256 new.bytes;
     };
     entered = is.entered;
@@ -104,7 +103,7 @@ active_by c settled place p there No from is has small = record {
     first_number = is.first_number;
     number = is.number;
     attributes = is.attributes;
-    content = All-contains IsContentRef (map (λ (file : FlowFile). file.content) c.ended.taken) p.file.content (kept_contents c settled) has;
+    content = range_kept c settled p.file.content has;
     entered = is.entered;
     penalty_end = is.penalty_end;
     arrival = is.arrival;

@@ -18,6 +18,7 @@ use Rattle.machine_model.specs.State.{QueuedFile, State}
 use Rattle.machine_model.proofs.Drafted.{length-numbered, numbers_in_row, session-drafts}
 use Rattle.prov_store.specs.State.{AreNumberedFrom, HasBlock}
 use Rattle.settlement.specs.Handed.{sizes_of}
+use Rattle.settlement.specs.StateAfter.{LeavesAs}
 use Rattle.engine_core.specs.Committing.{HasTexts}
 use Rattle.engine_core.proofs.Cases.{Case, IsSettled, entry_in, handed, session_in, state_of}
 use Rattle.engine_core.proofs.DraftCount.{draft_count}
@@ -36,16 +37,16 @@ abbrev session : (c : Case) → IsSettled c → EndedSession
 session c is = session_in c (the_processor c is).0 is.may.bytes
 
 -- the settlement leaves what the machine does
-leaves : (c : Case) (is : IsSettled c) → state_after is.may.bytes (state_of c is.may.bytes) c.settled ≡ settle (session c is) c.ended.outcome
+leaves : (c : Case) (is : IsSettled c) → LeavesAs c.ended is.may.bytes (state_after is.may.bytes (state_of c is.may.bytes) c.settled) (settle (session c is) c.ended.outcome)
 leaves c is =
     let processor = the_processor c is in
-    is.settles processor.0 is.may.bytes (state_of c is.may.bytes) (handed c is processor.0 processor.1 is.may.bytes is.may.read)
+    is.settles processor.0 is.may.bytes (state_of c is.may.bytes) (handed c is processor.0 processor.1 is.may.bytes)
 
 told : (c : Case) (is : IsSettled c) → c.settled.events ≡ numbered_from (c.k.last_event + 1) (drafts (session c is) c.ended.outcome)
-told c is = append_cancel_left (past c.k.last_event) c.settled.events _ (ap (λ (s : State). s.events) (leaves c is))
+told c is = append_cancel_left (past c.k.last_event) c.settled.events _ ((leaves c is).events is.may.read)
 
 next_is : (c : Case) (is : IsSettled c) → c.settled.next_number ≡ c.k.next_number + count_made c.ended.outcome.files + length (settlement_clones (session c is) c.ended.outcome.files)
-next_is c is = ap (λ (s : State). s.next_number) (leaves c is)
+next_is c is = ap (λ (s : State). s.next_number) (leaves c is).rest
 
 -- ---- the session's files
 

@@ -18,7 +18,7 @@ use Rattle.machine_model.proofs.Keyed.{Counted, counted, numbered}
 use Rattle.machine_model.proofs.Tally.{bit, many, tally, tally-map, tally-same}
 use Rattle.store_core.specs.State.{queued}
 use Rattle.engine_core.proofs.AllFiles.{all_files}
-use Rattle.engine_core.proofs.Cases.{Case, IsSettled, numbered_after, state_of}
+use Rattle.engine_core.proofs.Cases.{Case, IsSettled, nothing, numbered_after, state_of}
 use Rattle.engine_core.proofs.Past.{past}
 use Rattle.engine_core.proofs.Recorded.{stand_somewhere, the_processor}
 
@@ -99,16 +99,14 @@ new_part c is part key contents next of numbers =
 
 pub new_numbers : (c : Case) → IsSettled c → IsNewPart c (λ f. f.number) c.settled.next_number
 new_numbers c is =
-    let contents = is.may.bytes in
     let processor = the_processor c is in
-    new_part c is (λ f. f.number) (λ f. f.number) contents c.settled.next_number
+    new_part c is (λ f. f.number) (λ f. f.number) nothing c.settled.next_number
     (record { left = λ a. refl; placed = λ p. refl; recorded = λ p. recorded_number p.connection p.file p.fresh })
-    (numbered_after c is processor.0 processor.1 contents is.may.read).numbers
+    (numbered_after c is processor.0 processor.1).numbers
 
 pub new_arrivals : (c : Case) → IsSettled c → IsNewPart c (λ f. f.arrival) c.settled.next_arrival
 new_arrivals c is =
-    let contents = is.may.bytes in
     let processor = the_processor c is in
-    new_part c is (λ f. f.arrival) (λ f. f.arrival) contents c.settled.next_arrival
+    new_part c is (λ f. f.arrival) (λ f. f.arrival) nothing c.settled.next_arrival
     (record { left = λ a. refl; placed = λ p. refl; recorded = λ p. recorded_arrival p.connection p.file p.fresh })
-    (numbered_after c is processor.0 processor.1 contents is.may.read).arrivals
+    (numbered_after c is processor.0 processor.1).arrivals

@@ -1,5 +1,5 @@
 -- What is known of a settlement that a store may record: of the files that were taken, and of those that are placed.
-use Rattle.std.proofs.Common.{◌≡◌, ℕ, ◌<◌, ◌≤◌, true, List, [], ◌∷◌, get_or, length, map, refl, sym, ap, subst, ◌∙◌, arith}
+use Rattle.std.proofs.Common.{◌≡◌, inl, inr, ℕ, ◌^◌, ◌<◌, ◌≤◌, true, List, [], ◌∷◌, get_or, length, map, refl, sym, ap, subst, ◌∙◌, arith}
 use Rattle.std.specs.Prelude.{All, Contains, IfSome, Some, slice_get}
 use Rattle.std.proofs.lemmas.List.{length-map}
 use Rattle.std.proofs.lemmas.List.Elements.{All-head, All-map, All-weaker, All-contains, All-filter}
@@ -20,8 +20,8 @@ use Rattle.record_codec.specs.FileEncoding.{IsContentRef}
 use Rattle.checkpoint_store.specs.Consistent.{IsFileIn}
 use Rattle.kept_state.specs.Applied.{is_among}
 use Rattle.machine_model.specs.declared.flow.Processor.{Processor}
-use Rattle.settlement.specs.Recording.{IsKeptFile, IsRecordable, Records}
-use Rattle.settlement.specs.TellsOf.{HasContent, IsContentBy}
+use Rattle.settlement.specs.Recording.{IsRecordable, Records}
+use Rattle.settlement.specs.TellsOf.{HasContent, IsContentBy, IsDigestBy}
 use Rattle.engine_core.proofs.AllFiles.{StandSomewhere}
 use Rattle.engine_core.proofs.Cases.{Case, IsSettled, connections_same, counters_of, found}
 use Rattle.engine_core.proofs.FanOut.{fan_out}
@@ -63,8 +63,7 @@ recorded_of c is processor at = is.records processor (record {
   found = at;
   fan_out = λ name. fan_out c.flow c.ended.processor processor is.sound at name;
   connection = connected c is c.ended.taken (taken_kept c is);
-  kept = All-weaker (λ file. IsFileIn c.k (active c.ended.connection file)) IsKeptFile
-      (λ file kept. record { entered = kept.encoded.file.entered; size = kept.encoded.file.content.size }) c.ended.taken (taken_kept c is);
+  entered = All-weaker (λ file. IsFileIn c.k (active c.ended.connection file)) (λ file. file.entered < 2 ^ 64) (λ file kept. kept.encoded.file.entered) c.ended.taken (taken_kept c is);
 })
 
 pub records : (c : Case) → (is : IsSettled c) → Records c.flow c.given (counters_of c.k) c.ended (the_processor c is).0 c.settled
@@ -80,10 +79,31 @@ stand_somewhere c is = record {
 
 -- ---- contents
 
-pub kept_contents : (c : Case) → IsSettled c → All IsContentRef (map (λ file. file.content) c.ended.taken)
+kept_contents : (c : Case) → IsSettled c → All IsContentRef (map (λ file. file.content) c.ended.taken)
 kept_contents c is =
     All-map IsContentRef (λ (file : FlowFile). file.content) c.ended.taken
     (All-weaker (λ file. IsFileIn c.k (active c.ended.connection file)) (λ file. IsContentRef file.content) (λ file kept. kept.encoded.file.content) c.ended.taken (taken_kept c is))
+
+kept_digests : (c : Case) → IsSettled c → All IsDigest (map (λ file. file.content.digest) c.ended.taken)
+kept_digests c is =
+    All-map IsDigest (λ (file : FlowFile). file.content.digest) c.ended.taken
+    (All-weaker (λ file. IsFileIn c.k (active c.ended.connection file)) (λ file. IsDigest file.content.digest) (λ file kept. kept.encoded.file.content.digest) c.ended.taken (taken_kept c is))
+
+one_digest : (c : Case) → IsSettled c → (content : ContentRef) → IsDigestBy c.ended.taken content → IsDigest content.digest
+one_digest c is content (inl has) = All-contains IsDigest (map (λ (file : FlowFile). file.content.digest) c.ended.taken) content.digest (kept_digests c is) has
+one_digest c is content (inr some) = ap length some.1 ∙ length-sha256 some.0
+
+-- a range of a content that is kept is as one that may be kept
+pub range_kept : (c : Case) → IsSettled c → (content : ContentRef) → IsContentBy c.ended.taken content No → IsContentRef content
+range_kept c is content has =
+    let range = has.0.2 in
+    let whole : IsContentRef has.0.0 = All-contains IsContentRef (map (λ (file : FlowFile). file.content) c.ended.taken) has.0.0 (kept_contents c is) has.0.1 in
+    record {
+      slot = omega (arith, range.slot, whole.slot);
+      size = omega (arith, range.from, range.to, whole.size);
+      ends = omega (arith, range.to, whole.ends);
+      digest = one_digest c is content has.1;
+    }
 
 -- a content has the size and the digest of new bytes, which aren't too many
 pub record IsOfNew (content : ContentRef) : Type 0 where
@@ -111,7 +131,7 @@ shared_new c is place of p there from =
 
 digest_by : (c : Case) → IsSettled c → (place : ℕ) (p : Placed) → slice_get c.settled.placed place ≡ Some p → (fresh : Fresh) → p.fresh ≡ fresh → IsContentBy c.ended.taken p.file.content fresh
     → IsDigest p.file.content.digest
-digest_by c is place p there No from has = (All-contains IsContentRef (map (λ (file : FlowFile). file.content) c.ended.taken) p.file.content (kept_contents c is) has).digest
+digest_by c is place p there No from has = one_digest c is p.file.content has.1
 digest_by c is place p there (Bytes bytes) from has = ap length has.1 ∙ length-sha256 bytes
 digest_by c is place p there Staged from has = absurd has
 digest_by c is place p there (As of) from has =

@@ -3,6 +3,7 @@ use Rattle.std.specs.Prelude.{◌≡◌, ◌≢◌, ℕ, ◌<◌, List, length, 
 use Rattle.std.specs.List.{AllPairs}
 use Rattle.std.specs.Str.{IsUtf8}
 use Rattle.flowfile_record.specs.Outcome.{IsOutcome}
+use Rattle.flowfile_record.specs.Ranges.{HaveRanges}
 use Rattle.flowfile_record.specs.Stored.{Kept}
 use Rattle.flowfile_record.specs.declared.change.Settled.{Settled}
 use Rattle.flowfile_record.specs.declared.content.ContentRef.{ContentRef}
@@ -12,7 +13,7 @@ use Rattle.record_codec.specs.ActiveFile.{active}
 use Rattle.machine_model.specs.declared.flow.Flow.{Flow}
 use Rattle.machine_model.specs.declared.flow.Processor.{Processor}
 use Rattle.machine_model.specs.declared.given.Given.{Given}
-use Rattle.machine_model.specs.Changing.{state_after}
+use Rattle.machine_model.specs.Changing.{HaveDigests, state_after}
 use Rattle.machine_model.specs.Settling.{settle}
 use Rattle.prov_store.specs.State.{AreNumberedFrom}
 use Rattle.settlement.specs.Contents.{IsBodyWithin}
@@ -48,15 +49,21 @@ pub record MayCommit (flow : Flow) (given : Given) (k : Kept) (ended : Ended) : 
 abbrev pub AreEventsUpTo : (last : ℕ) → List Event → Type 0
 AreEventsUpTo last events = (length events ≡ last) × AreNumberedFrom 1 events
 
--- Whatever bytes references stand for, where those that were read are these, and whatever the events so far tell:
--- behind what is kept the settled session leaves the state that the machine does.
+-- Whatever bytes references stand for, ranges of contents for ranges of their bytes, where those that were read are
+-- these, and whatever the events so far tell: behind what is kept the settled session leaves the state that the machine does.
 abbrev pub LeavesState : Flow → Given → Ended → Kept → Settled → Type 0
 LeavesState flow given ended k settled =
     (processor : Processor) → slice_get flow.processors ended.processor ≡ Some processor
-    → (contents : ContentRef → List ℕ) → AreRead contents ended.taken ended.sources
+    → (contents : ContentRef → List ℕ) → HaveRanges contents → AreRead contents ended.taken ended.sources
     → (events : List Event) → AreEventsUpTo k.last_event events
     → state_after contents (state_with contents events k) settled
     ≡ settle (session_of flow given ended processor contents (state_with contents events k)) ended.outcome
+
+-- Where they stand for such bytes, each placed content that is in the store has the digest of its bytes.
+abbrev pub LeavesDigests : Ended → Settled → Type 0
+LeavesDigests ended settled =
+    (contents : ContentRef → List ℕ) → HaveRanges contents → AreRead contents ended.taken ended.sources
+    → HaveDigests contents settled.placed
 
 -- ---- of each event that is settled
 

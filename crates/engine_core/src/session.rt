@@ -5,7 +5,7 @@ ghost use Rattle.machine_model.specs.Sound.{IsSound};
 ghost use Rattle.store_core.specs.Change.{HasLiveContents, MayChange};
 ghost use Rattle.store_core.specs.Flow.{flow_in};
 ghost use Rattle.store_core.specs.Store.{kept_by};
-ghost use Rattle.engine_core.specs.Committing.{identity_of, HasTexts, MayCommit, LeavesState};
+ghost use Rattle.engine_core.specs.Committing.{identity_of, HasTexts, LeavesDigests, LeavesState, MayCommit};
 
 use flowfile_record::{Event, Outcome, Settled};
 use machine_model::{Flow, Given};
@@ -28,6 +28,7 @@ pub fn settle_session(
     // The store may be changed so.
     ensures may { IfOk result (MayChange (kept_by store.now)) }
     ensures live { IfOk result (HasLiveContents store.now) }
+    ensures digests { IfOk result (LeavesDigests ended) }
     // The state behind it is the one that the machine settles.
     ensures leaves { IfOk result (LeavesState flow.now given.now ended (kept_by store.now)) }
 {

@@ -38,11 +38,11 @@ without-bytes : (session : EndedSession) (bytes : Option (List ℕ)) (outcome : 
 without-bytes session bytes outcome = refl
 
 pub settled-sessions-are-steps : SettledSessionsAreSteps
-settled-sessions-are-steps flow world numbers moment given handed left ended processor contents events k settled is keeps leaves read row =
+settled-sessions-are-steps flow world numbers moment given handed left ended processor contents events k settled is keeps leaves ranges read row =
     let state : State = state_with contents events k in
     let session : EndedSession = session_of flow handed ended processor contents state in
     let settles : state_after contents state settled ≡ settle session ended.outcome =
-    leaves processor is.processor contents read events row
+    leaves processor is.processor contents ranges read events row
     ∙ ap (λ (g : Given). settle (session_of flow g ended processor contents state) ended.outcome) keeps.but_bytes
     ∙ without-bytes session left.bytes ended.outcome in
     let after : State → Option Machine =

@@ -1,5 +1,6 @@
 -- The step of the machine that a session is, and the state that it leaves of what is kept.
 use Rattle.std.specs.Prelude.{◌≡◌, ℕ, List, map, None, Some, slice_get}
+use Rattle.flowfile_record.specs.Ranges.{HaveRanges}
 use Rattle.flowfile_record.specs.Stored.{Kept}
 use Rattle.flowfile_record.specs.declared.change.Settled.{Settled}
 use Rattle.flowfile_record.specs.declared.content.ContentRef.{ContentRef}
@@ -55,7 +56,7 @@ SettledSessionsAreSteps =
     (session_of flow handed ended processor contents (state_with contents events k)) ended.outcome
     → KeepsGiven handed left
     → LeavesState flow left ended k settled
-    → AreRead contents ended.taken ended.sources → AreEventsUpTo k.last_event events
+    → HaveRanges contents → AreRead contents ended.taken ended.sources → AreEventsUpTo k.last_event events
     → step flow (machine_in (state_with contents events k) world) (Session ended.processor numbers moment given)
     ≡ Some (record {
       state = state_after contents (state_with contents events k) settled;

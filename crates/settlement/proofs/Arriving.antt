@@ -17,7 +17,7 @@ use Rattle.settlement.specs.Ending.{goes_to}
 use Rattle.settlement.specs.Placing.{Newcomer, first_of, firsts, placed_at, placed_from, wanted}
 use Rattle.settlement.proofs.ByArrival.{put_last, put_all}
 use Rattle.settlement.proofs.Clones.{clones_from, fresh-own}
-use Rattle.settlement.proofs.EndedFiles.{Case, ended_of, place}
+use Rattle.settlement.proofs.EndedFiles.{Case, ended_of}
 use Rattle.settlement.proofs.Listing.{map-map, flat_map-map, map-flat_map, flat_map-same}
 use Rattle.settlement.proofs.ToldEvents.{as_ended, wanted-same}
 
@@ -33,31 +33,31 @@ abbrev pub comers : List SettledFile → List SettlementClone → List Comer
 comers files clones = flat_map (λ file. comer file file.goes) files ++ map (λ clone. (clone.connection, clone.number, clone.original)) clones
 
 abbrev pub as_placed : Case → Comer → Newcomer
-as_placed c one = (one.0, one.1, ended_of (place c) one.2)
+as_placed c one = (one.0, one.1, ended_of c one.2)
 
 abbrev pub as_queued : Comer → machine.Newcomer
 as_queued one = (one.0, in_queue one.2 one.1)
 
-first_same : (c : Case) (file : SettledFile) (goes : Destination) → first_of (ended_of (place c) file) (goes_to goes) ≡ map (as_placed c) (comer file goes)
+first_same : (c : Case) (file : SettledFile) (goes : Destination) → first_of (ended_of c file) (goes_to goes) ≡ map (as_placed c) (comer file goes)
 first_same c file (placing.Queues first others) = refl
 first_same c file placing.Returns = refl
 first_same c file (placing.Drops relationship) = refl
 first_same c file placing.Leaves = refl
 
-pub firsts-same : (c : Case) (files : List SettledFile) → firsts (map (ended_of (place c)) files) ≡ map (as_placed c) (flat_map (λ file. comer file file.goes) files)
+pub firsts-same : (c : Case) (files : List SettledFile) → firsts (map (ended_of c) files) ≡ map (as_placed c) (flat_map (λ file. comer file file.goes) files)
 firsts-same c files =
-    flat_map-map _ (ended_of (place c)) files
+    flat_map-map _ (ended_of c) files
     ∙ flat_map-same _ (λ file. map (as_placed c) (comer file file.goes)) (λ file. first_same c file file.goes) files
     ∙ sym (map-flat_map (as_placed c) (λ (file : SettledFile). comer file file.goes) files)
 
 clones_same : (c : Case) (number : ℕ) (clones : List (SettledFile × ℕ))
     → clones_from number (map (as_ended c) clones) ≡ map (as_placed c) (map (λ (clone : SettlementClone). (clone.connection, clone.number, clone.original)) (placing.clones_from number clones))
 clones_same c number [] = refl
-clones_same c number (clone ∷ clones) = ap (λ rest. (clone.1, number, ended_of (place c) clone.0) ∷ rest) (clones_same c (number + 1) clones)
+clones_same c number (clone ∷ clones) = ap (λ rest. (clone.1, number, ended_of c clone.0) ∷ rest) (clones_same c (number + 1) clones)
 
 -- all newcomers, as the calls inside place them
 pub comers-placed : (c : Case) (number : ℕ) (files : List SettledFile)
-    → firsts (map (ended_of (place c)) files) ++ clones_from number (wanted (map (ended_of (place c)) files))
+    → firsts (map (ended_of c) files) ++ clones_from number (wanted (map (ended_of c) files))
     ≡ map (as_placed c) (comers files (placing.clones_from number (wanted_clones files)))
 comers-placed c number files =
     let clones = map (λ (clone : SettlementClone). (clone.connection, clone.number, clone.original)) (placing.clones_from number (wanted_clones files)) in
@@ -82,20 +82,20 @@ comers-queued files clones =
 
 -- the bytes of a file are those of its content
 abbrev pub HasBytes : Case → SettledFile → Type 0
-HasBytes c file = unwrap_or (own_bytes (fresh_in c.ended.sources file.worked.body)) (c.bytes (ended_of (place c) file).content) ≡ file.bytes
+HasBytes c file = unwrap_or (own_bytes (fresh_in file.worked.body)) (c.bytes (ended_of c file).content) ≡ file.bytes
 
 pub placed-queued : (c : Case) (all : List Placed) (arrival connection number : ℕ) (file : SettledFile) → HasBytes c file
-    → placed_file c.bytes all (placed_at c.ended.sources arrival (connection, number, ended_of (place c) file)) ≡ in_queue file number arrival
+    → placed_file c.bytes all (placed_at arrival (connection, number, ended_of c file)) ≡ in_queue file number arrival
 placed-queued c all arrival connection number file has =
-    let bytes = ap (λ own. unwrap_or own (c.bytes (ended_of (place c) file).content)) (fresh-own all c.ended.sources file.worked.body) ∙ has in
+    let bytes = ap (λ own. unwrap_or own (c.bytes (ended_of c file).content)) (fresh-own all file.worked.body) ∙ has in
     λ i. record (in_queue file number arrival) { bytes = bytes i }
 
 pub arriving-same : (c : Case) (all : List Placed) (arrival connection : ℕ) (news : List Comer) → Each (λ (one : Comer). HasBytes c one.2) news
-    → placed_into c.bytes all connection (placed_from c.ended.sources arrival (map (as_placed c) news)) ≡ arriving arrival connection (map as_queued news)
+    → placed_into c.bytes all connection (placed_from arrival (map (as_placed c) news)) ≡ arriving arrival connection (map as_queued news)
 arriving-same c all arrival connection [] has = refl
 arriving-same c all arrival connection (one ∷ news) has =
-    let later = placed_from c.ended.sources (arrival + 1) (map (as_placed c) news) in
-    let first = placed_at c.ended.sources arrival (as_placed c one) in
+    let later = placed_from (arrival + 1) (map (as_placed c) news) in
+    let first = placed_at arrival (as_placed c one) in
     elim (one.0 == connection) as (λ b. map (placed_file c.bytes all) (cond b (first ∷ filter (λ (file : Placed). file.connection == connection) later) (filter (λ (file : Placed). file.connection == connection) later))
     ≡ cond b (in_queue one.2 one.1 arrival ∷ arriving (arrival + 1) connection (map as_queued news)) (arriving (arrival + 1) connection (map as_queued news))) [
       | true ↦ λ i. placed-queued c all arrival one.0 one.1 one.2 has.0 i ∷ arriving-same c all (arrival + 1) connection news has.1 i

@@ -16,11 +16,9 @@ use Rattle.flowfile_record.specs.declared.worked.Body.TheVariants.{Whole, Part, 
 use Rattle.machine_model.specs.declared.flow.Flow.{Flow}
 use Rattle.machine_model.specs.Changing.{placed_file, placed_into, queued_file}
 use Rattle.machine_model.proofs.Tally.{Each, each-append, tally}
-use Rattle.process_session.specs.declared.file.Source.{Source}
 use Rattle.settlement.specs.Contents.{fresh_in, shared_in}
 use Rattle.settlement.specs.Placing.{Newcomer, PlacingFrom, arrived, cloned_from, clones_of, first_of, firsts, further, placed_at, placed_from, returned, returning, wanted}
 use Rattle.settlement.specs.Recording.{IsRecordable}
-use Rattle.settlement.specs.TellsOf.{HasContent, IsContentBy}
 use Rattle.settlement.specs.declared.file.EndedFile.{EndedFile}
 use Rattle.settlement.specs.declared.file.Goes.{Goes}
 use Rattle.settlement.specs.declared.file.Goes.TheVariants.{Queues, Returns, Drops, Leaves}
@@ -64,46 +62,46 @@ pub record IsClone (all : List Placed) (most : ℕ) (p q : Placed) : Type 0 wher
   pub own : bytes_among all q.fresh ≡ own_bytes q.fresh
 
 -- a newcomer shares nothing
-pub fresh-own : (all : List Placed) (sources : List Source) (body : Body) → bytes_among all (fresh_in sources body) ≡ own_bytes (fresh_in sources body)
-fresh-own all sources (Whole of) = refl
-fresh-own all sources (Part of offset size) = refl
-fresh-own all sources (New bytes) = refl
+pub fresh-own : (all : List Placed) (body : Body) → bytes_among all (fresh_in body) ≡ own_bytes (fresh_in body)
+fresh-own all (Whole of) = refl
+fresh-own all (Part of offset size) = refl
+fresh-own all (New bytes) = refl
 
-comes_as : (all : List Placed) (most place : ℕ) (original q : Placed) (sources : List Source) (body : Body) → slice_get all place ≡ Some original → place < most → original.fresh ≡ fresh_in sources body
-    → q.fresh ≡ fresh_in sources body → q.file.content ≡ original.file.content → ComesAs all most q (shared_in place body)
-comes_as all most place original q sources (Whole of) there below was is same = is
-comes_as all most place original q sources (Part of offset size) there below was is same = record { original = original; there = there; below = below; fresh = was ∙ sym is; shared = ap may_be_shared was; content = same }
-comes_as all most place original q sources (New bytes) there below was is same = record { original = original; there = there; below = below; fresh = was ∙ sym is; shared = ap may_be_shared was; content = same }
+comes_as : (all : List Placed) (most place : ℕ) (original q : Placed) (body : Body) → slice_get all place ≡ Some original → place < most → original.fresh ≡ fresh_in body
+    → q.fresh ≡ fresh_in body → q.file.content ≡ original.file.content → ComesAs all most q (shared_in place body)
+comes_as all most place original q (Whole of) there below was is same = is
+comes_as all most place original q (Part of offset size) there below was is same = is
+comes_as all most place original q (New bytes) there below was is same = record { original = original; there = there; below = below; fresh = was ∙ sym is; shared = ap may_be_shared was; content = same }
 
 -- the clones of a file whose original is placed there
-file_clones : (all : List Placed) (most place : ℕ) (sources : List Source) (first at number arrival : ℕ) (file : EndedFile) (connections : List ℕ)
-    → slice_get all place ≡ Some (placed_at sources at (first, file.number, file)) → place < most
-    → AllZip (IsClone all most) (clones_of place number arrival file connections) (placed_from sources arrival (clones_from number (map (λ connection. (file, connection)) connections)))
-file_clones all most place sources first at number arrival file [] there below = tt
-file_clones all most place sources first at number arrival file (connection ∷ connections) there below = (
+file_clones : (all : List Placed) (most place first at number arrival : ℕ) (file : EndedFile) (connections : List ℕ)
+    → slice_get all place ≡ Some (placed_at at (first, file.number, file)) → place < most
+    → AllZip (IsClone all most) (clones_of place number arrival file connections) (placed_from arrival (clones_from number (map (λ connection. (file, connection)) connections)))
+file_clones all most place first at number arrival file [] there below = tt
+file_clones all most place first at number arrival file (connection ∷ connections) there below = (
   record {
     connection = refl;
     file = refl;
-    fresh = comes_as all most place (placed_at sources at (first, file.number, file)) (placed_at sources arrival (connection, number, file)) sources file.worked.body there below refl refl refl;
-    own = fresh-own all sources file.worked.body;
+    fresh = comes_as all most place (placed_at at (first, file.number, file)) (placed_at arrival (connection, number, file)) file.worked.body there below refl refl refl;
+    own = fresh-own all file.worked.body;
   },
-  file_clones all most place sources first at (number + 1) (arrival + 1) file connections there below,
+  file_clones all most place first at (number + 1) (arrival + 1) file connections there below,
 )
 
 get_behind : (before : List Placed) (p : Placed) (after : List Placed) → slice_get (before ++ p ∷ after) (length before) ≡ Some p
 get_behind [] p after = refl
 get_behind (q ∷ before) p after = get_behind before p after
 
-goes_clones : (all before after : List Placed) (most place : ℕ) (sources : List Source) (at number arrival : ℕ) (file : EndedFile) (goes : Goes)
-    → all ≡ before ++ (placed_from sources at (first_of file goes) ++ after) → length before ≡ place → place + length (first_of file goes) ≤ most
-    → AllZip (IsClone all most) (clones_of place number arrival file (further goes)) (placed_from sources arrival (clones_from number (map (λ connection. (file, connection)) (further goes))))
-goes_clones all before after most place sources at number arrival file (Queues first others) is long few =
-    let there : slice_get all place ≡ Some (placed_at sources at (first, file.number, file)) =
-    ap (λ n. slice_get all n) (sym long) ∙ ap (λ xs. slice_get xs (length before)) is ∙ get_behind before (placed_at sources at (first, file.number, file)) after in
-    file_clones all most place sources first at number arrival file others there (omega (arith, few))
-goes_clones all before after most place sources at number arrival file Returns is long few = tt
-goes_clones all before after most place sources at number arrival file (Drops relationship) is long few = tt
-goes_clones all before after most place sources at number arrival file Leaves is long few = tt
+goes_clones : (all before after : List Placed) (most place at number arrival : ℕ) (file : EndedFile) (goes : Goes)
+    → all ≡ before ++ (placed_from at (first_of file goes) ++ after) → length before ≡ place → place + length (first_of file goes) ≤ most
+    → AllZip (IsClone all most) (clones_of place number arrival file (further goes)) (placed_from arrival (clones_from number (map (λ connection. (file, connection)) (further goes))))
+goes_clones all before after most place at number arrival file (Queues first others) is long few =
+    let there : slice_get all place ≡ Some (placed_at at (first, file.number, file)) =
+    ap (λ n. slice_get all n) (sym long) ∙ ap (λ xs. slice_get xs (length before)) is ∙ get_behind before (placed_at at (first, file.number, file)) after in
+    file_clones all most place first at number arrival file others there (omega (arith, few))
+goes_clones all before after most place at number arrival file Returns is long few = tt
+goes_clones all before after most place at number arrival file (Drops relationship) is long few = tt
+goes_clones all before after most place at number arrival file Leaves is long few = tt
 
 zip_append : {A B : Type 0} (R : A → B → Type 0) (xs xs' : List A) (ys ys' : List B) → AllZip R xs ys → AllZip R xs' ys' → AllZip R (xs ++ xs') (ys ++ ys')
 zip_append R [] xs' [] ys' one two = two
@@ -111,30 +109,30 @@ zip_append R [] xs' (y ∷ ys) ys' one two = absurd one
 zip_append R (x ∷ xs) xs' [] ys' one two = absurd one
 zip_append R (x ∷ xs) xs' (y ∷ ys) ys' one two = (one.0, zip_append R xs xs' ys ys' one.1 two)
 
-clones_alike : (all before after : List Placed) (most place : ℕ) (sources : List Source) (at number arrival : ℕ) (files : List EndedFile)
-    → all ≡ before ++ (placed_from sources at (firsts files) ++ after) → length before ≡ place → place + length (firsts files) ≤ most
-    → AllZip (IsClone all most) (cloned_from place number arrival files) (placed_from sources arrival (clones_from number (wanted files)))
-clones_alike all before after most place sources at number arrival [] is long few = tt
-clones_alike all before after most place sources at number arrival (file ∷ files) is long few =
+clones_alike : (all before after : List Placed) (most place at number arrival : ℕ) (files : List EndedFile)
+    → all ≡ before ++ (placed_from at (firsts files) ++ after) → length before ≡ place → place + length (firsts files) ≤ most
+    → AllZip (IsClone all most) (cloned_from place number arrival files) (placed_from arrival (clones_from number (wanted files)))
+clones_alike all before after most place at number arrival [] is long few = tt
+clones_alike all before after most place at number arrival (file ∷ files) is long few =
     let head = first_of file file.goes in
-    let heads = placed_from sources at head in
-    let later = placed_from sources (at + length head) (firsts files) in
+    let heads = placed_from at head in
+    let later = placed_from (at + length head) (firsts files) in
     let copies : List (EndedFile × ℕ) = map (λ (connection : ℕ). (file, connection)) (further file.goes) in
     let count = length (further file.goes) in
     let counted : length copies ≡ count = length-map (further file.goes) (λ connection. (file, connection)) in
     let here : all ≡ before ++ (heads ++ (later ++ after)) =
-    is ∙ ap (λ xs. before ++ (xs ++ after)) (placed-append sources at head (firsts files)) ∙ ap (λ xs. before ++ xs) (append_assoc heads later after) in
+    is ∙ ap (λ xs. before ++ (xs ++ after)) (placed-append at head (firsts files)) ∙ ap (λ xs. before ++ xs) (append_assoc heads later after) in
     let next : all ≡ (before ++ heads) ++ (later ++ after) = here ∙ sym (append_assoc before heads (later ++ after)) in
-    let behind : length (before ++ heads) ≡ place + length head = omega (arith, length-append before heads, length-placed sources at head, long) in
-    let whole : placed_from sources arrival (clones_from number (wanted (file ∷ files)))
-    ≡ placed_from sources arrival (clones_from number copies) ++ placed_from sources (arrival + count) (clones_from (number + count) (wanted files)) =
-    ap (placed_from sources arrival) (clones-append number copies (wanted files))
-    ∙ placed-append sources arrival (clones_from number copies) (clones_from (number + length copies) (wanted files))
-    ∙ (λ i. placed_from sources arrival (clones_from number copies) ++ placed_from sources (arrival + (length-clones number copies ∙ counted) i) (clones_from (number + counted i) (wanted files))) in
+    let behind : length (before ++ heads) ≡ place + length head = omega (arith, length-append before heads, length-placed at head, long) in
+    let whole : placed_from arrival (clones_from number (wanted (file ∷ files)))
+    ≡ placed_from arrival (clones_from number copies) ++ placed_from (arrival + count) (clones_from (number + count) (wanted files)) =
+    ap (placed_from arrival) (clones-append number copies (wanted files))
+    ∙ placed-append arrival (clones_from number copies) (clones_from (number + length copies) (wanted files))
+    ∙ (λ i. placed_from arrival (clones_from number copies) ++ placed_from (arrival + (length-clones number copies ∙ counted) i) (clones_from (number + counted i) (wanted files))) in
     subst (AllZip (IsClone all most) (cloned_from place number arrival (file ∷ files))) (sym whole)
-    (zip_append (IsClone all most) (clones_of place number arrival file (further file.goes)) (cloned_from (place + length head) (number + count) (arrival + count) files) (placed_from sources arrival (clones_from number copies)) _
-    (goes_clones all before (later ++ after) most place sources at number arrival file file.goes here long (omega (arith, few, length-append head (firsts files))))
-    (clones_alike all (before ++ heads) after most (place + length head) sources (at + length head) (number + count) (arrival + count) files next behind (omega (arith, few, length-append head (firsts files)))))
+    (zip_append (IsClone all most) (clones_of place number arrival file (further file.goes)) (cloned_from (place + length head) (number + count) (arrival + count) files) (placed_from arrival (clones_from number copies)) _
+    (goes_clones all before (later ++ after) most place at number arrival file file.goes here long (omega (arith, few, length-append head (firsts files))))
+    (clones_alike all (before ++ heads) after most (place + length head) (at + length head) (number + count) (arrival + count) files next behind (omega (arith, few, length-append head (firsts files)))))
 
 -- how many stand before the clones
 abbrev pub before_clones : PlacingFrom → List EndedFile → ℕ
@@ -145,12 +143,12 @@ abbrev pub clones_in : PlacingFrom → (first_clone : ℕ) → List EndedFile �
 clones_in at first_clone files = cloned_from (length (returned at files)) first_clone (at.next_arrival + length (firsts files)) files
 
 abbrev pub as_newcomers : PlacingFrom → (first_clone : ℕ) → List EndedFile → List Placed
-as_newcomers at first_clone files = placed_from at.sources (at.next_arrival + length (firsts files)) (clones_from first_clone (wanted files))
+as_newcomers at first_clone files = placed_from (at.next_arrival + length (firsts files)) (clones_from first_clone (wanted files))
 
 pub all_clones : (at : PlacingFrom) (first_clone : ℕ) (files : List EndedFile)
     → AllZip (IsClone (returned at files ++ arrived at first_clone files) (before_clones at files)) (clones_in at first_clone files) (as_newcomers at first_clone files)
 all_clones at first_clone files =
-    clones_alike (returned at files ++ arrived at first_clone files) (returned at files) (clones_in at first_clone files) (before_clones at files) (length (returned at files)) at.sources at.next_arrival first_clone
+    clones_alike (returned at files ++ arrived at first_clone files) (returned at files) (clones_in at first_clone files) (before_clones at files) (length (returned at files)) at.next_arrival first_clone
     (at.next_arrival + length (firsts files)) files refl refl (omega arith)
 
 -- ---- what clones have of those that they are as
@@ -206,19 +204,29 @@ clones-fit flow all most [] (q ∷ qs) are fit = absurd are
 clones-fit flow all most (p ∷ ps) [] are fit = absurd are
 clones-fit flow all most (p ∷ ps) (q ∷ qs) are fit = (clone_fits flow all most p q are.0 fit.0, clones-fit flow all most ps qs are.1 fit.1)
 
-comes_content : (taken : List FlowFile) (all : List Placed) (most : ℕ) (q : Placed) (fresh : Fresh) → ComesAs all most q fresh → HasContent taken q → IsContentBy taken q.file.content fresh
-comes_content taken all most q No is has = subst (IsContentBy taken q.file.content) is has
-comes_content taken all most q (As of) is has = tt
-comes_content taken all most q (Bytes bytes) is has = absurd is
-comes_content taken all most q Staged is has = absurd is
+-- what holds of a placed content, by where it comes from
+abbrev pub OfPlaced : (ContentRef → Fresh → Type 0) → Placed → Type 0
+OfPlaced Holds p = Holds p.file.content p.fresh
 
-pub clones-hold : (taken : List FlowFile) (all : List Placed) (most : ℕ) (ps qs : List Placed) → AllZip (IsClone all most) ps qs → Each (HasContent taken) qs → Each (HasContent taken) ps
-clones-hold taken all most [] [] are hold = tt
-clones-hold taken all most [] (q ∷ qs) are hold = absurd are
-clones-hold taken all most (p ∷ ps) [] are hold = absurd are
-clones-hold taken all most (p ∷ ps) (q ∷ qs) are hold = (
-  subst (λ (file : FlowFile). IsContentBy taken file.content p.fresh) (sym are.0.file) (comes_content taken all most q p.fresh are.0.fresh hold.0),
-  clones-hold taken all most ps qs are.1 hold.1,
+-- it holds of each content that is shared
+abbrev pub HoldsOfShared : (ContentRef → Fresh → Type 0) → Type 0
+HoldsOfShared Holds = (content : ContentRef) (of : ℕ) → Holds content (As of)
+
+comes_content : (Holds : ContentRef → Fresh → Type 0) (all : List Placed) (most : ℕ) (q : Placed) (fresh : Fresh) → HoldsOfShared Holds → ComesAs all most q fresh → OfPlaced Holds q
+    → Holds q.file.content fresh
+comes_content Holds all most q No shared is has = subst (Holds q.file.content) is has
+comes_content Holds all most q (As of) shared is has = shared q.file.content of
+comes_content Holds all most q (Bytes bytes) shared is has = absurd is
+comes_content Holds all most q Staged shared is has = absurd is
+
+pub clones-hold : (Holds : ContentRef → Fresh → Type 0) (all : List Placed) (most : ℕ) (ps qs : List Placed) → HoldsOfShared Holds → AllZip (IsClone all most) ps qs → Each (OfPlaced Holds) qs
+    → Each (OfPlaced Holds) ps
+clones-hold Holds all most [] [] shared are hold = tt
+clones-hold Holds all most [] (q ∷ qs) shared are hold = absurd are
+clones-hold Holds all most (p ∷ ps) [] shared are hold = absurd are
+clones-hold Holds all most (p ∷ ps) (q ∷ qs) shared are hold = (
+  subst (λ (file : FlowFile). Holds file.content p.fresh) (sym are.0.file) (comes_content Holds all most q p.fresh shared are.0.fresh hold.0),
+  clones-hold Holds all most ps qs shared are.1 hold.1,
 )
 
 -- ---- all share earlier contents
@@ -226,17 +234,17 @@ clones-hold taken all most (p ∷ ps) (q ∷ qs) are hold = (
 abbrev SharesNothing : Placed → Type 0
 SharesNothing p = (of : ℕ) → p.fresh ≡ As of → ⊥
 
-fresh_alone : (sources : List Source) (body : Body) (of : ℕ) → fresh_in sources body ≡ As of → ⊥
-fresh_alone sources (Whole place) of is = absurd cc
-fresh_alone sources (Part place offset size) of is = absurd cc
-fresh_alone sources (New bytes) of is = absurd cc
+fresh_alone : (body : Body) (of : ℕ) → fresh_in body ≡ As of → ⊥
+fresh_alone (Whole place) of is = absurd cc
+fresh_alone (Part place offset size) of is = absurd cc
+fresh_alone (New bytes) of is = absurd cc
 
-news_alone : (sources : List Source) (arrival : ℕ) (news : List Newcomer) → Each SharesNothing (placed_from sources arrival news)
-news_alone sources arrival [] = tt
-news_alone sources arrival (one ∷ news) = (fresh_alone sources one.2.worked.body, news_alone sources (arrival + 1) news)
+news_alone : (arrival : ℕ) (news : List Newcomer) → Each SharesNothing (placed_from arrival news)
+news_alone arrival [] = tt
+news_alone arrival (one ∷ news) = (fresh_alone one.2.worked.body, news_alone (arrival + 1) news)
 
 returning_alone : (at : PlacingFrom) (file : EndedFile) (goes : Goes) → Each SharesNothing (returning at file goes)
-returning_alone at file Returns = (fresh_alone at.sources file.worked.body, tt)
+returning_alone at file Returns = (fresh_alone file.worked.body, tt)
 returning_alone at file (Queues first others) = tt
 returning_alone at file (Drops relationship) = tt
 returning_alone at file Leaves = tt
@@ -276,17 +284,17 @@ pub all-shared : (at : PlacingFrom) (first_clone : ℕ) (files : List EndedFile)
 all-shared at first_clone files place of p there is =
     let all = returned at files ++ arrived at first_clone files in
     let most = before_clones at files in
-    let news = placed_from at.sources at.next_arrival (firsts files) in
+    let news = placed_from at.next_arrival (firsts files) in
     let front = returned at files ++ news in
     let whole : all ≡ front ++ clones_in at first_clone files = sym (append_assoc (returned at files) news (clones_in at first_clone files)) in
     let found = behind_all all front (clones_in at first_clone files) (as_newcomers at first_clone files) most place of p
-    (each-append SharesNothing (returned at files) news (returned_alone at files) (news_alone at.sources at.next_arrival (firsts files)))
+    (each-append SharesNothing (returned at files) news (returned_alone at files) (news_alone at.next_arrival (firsts files)))
     (all_clones at first_clone files) (ap (λ xs. slice_get xs place) (sym whole) ∙ there) is in
     let share : IsShare all most found.other of = subst (ComesAs all most found.other) is found.is.fresh in
     record {
       original = share.original;
       there = share.there;
-      earlier = omega (arith, share.below, found.behind, length-append (returned at files) news, length-placed at.sources at.next_arrival (firsts files));
+      earlier = omega (arith, share.below, found.behind, length-append (returned at files) news, length-placed at.next_arrival (firsts files));
       shared = share.shared;
       same = ap (λ (file : FlowFile). file.content) found.is.file ∙ share.content;
     }

@@ -1,5 +1,5 @@
 -- That the files which the calls inside end are those of the machine.
-use Rattle.std.proofs.Common.{◌≡◌, ℕ, List, [], ◌∷◌, map, length, refl}
+use Rattle.std.proofs.Common.{◌≡◌, ℕ, List, [], ◌∷◌, map, length, get_or, refl}
 use Rattle.std.specs.Prelude.{All, zip}
 use Rattle.std.proofs.lemmas.List.Elements.{All-head, All-tail}
 use Rattle.sha2.specs.Sha256.{sha256}
@@ -32,18 +32,8 @@ counters_of state = record {
   last_event = state.last_event;
 }
 
--- a machine's file as the calls inside have it
-abbrev pub ended_of : EndingPlace → SettledFile → EndedFile
-ended_of at file = record {
-  number = file.number;
-  worked = record file.worked { attributes = file.attributes };
-  content = record (content_in at.taken at.sources file.worked.body) { size = length file.bytes; digest = sha256 file.bytes };
-  entered = file.entered;
-  penalty_end = file.penalty_end;
-  goes = goes_to file.goes;
-}
-
--- a session that has ended: what was handed in, and the state and the bytes that it stands for
+-- a session that has ended: what was handed in, the state and the bytes that it stands for, and where the contents of
+-- its files stand
 pub record Case : Type 0 where
   pub flow : Flow
   pub given : Given
@@ -51,6 +41,28 @@ pub record Case : Type 0 where
   pub processor : Processor
   pub bytes : ContentRef → List ℕ
   pub state : State
+  pub content : SettledFile → ContentRef
+
+-- they stand where the calls inside say
+abbrev pub by_body : Case → Case
+by_body c = record c { content = λ file. content_in c.ended.taken c.ended.sources file.worked.body }
+
+-- .. with the size and the digest of their bytes
+abbrev pub by_bytes : Case → Case
+by_bytes c = record c {
+  content = λ file. record (content_in c.ended.taken c.ended.sources file.worked.body) { size = length file.bytes; digest = sha256 file.bytes };
+}
+
+-- a machine's file as the calls inside have it
+abbrev pub ended_of : Case → SettledFile → EndedFile
+ended_of c file = record {
+  number = file.number;
+  worked = record file.worked { attributes = file.attributes };
+  content = c.content file;
+  entered = file.entered;
+  penalty_end = file.penalty_end;
+  goes = goes_to file.goes;
+}
 
 abbrev pub place : Case → EndingPlace
 place c = place_in c.flow c.given (counters_of c.state) c.ended c.processor
@@ -58,41 +70,8 @@ place c = place_in c.flow c.given (counters_of c.state) c.ended c.processor
 abbrev pub session : Case → EndedSession
 session c = session_of c.flow c.given c.ended c.processor c.bytes c.state
 
-pub stamped : (at : ContentRef) (content : List ℕ) → IsStamp at content → at ≡ record at { size = length content; digest = sha256 content }
-stamped at content stamp = λ i. record at { size = stamp.size i; digest = stamp.digest i }
-
 pub taken_contents : (bytes : ContentRef → List ℕ) (taken : List FlowFile) → map (λ (file : QueuedFile). file.bytes) (map (queued_file bytes) taken) ≡ contents_of bytes taken
 taken_contents bytes taken = map-map (λ (file : QueuedFile). file.bytes) (queued_file bytes) taken
-
-one_same : (c : Case) (number entered : ℕ) (worked : Worked)
-    → AreRead c.bytes c.ended.taken c.ended.sources → IsBodyWithin c.ended.sources worked.body
-    → ended_file (place c) (number, entered, worked)
-    ≡ ended_of (place c) (settled_file (session c) (number, entered, worked))
-one_same c number entered worked read within =
-    let at = place c in
-    let stamp : IsStamp (content_in c.ended.taken c.ended.sources worked.body) (content_of (contents_of c.bytes c.ended.taken) worked.body)
-    = content-stamp c.bytes c.ended.taken c.ended.sources worked.body read within in
-    let content : content_in c.ended.taken c.ended.sources worked.body
-    ≡ record (content_in c.ended.taken c.ended.sources worked.body) {
-      size = length (content_of (map (λ (file : QueuedFile). file.bytes) (map (queued_file c.bytes) c.ended.taken)) worked.body);
-      digest = sha256 (content_of (map (λ (file : QueuedFile). file.bytes) (map (queued_file c.bytes) c.ended.taken)) worked.body);
-    }
-    = rw (taken_contents c.bytes c.ended.taken) (stamped (content_in c.ended.taken c.ended.sources worked.body) (content_of (contents_of c.bytes c.ended.taken) worked.body) stamp) in
-    λ i. record (ended_file at (number, entered, worked)) { content = content i }
-
-each_same : (c : Case) (numbers entered : List ℕ) (files : List Worked)
-    → AreRead c.bytes c.ended.taken c.ended.sources → All (λ file. IsBodyWithin c.ended.sources file.body) files
-    → map (λ f. ended_file (place c) (f.0, f.1.0, f.1.1)) (zip numbers (zip entered files))
-    ≡ map (ended_of (place c))
-    (map (λ f. settled_file (session c) (f.0, f.1.0, f.1.1)) (zip numbers (zip entered files)))
-each_same c [] entered files read within = refl
-each_same c (number ∷ numbers) [] files read within = refl
-each_same c (number ∷ numbers) (moment ∷ entered) [] read within = refl
-each_same c (number ∷ numbers) (moment ∷ entered) (file ∷ files) read within =
-    let P = λ (file : Worked). IsBodyWithin c.ended.sources file.body in
-    let first = one_same c number moment file read (All-head P file files within) in
-    let rest = each_same c numbers entered files read (All-tail P file files within) in
-    λ i. first i ∷ rest i
 
 pub taken_numbers : (bytes : ContentRef → List ℕ) (taken : List FlowFile) → map (λ (file : QueuedFile). file.number) (map (queued_file bytes) taken) ≡ map (λ (file : FlowFile). file.number) taken
 taken_numbers bytes taken = map-map (λ (file : QueuedFile). file.number) (queued_file bytes) taken
@@ -100,12 +79,40 @@ taken_numbers bytes taken = map-map (λ (file : QueuedFile). file.number) (queue
 pub taken_moments : (bytes : ContentRef → List ℕ) (taken : List FlowFile) → map (λ (file : QueuedFile). file.entered) (map (queued_file bytes) taken) ≡ map (λ (file : FlowFile). file.entered) taken
 taken_moments bytes taken = map-map (λ (file : QueuedFile). file.entered) (queued_file bytes) taken
 
--- the files of the machine's session, as the calls inside have them
-pub ended-same : (c : Case) (files : List Worked)
-    → AreRead c.bytes c.ended.taken c.ended.sources → All (λ file. IsBodyWithin c.ended.sources file.body) files
-    → ended_files (place c) c.state.next_number files
-    ≡ map (ended_of (place c)) (settled_files (session c) files)
-ended-same c files read within =
+-- ---- the files of the machine's session, as the calls inside have them
+
+-- the content of a file stands where the case says
+abbrev IsAsSaid : Case → Worked → Type 0
+IsAsSaid c worked = (number entered : ℕ) → content_in c.ended.taken c.ended.sources worked.body ≡ c.content (settled_file (session c) (number, entered, worked))
+
+each_same : (c : Case) (numbers entered : List ℕ) (files : List Worked) → All (IsAsSaid c) files
+    → map (λ f. ended_file (place c) (f.0, f.1.0, f.1.1)) (zip numbers (zip entered files))
+    ≡ map (ended_of c) (map (λ f. settled_file (session c) (f.0, f.1.0, f.1.1)) (zip numbers (zip entered files)))
+each_same c [] entered files said = refl
+each_same c (number ∷ numbers) [] files said = refl
+each_same c (number ∷ numbers) (moment ∷ entered) [] said = refl
+each_same c (number ∷ numbers) (moment ∷ entered) (file ∷ files) said =
+    let content = All-head (IsAsSaid c) file files said number moment in
+    let rest = each_same c numbers entered files (All-tail (IsAsSaid c) file files said) in
+    λ i. record (ended_file (place c) (number, moment, file)) { content = content i } ∷ rest i
+
+all_same : (c : Case) (files : List Worked) → All (IsAsSaid c) files → ended_files (place c) c.state.next_number files ≡ map (ended_of c) (settled_files (session c) files)
+all_same c files said =
     rw (taken_numbers c.bytes c.ended.taken, taken_moments c.bytes c.ended.taken)
     (each_same c (numbers_from c.state.next_number (map (λ (file : FlowFile). file.number) c.ended.taken) files)
-    (entered_in c.given.moment (map (λ (file : FlowFile). file.entered) c.ended.taken) files) files read within)
+    (entered_in c.given.moment (map (λ (file : FlowFile). file.entered) c.ended.taken) files) files said)
+
+pub ended-by-body : (c : Case) (files : List Worked) → ended_files (place c) c.state.next_number files ≡ map (ended_of (by_body c)) (settled_files (session c) files)
+ended-by-body c files = all_same (by_body c) files (λ i d lt number entered. refl)
+
+stamped : (at : ContentRef) (content : List ℕ) → IsStamp at content → at ≡ record at { size = length content; digest = sha256 content }
+stamped at content stamp = λ i. record at { size = stamp.size i; digest = stamp.digest i }
+
+one_read : (c : Case) (worked : Worked) → AreRead c.bytes c.ended.taken c.ended.sources → IsBodyWithin c.ended.sources worked.body → IsAsSaid (by_bytes c) worked
+one_read c worked read within number entered =
+    rw (taken_contents c.bytes c.ended.taken) (stamped (content_in c.ended.taken c.ended.sources worked.body) (content_of (contents_of c.bytes c.ended.taken) worked.body)
+    (content-stamp c.bytes c.ended.taken c.ended.sources worked.body read within))
+
+pub ended-by-bytes : (c : Case) (files : List Worked) → AreRead c.bytes c.ended.taken c.ended.sources → All (λ file. IsBodyWithin c.ended.sources file.body) files
+    → ended_files (place c) c.state.next_number files ≡ map (ended_of (by_bytes c)) (settled_files (session c) files)
+ended-by-bytes c files read within = all_same (by_bytes c) files (λ i d lt. one_read c (get_or files i d) read (within i d lt))

@@ -13,7 +13,6 @@ use Rattle.machine_model.specs.Placing.{count_made, entered_in, numbers_from}
 use Rattle.machine_model.proofs.Among.{Among, contains_among}
 use Rattle.machine_model.proofs.Numbers.{numbers_are}
 use Rattle.machine_model.proofs.Tally.{Each, each-append}
-use Rattle.process_session.specs.declared.file.Source.{Source}
 use Rattle.settlement.specs.Contents.{shared_in}
 use Rattle.settlement.specs.Ending.{EndingPlace, ended_file, ended_files}
 use Rattle.settlement.specs.Placing.{Newcomer, PlacingFrom, arrived, cloned_from, clones_of, first_of, firsts, further, placed_from, returned, returning}
@@ -80,10 +79,10 @@ firsts_are counters ended [] are = tt
 firsts_are counters ended (file ∷ files) are =
     each-append (IsSessionOne counters ended) (first_of file file.goes) (firsts files) (first_is counters ended file file.goes are.0) (firsts_are counters ended files are.1)
 
-news_bring : (counters : Counters) (ended : Ended) (sources : List Source) (arrival : ℕ) (news : List Newcomer) → Each (IsSessionOne counters ended) news
-    → Each (BringsNoneAsClone counters ended) (placed_from sources arrival news)
-news_bring counters ended sources arrival [] are = tt
-news_bring counters ended sources arrival (one ∷ news) are = (λ clone. absurd (no_clone counters ended one.1 are.0 clone), news_bring counters ended sources (arrival + 1) news are.1)
+news_bring : (counters : Counters) (ended : Ended) (arrival : ℕ) (news : List Newcomer) → Each (IsSessionOne counters ended) news
+    → Each (BringsNoneAsClone counters ended) (placed_from arrival news)
+news_bring counters ended arrival [] are = tt
+news_bring counters ended arrival (one ∷ news) are = (λ clone. absurd (no_clone counters ended one.1 are.0 clone), news_bring counters ended (arrival + 1) news are.1)
 
 returning_brings : (counters : Counters) (ended : Ended) (from : PlacingFrom) (file : EndedFile) (goes : Goes) → IsSessionFile counters ended file
     → Each (BringsNoneAsClone counters ended) (returning from file goes)
@@ -129,6 +128,6 @@ placed-bring counters ended at from taken in_turn =
     let are : Each (IsSessionFile counters ended) files = zipped_are counters ended at (numbers_from counters.next_number (map (λ (file : FlowFile). file.number) at.taken) ended.outcome.files)
     (entered_in at.moment (map (λ (file : FlowFile). file.entered) at.taken) ended.outcome.files) ended.outcome.files numbers in
     each-append (BringsNoneAsClone counters ended) (returned from files) (arrived from (clones_begin counters ended) files) (returned_bring counters ended from files are)
-    (each-append (BringsNoneAsClone counters ended) (placed_from from.sources from.next_arrival (firsts files)) _
-    (news_bring counters ended from.sources from.next_arrival (firsts files) (firsts_are counters ended files are))
+    (each-append (BringsNoneAsClone counters ended) (placed_from from.next_arrival (firsts files)) _
+    (news_bring counters ended from.next_arrival (firsts files) (firsts_are counters ended files are))
     (cloned_bring counters ended (length (returned from files)) (clones_begin counters ended) (from.next_arrival + length (firsts files)) files))

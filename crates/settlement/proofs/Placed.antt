@@ -2,22 +2,21 @@
 use Rattle.std.proofs.Common.{◌≡◌, ℕ, suc, ◌+◌, ◌<◌, ◌≤◌, List, [], ◌∷◌, ◌++◌, length, get_or, drop, refl, sym, ap, ◌∙◌, arith, append_assoc, append-nil, length-append}
 use Rattle.std.proofs.lemmas.List.Concat.{flat_map-append}
 use Rattle.flowfile_record.specs.declared.stored.Placed.{Placed}
-use Rattle.process_session.specs.declared.file.Source.{Source}
 use Rattle.settlement.specs.Placing.{Newcomer, PlacingFrom, arrived, cloned_from, clones_of, first_of, firsts, further, placed_at, placed_from, returned, returning, wanted}
 use Rattle.settlement.specs.declared.file.EndedFile.{EndedFile}
 use Rattle.settlement.specs.declared.file.Goes.{Goes}
 use Rattle.settlement.specs.declared.file.Goes.TheVariants.{Queues, Returns, Drops, Leaves}
 use Rattle.settlement.proofs.Steps.{left, length_wanted_one, wanted_left}
 
-pub placed-append : (sources : List Source) (arrival : ℕ) (xs ys : List Newcomer) → placed_from sources arrival (xs ++ ys) ≡ placed_from sources arrival xs ++ placed_from sources (arrival + length xs) ys
-placed-append sources arrival [] ys = ap (λ n. placed_from sources n ys) (omega arith)
-placed-append sources arrival (x ∷ xs) ys =
+pub placed-append : (arrival : ℕ) (xs ys : List Newcomer) → placed_from arrival (xs ++ ys) ≡ placed_from arrival xs ++ placed_from (arrival + length xs) ys
+placed-append arrival [] ys = ap (λ n. placed_from n ys) (omega arith)
+placed-append arrival (x ∷ xs) ys =
     let moved : arrival + 1 + length xs ≡ arrival + suc (length xs) = omega arith in
-    ap (λ rest. placed_at sources arrival x ∷ rest) (placed-append sources (arrival + 1) xs ys ∙ ap (λ n. placed_from sources (arrival + 1) xs ++ placed_from sources n ys) moved)
+    ap (λ rest. placed_at arrival x ∷ rest) (placed-append (arrival + 1) xs ys ∙ ap (λ n. placed_from (arrival + 1) xs ++ placed_from n ys) moved)
 
-pub length-placed : (sources : List Source) (arrival : ℕ) (xs : List Newcomer) → length (placed_from sources arrival xs) ≡ length xs
-length-placed sources arrival [] = refl
-length-placed sources arrival (x ∷ xs) = ap suc (length-placed sources (arrival + 1) xs)
+pub length-placed : (arrival : ℕ) (xs : List Newcomer) → length (placed_from arrival xs) ≡ length xs
+length-placed arrival [] = refl
+length-placed arrival (x ∷ xs) = ap suc (length-placed (arrival + 1) xs)
 
 pub length-clones_of : (place number arrival : ℕ) (file : EndedFile) (connections : List ℕ) → length (clones_of place number arrival file connections) ≡ length connections
 length-clones_of place number arrival file [] = refl
@@ -63,17 +62,17 @@ places_on place files i file h is =
     omega (arith, ap (λ xs. length (firsts xs)) (left files i file h is), length-append (first_of file file.goes) (firsts (drop (i + 1) files)))
 
 -- what goes on of one more file
-pub firsts_step : (sources : List Source) (arrival : ℕ) (old new : List Placed) (done : List EndedFile) (file : EndedFile) → old ≡ placed_from sources arrival (firsts done)
-    → new ≡ old ++ placed_from sources (arrival + length old) (first_of file file.goes) → new ≡ placed_from sources arrival (firsts (done ++ file ∷ []))
-firsts_step sources arrival old new done file before added =
-    let long : length old ≡ length (firsts done) = ap length before ∙ length-placed sources arrival (firsts done) in
+pub firsts_step : (arrival : ℕ) (old new : List Placed) (done : List EndedFile) (file : EndedFile) → old ≡ placed_from arrival (firsts done)
+    → new ≡ old ++ placed_from (arrival + length old) (first_of file file.goes) → new ≡ placed_from arrival (firsts (done ++ file ∷ []))
+firsts_step arrival old new done file before added =
+    let long : length old ≡ length (firsts done) = ap length before ∙ length-placed arrival (firsts done) in
     let one : firsts (file ∷ []) ≡ first_of file file.goes = append-nil (first_of file file.goes) in
     added
-    ∙ ap (λ n. old ++ placed_from sources (arrival + n) (first_of file file.goes)) long
-    ∙ ap (λ xs. xs ++ placed_from sources (arrival + length (firsts done)) (first_of file file.goes)) before
-    ∙ sym (placed-append sources arrival (firsts done) (first_of file file.goes))
-    ∙ ap (λ xs. placed_from sources arrival (firsts done ++ xs)) (sym one)
-    ∙ ap (placed_from sources arrival) (sym (flat_map-append (λ (file : EndedFile). first_of file file.goes) done (file ∷ [])))
+    ∙ ap (λ n. old ++ placed_from (arrival + n) (first_of file file.goes)) long
+    ∙ ap (λ xs. xs ++ placed_from (arrival + length (firsts done)) (first_of file file.goes)) before
+    ∙ sym (placed-append arrival (firsts done) (first_of file file.goes))
+    ∙ ap (λ xs. placed_from arrival (firsts done ++ xs)) (sym one)
+    ∙ ap (placed_from arrival) (sym (flat_map-append (λ (file : EndedFile). first_of file file.goes) done (file ∷ [])))
 
 pub returned_step : (at : PlacingFrom) (old new : List Placed) (done : List EndedFile) (file : EndedFile) → old ≡ returned at done → new ≡ old ++ returning at file file.goes → new ≡ returned at (done ++ file ∷ [])
 returned_step at old new done file before added =
@@ -92,8 +91,8 @@ firsts_few (file ∷ files) = omega (arith, length-append (first_of file file.go
     one_at_most Leaves = omega arith
 
 -- fewer go on than were looked at
-pub firsts_placed : (sources : List Source) (arrival : ℕ) (old : List Placed) (done : List EndedFile) → old ≡ placed_from sources arrival (firsts done) → length old ≤ length done
-firsts_placed sources arrival old done is = omega (arith, ap length is, length-placed sources arrival (firsts done), firsts_few done)
+pub firsts_placed : (arrival : ℕ) (old : List Placed) (done : List EndedFile) → old ≡ placed_from arrival (firsts done) → length old ≤ length done
+firsts_placed arrival old done is = omega (arith, ap length is, length-placed arrival (firsts done), firsts_few done)
 
 one_place : (from : PlacingFrom) (file : EndedFile) (goes : Goes) → length (returning from file goes) + length (first_of file goes) ≤ 1
 one_place from file (Queues first others) = omega arith
@@ -125,10 +124,10 @@ returned_left from files i file h is =
 
 -- the files that return, those that go on, and the clones
 pub placed_whole : (at : PlacingFrom) (files : List EndedFile) (first place count : ℕ) (front clones : List Placed) → place ≡ length (returned at files) → count ≡ length (firsts files)
-    → front ≡ returned at files ++ placed_from at.sources at.next_arrival (firsts files) → clones ≡ cloned_from place first (at.next_arrival + count) files
+    → front ≡ returned at files ++ placed_from at.next_arrival (firsts files) → clones ≡ cloned_from place first (at.next_arrival + count) files
     → front ++ clones ≡ returned at files ++ arrived at first files
 placed_whole at files first place count front clones place_is count_is front_is clones_are =
-    let news = placed_from at.sources at.next_arrival (firsts files) in
+    let news = placed_from at.next_arrival (firsts files) in
     (λ i. front_is i ++ clones_are i)
     ∙ append_assoc (returned at files) news (cloned_from place first (at.next_arrival + count) files)
     ∙ (λ i. returned at files ++ (news ++ cloned_from (place_is i) first (at.next_arrival + count_is i) files))

@@ -80,10 +80,10 @@ found_back c number (file ∷ files) once =
 -- ---- what is placed as coming back
 
 back_same : (c : Case) (all : List Placed) (file : SettledFile) (goes : Destination) → HasBytes c file → (connection : ℕ)
-    → placed_into c.bytes all connection (returning (placing_at (place c) c.ended.connection c.state.next_arrival) (ended_of (place c) file) (goes_to goes)) ≡ cond (c.ended.connection == connection) (back_of c file goes) []
+    → placed_into c.bytes all connection (returning (placing_at (place c) c.ended.connection c.state.next_arrival) (ended_of c file) (goes_to goes)) ≡ cond (c.ended.connection == connection) (back_of c file goes) []
 back_same c all file placing.Returns has connection =
     let at = arrival_of c.ended.taken file.worked.origin in
-    elim (c.ended.connection == connection) as (λ b. map (placed_file c.bytes all) (cond b (placed_at c.ended.sources at (c.ended.connection, file.number, ended_of (place c) file) ∷ []) []) ≡ cond b (in_queue file file.number at ∷ []) []) [
+    elim (c.ended.connection == connection) as (λ b. map (placed_file c.bytes all) (cond b (placed_at at (c.ended.connection, file.number, ended_of c file) ∷ []) []) ≡ cond b (in_queue file file.number at ∷ []) []) [
       | true ↦ ap (λ one. one ∷ []) (placed-queued c all at c.ended.connection file.number file has)
       | false ↦ refl
     ]
@@ -104,10 +104,10 @@ cond_append true xs ys = refl
 cond_append false xs ys = refl
 
 returned_same : (c : Case) (all : List Placed) (connection : ℕ) (files : List SettledFile) → Each (HasBytes c) files
-    → placed_into c.bytes all connection (returned (placing_at (place c) c.ended.connection c.state.next_arrival) (map (ended_of (place c)) files)) ≡ cond (c.ended.connection == connection) (flat_map (back c) files) []
+    → placed_into c.bytes all connection (returned (placing_at (place c) c.ended.connection c.state.next_arrival) (map (ended_of c) files)) ≡ cond (c.ended.connection == connection) (flat_map (back c) files) []
 returned_same c all connection [] has = elim (c.ended.connection == connection) as (λ b. [] ≡ cond b (flat_map (back c) []) []) [ true ↦ refl | false ↦ refl ]
 returned_same c all connection (file ∷ files) has =
-    placed_append c all connection (returning (placing_at (place c) c.ended.connection c.state.next_arrival) (ended_of (place c) file) (goes_to file.goes)) (returned (placing_at (place c) c.ended.connection c.state.next_arrival) (map (ended_of (place c)) files))
+    placed_append c all connection (returning (placing_at (place c) c.ended.connection c.state.next_arrival) (ended_of c file) (goes_to file.goes)) (returned (placing_at (place c) c.ended.connection c.state.next_arrival) (map (ended_of c) files))
     ∙ (λ i. back_same c all file file.goes has.0 connection i ++ returned_same c all connection files has.1 i)
     ∙ cond_append (c.ended.connection == connection) (back c file) (flat_map (back c) files)
 
@@ -437,7 +437,7 @@ stays_at c s k all each has =
     stays-in-place (keeps c) (stays c) (queue_at c.state k) all (rising (queue_at c.state k) (by_arrival_at c.state.queues k s.valid.by_arrival)) (apart (queue_at c.state k) (queue_once c s k)) each has
 
 pub queue-stays : (c : Case) (all : List Placed) → Stands c → (k : ℕ)
-    → put_all (without_files (queue_at c.state k) (gone c)) (placed_into c.bytes all k (returned (placing_at (place c) c.ended.connection c.state.next_arrival) (map (ended_of (place c)) (files_of c))))
+    → put_all (without_files (queue_at c.state k) (gone c)) (placed_into c.bytes all k (returned (placing_at (place c) c.ended.connection c.state.next_arrival) (map (ended_of c) (files_of c))))
     ≡ staying (files_of c) (queue_at c.state k)
 queue-stays c all s k =
     ap (put_all (without_files (queue_at c.state k) (gone c))) (returned_same c all k (files_of c) s.bytes)

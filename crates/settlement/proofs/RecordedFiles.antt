@@ -1,8 +1,7 @@
 -- That the parts of a session's files can be told in an entry: attributes, moments, and fresh contents.
-use Rattle.std.proofs.Common.{◌≡◌, inl, ℕ, zero, suc, ◌+◌, ◌-◌, ◌^◌, ◌<◌, ◌≤◌, Bool, true, false, cond, List, [], ◌∷◌, ◌++◌, map, length, drop, refl, ap, arith}
-use Rattle.std.specs.Prelude.{IfSome, codes, fold, slice_index, slice_range}
+use Rattle.std.proofs.Common.{◌≡◌, inl, ℕ, zero, suc, ◌+◌, ◌^◌, ◌<◌, ◌≤◌, Bool, true, false, cond, List, [], ◌∷◌, ◌++◌, map, length, refl, ap, arith}
+use Rattle.std.specs.Prelude.{IfSome, codes, fold, slice_index}
 use Rattle.std.specs.FinMap.{contains_key, insert}
-use Rattle.std.proofs.lemmas.List.{length-take}
 use Rattle.std.proofs.lemmas.Str.{IsUtf8-from_ascii}
 use Rattle.uuid.specs.Text.{lower}
 use Rattle.uuid.proofs.TextLemmas.{hyphenated_ascii}
@@ -20,8 +19,7 @@ use Rattle.flowfile_record.specs.declared.worked.Worked.{Worked}
 use Rattle.machine_model.specs.Placing.{entered_by, entered_in, least, penalty_end_of, uuid_text, with_filename}
 use Rattle.machine_model.proofs.OneOutcome.{insert-pairs, insert-size, literal}
 use Rattle.machine_model.proofs.Tally.{Each, each-append}
-use Rattle.process_session.specs.declared.file.Source.{Source}
-use Rattle.settlement.specs.Contents.{fresh_in, source_bytes}
+use Rattle.settlement.specs.Contents.{fresh_in}
 use Rattle.settlement.proofs.NameRoom.{name_size, named_fits}
 
 -- ---- attributes
@@ -107,15 +105,7 @@ penalty-moment false moment penalty = omega arith
 
 -- ---- fresh contents
 
-size_at : (sizes : List ℕ) (place : ℕ) → Each (λ size. size ≤ CONTENT_MAX) sizes → slice_index sizes place ≤ CONTENT_MAX
-size_at [] place all = omega arith
-size_at (size ∷ sizes) zero all = all.0
-size_at (size ∷ sizes) (suc place) all = size_at sizes place all.1
-
-range_most : (bytes : List ℕ) (offset size : ℕ) → length (slice_range bytes offset (offset + size)) ≤ size
-range_most bytes offset size = omega (arith, length-take (offset + size - offset) (drop offset bytes))
-
-pub fresh-fits : (sizes : List ℕ) (sources : List Source) (body : Body) → Each (λ size. size ≤ CONTENT_MAX) sizes → IsBodyOver sizes body → IfSome (own_bytes (fresh_in sources body)) (λ bytes. length bytes ≤ CONTENT_MAX)
-fresh-fits sizes sources (Whole of) kept over = tt
-fresh-fits sizes sources (Part of offset size) kept over = omega (arith, over.1, size_at sizes of kept, range_most (source_bytes sources of) offset size)
-fresh-fits sizes sources (New bytes) kept over = over
+pub fresh-fits : (sizes : List ℕ) (body : Body) → IsBodyOver sizes body → IfSome (own_bytes (fresh_in body)) (λ bytes. length bytes ≤ CONTENT_MAX)
+fresh-fits sizes (Whole of) over = tt
+fresh-fits sizes (Part of offset size) over = tt
+fresh-fits sizes (New bytes) over = over

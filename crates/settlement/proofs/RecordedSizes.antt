@@ -7,7 +7,6 @@ use Rattle.flowfile_record.specs.Attributes.{AttributeMap}
 use Rattle.flowfile_record.specs.declared.stored.Placed.{Placed}
 use Rattle.machine_model.specs.declared.limits.TheConstants.{FAN_OUT_MAX}
 use Rattle.machine_model.proofs.Tally.{Each, tally, tally-append}
-use Rattle.process_session.specs.declared.file.Source.{Source}
 use Rattle.settlement.specs.Placing.{Newcomer, PlacingFrom, arrived, first_of, firsts, further, placed_from, returned, returning, wanted}
 use Rattle.settlement.specs.declared.file.EndedFile.{EndedFile}
 use Rattle.settlement.specs.declared.file.Goes.{Goes}
@@ -32,9 +31,9 @@ weight w file = w file.worked.attributes
 abbrev pub placed_weight : (AttributeMap → ℕ) → Placed → ℕ
 placed_weight w p = w p.file.attributes
 
-placed_weighs : (w : AttributeMap → ℕ) (sources : List Source) (arrival : ℕ) (news : List Newcomer) → tally (placed_weight w) (placed_from sources arrival news) ≡ tally (λ (one : Newcomer). weight w one.2) news
-placed_weighs w sources arrival [] = refl
-placed_weighs w sources arrival (one ∷ news) = ap (λ n. weight w one.2 + n) (placed_weighs w sources (arrival + 1) news)
+placed_weighs : (w : AttributeMap → ℕ) (arrival : ℕ) (news : List Newcomer) → tally (placed_weight w) (placed_from arrival news) ≡ tally (λ (one : Newcomer). weight w one.2) news
+placed_weighs w arrival [] = refl
+placed_weighs w arrival (one ∷ news) = ap (λ n. weight w one.2 + n) (placed_weighs w (arrival + 1) news)
 
 clones_weigh : (w : AttributeMap → ℕ) (number : ℕ) (clones : List (EndedFile × ℕ)) → tally (λ (one : Newcomer). weight w one.2) (clones_from number clones) ≡ tally (λ (clone : EndedFile × ℕ). weight w clone.0) clones
 clones_weigh w number [] = refl
@@ -75,7 +74,7 @@ files_weigh w at (file ∷ files) few =
 pub placed-weighs : (w : AttributeMap → ℕ) (at : PlacingFrom) (first_clone : ℕ) (files : List EndedFile) → Each (λ (file : EndedFile). places_of file.goes ≤ FAN_OUT_MAX) files
     → tally (placed_weight w) (returned at files ++ arrived at first_clone files) ≤ FAN_OUT_MAX * tally (weight w) files
 placed-weighs w at first_clone files few =
-    let news = placed_from at.sources at.next_arrival (firsts files) in
+    let news = placed_from at.next_arrival (firsts files) in
     let clones = clones_in at first_clone files in
     let weighs : tally (placed_weight w) clones ≡ tally (placed_weight w) (as_newcomers at first_clone files) =
     clones-weigh w (returned at files ++ arrived at first_clone files) (before_clones at files) clones (as_newcomers at first_clone files) (all_clones at first_clone files) in
@@ -83,9 +82,9 @@ placed-weighs w at first_clone files few =
       arith,
       tally-append (placed_weight w) (returned at files) (arrived at first_clone files),
       tally-append (placed_weight w) news clones,
-      placed_weighs w at.sources at.next_arrival (firsts files),
+      placed_weighs w at.next_arrival (firsts files),
       weighs,
-      placed_weighs w at.sources (at.next_arrival + length (firsts files)) (clones_from first_clone (wanted files)),
+      placed_weighs w (at.next_arrival + length (firsts files)) (clones_from first_clone (wanted files)),
       clones_weigh w first_clone (wanted files),
       files_weigh w at files few,
     )

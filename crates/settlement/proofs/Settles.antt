@@ -19,6 +19,7 @@ use Rattle.machine_model.specs.Placing.{SettledFile, SettlementClone, Destinatio
 use Rattle.machine_model.specs.Settling.{arriving, counts_after, newcomers, settle, staying, staying_as}
 use Rattle.machine_model.specs.State.{Kin, QueuedFile}
 use Rattle.machine_model.specs.Stepping.{without_files}
+use Rattle.machine_model.specs.Valid.{EventsTellKin}
 use Rattle.machine_model.proofs.Among.{Among}
 use Rattle.machine_model.proofs.Drafted.{length-numbered}
 use Rattle.machine_model.proofs.EventsTell.{settle-tells}
@@ -33,7 +34,7 @@ use Rattle.settlement.proofs.ByArrival.{put_all}
 use Rattle.settlement.proofs.AddedEvents.{numbers-fit}
 use Rattle.settlement.proofs.Arriving.{Below, Comer, HasBytes, arriving-same, as_placed, as_queued, comer, comers, comers-placed, comers-queued, put-arriving}
 use Rattle.settlement.proofs.Clones.{all_clones, as_newcomers, before_clones, clones-into, clones_from, clones_in, length-clones}
-use Rattle.settlement.proofs.EndedFiles.{Case, ended_of, place, session}
+use Rattle.settlement.proofs.EndedFiles.{Case, by_bytes, ended_of, place, session}
 use Rattle.settlement.proofs.Listing.{fold-append}
 use Rattle.settlement.proofs.Placed as placed
 use Rattle.settlement.proofs.Queues.{Stands, arrival-below, files_of, placed-append, queue-stays}
@@ -56,8 +57,8 @@ settled_over c files =
       count = count_of c.processor.kind c.ended.processor c.given.index;
     }
 
-abbrev ended_all : Case → List EndedFile
-ended_all c = map (ended_of (place c)) (files_of c)
+abbrev pub ended_all : Case → List EndedFile
+ended_all c = map (ended_of c) (files_of c)
 
 abbrev pub first_clone : Case → ℕ
 first_clone c = c.state.next_number + count_made c.ended.outcome.files
@@ -72,19 +73,19 @@ arrived_same : (c : Case) (k : ℕ)
     → let at = placing_at (place c) c.ended.connection c.state.next_arrival in
     let all = (settled_over c (ended_all c)).placed in
     placed_into c.bytes all k (arrived at (first_clone c) (ended_all c))
-    ≡ placed_into c.bytes all k (placed_from c.ended.sources c.state.next_arrival (map (as_placed c) (comers (files_of c) (clones_of c))))
+    ≡ placed_into c.bytes all k (placed_from c.state.next_arrival (map (as_placed c) (comers (files_of c) (clones_of c))))
 arrived_same c k =
     let at = placing_at (place c) c.ended.connection c.state.next_arrival in
     let all = (settled_over c (ended_all c)).placed in
-    let news = placed_from c.ended.sources c.state.next_arrival (firsts (ended_all c)) in
+    let news = placed_from c.state.next_arrival (firsts (ended_all c)) in
     let clones = clones_in at (first_clone c) (ended_all c) in
     let alike = as_newcomers at (first_clone c) (ended_all c) in
     placed-append c all k news clones
     ∙ ap (λ queue. placed_into c.bytes all k news ++ queue) (clones-into c.bytes all (before_clones at (ended_all c)) k clones alike (all_clones at (first_clone c) (ended_all c)))
     ∙ sym (placed-append c all k news alike)
     ∙ ap (placed_into c.bytes all k)
-    (sym (placed.placed-append c.ended.sources c.state.next_arrival (firsts (ended_all c)) (clones_from (first_clone c) (wanted (ended_all c))))
-    ∙ ap (placed_from c.ended.sources c.state.next_arrival) (comers-placed c (first_clone c) (files_of c)))
+    (sym (placed.placed-append c.state.next_arrival (firsts (ended_all c)) (clones_from (first_clone c) (wanted (ended_all c))))
+    ∙ ap (placed_from c.state.next_arrival) (comers-placed c (first_clone c) (files_of c)))
 
 -- what stays keeps its arrival
 stays_below : (arrival : ℕ) (file : QueuedFile) (found : Option SettledFile) → file.arrival < arrival → Below arrival (staying_as file found)
@@ -189,34 +190,54 @@ newcomer_count c =
 abbrev pub EventsFit : Case → Type 0
 EventsFit c = c.state.last_event + 1 + length (all_drafts (told c (files_of c)) c.ended.outcome.sent (first_clone c)) ≤ 2 ^ 64
 
-events_same : (c : Case) → EventsFit c → (settled_over c (ended_all c)).events ≡ numbered_from (c.state.last_event + 1) (drafts (session c) c.ended.outcome)
+-- with the sizes and the digests of their bytes
+abbrev settled_told : Case → Settled
+settled_told c = settled_over c (ended_all (by_bytes c))
+
+events_same : (c : Case) → EventsFit c → (settled_told c).events ≡ numbered_from (c.state.last_event + 1) (drafts (session c) c.ended.outcome)
 events_same c fit =
     let all = drafts (session c) c.ended.outcome in
     let same = drafts-same c c.ended.outcome in
     let many : length (all_drafts (told c (files_of c)) c.ended.outcome.sent (first_clone c)) ≡ length all = ap length same ∙ length-map all (λ (draft : Draft). draft.event) in
     ap (numbered_wrapping (c.state.last_event + 1)) same ∙ numbers-fit (c.state.last_event + 1) all (omega (arith, fit, many))
 
-event_count : (c : Case) → EventsFit c → length (settled_over c (ended_all c)).events ≡ length (drafts (session c) c.ended.outcome)
+event_count : (c : Case) → EventsFit c → length (settled_told c).events ≡ length (drafts (session c) c.ended.outcome)
 event_count c fit = ap length (events_same c fit) ∙ length-numbered (c.state.last_event + 1) (drafts (session c) c.ended.outcome)
 
-kin_same : (c : Case) → Stands c → EventsFit c → ◌≡◌ {A = Kin} (union c.state.kin (from_list (kin_of_all (settled_over c (ended_all c)).events))) (settle (session c) c.ended.outcome).kin
-kin_same c s fit =
-    let more = (settled_over c (ended_all c)).events in
-    ap (λ kin. union kin (from_list (kin_of_all more))) s.valid.kin
+kin_same : (c : Case) → EventsTellKin c.state → EventsFit c → ◌≡◌ {A = Kin} (union c.state.kin (from_list (kin_of_all (settled_told c).events))) (settle (session c) c.ended.outcome).kin
+kin_same c tell fit =
+    let more = (settled_told c).events in
+    ap (λ kin. union kin (from_list (kin_of_all more))) tell
     ∙ kin_joined (kin_of_all c.state.events) (kin_of_all more)
     ∙ ap from_list (sym (flat_map-append kin_of c.state.events more))
     ∙ ap (λ events. from_list (kin_of_all (c.state.events ++ events))) (events_same c fit)
-    ∙ sym (settle-tells (session c) c.ended.outcome s.valid.kin)
+    ∙ sym (settle-tells (session c) c.ended.outcome tell)
 
 -- ---- the state
 
-pub over-settles : (c : Case) → Stands c → EventsFit c → state_after c.bytes c.state (settled_over c (ended_all c)) ≡ settle (session c) c.ended.outcome
-over-settles c s fit = λ i. record c.state {
-  queues = queues_same c s i;
-  events = c.state.events ++ events_same c fit i;
-  kin = kin_same c s fit i;
+pub over-queues : (c : Case) → Stands c → (state_after c.bytes c.state (settled_over c (ended_all c))).queues ≡ (settle (session c) c.ended.outcome).queues
+over-queues c s = queues_same c s
+
+pub over-events : (c : Case) → EventsFit c → (state_after c.bytes c.state (settled_told c)).events ≡ (settle (session c) c.ended.outcome).events
+over-events c fit = ap (λ events. c.state.events ++ events) (events_same c fit)
+
+pub over-kin : (c : Case) → EventsTellKin c.state → EventsFit c → (state_after c.bytes c.state (settled_told c)).kin ≡ (settle (session c) c.ended.outcome).kin
+over-kin c tell fit = kin_same c tell fit
+
+pub over-last : (c : Case) → EventsFit c → (state_after c.bytes c.state (settled_told c)).last_event ≡ (settle (session c) c.ended.outcome).last_event
+over-last c fit = ap (λ count. c.state.last_event + count) (event_count c fit)
+
+-- all else
+pub over-rest : (c : Case)
+    → record (state_after c.bytes c.state (settled_over c (ended_all c))) {
+      queues = (settle (session c) c.ended.outcome).queues;
+      events = (settle (session c) c.ended.outcome).events;
+      kin = (settle (session c) c.ended.outcome).kin;
+      last_event = (settle (session c) c.ended.outcome).last_event;
+    }
+    ≡ settle (session c) c.ended.outcome
+over-rest c = λ i. record (settle (session c) c.ended.outcome) {
   next_number = first_clone c + clone_count c i;
   next_arrival = c.state.next_arrival + newcomer_count c i;
-  last_event = c.state.last_event + event_count c fit i;
   counts = counts_same c.processor.kind c.ended.processor c.given.index c.state.counts i;
 }

@@ -1,23 +1,31 @@
 -- That what the calls inside make is the whole settlement.
-use Rattle.std.proofs.Common.{◌≡◌, ℕ, ◌+◌, List, [], ◌∷◌, ◌++◌, map, length, ap, ◌∙◌}
-use Rattle.std.specs.Prelude.{All, Option, zip}
-use Rattle.std.proofs.lemmas.List.Elements.{All-cons, All-head, All-nil, All-tail}
+use Rattle.std.proofs.Common.{◌≡◌, ℕ, zero, suc, ◌+◌, ◌^◌, ◌<◌, ◌≤◌, List, [], ◌∷◌, ◌++◌, map, length, get_or, ap, ◌∙◌, arith}
+use Rattle.std.specs.Prelude.{All, Option, slice_index}
+use Rattle.std.proofs.lemmas.List.Elements.{All-head, All-tail}
+use Rattle.flowfile_record.specs.Outcome.{IsBodyOver, IsWorked}
 use Rattle.flowfile_record.specs.declared.change.Settled.{Settled}
 use Rattle.flowfile_record.specs.declared.event.Event.{Event}
 use Rattle.flowfile_record.specs.declared.flow_file.FlowFile.{FlowFile}
 use Rattle.flowfile_record.specs.declared.stored.Counted.{Counted}
 use Rattle.flowfile_record.specs.declared.stored.Placed.{Placed}
+use Rattle.flowfile_record.specs.declared.worked.Body.{Body}
+use Rattle.flowfile_record.specs.declared.worked.Body.TheVariants.{Whole, Part, New}
 use Rattle.flowfile_record.specs.declared.worked.Outcome.{Outcome}
 use Rattle.flowfile_record.specs.declared.worked.Worked.{Worked}
+use Rattle.machine_model.specs.declared.flow.Flow.{Flow}
+use Rattle.machine_model.specs.declared.flow.Processor.{Processor}
 use Rattle.machine_model.specs.declared.given.Given.{Given}
-use Rattle.machine_model.specs.Placing.{count_made, entered_in, numbers_from}
-use Rattle.settlement.specs.Contents.{IsBodyWithin}
-use Rattle.settlement.specs.Ending.{EndingPlace, IsWorkedWithin, ended_file, ended_files}
+use Rattle.machine_model.specs.Placing.{count_made}
+use Rattle.process_session.specs.declared.file.Source.{Source}
+use Rattle.settlement.specs.Contents.{kept_content, BeginsWithin, IsBodyWithin}
+use Rattle.settlement.specs.Ending.{EndingPlace, IsWorkedWithin, ended_files}
+use Rattle.settlement.specs.Handed.{MaySettle, sizes_of}
 use Rattle.settlement.specs.Placing.{arrived, firsts, returned, wanted}
 use Rattle.settlement.specs.Telling.{all_drafts, numbered_wrapping}
-use Rattle.settlement.specs.Whole.{count_of, placing_at, settled_of, told_of}
+use Rattle.settlement.specs.Whole.{MayEnd, count_of, place_in, placing_at, settled_of, told_of}
 use Rattle.settlement.specs.declared.counters.Counters.{Counters}
 use Rattle.settlement.specs.declared.file.EndedFile.{EndedFile}
+use Rattle.settlement.specs.declared.handed.Ended.{Ended}
 
 pub settled_is : (at : EndingPlace) (given : Given) (counters : Counters) (connection : ℕ) (outcome : Outcome) (files : List EndedFile) (made first clones : ℕ) (gone : List ℕ) (placed : List Placed) (events : List Event)
     (count : Option Counted) → files ≡ ended_files at counters.next_number outcome.files → made ≡ count_made outcome.files
@@ -52,16 +60,34 @@ settled_is at given counters connection outcome files made first clones gone pla
       count = count_is i;
     }
 
-zipped_within : (at : EndingPlace) (numbers entered : List ℕ) (files : List Worked) → All (IsWorkedWithin at.sources) files
-    → All (λ (file : EndedFile). IsBodyWithin at.sources file.worked.body) (map (λ f. ended_file at (f.0, f.1.0, f.1.1)) (zip numbers (zip entered files)))
-zipped_within at [] entered files within = All-nil (λ (file : EndedFile). IsBodyWithin at.sources file.worked.body)
-zipped_within at (number ∷ numbers) [] files within = All-nil (λ (file : EndedFile). IsBodyWithin at.sources file.worked.body)
-zipped_within at (number ∷ numbers) (moment ∷ entered) [] within = All-nil (λ (file : EndedFile). IsBodyWithin at.sources file.worked.body)
-zipped_within at (number ∷ numbers) (moment ∷ entered) (file ∷ files) within =
-    All-cons (λ (file : EndedFile). IsBodyWithin at.sources file.worked.body) (ended_file at (number, moment, file)) _ (All-head (IsWorkedWithin at.sources) file files within).body
-    (zipped_within at numbers entered files (All-tail (IsWorkedWithin at.sources) file files within))
+-- ---- what the calls inside ask for
 
--- a part is one of what was read, behind the session too
-pub all_within : (at : EndingPlace) (next : ℕ) (files : List Worked) → All (IsWorkedWithin at.sources) files → All (λ (file : EndedFile). IsBodyWithin at.sources file.worked.body) (ended_files at next files)
-all_within at next files within =
-    zipped_within at (numbers_from next (map (λ (file : FlowFile). file.number) at.taken) files) (entered_in at.moment (map (λ (file : FlowFile). file.entered) at.taken) files) files within
+abbrev EndsWithin : FlowFile → Type 0
+EndsWithin file = file.content.offset + file.content.size < 2 ^ 64
+
+-- a part begins where the taken content ends, or before it
+begins : (taken : List FlowFile) (body : Body) → All EndsWithin taken → IsBodyOver (sizes_of taken) body → BeginsWithin taken body
+begins taken (Whole of) ends over = tt
+begins taken (New bytes) ends over = tt
+begins taken (Part of offset size) ends over = begins_at taken of offset size ends over.1
+  where
+    begins_at : (taken : List FlowFile) (of offset size : ℕ) → All EndsWithin taken → offset + size ≤ slice_index (sizes_of taken) of → (kept_content taken of).offset + offset < 2 ^ 64
+    begins_at [] of offset size ends within = omega (arith, within)
+    begins_at (file ∷ taken) zero offset size ends within = omega (arith, within, All-head EndsWithin file taken ends)
+    begins_at (file ∷ taken) (suc of) offset size ends within = begins_at taken of offset size (All-tail EndsWithin file taken ends) within
+
+all_within : (taken : List FlowFile) (sources : List Source) (relationships : ℕ) (files : List Worked) → All EndsWithin taken → All (λ file. IsBodyWithin sources file.body) files
+    → All (IsWorked relationships (sizes_of taken)) files → All (IsWorkedWithin taken sources) files
+all_within taken sources relationships files ends parts worked =
+    λ i d lt. record { body = parts i d lt; begins = begins taken (get_or files i d).body ends (worked i d lt).body; named = (worked i d lt).named }
+
+pub may-end : (flow : Flow) (given : Given) (counters : Counters) (ended : Ended) (processor : Processor) → MaySettle flow counters ended
+    → MayEnd (place_in flow given counters ended processor) counters ended.outcome
+may-end flow given counters ended processor may = record {
+  connections = may.connections;
+  within = all_within ended.taken ended.sources may.relationships ended.outcome.files may.ends may.parts may.outcome.each;
+  few = may.outcome.count;
+  next_number = may.next_number;
+  next_arrival = may.next_arrival;
+  last_event = may.last_event;
+}

@@ -1,7 +1,8 @@
 -- The contents of the files of a session, as the calls inside see them.
-use Rattle.std.specs.Prelude.{ℕ, ◌+◌, ◌≤◌, List, [], length, unwrap_or, slice_get, slice_range}
+use Rattle.std.specs.Prelude.{ℕ, ◌+◌, ◌<◌, ◌≤◌, ◌^◌, List, [], length, unwrap_or, slice_get, slice_range}
 use Rattle.std.specs.Option.{option_map_or}
 use Rattle.sha2.specs.Sha256.{sha256}
+use Rattle.flowfile_record.specs.Ranges.{range_of}
 use Rattle.flowfile_record.specs.declared.content.ContentRef.{ContentRef}
 use Rattle.flowfile_record.specs.declared.flow_file.FlowFile.{FlowFile}
 use Rattle.flowfile_record.specs.declared.stored.Fresh.{Fresh}
@@ -22,24 +23,30 @@ kept_content taken place = option_map_or (λ file. file.content) (slice_get take
 abbrev pub source_bytes : List Source → ℕ → List ℕ
 source_bytes sources place = option_map_or (λ source. unwrap_or source.bytes []) (slice_get sources place) []
 
+-- a part of a taken content stands within it
 abbrev pub content_in : List FlowFile → List Source → Body → ContentRef
 content_in taken sources (Whole of) = kept_content taken of
 content_in taken sources (Part of offset size) =
-    fresh_ref (slice_range (source_bytes sources of) offset (offset + size))
+    range_of (kept_content taken of) offset size
+    (sha256 (slice_range (source_bytes sources of) offset (offset + size)))
 content_in taken sources (New bytes) = fresh_ref bytes
 
 -- where the content of a body comes from: one that isn't in the store yet has its bytes
-abbrev pub fresh_in : List Source → Body → Fresh
-fresh_in sources (Whole of) = No
-fresh_in sources (Part of offset size) = Bytes (slice_range (source_bytes sources of) offset (offset + size))
-fresh_in sources (New bytes) = Bytes bytes
+abbrev pub fresh_in : Body → Fresh
+fresh_in (New bytes) = Bytes bytes
+fresh_in _ = No
 
 -- the same for a clone whose original is placed here: it shares a content that isn't in the store yet
 abbrev pub shared_in : (place : ℕ) → Body → Fresh
-shared_in place (Whole of) = No
-shared_in place _ = As place
+shared_in place (New bytes) = As place
+shared_in place _ = No
 
 -- a part is one of bytes that were read
 abbrev pub IsBodyWithin : List Source → Body → Type 0
 IsBodyWithin sources (Part of offset size) = offset + size ≤ length (source_bytes sources of)
 IsBodyWithin sources _ = Unit {0}
+
+-- a part of a taken content begins at an offset of 64 bits
+abbrev pub BeginsWithin : List FlowFile → Body → Type 0
+BeginsWithin taken (Part of offset size) = (kept_content taken of).offset + offset < 2 ^ 64
+BeginsWithin taken _ = Unit {0}

@@ -10,7 +10,7 @@ use Rattle.machine_model.specs.declared.flow.Flow.{Flow}
 use Rattle.machine_model.specs.declared.flow.Processor.{Processor}
 use Rattle.machine_model.specs.Placing as placing
 use Rattle.machine_model.specs.Placing.{Destination, goes, least, numbers_from, entered_in, with_filename, penalty_end_of}
-use Rattle.settlement.specs.Contents.{content_in, IsBodyWithin}
+use Rattle.settlement.specs.Contents.{content_in, BeginsWithin, IsBodyWithin}
 use Rattle.settlement.specs.declared.file.EndedFile.{EndedFile}
 use Rattle.settlement.specs.declared.file.Goes.{Goes}
 use Rattle.settlement.specs.declared.file.Goes.TheVariants.{Queues, Returns, Drops, Leaves}
@@ -25,8 +25,9 @@ goes_to (placing.Drops relationship) = Drops relationship
 goes_to placing.Leaves = Leaves
 
 -- what is asked of a file that a session ends with
-pub record IsWorkedWithin (sources : List Source) (file : Worked) : Type 0 where
+pub record IsWorkedWithin (taken : List FlowFile) (sources : List Source) (file : Worked) : Type 0 where
   pub body : IsBodyWithin sources file.body
+  pub begins : BeginsWithin taken file.body
   pub named : encoded_size file.attributes + filename_to_come file.origin file.attributes ≤ ATTRIBUTES_MAX
 
 -- ---- files

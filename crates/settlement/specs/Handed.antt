@@ -1,5 +1,5 @@
 -- What is handed in, and the machine's session that it stands for.
-use Rattle.std.specs.Prelude.{◌≡◌, ◌≢◌, ℕ, ◌<◌, ◌≤◌, ◌^◌, List, [], ◌∷◌, map, length, All, Contains, IfSome, Some, slice_get}
+use Rattle.std.specs.Prelude.{◌≡◌, ◌≢◌, ℕ, ◌+◌, ◌<◌, ◌≤◌, ◌^◌, List, [], ◌∷◌, map, length, All, Contains, IfSome, Some, slice_get}
 use Rattle.std.specs.List.{AllPairs}
 use Rattle.sha2.specs.Sha256.{sha256}
 use Rattle.flowfile_record.specs.Outcome.{IsOutcome}
@@ -24,11 +24,13 @@ use Rattle.settlement.specs.declared.handed.Ended.{Ended}
 abbrev pub sizes_of : List FlowFile → List ℕ
 sizes_of taken = map (λ file. file.content.size) taken
 
--- The processor is one of the flow, whose connections have places of 16 bits. The outcome is one over the taken files,
--- and parts are of contents that were read. The counters are numbers of a state.
+-- The processor is one of the flow, whose connections have places of 16 bits. The contents of the taken files end within
+-- 64 bits. The outcome is one over these files, and parts are of contents that were read. The counters are numbers of a
+-- state.
 pub record MaySettle (flow : Flow) (counters : Counters) (ended : Ended) : Type 0 where
   pub processor : ended.processor < length flow.processors
   pub connections : length flow.connections ≤ 2 ^ 16
+  pub ends : All (λ file. file.content.offset + file.content.size < 2 ^ 64) ended.taken
   pub relationships : ℕ
   pub outcome : IsOutcome relationships (sizes_of ended.taken) ended.outcome
   pub parts : All (λ file. IsBodyWithin ended.sources file.body) ended.outcome.files
@@ -70,6 +72,5 @@ pub record IsHanded (flow : Flow) (counters : Counters) (ended : Ended) (process
   pub next_number : state.next_number ≡ counters.next_number
   pub next_arrival : state.next_arrival ≡ counters.next_arrival
   pub last_event : state.last_event ≡ counters.last_event
-  pub read : AreRead bytes ended.taken ended.sources
   pub there : All (Contains (queue_at state ended.connection)) (map (queued_file bytes) ended.taken)
   pub differ : AllPairs (λ one other. one.number ≢ other.number) ended.taken

@@ -6,7 +6,6 @@ use Rattle.flowfile_record.specs.declared.stored.Fresh.{Fresh}
 use Rattle.flowfile_record.specs.declared.stored.Placed.{Placed}
 use Rattle.flowfile_record.specs.declared.worked.Origin.{Origin}
 use Rattle.flowfile_record.specs.declared.worked.Origin.TheVariants.{Taken}
-use Rattle.process_session.specs.declared.file.Source.{Source}
 use Rattle.settlement.specs.Contents.{fresh_in, shared_in}
 use Rattle.settlement.specs.declared.file.EndedFile.{EndedFile}
 use Rattle.settlement.specs.declared.file.Goes.{Goes}
@@ -48,14 +47,12 @@ wanted files = flat_map (λ file. map (λ connection. (file, connection)) (furth
 pub record PlacingFrom : Type 0 where
   pub connection : ℕ
   pub taken : List FlowFile
-  pub sources : List Source
   pub next_arrival : ℕ
 
 abbrev pub placing_of : Placer → PlacingFrom
 placing_of placer = record {
   connection = placer.connection;
   taken = placer.taken.now;
-  sources = placer.sources.now;
   next_arrival = placer.next_arrival;
 }
 
@@ -74,15 +71,14 @@ placed_as fresh arrival (connection, number, file) = record {
   fresh = fresh;
 }
 
-abbrev pub placed_at : List Source → (arrival : ℕ) → Newcomer → Placed
-placed_at sources arrival (connection, number, file) =
-    placed_as (fresh_in sources file.worked.body) arrival (connection, number, file)
+abbrev pub placed_at : (arrival : ℕ) → Newcomer → Placed
+placed_at arrival (connection, number, file) =
+    placed_as (fresh_in file.worked.body) arrival (connection, number, file)
 
 -- arrivals are given in turn
-abbrev pub placed_from : List Source → (arrival : ℕ) → List Newcomer → List Placed
-placed_from sources arrival [] = []
-placed_from sources arrival (newcomer ∷ rest) =
-    placed_at sources arrival newcomer ∷ placed_from sources (arrival + 1) rest
+abbrev pub placed_from : (arrival : ℕ) → List Newcomer → List Placed
+placed_from arrival [] = []
+placed_from arrival (newcomer ∷ rest) = placed_at arrival newcomer ∷ placed_from (arrival + 1) rest
 
 -- a taken file keeps its arrival
 abbrev pub arrival_of : List FlowFile → Origin → ℕ
@@ -91,7 +87,7 @@ arrival_of taken _ = 0
 
 abbrev pub returning : PlacingFrom → EndedFile → Goes → List Placed
 returning placing file Returns =
-    placed_at placing.sources (arrival_of placing.taken file.worked.origin) (placing.connection, file.number, file) ∷ []
+    placed_at (arrival_of placing.taken file.worked.origin) (placing.connection, file.number, file) ∷ []
 returning placing file _ = []
 
 abbrev pub returned : PlacingFrom → List EndedFile → List Placed
@@ -115,5 +111,5 @@ cloned_from place number arrival (file ∷ files) =
 -- the files that go on, then the clones; those that return stand before them
 abbrev pub arrived : PlacingFrom → (first_clone : ℕ) → List EndedFile → List Placed
 arrived placing first_clone files =
-    placed_from placing.sources placing.next_arrival (firsts files)
+    placed_from placing.next_arrival (firsts files)
     ++ cloned_from (length (returned placing files)) first_clone (placing.next_arrival + length (firsts files)) files

@@ -5,7 +5,6 @@ use Rattle.flowfile_record.specs.Attributes.{IsWithinLimits, encoded_size}
 use Rattle.flowfile_record.specs.Shared.{own_bytes}
 use Rattle.flowfile_record.specs.declared.TheConstants.{CONTENT_MAX}
 use Rattle.flowfile_record.specs.declared.change.Settled.{Settled}
-use Rattle.flowfile_record.specs.declared.flow_file.FlowFile.{FlowFile}
 use Rattle.flowfile_record.specs.declared.limits.TheConstants.{FILES_MAX, FILENAME_SIZE, SESSION_ATTRIBUTES_MAX}
 use Rattle.flowfile_record.specs.declared.stored.Placed.{Placed}
 use Rattle.machine_model.specs.declared.flow.Flow.{Flow}
@@ -17,18 +16,13 @@ use Rattle.settlement.specs.declared.counters.Counters.{Counters}
 use Rattle.settlement.specs.declared.handed.Ended.{Ended}
 use Rattle.settlement.specs.Whole.{count_of}
 
--- a taken file as a store may keep one
-pub record IsKeptFile (file : FlowFile) : Type 0 where
-  pub entered : file.entered < 2 ^ 64
-  pub size : file.content.size ≤ CONTENT_MAX
-
 -- The processor is this one, none of whose relationships leads to more connections than one may; taken files came from
--- a connection of the flow.
+-- a connection of the flow, at moments of 64 bits.
 pub record MayRecord (flow : Flow) (ended : Ended) (processor : Processor) : Type 0 where
   pub found : slice_get flow.processors ended.processor ≡ Some processor
   pub fan_out : (relationship : List ℕ) → length (connections_of flow ended.processor relationship) ≤ FAN_OUT_MAX
   pub connection : 0 < length ended.taken → ended.connection < length flow.connections
-  pub kept : All IsKeptFile ended.taken
+  pub entered : All (λ file. file.entered < 2 ^ 64) ended.taken
 
 -- a placed file goes to a connection of the flow, and each of its parts can be told in an entry
 pub record IsRecordable (flow : Flow) (placed : Placed) : Type 0 where

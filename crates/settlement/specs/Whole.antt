@@ -31,7 +31,7 @@ place_in flow given counters ended processor = record {
 
 abbrev pub placing_at : EndingPlace → (connection next_arrival : ℕ) → PlacingFrom
 placing_at at connection next_arrival =
-    record { connection = connection; taken = at.taken; sources = at.sources; next_arrival = next_arrival }
+    record { connection = connection; taken = at.taken; next_arrival = next_arrival }
 
 abbrev pub told_of : Processor → List FlowFile → Given → List EndedFile → Told
 told_of processor taken given files = record {
@@ -70,7 +70,7 @@ settled_in flow given counters ended processor =
 -- what the calls inside ask for
 pub record MayEnd (at : EndingPlace) (counters : Counters) (outcome : Outcome) : Type 0 where
   pub connections : length at.flow.connections ≤ 2 ^ 16
-  pub within : All (IsWorkedWithin at.sources) outcome.files
+  pub within : All (IsWorkedWithin at.taken at.sources) outcome.files
   pub few : length outcome.files ≤ FILES_MAX
   pub next_number : counters.next_number < NUMBER_LIMIT
   pub next_arrival : counters.next_arrival < NUMBER_LIMIT

@@ -1,21 +1,39 @@
 //! The contents of a session's files.
-ghost use Rattle.std.specs.Prelude.{◌≡◌, ◌+◌, ◌≤◌, length, slice_range, unwrap_or, IfOk, []};
-ghost use Rattle.settlement.specs.Contents.{content_in, fresh_in, fresh_ref, kept_content, shared_in, source_bytes, IsBodyWithin};
+ghost use Rattle.std.specs.Prelude.{◌≡◌, ◌+◌, ◌<◌, ◌≤◌, ◌^◌, length, slice_range, unwrap_or, []};
+ghost use Rattle.flowfile_record.specs.Ranges.{range_of};
+ghost use Rattle.settlement.specs.Contents.{content_in, fresh_in, fresh_ref, kept_content, shared_in, source_bytes, BeginsWithin, IsBodyWithin};
 
-use flowfile_record::{Body, Bytes, ContentRef, FlowFile, Fresh};
+use flowfile_record::{Body, ContentRef, DIGEST_SIZE, FlowFile, Fresh};
 use process_session::Source;
 use sha2::{Digest, Sha256};
-use std::alloc::{AllocError, Global};
 
-/// A reference to the content of a body: that of the taken file whose whole content it is, and else a new one.
+/// A reference to the content of a body: that of the taken file whose whole content it is, a range of that whose part it
+/// is, and else a new one.
 pub fn content_in(taken: &[FlowFile], sources: &[Source], body: &Body) -> ContentRef
-    requires { IsBodyWithin sources.now body.now }
+    requires within { IsBodyWithin sources.now body.now }
+    requires begins { BeginsWithin taken.now body.now }
     ensures { result ≡ content_in taken.now sources.now body.now }
 {
     match body {
         Body::Whole { of } => kept_content(taken, *of),
-        Body::Part { of, offset, size } => fresh_ref(part_of(sources, *of, *offset, *size)),
+        Body::Part { of, offset, size } => {
+            let digest = Sha256::digest(part_of(sources, *of, *offset, *size));
+            range_of(kept_content(taken, *of), *offset, *size, digest)
+        }
         Body::New(bytes) => fresh_ref(bytes.as_slice()),
+    }
+}
+
+/// A reference to so many bytes of a content from an offset in it on, which have this digest.
+fn range_of(whole: ContentRef, offset: u64, size: u64, digest: [u8; DIGEST_SIZE]) -> ContentRef
+    requires { whole.offset + offset < 2 ^ 64 }
+    ensures { result ≡ range_of whole offset size digest }
+{
+    ContentRef {
+        slot: whole.slot,
+        offset: whole.offset + offset,
+        size,
+        digest,
     }
 }
 
@@ -40,18 +58,13 @@ fn fresh_ref(bytes: &[u8]) -> ContentRef
     }
 }
 
-/// Where the content of a body comes from. What the session wrote is moved, a part is copied.
-pub fn fresh_of(alloc: Global, sources: &[Source], body: Body) -> Result<Fresh, AllocError>
-    requires { IsBodyWithin sources.now body }
-    ensures { IfOk result (λ fresh. fresh ≡ fresh_in sources.now body) }
+/// Where the content of a body comes from. What the session wrote is moved.
+pub fn fresh_of(body: Body) -> Fresh
+    ensures { result ≡ fresh_in body }
 {
     match body {
-        Body::New(bytes) => Ok(Fresh::Bytes(bytes)),
-        Body::Whole { of: _ } => Ok(Fresh::No),
-        Body::Part { of, offset, size } => {
-            let bytes = Bytes::from_slice(alloc, part_of(sources, of, offset, size))?;
-            Ok(Fresh::Bytes(bytes))
-        }
+        Body::New(bytes) => Fresh::Bytes(bytes),
+        Body::Whole { .. } | Body::Part { .. } => Fresh::No,
     }
 }
 
@@ -60,8 +73,8 @@ pub fn shared_in(place: u32, body: &Body) -> Fresh
     ensures { result ≡ shared_in place body.now }
 {
     match body {
-        Body::Whole { .. } => Fresh::No,
-        Body::Part { .. } | Body::New(_) => Fresh::As(place),
+        Body::New(_) => Fresh::As(place),
+        Body::Whole { .. } | Body::Part { .. } => Fresh::No,
     }
 }
 

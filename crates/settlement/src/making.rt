@@ -32,7 +32,7 @@ impl Setting<'_> {
     pub fn end_files(&self, next: u64, files: Vec<Worked>) -> Result<Vec<EndedFile>, AllocError>
         requires connections { length self.now.flow.now.connections ≤ 2 ^ 16 }
         requires room { next + length files.items < 2 ^ 64 }
-        requires within { All (IsWorkedWithin self.now.sources.now) files.items }
+        requires within { All (IsWorkedWithin self.now.taken.now self.now.sources.now) files.items }
         ensures { IfOk result (λ ended. ended.items ≡ ended_files (place_of self.now) next files.items) }
     {
         let numbers = numbers_from(self.alloc, next, self.taken, &files)?;
@@ -49,7 +49,7 @@ impl Setting<'_> {
         requires connections { length self.now.flow.now.connections ≤ 2 ^ 16 }
         requires numbers { length numbers.now ≡ length files.items }
         requires entered { length entered.now ≡ length files.items }
-        requires within { All (IsWorkedWithin self.now.sources.now) files.items }
+        requires within { All (IsWorkedWithin self.now.taken.now self.now.sources.now) files.items }
         ensures { IfOk result (λ ended. ended.items
             ≡ map (λ f. ended_file (place_of self.now) (f.0, f.1.0, f.1.1))
             (zip numbers.now (zip entered.now files.items))) }
@@ -66,7 +66,7 @@ impl Setting<'_> {
 
     fn end_file(&self, number: u64, entered: u64, worked: Worked) -> Result<EndedFile, AllocError>
         requires connections { length self.now.flow.now.connections ≤ 2 ^ 16 }
-        requires within { IsWorkedWithin self.now.sources.now worked }
+        requires within { IsWorkedWithin self.now.taken.now self.now.sources.now worked }
         ensures { IfOk result (λ ended. ended ≡ ended_file (place_of self.now) (number, entered, worked)) }
     {
         let content = content_in(self.taken, self.sources, &worked.body);
@@ -91,7 +91,7 @@ impl Setting<'_> {
 
     /// The file with the attributes that it has from now on.
     fn name(&self, number: u64, worked: Worked) -> Result<Worked, AllocError>
-        requires { IsWorkedWithin self.now.sources.now worked }
+        requires { IsWorkedWithin self.now.taken.now self.now.sources.now worked }
         ensures { IfOk result (λ named. named ≡ named_file self.now.store number worked) }
     {
         let Worked {

@@ -1,12 +1,11 @@
 //! What a session puts into queues.
-ghost use Rattle.std.specs.Prelude.{◌≡◌, ◌+◌, ◌*◌, ◌<◌, ◌≤◌, ◌^◌, ◌∷◌, ◌++◌, [], ℕ, length, map, slice_index, vec_len, All, IfOk, OnOk};
-ghost use Rattle.settlement.specs.Contents.{shared_in, IsBodyWithin};
+ghost use Rattle.std.specs.Prelude.{◌≡◌, ◌+◌, ◌*◌, ◌<◌, ◌≤◌, ◌^◌, ◌∷◌, ◌++◌, [], ℕ, length, map, slice_index, vec_len, IfOk, OnOk};
+ghost use Rattle.settlement.specs.Contents.{shared_in};
 ghost use Rattle.settlement.specs.Placing.{PlacingFrom, arrival_of, arrived, cloned_from, clones_of, first_of, firsts, first_in, further, is_returning, placed_as, placed_at, placed_from, placing_of, returned, returning, wanted};
 
 use crate::content::{fresh_of, shared_in};
 use crate::file::{EndedFile, Goes};
 use flowfile_record::{FlowFile, Origin, Placed, Worked};
-use process_session::Source;
 use std::alloc::{AllocError, Global};
 
 /// Who places files: from which connection they were taken, how they were, and the next arrival.
@@ -15,7 +14,6 @@ pub struct Placer<'s> {
     pub alloc: Global,
     pub connection: u16,
     pub taken: &'s [FlowFile],
-    pub sources: &'s [Source],
     pub next_arrival: u64,
 }
 
@@ -26,7 +24,6 @@ impl Placer<'_> {
         first_clone: u64,
         files: Vec<EndedFile>,
     ) -> Result<Vec<Placed>, AllocError>
-        requires within { All (λ file. IsBodyWithin self.now.sources.now file.worked.body) files.items }
         requires few { length files.items < 2 ^ 32 }
         requires numbers { first_clone + length (wanted files.items) < 2 ^ 64 }
         requires arrivals { self.now.next_arrival + length files.items + length (wanted files.items) < 2 ^ 64 }
@@ -43,10 +40,9 @@ impl Placer<'_> {
 
     /// The files that return, then those that go on.
     fn place_each(&self, files: Vec<EndedFile>) -> Result<Vec<Placed>, AllocError>
-        requires within { All (λ file. IsBodyWithin self.now.sources.now file.worked.body) files.items }
         requires arrivals { self.now.next_arrival + length files.items < 2 ^ 64 }
         ensures { IfOk result (λ placed. placed.items ≡ returned (placing_of self.now) files.items
-            ++ placed_from self.now.sources.now self.now.next_arrival (firsts files.items)) }
+            ++ placed_from self.now.next_arrival (firsts files.items)) }
     {
         let mut returned = Vec::new(self.alloc);
         let mut arrived = Vec::new(self.alloc);
@@ -63,21 +59,20 @@ impl Placer<'_> {
         arrived: &mut Vec<Placed>,
         file: EndedFile,
     ) -> Result<(), AllocError>
-        requires within { IsBodyWithin self.now.sources.now file.worked.body }
         requires arrivals { self.now.next_arrival + vec_len arrived.old < 2 ^ 64 }
         ensures returned { OnOk result (returned.new.items
             ≡ returned.old.items ++ returning (placing_of self.now) file file.goes) }
         ensures arrived { OnOk result (arrived.new.items ≡ arrived.old.items
-            ++ placed_from self.now.sources.now (self.now.next_arrival + vec_len arrived.old)
+            ++ placed_from (self.now.next_arrival + vec_len arrived.old)
             (first_of file file.goes)) }
     {
         if is_returning(&file.goes) {
             let arrival = self.arrival_of(&file.worked.origin);
-            let back = self.place(self.connection, arrival, file)?;
+            let back = placed_at(self.connection, arrival, file);
             returned.push(back)?;
         } else if let Some(first) = first_in(&file.goes) {
             let arrival = self.next_arrival + arrived.len() as u64;
-            let newcomer = self.place(first, arrival, file)?;
+            let newcomer = placed_at(first, arrival, file);
             arrived.push(newcomer)?;
         }
         Ok(())
@@ -91,44 +86,6 @@ impl Placer<'_> {
             Origin::Taken(of) => arrival_at(self.taken, *of),
             _ => 0,
         }
-    }
-
-    /// A file in the queue of a connection, with an arrival.
-    fn place(&self, connection: u16, arrival: u64, file: EndedFile) -> Result<Placed, AllocError>
-        requires { IsBodyWithin self.now.sources.now file.worked.body }
-        ensures { IfOk result (λ placed. placed
-            ≡ placed_at self.now.sources.now arrival (connection, file.number, file)) }
-    {
-        let EndedFile {
-            number,
-            worked,
-            content,
-            entered,
-            penalty_end,
-            goes: _,
-        } = file;
-        let Worked {
-            attributes,
-            body,
-            origin: _,
-            end: _,
-            written: _,
-            penalised: _,
-            routed: _,
-        } = worked;
-        let fresh = fresh_of(self.alloc, self.sources, body)?;
-        Ok(Placed {
-            connection,
-            file: FlowFile {
-                number,
-                attributes,
-                content,
-                entered,
-                penalty_end,
-                arrival,
-            },
-            fresh,
-        })
     }
 
     /// The clones of all files, with numbers and arrivals from these on. The first file that goes on is placed here.
@@ -151,6 +108,41 @@ impl Placer<'_> {
             place += count_first(file);
         }
         Ok(clones)
+    }
+}
+
+/// A file in the queue of a connection, with an arrival.
+fn placed_at(connection: u16, arrival: u64, file: EndedFile) -> Placed
+    ensures { result ≡ placed_at arrival (connection, file.number, file) }
+{
+    let EndedFile {
+        number,
+        worked,
+        content,
+        entered,
+        penalty_end,
+        goes: _,
+    } = file;
+    let Worked {
+        attributes,
+        body,
+        origin: _,
+        end: _,
+        written: _,
+        penalised: _,
+        routed: _,
+    } = worked;
+    Placed {
+        connection,
+        file: FlowFile {
+            number,
+            attributes,
+            content,
+            entered,
+            penalty_end,
+            arrival,
+        },
+        fresh: fresh_of(body),
     }
 }
 

@@ -110,7 +110,6 @@ fn settle_files(
         alloc: setting.alloc,
         connection,
         taken: setting.taken,
-        sources: setting.sources,
         next_arrival: counters.next_arrival,
     };
     let placed = placer.place_all(first_clone, files)?;

@@ -1,12 +1,19 @@
-use Rattle.std.proofs.Common.{List, length, refl, subst, ap, arith}
+use Rattle.std.proofs.Common.{List, length, refl, sym, subst, ap, arith}
 use Rattle.std.specs.Prelude.{All}
-use Rattle.flowfile_record.specs.Stored.{kept_of}
+use Rattle.flowfile_record.specs.Stored.{Kept, kept_of}
 use Rattle.flowfile_record.specs.declared.event.Event.{Event}
+use Rattle.settlement.specs.Handed.{MaySettle}
 use Rattle.store_core.specs.Store.{kept_by}
 use Rattle.engine_core.specs.Committing.{HasTexts}
-use Rattle.engine_core.proofs.Cases.{Case, IsTyped, settled_over}
+use Rattle.engine_core.proofs.Cases.{Case, IsTyped, counters_of, may_settle, settled_over}
 use Rattle.engine_core.proofs.Commits.{live_contents, may_change, state_behind}
 use Rattle.engine_core.proofs.session.settle_session.Goals as goal
+
+pub settle-requires : goal.settle-requires
+settle-requires c =
+    let state = c.state-state.ensures in
+    subst (λ (k : Kept). MaySettle c.args.flow.now (counters_of k) c.args.ended) (sym state.kept)
+    (may_settle c.args.flow.now c.args.given.now (kept_by c.args.store.now) c.args.ended c.requires.sound c.requires.may state.consistent)
 
 pub returns-clause-may : goal.returns-clause-may
 returns-clause-may c =
@@ -41,6 +48,9 @@ returns-clause-live c =
     let is = settled_over case (kept_of c.state-state.result.now) state.kept c.requires.sound c.requires.flow c.requires.may state.consistent state.no_batches
     settled.settles settled.tells settled.records typed laws.valid laws.queued in
     live_contents case is c.args.store.now refl
+
+pub returns-clause-digests : goal.returns-clause-digests
+returns-clause-digests c = c.in_ok-settled.ensures.tells.digests
 
 pub returns-clause-leaves : goal.returns-clause-leaves
 returns-clause-leaves c =

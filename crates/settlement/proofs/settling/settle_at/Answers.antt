@@ -1,6 +1,7 @@
 use Rattle.std.proofs.Common.{◌≡◌, subst, arith}
 use Rattle.std.specs.Prelude.{IfOk}
 use Rattle.settlement.specs.Whole.{place_in, settled_of}
+use Rattle.settlement.proofs.Wholes.{may-end}
 use Rattle.settlement.proofs.settling.settle_at.Goals as goal
 
 pub returns-clause-settled : goal.returns-clause-settled

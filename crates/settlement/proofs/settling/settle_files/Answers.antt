@@ -1,14 +1,11 @@
-use Rattle.std.proofs.Common.{◌+◌, arith, ap, length, sym, subst, ◌∙◌}
-use Rattle.std.specs.Prelude.{All}
-use Rattle.settlement.specs.Contents.{IsBodyWithin}
+use Rattle.std.proofs.Common.{◌+◌, arith, ap, length, ◌∙◌}
 use Rattle.settlement.specs.Ending.{ended_files, place_of}
 use Rattle.settlement.specs.Placing.{firsts, wanted}
 use Rattle.settlement.specs.Telling.{all_drafts, numbered_wrapping}
 use Rattle.settlement.specs.Whole.{told_of}
 use Rattle.machine_model.specs.Placing.{count_made}
-use Rattle.settlement.specs.declared.file.EndedFile.{EndedFile}
 use Rattle.settlement.proofs.Bounds.{made_few, wanted_few}
-use Rattle.settlement.proofs.Wholes.{all_within, settled_is}
+use Rattle.settlement.proofs.Wholes.{settled_is}
 use Rattle.settlement.proofs.settling.settle_files.Goals as goal
 
 pub tell-requires : goal.tell-requires
@@ -22,11 +19,6 @@ count_clones-clones-requires c =
     let made = c.in_ok-files.ensures ∙ ap (ended_files (place_of c.args.setting.now) c.args.counters.next_number) c.into_vec.ensures in
     let few = wanted_few (place_of c.args.setting.now) c.args.counters.next_number c.args.outcome.files c.in_ok-files.files.items made c.requires.connections c.requires.few in
     omega (arith, few, ap (λ files. length (wanted files)) c.deref-3.ensures.value)
-
-pub place_all-requires-clause-within : goal.place_all-requires-clause-within
-place_all-requires-clause-within c =
-    let made = c.in_ok-files.ensures ∙ ap (ended_files (place_of c.args.setting.now) c.args.counters.next_number) c.into_vec.ensures in
-    subst (All (λ (file : EndedFile). IsBodyWithin c.args.setting.now.sources.now file.worked.body)) (sym made) (all_within (place_of c.args.setting.now) c.args.counters.next_number c.args.outcome.files c.requires.within)
 
 pub place_all-requires-clause-few : goal.place_all-requires-clause-few
 place_all-requires-clause-few c =
