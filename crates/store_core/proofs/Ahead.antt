@@ -52,6 +52,7 @@ places_beside tells events old new placed slots more e grows is = record {
   placed = are_placed tells more old new placed (placed_in e) (λ told. claims_beside events old new (grows told)) is.placed;
   shared = is.shared;
   holds = is.holds;
+  grown = is.grown;
 }
 
 pub sizes_beside : (events : EventsState) (slots : List Slot) (old new : Files) → EventsGrow events old new → HasSizes slots old → HasSizes slots new

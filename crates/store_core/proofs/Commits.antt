@@ -25,7 +25,7 @@ use Rattle.record_codec.specs.declared.entry.LogEntry.TheVariants.{Begin, Sessio
 use Rattle.record_codec.specs.declared.entry.ExpireEntry.{ExpireEntry}
 use Rattle.record_codec.specs.declared.entry.SessionEntry.{SessionEntry}
 use Rattle.checkpoint_store.specs.Consistent.{IsConsistent}
-use Rattle.content_repo.specs.Claims.{claim, HasSizes}
+use Rattle.content_repo.specs.Claims.{claim, content_in, HasSizes}
 use Rattle.content_repo.specs.Slots.{count_of, size_of, held_in, references_to, end_of, IsNamed}
 use Rattle.content_repo.specs.declared.slot.Slot.{Slot}
 use Rattle.flowfile_wal.specs.Steps.{Adds, IsFrame, frame}
@@ -41,6 +41,7 @@ use Rattle.kept_state.proofs.Expiring.{expiry_payload, same_effect}
 use Rattle.kept_state.proofs.Going.{active_from_one}
 use Rattle.kept_state.proofs.Keeping.{within_limits, session_parts, distinct_of_suits, active_of_suits, length-with_files}
 use Rattle.kept_state.proofs.Placing.{placeless_fits}
+use Rattle.machine_model.specs.Changing.{HaveDigests}
 use Rattle.prov_store.specs.Events.{events_file}
 use Rattle.prov_store.specs.State.{HasEvents}
 use Rattle.store_core.specs.Agreement.{SameEventFiles}
@@ -54,6 +55,7 @@ use Rattle.store_core.specs.Store.{StoreState, IsWorking, kept_by, live_in, Hold
 use Rattle.store_core.proofs.Committing.{kept_with_entry}
 use Rattle.store_core.proofs.Counting.{references_left, references_applied, length_applied}
 use Rattle.store_core.proofs.EventsStay.{has_same}
+use Rattle.store_core.proofs.Parts.{part_covered, part_held}
 use Rattle.store_core.proofs.Reclaiming.{counted}
 use Rattle.store_core.proofs.Sharing.{HasSource, all_at, all_sources}
 use Rattle.store_core.proofs.Sound.{IsSoundIn, content_of, each_sound, all_sound, one_sound, all_applied}
@@ -165,7 +167,9 @@ may_place s p prepared live works consistent opened =
     record {
       fresh = prepared.may.fresh;
       room = prepared.within.claims;
-      old = λ i d lt none. held_live s works (get_or p.settled.placed i d).file.content (live i d lt none);
+      old = λ i d lt none.
+          let part = live i d lt none in
+          part_held s.slots (get_or p.settled.placed i d).file.content part.0 part.2 (held_live s works part.0 part.1);
       shared = prepared.may.shared;
       few =
           omega (
@@ -248,11 +252,16 @@ referred_gone s se placed_slots works consistent suits holds j =
 -- ---- files
 
 sound_with : (files : Files) (slots : List Slot) (s : StoreState) (p : Placed) (a : ActiveFile) → HasSizes slots files → contents_damage files (live_in s) ≡ None → IsFresh p → IsOldLive s p
-    → ((of : ℕ) → p.fresh ≡ As of → ⊥) → IsPlacedAs true slots files p a → IsSoundIn files (content_of a)
-sound_with files slots s p a sizes live fresh old alone is = by p.fresh refl
+    → (is_stored p.fresh ≡ true → sha256 (content_in files p.file.content) ≡ p.file.content.digest) → ((of : ℕ) → p.fresh ≡ As of → ⊥) → IsPlacedAs true slots files p a → IsSoundIn files (content_of a)
+sound_with files slots s p a sizes live fresh old digest alone is = by p.fresh refl
   where
     stored : is_stored p.fresh ≡ true → IsSoundIn files (content_of a)
-    stored is_old = subst (IsSoundIn files) (sym (is.old is_old)) (one_sound files (live_in s) p.file.content live (old is_old))
+    stored is_old =
+        let part = old is_old in
+        subst (IsSoundIn files) (sym (is.old is_old)) (record {
+          covered = part_covered files p.file.content part.0 part.2 (one_sound files (live_in s) part.0 live part.1).covered;
+          digest = digest is_old;
+        })
 
     by : (f : Fresh) → p.fresh ≡ f → IsSoundIn files (content_of a)
     by No from = stored (ap is_stored from)
@@ -267,12 +276,13 @@ sound_with files slots s p a sizes live fresh old alone is = by p.fresh refl
         }
 
 pub placed_sound : (files : Files) (slots : List Slot) (s : StoreState) (placed : List Placed) (recorded : List ActiveFile) → HasSizes slots files → contents_damage files (live_in s) ≡ None
-    → All IsFresh placed → All (IsOldLive s) placed → AreShared placed → ReferAlike placed recorded → ArePlaced true slots files placed recorded → All (IsSoundIn files) (map content_of recorded)
-placed_sound files slots s placed recorded sizes live fresh old shared alike are =
+    → All IsFresh placed → All (IsOldLive s) placed → HaveDigests (content_in files) placed → AreShared placed → ReferAlike placed recorded → ArePlaced true slots files placed recorded → All (IsSoundIn files) (map content_of recorded)
+placed_sound files slots s placed recorded sizes live fresh old digests shared alike are =
     zip_all (IsSoundIn files) (HasSource placed true slots files) placed recorded
     (λ p a from.
     subst (IsSoundIn files) (sym from.refers)
-    (sound_with files slots s from.source from.by sizes live (all_at IsFresh placed from.place from.source fresh from.there) (all_at (IsOldLive s) placed from.place from.source old from.there) from.alone from.stands))
+    (sound_with files slots s from.source from.by sizes live (all_at IsFresh placed from.place from.source fresh from.there) (all_at (IsOldLive s) placed from.place from.source old from.there)
+    (all_at (λ (p : Placed). is_stored p.fresh ≡ true → sha256 (content_in files p.file.content) ≡ p.file.content.digest) placed from.place from.source digests from.there) from.alone from.stands))
     (all_sources placed true slots files recorded shared alike are)
 
 counts_long : (g : Option Counted) (counts : List ℕ) → length (with_count g counts) ≡ length counts

@@ -91,4 +91,4 @@ file_behind k files rest one each is =
 
 -- each content of a consistent state is named
 pub file_named : (k : Kept) (a : ActiveFile) → IsFileIn k a → IsNamed a.file.content
-file_named k a is = let at = is.encoded.file.content in (omega (arith, at.slot), omega (arith, at.offset, at.size))
+file_named k a is = let at = is.encoded.file.content in (omega (arith, at.slot), omega (arith, at.ends))

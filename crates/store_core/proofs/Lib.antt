@@ -27,6 +27,7 @@ pub mod Making
 pub mod NextLog
 pub mod Opening
 pub mod Outcomes
+pub mod Parts
 pub mod Placing
 pub mod PlacingOne
 pub mod Queues

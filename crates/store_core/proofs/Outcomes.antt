@@ -1,5 +1,6 @@
 -- What each exit of a commit leaves: of the contents that were placed, and of the entry that was logged behind them.
 use Rattle.std.proofs.Common.{◌≡◌, ℕ, ◌+◌, ◌-◌, ◌^◌, ◌≤◌, Bool, true, false, List, [], ◌++◌, length, map, refl, sym, ap, subst, ◌∙◌, arith, inl, inr, IsTrue}
+use Rattle.std.specs.List.{AllZip}
 use Rattle.std.specs.Prelude.{Option, None, Some, is_some, Result, Ok, ◌⊎◌, min}
 use Rattle.disk_trait.specs.Files.{Files}
 use Rattle.disk_trait.specs.declared.damage.Damage.{Damage}
@@ -21,14 +22,14 @@ use Rattle.flowfile_wal.specs.Steps.{Adds, IsReadyIn}
 use Rattle.kept_state.specs.Applied.{applied, session_applied}
 use Rattle.kept_state.specs.Changes.{no_files, placed_in}
 use Rattle.machine_model.specs.State.{State}
-use Rattle.machine_model.specs.Changing.{state_after}
+use Rattle.machine_model.specs.Changing.{HaveDigests, state_after}
 use Rattle.prov_store.specs.Events.{events_in}
 use Rattle.prov_store.specs.State.{EventsState, IsAppended}
 use Rattle.store_core.specs.Change.{HasLiveContents}
 use Rattle.store_core.specs.Committed.{PreparedChange, IsPrepared, HasChange, HoldsEither, KeepsShared}
 use Rattle.store_core.specs.Touched.{ClaimsGrow, MayTouch, TouchesOnly}
 use Rattle.store_core.specs.Flow.{flow_in}
-use Rattle.store_core.specs.Placing.{contents_of, GrowsAhead, AddsEvents, ArePlaced, HoldsMore, IsPlacedAs, PlacesAll, ReferAlike}
+use Rattle.store_core.specs.Placing.{contents_of, GrowsAhead, GrowsByFresh, AddsEvents, ArePlaced, HoldsMore, IsPlacedAs, PlacesAll, ReferAlike, StaysStored}
 use Rattle.store_core.specs.State.{stands_for}
 use Rattle.store_core.specs.Store.{StoreState, IsWorking, IsKeptOn, EachStandsFor, Holds, kept_by}
 use Rattle.store_core.proofs.Agreeing.{of_state}
@@ -36,8 +37,9 @@ use Rattle.store_core.proofs.Appending.{GrowingClaims, claims_ahead, claims_logg
 use Rattle.store_core.proofs.Commits.{entry_acts, referred_gone, events_beside_log, working_after}
 use Rattle.store_core.proofs.EventsStay.{same_events}
 use Rattle.store_core.proofs.Following.{Follows, follows_ahead, state_following}
+use Rattle.store_core.proofs.Parts.{digests_stay}
+use Rattle.store_core.proofs.Referring.{bytes_same}
 use Rattle.store_core.proofs.Sharing.{zip_wider}
-use Rattle.flowfile_record.specs.Shared.{is_stored}
 use Rattle.store_core.proofs.States.{IsSame, state_added}
 use Rattle.store_core.proofs.Whole.{IsAdded, is_added, since_ahead_holds, since_ahead_touches, since_either, since_holds, since_touches, holds_new, kept_added}
 
@@ -51,6 +53,7 @@ pub record HasPlaced {D : Type 0} (tells : Bool) (held : D → Files) (moment : 
   pub unfailed : s.failed ≡ false
   pub prepared : IsPrepared s p
   pub live : HasLiveContents s p.settled
+  pub digests : IsTrue tells → HaveDigests (content_in (held old)) p.settled.placed
   pub consistent : IsConsistent (kept_by s)
   pub batches : (kept_by s).batches ≡ []
   pub same : placeless_entry e ≡ placeless_entry p.entry
@@ -60,15 +63,16 @@ pub record HasPlaced {D : Type 0} (tells : Bool) (held : D → Files) (moment : 
 -- the same store and the same change by what is inside of them
 pub has_placed : {D : Type 0} (tells : Bool) (held : D → Files) (moment : D → ℕ) (images : D → ℕ → Files → Type 0) (inside s : StoreState) (change p : PreparedChange) (e : LogEntry) (old mid : D)
     → inside ≡ s → change ≡ p → IsWorking inside → inside.failed ≡ false → IsConsistent (kept_by inside) → (kept_by inside).batches ≡ []
-    → IsKeptOn tells held moment images s old → IsPrepared s p → HasLiveContents s p.settled → placeless_entry e ≡ placeless_entry change.entry
+    → IsKeptOn tells held moment images s old → IsPrepared s p → HasLiveContents s p.settled → (IsTrue tells → HaveDigests (content_in (held old)) p.settled.placed) → placeless_entry e ≡ placeless_entry change.entry
     → Since moment images old mid (After (GrowsAhead inside.slots inside.events) (images old (moment old))) → (IsTrue tells → GrowsAhead inside.slots inside.events (held old) (held mid))
     → HasPlaced tells held moment images s p e old mid
-has_placed tells held moment images inside s change p e old mid view p_view works unfailed consistent batches kept prepared live same grows held_grows = record {
+has_placed tells held moment images inside s change p e old mid view p_view works unfailed consistent batches kept prepared live digests same grows held_grows = record {
   works = subst IsWorking view works;
   kept = kept;
   unfailed = subst (λ (t : StoreState). t.failed ≡ false) view unfailed;
   prepared = prepared;
   live = live;
+  digests = digests;
   consistent = subst (λ (t : StoreState). IsConsistent (kept_by t)) view consistent;
   batches = subst (λ (t : StoreState). (kept_by t).batches ≡ []) view batches;
   same = same ∙ ap (λ (c : PreparedChange). placeless_entry c.entry) p_view;
@@ -77,13 +81,14 @@ has_placed tells held moment images inside s change p e old mid view p_view work
 }
 
 -- what is kept has the change
-pub has_change : (inside s new : StoreState) (change p : PreparedChange) (e e2 : LogEntry) → inside ≡ s → change ≡ p → placeless_entry e ≡ placeless_entry change.entry → e2 ≡ e
+pub has_change : (inside s new : StoreState) (change p : PreparedChange) (e e2 : LogEntry) → inside ≡ s → change ≡ p → placeless_entry e ≡ placeless_entry change.entry → AllZip StaysStored change.settled.placed (placed_in e) → e2 ≡ e
     → kept_by new ≡ applied no_files (kept_by inside) e2 → new.opened ≡ inside.opened → new.lot ≡ inside.lot → new.log.number ≡ inside.log.number
     → HasChange p s new
-has_change inside s new change p e e2 view p_view same is kept opened lot log = record {
+has_change inside s new change p e e2 view p_view same stays is kept opened lot log = record {
   entry = e;
   same = same ∙ ap (λ (c : PreparedChange). placeless_entry c.entry) p_view;
   kept = kept ∙ ap (applied no_files (kept_by inside)) is ∙ ap (λ (t : StoreState). applied no_files (kept_by t) e) view;
+  stays = subst (λ (c : PreparedChange). AllZip StaysStored c.settled.placed (placed_in e)) p_view stays;
   log = log ∙ ap (λ (t : StoreState). t.log.number) view;
   opened = opened ∙ ap (λ (t : StoreState). t.opened) view;
   lot = lot ∙ ap (λ (t : StoreState). t.lot) view;
@@ -161,6 +166,7 @@ as_session_places tells files all old new e t puts places = record {
   placed = subst (λ (l : List ActiveFile). ArePlaced tells new files all l) puts places.placed;
   shared = subst (ReferAlike all) puts places.shared;
   holds = subst (λ (l : List ActiveFile). HoldsMore l old new) puts places.holds;
+  grown = places.grown;
 }
 
 same_session : (s : StoreState) (p : PreparedChange) (e : LogEntry) (was : IsConsistent (kept_by s)) (prepared : IsPrepared s p) (same : placeless_entry e ≡ placeless_entry p.entry)
@@ -187,8 +193,9 @@ module _ {D : Type 0} (tells : Bool) (held : D → Files) (moment : D → ℕ) (
 
   added_entry : IsTrue tells → IsAdded s new e (held mid)
   added_entry told =
+      let follows = follows_ahead s (held old) (held mid) has.works (has.kept.holds has.unfailed (held old) (logged.left old told)).events (has.held_grows told) in
       is_added moment images held s new p e old mid slots has.works (has.kept.log has.unfailed) (has.kept.holds has.unfailed) has.grows has.consistent has.prepared has.same has.live
-      (logged.left mid told) (logged.sizes told) logged.placed.shared (really_placed told) logged.kept logged.lot (logged.events.ready told).has
+      (digests_stay s (held old) (held mid) p.settled.placed has.live follows (has.digests told)) (logged.left mid told) (logged.sizes told) logged.placed.shared (really_placed told) logged.kept logged.lot (logged.events.ready told).has
 
   added_holds : (c : Files) → IsTrue tells → Adds number e (held mid) c → Holds new c
   added_holds c told added =
@@ -254,9 +261,12 @@ module _ {D : Type 0} (tells : Bool) (held : D → Files) (moment : D → ℕ) (
         kept = logged.kept;
         placed = ap (map placeless_active) is.puts ∙ is.placed;
         alike = logged.placed.shared;
-        stays = zip_wider (IsPlacedAs tells slots (held mid)) (λ (q : Placed) (a : ActiveFile). is_stored q.fresh ≡ true → a.file.content ≡ q.file.content) p.settled.placed (placed_in e)
-            (λ q a r. r.old) logged.placed.placed;
+        stays = zip_wider (IsPlacedAs tells slots (held mid)) StaysStored p.settled.placed (placed_in e) (λ q a r. r.old) logged.placed.placed;
       }
+
+  -- the claims have as many bytes more as its new contents
+  pub claims_grown : (given : List Slot) → ((k : ℕ) → size_of given k ≡ size_of slots k) → GrowsByFresh p.settled.placed s.slots given
+  claims_grown given sizes = omega (arith, logged.placed.grown, bytes_same given slots sizes)
 
   -- once the log has answered
   pub acknowledged_state : (state : State) → EachStandsFor (flow_in (kept_by s)) s.lot state (images old (moment old)) → InEach (images end (moment end)) (Adds number e (held mid))

@@ -1,22 +1,23 @@
 -- Placed files, one after another.
 use Rattle.std.proofs.Common.{◌≡◌, ℕ, ◌+◌, ◌<◌, ◌≤◌, eqb, Bool, cond, List, [], ◌∷◌, ◌++◌, length, map, take, drop, get_or, refl, sym, ap, subst, ◌∙◌, arith, add-one, append_assoc, length-append, drop-cons, length-drop, suc, IsTrue}
 use Rattle.std.specs.List.{AllZip}
-use Rattle.std.specs.Prelude.{Option, None, Some, true, slice_get}
+use Rattle.std.specs.Prelude.{Option, None, Some, true, slice_get, sum}
 use Rattle.std.specs.List.{filter_map, cons_option}
 use Rattle.std.proofs.lemmas.List.Sums.{sum_by-append}
-use Rattle.std.proofs.lemmas.List.{take_more, take_all, append-nil, map-append, nil_from_length}
+use Rattle.std.proofs.lemmas.List.{take_more, take_all, take-append-drop, append-nil, map-append, nil_from_length}
 use Rattle.disk_trait.specs.Files.{Files}
 use Rattle.flowfile_record.specs.Shared.{AreShared, is_stored, own_bytes}
 use Rattle.flowfile_record.specs.declared.content.ContentRef.{ContentRef}
 use Rattle.flowfile_record.specs.declared.stored.ActiveFile.{ActiveFile}
 use Rattle.flowfile_record.specs.declared.stored.Fresh.TheVariants.{As}
 use Rattle.flowfile_record.specs.declared.stored.Placed.{Placed}
+use Rattle.record_codec.specs.Placeless.{placeless}
 use Rattle.record_codec.specs.declared.entry.LogEntry.{LogEntry}
 use Rattle.content_repo.specs.Slots.{size_of, references_to, taken, HasRoom}
 use Rattle.content_repo.specs.declared.slot.Slot.{Slot}
 use Rattle.kept_state.specs.Changes.{placed_in, record_of}
 use Rattle.store_core.specs.Change.{IsFresh, fresh_sizes_of}
-use Rattle.store_core.specs.Placing.{IsPlacedAs, ArePlaced, HoldsMore, IsHeldIn, IsRecordedAt, MayPlace, MayPlaceOne, MayShare, PlacesOne, PlacesAll, GrowsBehind, ReferAlike, references_of}
+use Rattle.store_core.specs.Placing.{bytes_in, IsPlacedAs, ArePlaced, HoldsMore, IsHeldIn, IsRecordedAt, MayPlace, MayPlaceOne, MayShare, PlacesOne, PlacesAll, GrowsBehind, ReferAlike, StaysStored, references_of}
 use Rattle.store_core.proofs.Growing.{same_grown}
 use Rattle.store_core.proofs.Sharing.{may_share, refer_next, refer_none, zip_wider}
 use Rattle.store_core.proofs.Sound.{content_of}
@@ -51,6 +52,7 @@ pub record IsPlacedTo (tells : Bool) (all : List Placed) (start slots : List Slo
   pub placed : ArePlaced tells slots files (take i all) done
   pub shared : ReferAlike (take i all) done
   pub holds : HoldsMore done start slots
+  pub grown : bytes_in slots + sum (fresh_sizes_of (drop i all)) ≡ bytes_in start + sum (fresh_sizes_of all)
   pub room : HasRoom slots (fresh_sizes_of (drop i all))
 
 references-more : (k : ℕ) (done : List ActiveFile) (a : ActiveFile) → references_to k (map content_of (done ++ a ∷ [])) ≡ references_to k (map content_of done) + references_to k (map content_of (a ∷ []))
@@ -67,6 +69,7 @@ placed_none tells placed slots files entry recorded room = record {
   placed = tt;
   shared = refer_none;
   holds = record { counts = λ k. omega arith; held = omega arith; sizes = λ k. omega arith };
+  grown = refl;
   room = room;
 }
 
@@ -104,6 +107,14 @@ placed_next tells placed start slots more old new before after i p shared lt her
         held = omega (arith, one.holds.held, so_far.holds.held, length-append so_far.done (a ∷ []));
         sizes = λ k. omega (arith, so_far.holds.sizes k, one.holds.sizes k);
       };
+      grown =
+          omega (
+            arith,
+            so_far.grown,
+            one.grown,
+            ap {B = ℕ} sum (ap fresh_sizes_of split ∙ sizes-cons p rest),
+            sum_by-append (λ (n : ℕ). n) (fresh_sizes_of (p ∷ [])) (fresh_sizes_of rest),
+          );
       room = one.room (fresh_sizes_of rest) (subst (HasRoom slots) (ap fresh_sizes_of split ∙ sizes-cons p rest) so_far.room);
     }
 
@@ -163,4 +174,25 @@ placed_all tells placed start slots files entry i le so_far =
           subst (λ (l : List ActiveFile). ReferAlike placed l) (sym whole)
           (subst (λ (l : List Placed). ReferAlike l so_far.done) (take_all i placed le) so_far.shared);
       holds = subst (λ (l : List ActiveFile). HoldsMore l start slots) (sym whole) so_far.holds;
+      grown = omega (arith, so_far.grown, ap {B = ℕ} (λ (l : List Placed). sum (fresh_sizes_of l)) none);
     }
+
+-- ---- contents that are in the store
+
+zip_both : {A B : Type 0} (R : A → B → Type 0) (xs more : List A) (ys others : List B) → AllZip R xs ys → AllZip R more others → AllZip R (xs ++ more) (ys ++ others)
+zip_both R [] more [] others one two = two
+zip_both R [] more (y ∷ ys) others one two = absurd one
+zip_both R (x ∷ xs) more [] others one two = absurd one
+zip_both R (x ∷ xs) more (y ∷ ys) others one two = (one.0, zip_both R xs more ys others one.1 two)
+
+records_stay : (placed : List Placed) → AllZip StaysStored placed (map record_of placed)
+records_stay [] = tt
+records_stay (p ∷ placed) = ((λ stored. ap (λ (b : Bool). (cond b p.file (placeless p.file)).content) stored), records_stay placed)
+
+-- wherever it ends, each is recorded where it stood
+pub stay_so_far : (tells : Bool) (placed : List Placed) (start slots : List Slot) (files : Files) (entry : LogEntry) (i : ℕ) → IsPlacedTo tells placed start slots files entry i → AllZip StaysStored placed (placed_in entry)
+stay_so_far tells placed start slots files entry i so_far =
+    subst (λ (l : List Placed). AllZip StaysStored l (placed_in entry)) (take-append-drop i placed)
+    (subst (AllZip StaysStored (take i placed ++ drop i placed)) (sym so_far.recorded)
+    (zip_both StaysStored (take i placed) (drop i placed) so_far.done (map record_of (drop i placed))
+    (zip_wider (IsPlacedAs tells slots files) StaysStored (take i placed) so_far.done (λ p a is. is.old) so_far.placed) (records_stay (drop i placed))))

@@ -1,6 +1,6 @@
 -- One placed file: its content is held once more, or written.
 use Rattle.std.proofs.Common.{◌≡◌, ℕ, ◌+◌, ◌<◌, Bool, true, false, cond, List, [], ◌∷◌, ◌++◌, length, map, refl, sym, ap, subst, ◌∙◌, arith, inl, inr, IsTrue}
-use Rattle.std.specs.Prelude.{Option, None, Some, slice_get, ◌⊎◌}
+use Rattle.std.specs.Prelude.{Option, None, Some, slice_get, sum, ◌⊎◌}
 use Rattle.std.specs.List.{cons_option}
 use Rattle.sha2.proofs.Facts256.{length-sha256}
 use Rattle.disk_trait.specs.Files.{Files}
@@ -22,7 +22,7 @@ use Rattle.content_repo.specs.declared.slot.Slot.{Slot}
 use Rattle.kept_state.specs.Changes.{placed_in, record_of, at_content, with_content, with_content_at, HasContentLike}
 use Rattle.store_core.specs.Change.{IsFresh, fresh_sizes_of}
 use Rattle.store_core.specs.Placing.{IsHeldIn, MayPlaceOne, MayShare, IsRecordedAt, PlacesOne, references_of}
-use Rattle.store_core.proofs.Referring.{appended, held_more, refers_once, one_of}
+use Rattle.store_core.proofs.Referring.{appended, bytes_same, held_more, refers_once, one_of}
 use Rattle.store_core.proofs.Rooms.{counted_alike, room_alike, shape}
 
 -- ---- sizes
@@ -117,6 +117,7 @@ module _ (tells : Bool) (files : Files) (place : ℕ) (p : Placed) (old new : Li
           held = held;
           sizes = λ k. omega (arith, (more k).1);
         };
+        grown = omega (arith, bytes_same new old (λ k. (more k).1), ap {B = ℕ} sum (sizes_own p None none));
         room = λ sizes room. room_alike sizes old new alike (subst (λ (l : List ℕ). HasRoom old (l ++ sizes)) (sizes_own p None none) room);
         entry = entry;
       }
@@ -167,8 +168,8 @@ new_encoded p bytes old new at some fresh is =
     let f = fresh bytes some in
     record {
       slot = is.named.0;
-      offset = omega (arith, is.low);
       size = omega (arith, is.size, f.0);
+      ends = omega (arith, is.low, is.size, f.0);
       digest = ap length (is.hashed ∙ f.2) ∙ length-sha256 bytes;
     }
 
@@ -207,6 +208,7 @@ new_placed tells files place p bytes old new at before after some fresh is stand
         held = is.held;
         sizes = more.sizes;
       };
+      grown = omega (arith, more.bytes, is.size, ap {B = ℕ} sum (sizes_some p bytes some));
       room = λ sizes room. room_behind (length bytes) sizes bytes p.file.content.digest old new at refl is (subst (λ (l : List ℕ). HasRoom old (l ++ sizes)) (sizes_some p bytes some) room);
       entry = λ front back long is_at. recorded_with place at p front back before after long is_at changed;
     }

@@ -1,12 +1,13 @@
 -- What is known of slots where one reference more or less is held.
-use Rattle.std.proofs.Common.{◌≡◌, ◌≢◌, ℕ, ◌+◌, ◌-◌, ◌<◌, ◌≤◌, eqb, Bool, true, cond, List, [], ◌∷◌, ◌++◌, length, set, get_or, take, drop, refl, sym, ap, ◌∙◌, inl, inr, arith, eq-eqb, get_or-set_same, get_or-set_other}
+use Rattle.std.proofs.Common.{◌≡◌, ◌≢◌, ℕ, suc, ◌+◌, ◌-◌, ◌<◌, ◌≤◌, eqb, Bool, true, cond, List, [], ◌∷◌, ◌++◌, length, set, get_or, take, drop, refl, sym, ap, ◌∙◌, inl, inr, arith, eq-eqb, get_or-set_same, get_or-set_other}
 use Rattle.std.proofs.lemmas.Bool.{cases_lt, cases_eq, ne_eqb}
 use Rattle.std.proofs.lemmas.List.{get_or_past, set_past, take-append-drop}
-use Rattle.std.proofs.lemmas.List.Sums.{sum_by_more, sum_by-append}
+use Rattle.std.proofs.lemmas.List.Sums.{sum_by_more, sum_by-append, sum_by-cons, sum_by-set}
 use Rattle.flowfile_record.specs.declared.content.ContentRef.{ContentRef}
 use Rattle.content_repo.specs.Append.{IsAppended}
 use Rattle.content_repo.specs.Slots.{count_of, size_of, held_in, references_to, end_of, with_count, unused, is_live}
 use Rattle.content_repo.specs.declared.slot.Slot.{Slot}
+use Rattle.store_core.specs.Placing.{bytes_in}
 use Rattle.store_core.proofs.Reclaiming.{references-cons}
 
 abbrev pub one_of : ℕ → ℕ → ℕ
@@ -113,11 +114,25 @@ held_more slots new at k some is =
       ap (λ (l : List Slot). size_of l k) is ∙ size_same slots at.slot k slot refl,
     )
 
--- a content that was appended
+-- ---- the bytes of the claims
+
+bytes-cons : (slot : Slot) (slots : List Slot) → bytes_in (slot ∷ slots) ≡ slot.size + bytes_in slots
+bytes-cons slot slots = sum_by-cons (λ (s : Slot). s.size) slot slots
+
+-- slots of the same sizes, but for unused ones
+pub bytes_same : (a b : List Slot) → ((k : ℕ) → size_of a k ≡ size_of b k) → bytes_in a ≡ bytes_in b
+bytes_same [] [] same = refl
+bytes_same [] (slot ∷ b) same = omega (arith, bytes-cons slot b, same 0, bytes_same [] b (λ k. same (suc k)))
+bytes_same (slot ∷ a) [] same = omega (arith, bytes-cons slot a, same 0, bytes_same a [] (λ k. same (suc k)))
+bytes_same (slot ∷ a) (other ∷ b) same = omega (arith, bytes-cons slot a, bytes-cons other b, same 0, bytes_same a b (λ k. same (suc k)))
+
+-- ---- a content that was appended
+
 pub record Appends (old new : List Slot) (at : ContentRef) : Type 0 where
   pub counts : (k : ℕ) → count_of new k ≡ count_of old k + one_of at.slot k
   pub sizes : (k : ℕ) → size_of old k ≤ size_of new k
   pub within : end_of at ≤ size_of new at.slot
+  pub bytes : bytes_in new ≡ bytes_in old + at.size
 
 pub appended : (bytes digest : List ℕ) (old new : List Slot) (at : ContentRef) → IsAppended bytes digest old new at → Appends old new at
 appended bytes digest old new at is =
@@ -131,6 +146,7 @@ appended bytes digest old new at is =
       counts = λ k. ap (λ (l : List Slot). count_of l k) is.slots ∙ counts_more old at.slot k slot inside refl;
       sizes = λ k. omega (arith, ap (λ (l : List Slot). size_of l k) is.slots, size_more old at.slot k slot (omega (arith, is.offset)));
       within = omega (arith, ap (λ (l : List Slot). size_of l at.slot) is.slots, size_here old at.slot slot inside);
+      bytes = omega (arith, ap bytes_in is.slots, sum_by-set (λ (s : Slot). s.size) old at.slot slot unused inside, is.offset);
     }
 
 -- ---- references one after another

@@ -25,6 +25,12 @@ content_damaged ContentError.Memory damage is = absurd cc
 content_damaged ContentError.SlotsFull damage is = absurd cc
 content_damaged (ContentError.Damaged other) damage is = cc
 
+pub content_memory : (e : ContentError) → of_content e ≡ StoreError.Memory → e ≡ ContentError.Memory
+content_memory ContentError.Disk is = absurd cc
+content_memory ContentError.Memory is = refl
+content_memory ContentError.SlotsFull is = absurd cc
+content_memory (ContentError.Damaged other) is = absurd cc
+
 pub disk_refuses : (e : DiskError) → IsDiskOrMemory (of_disk e)
 disk_refuses DiskError.Failed = inl refl
 disk_refuses DiskError.Memory = inr refl

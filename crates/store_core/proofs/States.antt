@@ -1,6 +1,6 @@
 -- The machine's state that files stand for once a session's entry was added.
-use Rattle.std.proofs.Common.{◌≡◌, ℕ, ◌==◌, Bool, true, false, cond, not, List, [], ◌∷◌, ◌++◌, map, take, drop, get_or, refl, sym, ap, subst, ◌∙◌, arith}
-use Rattle.std.specs.Prelude.{None, Ok, All, Contains, filter, unwrap_or}
+use Rattle.std.proofs.Common.{◌≡◌, ℕ, ◌==◌, Bool, true, false, cond, not, List, [], ◌∷◌, ◌++◌, map, take, drop, get_or, refl, sym, ap, ◌∙◌, arith}
+use Rattle.std.specs.Prelude.{None, Ok, All, filter, unwrap_or}
 use Rattle.std.specs.List.{AllZip}
 use Rattle.std.proofs.lemmas.List.{length-append}
 use Rattle.std.proofs.lemmas.List.Elements.{All-head, All-tail, All-filter}
@@ -39,6 +39,7 @@ use Rattle.store_core.proofs.Agreeing.{of_state, sound_of, stands_by_kept, state
 use Rattle.store_core.proofs.Commits.{same_flow}
 use Rattle.store_core.proofs.Following.{Follows}
 use Rattle.store_core.proofs.Machine.{IsSessionFor, state_behind}
+use Rattle.store_core.proofs.Parts.{parts_stay}
 use Rattle.store_core.proofs.Queues.{IsQueuedAs, line}
 use Rattle.store_core.proofs.Sharing.{HasSource, all_at, all_sources, zip_wider}
 use Rattle.store_core.proofs.Sound.{content_of, unmap}
@@ -129,11 +130,7 @@ state_added s new settled se number e slots old mid files state batches suits sa
     let reads : (at : ContentRef) → content_in files at ≡ content_in mid at = λ at. added_content number e mid files at added in
     let stay : All (λ (at : ContentRef). content_in files at ≡ content_in old at) (live_in s) =
     λ i d lt. let at = get_or (live_in s) i d in reads at ∙ (follows.contents i d lt).bytes in
-    let placed : All (λ (p : Placed). is_stored p.fresh ≡ true → content_in mid p.file.content ≡ content_in old p.file.content) settled.placed =
-    λ i d lt stored.
-    let at = (get_or settled.placed i d).file.content in
-    let has : Contains (live_in s) at = live i d lt stored in
-    subst (λ (r : ContentRef). content_in mid r ≡ content_in old r) has.2 (follows.contents has.0 at has.1).bytes in
+    let placed = parts_stay s old mid settled.placed live follows in
     let session : IsSessionFor (content_in files) (content_in old) k settled se = record {
       gone = same.gone;
       number = same.number;

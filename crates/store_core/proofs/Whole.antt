@@ -9,7 +9,7 @@ use Rattle.disk_trait.proofs.Moments.{wider, wider_where_left, at_the_end, one_a
 use Rattle.flowfile_record.specs.declared.stored.ActiveFile.{ActiveFile}
 use Rattle.record_codec.specs.declared.entry.LogEntry.{LogEntry}
 use Rattle.record_codec.specs.declared.entry.SessionEntry.{SessionEntry}
-use Rattle.content_repo.specs.Claims.{claim}
+use Rattle.content_repo.specs.Claims.{claim, content_in}
 use Rattle.content_repo.specs.declared.slot.Slot.{Slot}
 use Rattle.flowfile_wal.specs.Calls.{InEach, WithOrWithout}
 use Rattle.flowfile_wal.specs.Current.{CurrentLog, current_log}
@@ -19,6 +19,7 @@ use Rattle.checkpoint_store.specs.Consistent.{IsConsistent}
 use Rattle.kept_state.specs.Applied.{applied, session_applied, swapped_out}
 use Rattle.kept_state.specs.Changes.{no_files}
 use Rattle.kept_state.specs.Fits.{fits}
+use Rattle.machine_model.specs.Changing.{HaveDigests}
 use Rattle.prov_store.specs.State.{EventsState, HasEvents, IsTrimmed}
 use Rattle.store_core.specs.Committed.{HoldsEither}
 use Rattle.store_core.specs.Touched.{MayTouch, TouchesOnly}
@@ -159,9 +160,9 @@ module _ {D : Type 0} (moment : D → ℕ) (images : D → ℕ → Files → Typ
   pub is_added : (works : IsWorking s) → InEach (images old (moment old)) (HasLog s) → InEach (images old (moment old)) (Holds s)
       → Since moment images old mid (After (GrowsAhead s.slots s.events) (images old (moment old)))
       → IsConsistent (kept_by s) → (prepared : IsPrepared s p) → (same : placeless_entry e ≡ placeless_entry p.entry) → HasLiveContents s p.settled
-      → images mid (moment mid) (held mid) → HasSizes slots (held mid) → ReferAlike p.settled.placed (placed_in e) → ArePlaced true slots (held mid) p.settled.placed (placed_in e)
+      → HaveDigests (content_in (held mid)) p.settled.placed → images mid (moment mid) (held mid) → HasSizes slots (held mid) → ReferAlike p.settled.placed (placed_in e) → ArePlaced true slots (held mid) p.settled.placed (placed_in e)
       → kept_by new ≡ applied no_files (kept_by s) e → new.lot ≡ s.lot → HasEvents new.events (held mid) → IsAdded s new e (held mid)
-  is_added works has holds first consistent prepared same live left sizes alike placed kept lot events =
+  is_added works has holds first consistent prepared same live digests left sizes alike placed kept lot events =
       let is = entry_acts s p e consistent prepared same in
       let before = at_the_end moment images old mid (After (GrowsAhead s.slots s.events) (images old (moment old))) first (held mid) left in
       let holds_mid = holds_ahead s before.0 (held mid) works (has before.0 before.1) (holds before.0 before.1) before.2 in
@@ -171,7 +172,7 @@ module _ {D : Type 0} (moment : D → ℕ) (images : D → ℕ → Files → Typ
         alone = is.alone;
         fit = is.fit;
         contents =
-            placed_sound (held mid) slots s p.settled.placed is.session.placed sizes holds_mid.contents prepared.may.fresh live prepared.may.shared
+            placed_sound (held mid) slots s p.settled.placed is.session.placed sizes holds_mid.contents prepared.may.fresh live digests prepared.may.shared
             (subst (ReferAlike p.settled.placed) is.puts alike)
             (subst (λ (l : List ActiveFile). ArePlaced true slots (held mid) p.settled.placed l) is.puts placed);
         kept = kept;

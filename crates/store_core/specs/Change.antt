@@ -1,7 +1,8 @@
 -- What a settled session asks of a store, and what files do that expire.
-use Rattle.std.specs.Prelude.{◌≡◌, ◌⊎◌, ℕ, ◌+◌, ◌≤◌, List, length, map, true, All, Contains, None, Some}
+use Rattle.std.specs.Prelude.{◌≡◌, ◌⊎◌, ℕ, ◌+◌, ◌≤◌, List, length, map, true, All, None, Some}
 use Rattle.std.specs.List.{filter_map}
 use Rattle.sha2.specs.Sha256.{sha256}
+use Rattle.flowfile_record.specs.Ranges.{IsRangeOfOne}
 use Rattle.flowfile_record.specs.Shared.{AreShared, is_stored, own_bytes}
 use Rattle.flowfile_record.specs.Stored.{Kept}
 use Rattle.flowfile_record.specs.declared.TheConstants.{CONTENT_MAX}
@@ -24,9 +25,6 @@ use Rattle.store_core.specs.declared.prepared.SettledExpiry.{SettledExpiry}
 -- the contents that aren't in the store yet, by place; one that several files share is there once
 abbrev pub fresh_contents_of : List Placed → List (List ℕ)
 fresh_contents_of placed = filter_map (λ p. own_bytes p.fresh) placed
-
-abbrev pub fresh_contents : Settled → List (List ℕ)
-fresh_contents s = fresh_contents_of s.placed
 
 abbrev pub fresh_sizes_of : List Placed → List ℕ
 fresh_sizes_of placed = map length (fresh_contents_of placed)
@@ -56,9 +54,9 @@ pub record MayExpire (k : Kept) (e : SettledExpiry) : Type 0 where
   pub numbered : AreNumberedFrom (k.last_event + 1) e.settled.events
   pub events : numbers_limit (session_applied k (session_of k e.settled)) ≡ None → All HasBlock e.settled.events
 
--- each placed file whose content is in the store has that of a live file
+-- each placed file whose content is in the store has that of a live file, or a part of it
 abbrev pub IsOldLive : StoreState → Placed → Type 0
-IsOldLive store p = is_stored p.fresh ≡ true → Contains (live_in store) p.file.content
+IsOldLive store p = is_stored p.fresh ≡ true → IsRangeOfOne (live_in store) p.file.content
 
 abbrev pub HasLiveContents : StoreState → Settled → Type 0
 HasLiveContents store s = All (IsOldLive store) s.placed

@@ -1,7 +1,6 @@
 -- A change that is on its way into the store, and what its commit leaves.
-use Rattle.std.specs.Prelude.{◌≡◌, ◌⊎◌, ℕ, ◌+◌, ◌≤◌, true, length, map, All, Ok}
+use Rattle.std.specs.Prelude.{◌≡◌, ◌⊎◌, ℕ, ◌+◌, ◌-◌, ◌^◌, ◌≤◌, length, map, min, All, Ok}
 use Rattle.std.specs.List.{AllZip}
-use Rattle.flowfile_record.specs.Shared.{is_stored}
 use Rattle.disk_trait.specs.Files.{Files}
 use Rattle.disk_trait.specs.Images.{Since}
 use Rattle.flowfile_record.specs.Stored.{Kept}
@@ -17,7 +16,7 @@ use Rattle.machine_model.specs.State.{State}
 use Rattle.prov_store.specs.State.{HasBlock, IsAppended, NumberedEvents}
 use Rattle.store_core.specs.Change.{MayChange, IsWithinLimits}
 use Rattle.store_core.specs.Flow.{flow_in}
-use Rattle.store_core.specs.Placing.{ReferAlike}
+use Rattle.store_core.specs.Placing.{GrowsByFresh, ReferAlike, StaysStored}
 use Rattle.store_core.specs.State.{stands_for}
 use Rattle.store_core.specs.Store.{StoreState, kept_by, EachStandsFor, Holds}
 
@@ -47,12 +46,13 @@ pub record IsPrepared (store : StoreState) (p : PreparedChange) : Type 0 where
   pub events : p.events.events ≡ p.settled.events
   pub blocks : All HasBlock p.settled.events
 
--- What is kept has the change, its new contents standing somewhere. The number of the store's log, its lot and the
--- contents of its opening stay.
+-- What is kept has the change, its new contents standing somewhere, and those that are in the store where they stood. The
+-- number of the store's log, its lot and the contents of its opening stay.
 pub record HasChange (p : PreparedChange) (old new : StoreState) : Type 0 where
   pub entry : LogEntry
   pub same : placeless_entry entry ≡ placeless_entry p.entry
   pub kept : kept_by new ≡ applied no_files (kept_by old) entry
+  pub stays : AllZip StaysStored p.settled.placed (placed_in entry)
   pub log : new.log.number ≡ old.log.number
   pub opened : new.opened ≡ old.opened
   pub lot : new.lot ≡ old.lot
@@ -78,15 +78,17 @@ pub record KeepsShared (settled : Settled) (old new : StoreState) : Type 0 where
   pub kept : kept_by new ≡ applied no_files (kept_by old) entry
   pub placed : map placeless_active (placed_in entry) ≡ map placeless_active (map record_of settled.placed)
   pub alike : ReferAlike settled.placed (placed_in entry)
-  pub stays : AllZip (λ p a. is_stored p.fresh ≡ true → a.file.content ≡ p.file.content) settled.placed
-      (placed_in entry)
+  pub stays : AllZip StaysStored settled.placed (placed_in entry)
 
--- A commit is acknowledged: the disk's present moment is told, the events are the store's, files share their contents, and
--- whatever a stop may leave stands for the state with the change.
+-- A commit is acknowledged: the disk's present moment is told, the events are the store's, the log has one entry more, the
+-- claims have as many bytes more as the new contents, files share their contents, and whatever a stop may leave stands for
+-- the state with the change.
 pub record IsAcknowledged {D : Type 0} (held : D → Files) (moment_of : D → ℕ) (images : D → ℕ → Files → Type 0)
     (s_old s_new : StoreState) (settled : Settled) (old new : D) (told : ℕ) : Type 0 where
   pub moment : told ≡ moment_of new
   pub events : IsAppended settled.events s_old.events s_new.events
+  pub entries : s_new.entries ≡ min (s_old.entries + 1) (2 ^ 64 - 1)
+  pub grown : GrowsByFresh settled.placed s_old.slots s_new.slots
   pub shared : KeepsShared settled s_old s_new
   pub states : (state : State) → EachStandsFor (flow_in (kept_by s_old)) s_old.lot state (images old (moment_of old))
       → EachStandsFor (flow_in (kept_by s_old)) s_old.lot (state_after (content_in (held old)) state settled)

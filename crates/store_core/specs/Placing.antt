@@ -1,5 +1,5 @@
 -- What a change has ahead of the log: its contents, as they are placed and given up, and its events.
-use Rattle.std.specs.Prelude.{◌≡◌, ℕ, ◌+◌, ◌<◌, ◌≤◌, IsTrue, Bool, true, List, [], ◌∷◌, ◌++◌, length, take, map, slice_get, All, Some, Ok, option_map}
+use Rattle.std.specs.Prelude.{◌≡◌, ℕ, ◌+◌, ◌<◌, ◌≤◌, IsTrue, Bool, true, List, [], ◌∷◌, ◌++◌, length, take, map, slice_get, sum, sum_by, All, Some, Ok, option_map}
 use Rattle.std.specs.List.{filter_map}
 use Rattle.std.specs.List.{AllZip}
 use Rattle.disk_trait.specs.Files.{Files}
@@ -36,17 +36,29 @@ abbrev pub GrowsBehind : List Slot → Files → Files → Type 0
 GrowsBehind slots =
     OnClaims (λ k old new. (take (size_of slots k) new ≡ take (size_of slots k) old) × (length old ≤ length new))
 
+-- how many bytes stand in the claims
+abbrev pub bytes_in : List Slot → ℕ
+bytes_in slots = sum_by (λ slot. slot.size) slots
+
+-- the claims have as many bytes more as the new contents of these files, each once
+abbrev pub GrowsByFresh : List Placed → (old new : List Slot) → Type 0
+GrowsByFresh placed old new = bytes_in new ≡ bytes_in old + sum (fresh_sizes_of placed)
+
 -- claims grow behind their ends, and then files of events behind the last event
 pub record GrowsAhead (slots : List Slot) (known : EventsState) (old new : Files) : Type 0 where
   pub mid : Files
   pub claims : GrowsBehind slots old mid
   pub events : EventsGrow known mid new
 
+-- a content that is in the store is recorded where it stood
+abbrev pub StaysStored : Placed → ActiveFile → Type 0
+StaysStored p a = is_stored p.fresh ≡ true → a.file.content ≡ p.file.content
+
 -- The placed file as it is recorded: a new content stands in its claim, one that is in the store where it stood. Where a
 -- shared one stands see `ReferAlike`.
 pub record IsPlacedAs (tells : Bool) (slots : List Slot) (files : Files) (p : Placed) (a : ActiveFile) : Type 0 where
   pub file : a ≡ at_content a.file.content (active p.connection p.file)
-  pub old : is_stored p.fresh ≡ true → a.file.content ≡ p.file.content
+  pub old : StaysStored p a
   pub size : a.file.content.size ≡ p.file.content.size
   pub digest : a.file.content.digest ≡ p.file.content.digest
   pub named : IsNamed a.file.content
@@ -110,6 +122,7 @@ pub record PlacesOne (tells : Bool) (files : Files) (place : ℕ) (p : Placed) (
   pub placed : IsPlacedAs tells new files p recorded
   pub shared : (of : ℕ) → p.fresh ≡ As of → slice_get (references_of (placed_in before)) of ≡ Some recorded.file.content
   pub holds : HoldsMore (recorded ∷ []) old new
+  pub grown : GrowsByFresh (p ∷ []) old new
   pub room : (sizes : List ℕ) → HasRoom old (fresh_sizes_of (p ∷ []) ++ sizes) → HasRoom new sizes
   pub entry : (front back : List ActiveFile) → length front ≡ place → placed_in before ≡ front ++ record_of p ∷ back
       → placed_in after ≡ front ++ recorded ∷ back
@@ -120,6 +133,7 @@ pub record PlacesAll (tells : Bool) (files : Files) (all : List Placed) (old new
   pub placed : ArePlaced tells new files all (placed_in after)
   pub shared : ReferAlike all (placed_in after)
   pub holds : HoldsMore (placed_in after) old new
+  pub grown : GrowsByFresh all old new
 
 -- These events stand behind those of before, and nothing behind them.
 pub record AddsEvents (tells : Bool) (events : List Event) (old new : EventsState) (before after : Files) : Type 0 where

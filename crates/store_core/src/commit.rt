@@ -1,15 +1,17 @@
 //! A change becomes part of the store: its contents and its events first, then the log.
 ghost use Rattle.std.specs.Prelude.{◌≡◌, ◌+◌, false, map, IfOk, OnOk, IfErr, IsErr, IsTrue};
+ghost use Rattle.std.specs.List.{AllZip};
 ghost use Rattle.disk_trait.specs.Faults.{CountsFaults};
 ghost use Rattle.disk_trait.specs.Images.{After, Since};
 ghost use Rattle.record_codec.specs.Placeless.{placeless_entry};
-ghost use Rattle.content_repo.specs.Claims.{HasSizes};
+ghost use Rattle.content_repo.specs.Claims.{HasSizes, content_in};
 ghost use Rattle.kept_state.specs.Changes.{placed_in, record_of};
+ghost use Rattle.machine_model.specs.Changing.{HaveDigests};
 ghost use Rattle.prov_store.specs.State.{IsReady};
 ghost use Rattle.store_core.specs.Calls.{StopsOnFault};
 ghost use Rattle.store_core.specs.Change.{HasLiveContents};
 ghost use Rattle.store_core.specs.Committed.{IsPrepared, IsAcknowledged, IsAllOrNothing};
-ghost use Rattle.store_core.specs.Placing.{MayPlace, PlacesAll, AddsEvents, GrowsAhead};
+ghost use Rattle.store_core.specs.Placing.{MayPlace, PlacesAll, AddsEvents, GrowsAhead, StaysStored};
 ghost use Rattle.store_core.specs.Store.{IsKeptOn};
 ghost use Rattle.store_core.specs.Touched.{CommitsTo};
 
@@ -35,6 +37,7 @@ impl Store {
         requires kept { IsKeptOn D.tells D.held D.moment D.images self.old disk.old }
         requires prepared { IsPrepared self.old prepared }
         requires contents { HasLiveContents self.old prepared.settled }
+        requires digests { IsTrue D.tells → HaveDigests (content_in (D.held disk.old)) prepared.settled.placed }
         // The change is made in memory, and once it is acknowledged whatever a stop leaves has it: see `kept`.
         ensures changed { self.old.failed ≡ false → IsAllOrNothing D.held D.moment D.images prepared.entry
             self.old self.new disk.old disk.new }
@@ -101,6 +104,7 @@ fn write_ahead<D: Disk>(
     requires ready { IsTrue D.tells → IsReady events.old (D.held disk.old) }
     ensures placed { OnOk result (PlacesAll D.tells (D.held disk.new) placed.now contents.old contents.new entry.new) }
     ensures same { placeless_entry entry.new ≡ placeless_entry entry.old }
+    ensures stays { AllZip StaysStored placed.now (placed_in entry.new) }
     ensures sizes { OnOk result (IsTrue D.tells → HasSizes contents.new (D.held disk.new)) }
     ensures events { OnOk result
         (AddsEvents D.tells blocks.now.events events.old events.new (D.held disk.old) (D.held disk.new)) }

@@ -1,6 +1,7 @@
 //! The contents of a change: each is written once, each file that refers to it holds it once more, and those of the files
 //! that go are given up.
-ghost use Rattle.std.specs.Prelude.{◌≡◌, ℕ, ◌+◌, ◌<◌, ◌≤◌, Bool, length, map, IsTrue, IfOk, OnOk};
+ghost use Rattle.std.specs.Prelude.{◌≡◌, ℕ, ◌+◌, ◌<◌, ◌≤◌, Bool, length, map, IsTrue, IfOk, OnOk, IsErr};
+ghost use Rattle.std.specs.List.{AllZip};
 ghost use Rattle.disk_trait.specs.Files.{Files};
 ghost use Rattle.disk_trait.specs.Images.{After, Since};
 ghost use Rattle.flowfile_record.specs.declared.stored.Fresh.TheVariants.{Bytes, As};
@@ -11,7 +12,7 @@ ghost use Rattle.content_repo.specs.Slots.{count_of, size_of, held_in, reference
 ghost use Rattle.content_repo.specs.declared.content.TheConstants.{HELD_MAX};
 ghost use Rattle.kept_state.specs.Changes.{placed_in, record_of};
 ghost use Rattle.store_core.specs.Change.{fresh_contents_of};
-ghost use Rattle.store_core.specs.Placing.{contents_of, GrowsBehind, MayPlace, MayPlaceOne, MayShare, IsRecordedAt, PlacesOne, PlacesAll};
+ghost use Rattle.store_core.specs.Placing.{contents_of, GrowsBehind, MayPlace, MayPlaceOne, MayShare, IsRecordedAt, PlacesOne, PlacesAll, StaysStored};
 
 use content_repo::{Content, ContentError};
 use disk_trait::Disk;
@@ -45,6 +46,7 @@ pub(crate) fn place_contents<D: Disk>(
     requires sizes { IsTrue D.tells → HasSizes contents.old (D.held disk.old) }
     ensures placed { OnOk result (PlacesAll D.tells (D.held disk.new) placed.now contents.old contents.new entry.new) }
     ensures same { placeless_entry entry.new ≡ placeless_entry entry.old }
+    ensures stays { AllZip StaysStored placed.now (placed_in entry.new) }
     ensures sizes { OnOk result (IsTrue D.tells → HasSizes contents.new (D.held disk.new)) }
     ensures held { IsTrue D.tells → GrowsBehind contents.old (D.held disk.old) (D.held disk.new) }
     ensures images { Since D.moment D.images disk.old disk.new
@@ -71,6 +73,7 @@ fn place_content<D: Disk>(
     requires sizes { IsTrue D.tells → HasSizes contents.old (D.held disk.old) }
     ensures placed { OnOk result
         (PlacesOne D.tells (D.held disk.new) place one.now contents.old contents.new entry.old entry.new) }
+    ensures unplaced { IsErr result → entry.new ≡ entry.old }
     ensures same { placeless_entry entry.new ≡ placeless_entry entry.old }
     ensures sizes { OnOk result (IsTrue D.tells → HasSizes contents.new (D.held disk.new)) }
     ensures held { IsTrue D.tells → GrowsBehind contents.old (D.held disk.old) (D.held disk.new) }
@@ -106,6 +109,7 @@ fn write_content<D: Disk>(
     requires sizes { IsTrue D.tells → HasSizes contents.old (D.held disk.old) }
     ensures placed { OnOk result
         (PlacesOne D.tells (D.held disk.new) place one.now contents.old contents.new entry.old entry.new) }
+    ensures unplaced { IsErr result → entry.new ≡ entry.old }
     ensures same { placeless_entry entry.new ≡ placeless_entry entry.old }
     ensures sizes { OnOk result (IsTrue D.tells → HasSizes contents.new (D.held disk.new)) }
     ensures held { IsTrue D.tells → GrowsBehind contents.old (D.held disk.old) (D.held disk.new) }

@@ -1,5 +1,5 @@
 //! A store is read without a write, for a query. A query knows no flow, and opens nothing.
-ghost use Rattle.std.specs.Prelude.{◌≡◌, ◌↔◌, ◌<◌, ℕ, [], None, Some, Ok, Err, IsTrue, IfOk, OnOk, IfErr, IsErr, IsErrOf, length, filter, map, max, min, nat_le, ◌&&◌, option_map};
+ghost use Rattle.std.specs.Prelude.{◌≡◌, ◌↔◌, ◌<◌, ℕ, [], None, Some, Ok, Err, IsTrue, IfOk, IfErr, IsErr, IsErrOf, length, filter, map, max, min, nat_le, ◌&&◌, option_map};
 ghost use Rattle.std.specs.Option.{option_copied};
 ghost use Rattle.disk_trait.specs.Faults.{CountsFaults};
 ghost use Rattle.disk_trait.specs.Images.{Stays};
@@ -256,6 +256,9 @@ impl Seen {
             (option_map (λ bytes. bytes.items) content)) }
         // Where no file of this number is live, the disk isn't asked, and no memory is taken.
         ensures refused { IsErr result → live_file number self.now ≡ None → ⊥ }
+        // Memory is taken only for its bytes.
+        ensures memory { (active : TheFile) → live_file number self.now ≡ Some active → IsErrOf result StoreError.Memory
+            → 0 < active.file.content.size }
         ensures none { live_file number self.now ≡ None → disk.new ≡ disk.old }
         ensures undamaged { (damage : TheDamage) → IsErrOf result (StoreError.Damaged damage) → IsTrue D.tells
             → IsSeenOn (D.held disk.old) self.now → ⊥ }

@@ -1,7 +1,12 @@
-use Rattle.std.proofs.Common.{refl, ◌∙◌, arith}
+use Rattle.std.proofs.Common.{refl, sym, ap, subst, ◌∙◌, arith}
+use Rattle.std.specs.List.{AllZip}
+use Rattle.std.specs.Prelude.{IsErr, is_err}
+use Rattle.record_codec.specs.declared.entry.LogEntry.{LogEntry}
+use Rattle.kept_state.specs.Changes.{placed_in}
+use Rattle.store_core.specs.Placing.{StaysStored}
 use Rattle.store_core.proofs.Growing.{since_nothing_grows, since_grown, grows_nothing, grows_in_turn}
 use Rattle.disk_trait.proofs.Moments.{nothing}
-use Rattle.store_core.proofs.Placing.{placed_none, placed_next, placed_all, may_next, recorded_next, share_next}
+use Rattle.store_core.proofs.Placing.{placed_none, placed_next, placed_all, may_next, recorded_next, share_next, stay_so_far}
 use Rattle.store_core.proofs.contents.place_contents.Goals as goal
 
 pub loop-place-init : goal.loop-place-init
@@ -28,6 +33,16 @@ pub place_content-requires-clause-shared : goal.place_content-requires-clause-sh
 place_content-requires-clause-shared g c κs within =
     share_next g.D.Disk.tells c.args.placed.now c.args.contents.now c.loop-place.contents (g.D.Disk.held c.loop-place.disk) c.loop-place.entry c.loop-place.place c.index-placed-place.result
     c.loop-place-test.true c.index-placed-place.is c.requires.may c.loop-place.invariant.placed
+
+pub returns-in_err-place_content-clause-stays : goal.returns-in_err-place_content-clause-stays
+returns-in_err-place_content-clause-stays g c =
+    let err : IsErr c.place_content.result = ap is_err c.in_err-place_content.was in
+    subst (λ (e : LogEntry). AllZip StaysStored c.args.placed.now (placed_in e)) (sym (c.place_content.ensures.unplaced err))
+    (stay_so_far g.D.Disk.tells c.args.placed.now c.args.contents.now c.loop-place.contents (g.D.Disk.held c.loop-place.disk) c.loop-place.entry c.loop-place.place c.loop-place.invariant.placed)
+
+pub returns-clause-stays : goal.returns-clause-stays
+returns-clause-stays g c =
+    stay_so_far g.D.Disk.tells c.args.placed.now c.args.contents.now c.loop-place.contents (g.D.Disk.held c.loop-place.disk) c.loop-place.entry c.loop-place.place c.loop-place.invariant.placed
 
 pub returns-in_err-place_content-clause-images : goal.returns-in_err-place_content-clause-images
 returns-in_err-place_content-clause-images g c =

@@ -1,12 +1,12 @@
-use Rattle.std.proofs.Common.{◌≡◌, ap, sym, ◌∙◌, subst}
+use Rattle.std.proofs.Common.{◌≡◌, ◌<◌, ap, sym, ◌∙◌, subst}
 use Rattle.std.specs.Prelude.{Option, None, Some}
 use Rattle.std.specs.Option.{option_copied}
 use Rattle.std.proofs.lemmas.Result.{err_from_is_err_and}
 use Rattle.flowfile_record.specs.declared.stored.ActiveFile.{ActiveFile}
 use Rattle.store_core.specs.Errors.{of_content}
 use Rattle.store_core.specs.Seen.{live_file, IsContentRead}
-use Rattle.store_core.specs.declared.error.StoreError.TheVariants.{Damaged}
-use Rattle.store_core.proofs.Refusals.{content_damaged}
+use Rattle.store_core.specs.declared.error.StoreError.TheVariants.{Damaged, Memory}
+use Rattle.store_core.proofs.Refusals.{content_damaged, content_memory}
 use Rattle.store_core.proofs.Seeing.{none_queued, content_queued, live_named, live_sound}
 use Rattle.store_core.proofs.seen.Seen.content.Goals as goal
 
@@ -36,6 +36,15 @@ returns-in_err-bytes-in-Some-clause-undamaged g c damage is told seen =
     let same : of_content c.in_err-bytes-in-Some.field-0.0 ≡ Damaged damage = cc (p.1, p.2, is) in
     live_sound (g.D.Disk.held c.args.disk.now) c.args.self.now c.args.number c.in-Some.active.now damage seen live
     (c.in_err-bytes-in-Some.ensures.refusal.damaged damage (content_damaged c.in_err-bytes-in-Some.field-0.0 damage same) told)
+
+pub returns-in_err-bytes-in-Some-clause-memory : goal.returns-in_err-bytes-in-Some-clause-memory
+returns-in_err-bytes-in-Some-clause-memory g c active there is =
+    let live : live_file c.args.number c.args.self.now ≡ Some c.in-Some.active.now = sym c.live.ensures.live ∙ ap option_copied c.in-Some.is in
+    let both : Some c.in-Some.active.now ≡ Some active = sym live ∙ there in
+    let file : c.in-Some.active.now ≡ active = cc in
+    let p = err_from_is_err_and c.from_residual.result c.from_residual.ensures.1 in
+    let same : of_content c.in_err-bytes-in-Some.field-0.0 ≡ Memory = cc (p.1, p.2, is) in
+    subst (λ (a : ActiveFile). 0 < a.file.content.size) file (c.in_err-bytes-in-Some.ensures.refusal.some (content_memory c.in_err-bytes-in-Some.field-0.0 same))
 
 pub returns-in_err-bytes-in-Some-clause-refused : goal.returns-in_err-bytes-in-Some-clause-refused
 returns-in_err-bytes-in-Some-clause-refused g c is none =

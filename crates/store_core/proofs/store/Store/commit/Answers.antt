@@ -1,4 +1,5 @@
 use Rattle.std.proofs.Common.{◌≡◌, ℕ, ◌+◌, ◌-◌, ◌^◌, ◌≤◌, true, List, length, map, refl, ap, sym, subst, ◌∙◌, arith, IsTrue}
+use Rattle.std.specs.List.{AllZip}
 use Rattle.std.specs.Prelude.{is_some, min}
 use Rattle.flowfile_record.specs.Stored.{Kept}
 use Rattle.flowfile_record.specs.declared.content.ContentRef.{ContentRef}
@@ -15,12 +16,12 @@ use Rattle.kept_state.specs.Fits.{fits}
 use Rattle.machine_model.specs.Changing.{state_after}
 use Rattle.store_core.specs.Committed.{PreparedChange}
 use Rattle.store_core.specs.Flow.{flow_in}
-use Rattle.store_core.specs.Placing.{contents_of, MayPlace, PlacesAll}
+use Rattle.store_core.specs.Placing.{contents_of, MayPlace, PlacesAll, StaysStored}
 use Rattle.store_core.specs.State.{stands_for}
 use Rattle.store_core.specs.Store.{StoreState, state_in, kept_by, IsWorking}
 use Rattle.store_core.proofs.Agreeing.{of_state}
 use Rattle.store_core.proofs.Commits.{may_place, recorded_first, entry_acts, entry_room, entry_frame}
-use Rattle.store_core.proofs.Outcomes.{has_placed, has_change, placed_images, placed_states, placed_alone, placed_claims, numbered_of, has_logged, may_give_up, logged_images, logged_alone, logged_claims, logged_states, acknowledged_state as state_of_acknowledged, acknowledged_kept, acknowledged_claims, acknowledged_works, events_counted, kept_shared}
+use Rattle.store_core.proofs.Outcomes.{has_placed, has_change, placed_images, placed_states, placed_alone, placed_claims, numbered_of, has_logged, may_give_up, logged_images, logged_alone, logged_claims, logged_states, acknowledged_state as state_of_acknowledged, acknowledged_kept, acknowledged_claims, acknowledged_works, claims_grown, events_counted, kept_shared}
 use Rattle.store_core.proofs.Whole.{ready_ahead}
 use Rattle.store_core.proofs.store.Store.commit.Goals as goal
 
@@ -68,7 +69,7 @@ apply-requires-clause-fits g c =
     let images = g.D.Disk.images in
     let held = g.D.Disk.held in
     let tells = g.D.Disk.tells in
-    let has = has_placed tells held moment images s now change p e old mid view p_view (c.self.invariant.works c.if-self.false) c.if-self.false c.stored-stored.ensures.consistent c.stored-stored.ensures.no_batches c.requires.kept c.requires.prepared c.requires.contents c.write_ahead.ensures.same c.write_ahead.ensures.images c.write_ahead.ensures.held in
+    let has = has_placed tells held moment images s now change p e old mid view p_view (c.self.invariant.works c.if-self.false) c.if-self.false c.stored-stored.ensures.consistent c.stored-stored.ensures.no_batches c.requires.kept c.requires.prepared c.requires.contents c.requires.digests c.write_ahead.ensures.same c.write_ahead.ensures.images c.write_ahead.ensures.held in
     ap (fits no_files i.state.kept) c.into_frame-entry.ensures.entry ∙ ap (λ (t : StoreState). fits no_files (kept_by t) e) view ∙ (entry_acts now p e has.consistent has.prepared has.same).fit
 
 pub apply-requires-2-clause-fits : goal.apply-requires-2-clause-fits
@@ -87,7 +88,7 @@ apply-requires-2-clause-fits g c =
     let images = g.D.Disk.images in
     let held = g.D.Disk.held in
     let tells = g.D.Disk.tells in
-    let has = has_placed tells held moment images s now change p e old mid view p_view (c.self.invariant.works c.if-self.false) c.if-self.false c.stored-stored.ensures.consistent c.stored-stored.ensures.no_batches c.requires.kept c.requires.prepared c.requires.contents c.write_ahead.ensures.same c.write_ahead.ensures.images c.write_ahead.ensures.held in
+    let has = has_placed tells held moment images s now change p e old mid view p_view (c.self.invariant.works c.if-self.false) c.if-self.false c.stored-stored.ensures.consistent c.stored-stored.ensures.no_batches c.requires.kept c.requires.prepared c.requires.contents c.requires.digests c.write_ahead.ensures.same c.write_ahead.ensures.images c.write_ahead.ensures.held in
     ap (fits no_files i.state.kept) c.into_frame-entry-2.ensures.entry ∙ ap (λ (t : StoreState). fits no_files (kept_by t) e) view ∙ (entry_acts now p e has.consistent has.prepared has.same).fit
 
 pub apply-requires-clause-room : goal.apply-requires-clause-room
@@ -106,7 +107,7 @@ apply-requires-clause-room g c =
     let images = g.D.Disk.images in
     let held = g.D.Disk.held in
     let tells = g.D.Disk.tells in
-    let has = has_placed tells held moment images s now change p e old mid view p_view (c.self.invariant.works c.if-self.false) c.if-self.false c.stored-stored.ensures.consistent c.stored-stored.ensures.no_batches c.requires.kept c.requires.prepared c.requires.contents c.write_ahead.ensures.same c.write_ahead.ensures.images c.write_ahead.ensures.held in
+    let has = has_placed tells held moment images s now change p e old mid view p_view (c.self.invariant.works c.if-self.false) c.if-self.false c.stored-stored.ensures.consistent c.stored-stored.ensures.no_batches c.requires.kept c.requires.prepared c.requires.contents c.requires.digests c.write_ahead.ensures.same c.write_ahead.ensures.images c.write_ahead.ensures.held in
     subst (λ (l : LogEntry). length (placed_in l) ≤ i.state.room) (sym c.into_frame-entry.ensures.entry)
     (subst (λ (t : StoreState). length (placed_in e) ≤ t.memory.room) (sym view) (entry_room now p e has.consistent has.prepared has.same))
 
@@ -126,7 +127,7 @@ apply-requires-2-clause-room g c =
     let images = g.D.Disk.images in
     let held = g.D.Disk.held in
     let tells = g.D.Disk.tells in
-    let has = has_placed tells held moment images s now change p e old mid view p_view (c.self.invariant.works c.if-self.false) c.if-self.false c.stored-stored.ensures.consistent c.stored-stored.ensures.no_batches c.requires.kept c.requires.prepared c.requires.contents c.write_ahead.ensures.same c.write_ahead.ensures.images c.write_ahead.ensures.held in
+    let has = has_placed tells held moment images s now change p e old mid view p_view (c.self.invariant.works c.if-self.false) c.if-self.false c.stored-stored.ensures.consistent c.stored-stored.ensures.no_batches c.requires.kept c.requires.prepared c.requires.contents c.requires.digests c.write_ahead.ensures.same c.write_ahead.ensures.images c.write_ahead.ensures.held in
     subst (λ (l : LogEntry). length (placed_in l) ≤ i.state.room) (sym c.into_frame-entry-2.ensures.entry)
     (subst (λ (t : StoreState). length (placed_in e) ≤ t.memory.room) (sym view) (entry_room now p e has.consistent has.prepared has.same))
 
@@ -146,7 +147,7 @@ give_up-requires g c =
     let images = g.D.Disk.images in
     let held = g.D.Disk.held in
     let tells = g.D.Disk.tells in
-    let has = has_placed tells held moment images s now change p e old mid view p_view (c.self.invariant.works c.if-self.false) c.if-self.false c.stored-stored.ensures.consistent c.stored-stored.ensures.no_batches c.requires.kept c.requires.prepared c.requires.contents c.write_ahead.ensures.same c.write_ahead.ensures.images c.write_ahead.ensures.held in
+    let has = has_placed tells held moment images s now change p e old mid view p_view (c.self.invariant.works c.if-self.false) c.if-self.false c.stored-stored.ensures.consistent c.stored-stored.ensures.no_batches c.requires.kept c.requires.prepared c.requires.contents c.requires.digests c.write_ahead.ensures.same c.write_ahead.ensures.images c.write_ahead.ensures.held in
     let slots = c.write_ahead.new.contents in
     let placed : PlacesAll tells (held mid) change.settled.placed s.slots slots e = subst (λ (l : List Placed). PlacesAll tells (held mid) l s.slots slots e) c.as_slice.ensures c.in-Ok.ensures.placed in
     let files : c.stored.result.now.files.items ≡ (kept_by now).files = ap (λ (k : Kept). k.files) c.stored.ensures.kept ∙ ap (λ (t : StoreState). (kept_by t).files) view in
@@ -174,7 +175,7 @@ append-requires-clause-block g c κs within =
     let images = g.D.Disk.images in
     let held = g.D.Disk.held in
     let tells = g.D.Disk.tells in
-    let has = has_placed tells held moment images s now change p e old mid view p_view (c.self.invariant.works c.if-self.false) c.if-self.false c.stored-stored.ensures.consistent c.stored-stored.ensures.no_batches c.requires.kept c.requires.prepared c.requires.contents c.write_ahead.ensures.same c.write_ahead.ensures.images c.write_ahead.ensures.held in
+    let has = has_placed tells held moment images s now change p e old mid view p_view (c.self.invariant.works c.if-self.false) c.if-self.false c.stored-stored.ensures.consistent c.stored-stored.ensures.no_batches c.requires.kept c.requires.prepared c.requires.contents c.requires.digests c.write_ahead.ensures.same c.write_ahead.ensures.images c.write_ahead.ensures.held in
     let framed : IsFrame e c.as_slice-3.result.now = entry_frame now p e c.as_slice-3.result.now has.consistent has.prepared has.same c.into_frame-entry-2.ensures.encoded (c.as_slice-3.ensures.value ∙ c.into_frame-entry-2.ensures.frame) in
     (e, framed)
 
@@ -194,7 +195,7 @@ append-requires-clause-ready g c κs within =
     let images = g.D.Disk.images in
     let held = g.D.Disk.held in
     let tells = g.D.Disk.tells in
-    let has = has_placed tells held moment images s now change p e old mid view p_view (c.self.invariant.works c.if-self.false) c.if-self.false c.stored-stored.ensures.consistent c.stored-stored.ensures.no_batches c.requires.kept c.requires.prepared c.requires.contents c.write_ahead.ensures.same c.write_ahead.ensures.images c.write_ahead.ensures.held in
+    let has = has_placed tells held moment images s now change p e old mid view p_view (c.self.invariant.works c.if-self.false) c.if-self.false c.stored-stored.ensures.consistent c.stored-stored.ensures.no_batches c.requires.kept c.requires.prepared c.requires.contents c.requires.digests c.write_ahead.ensures.same c.write_ahead.ensures.images c.write_ahead.ensures.held in
     λ c' left. subst (λ (t : StoreState). IsReadyIn t.log c') (sym view) (ready_ahead moment images now old mid (has.kept.log has.unfailed) has.grows c' left).ready
 
 pub invariant_of-self-2 : goal.invariant_of-self-2
@@ -213,7 +214,7 @@ invariant_of-self-2 g c =
     let images = g.D.Disk.images in
     let held = g.D.Disk.held in
     let tells = g.D.Disk.tells in
-    let has = has_placed tells held moment images s now change p e old mid view p_view (c.self.invariant.works c.if-self.false) c.if-self.false c.stored-stored.ensures.consistent c.stored-stored.ensures.no_batches c.requires.kept c.requires.prepared c.requires.contents c.write_ahead.ensures.same c.write_ahead.ensures.images c.write_ahead.ensures.held in
+    let has = has_placed tells held moment images s now change p e old mid view p_view (c.self.invariant.works c.if-self.false) c.if-self.false c.stored-stored.ensures.consistent c.stored-stored.ensures.no_batches c.requires.kept c.requires.prepared c.requires.contents c.requires.digests c.write_ahead.ensures.same c.write_ahead.ensures.images c.write_ahead.ensures.held in
     let slots = c.write_ahead.new.contents in
     let placed : PlacesAll tells (held mid) change.settled.placed s.slots slots e = subst (λ (l : List Placed). PlacesAll tells (held mid) l s.slots slots e) c.as_slice.ensures c.in-Ok.ensures.placed in
     let framed : IsFrame e c.as_slice-3.result.now = entry_frame now p e c.as_slice-3.result.now has.consistent has.prepared has.same c.into_frame-entry-2.ensures.encoded (c.as_slice-3.ensures.value ∙ c.into_frame-entry-2.ensures.frame) in
@@ -254,10 +255,10 @@ returns-in_default-clause-changed g c works =
     let images = g.D.Disk.images in
     let held = g.D.Disk.held in
     let tells = g.D.Disk.tells in
-    let has = has_placed tells held moment images s now change p e old mid view p_view (c.self.invariant.works c.if-self.false) c.if-self.false c.stored-stored.ensures.consistent c.stored-stored.ensures.no_batches c.requires.kept c.requires.prepared c.requires.contents c.write_ahead.ensures.same c.write_ahead.ensures.images c.write_ahead.ensures.held in
+    let has = has_placed tells held moment images s now change p e old mid view p_view (c.self.invariant.works c.if-self.false) c.if-self.false c.stored-stored.ensures.consistent c.stored-stored.ensures.no_batches c.requires.kept c.requires.prepared c.requires.contents c.requires.digests c.write_ahead.ensures.same c.write_ahead.ensures.images c.write_ahead.ensures.held in
     let new = state_in c.apply.new.self i.log i.entries c.write_ahead.new.contents i.opened.items c.write_ahead.new.events i.lot true in
     record {
-      change = has_change s now new change p c.write_ahead.new.entry c.into_frame-entry.result.0 view p_view c.write_ahead.ensures.same c.into_frame-entry.ensures.entry c.apply.ensures.kept refl refl refl;
+      change = has_change s now new change p c.write_ahead.new.entry c.into_frame-entry.result.0 view p_view c.write_ahead.ensures.same (subst (λ (l : List Placed). AllZip StaysStored l (placed_in e)) c.as_slice.ensures c.write_ahead.ensures.stays) c.into_frame-entry.ensures.entry c.apply.ensures.kept refl refl refl;
       holds = placed_images tells held moment images now p e old mid new has;
       states = λ state stands. placed_states tells held moment images now p e old mid (λ c'. stands_for (flow_in (kept_by now)) now.lot c' ≡ of_state (state_after (content_in (held old)) state p.settled)) state has stands;
     }
@@ -278,7 +279,7 @@ returns-in_default-clause-touched g c =
     let images = g.D.Disk.images in
     let held = g.D.Disk.held in
     let tells = g.D.Disk.tells in
-    let has = has_placed tells held moment images s now change p e old mid view p_view (c.self.invariant.works c.if-self.false) c.if-self.false c.stored-stored.ensures.consistent c.stored-stored.ensures.no_batches c.requires.kept c.requires.prepared c.requires.contents c.write_ahead.ensures.same c.write_ahead.ensures.images c.write_ahead.ensures.held in
+    let has = has_placed tells held moment images s now change p e old mid view p_view (c.self.invariant.works c.if-self.false) c.if-self.false c.stored-stored.ensures.consistent c.stored-stored.ensures.no_batches c.requires.kept c.requires.prepared c.requires.contents c.requires.digests c.write_ahead.ensures.same c.write_ahead.ensures.images c.write_ahead.ensures.held in
     record { alone = placed_alone tells held moment images now p e old mid now.log.number i.contents i.events c.write_ahead.ensures.images; claims = placed_claims tells held moment images now p e old mid has; acknowledged = tt }
 
 pub returns-in_default-append-clause-changed : goal.returns-in_default-append-clause-changed
@@ -297,7 +298,7 @@ returns-in_default-append-clause-changed g c works =
     let images = g.D.Disk.images in
     let held = g.D.Disk.held in
     let tells = g.D.Disk.tells in
-    let has = has_placed tells held moment images s now change p e old mid view p_view (c.self.invariant.works c.if-self.false) c.if-self.false c.stored-stored.ensures.consistent c.stored-stored.ensures.no_batches c.requires.kept c.requires.prepared c.requires.contents c.write_ahead.ensures.same c.write_ahead.ensures.images c.write_ahead.ensures.held in
+    let has = has_placed tells held moment images s now change p e old mid view p_view (c.self.invariant.works c.if-self.false) c.if-self.false c.stored-stored.ensures.consistent c.stored-stored.ensures.no_batches c.requires.kept c.requires.prepared c.requires.contents c.requires.digests c.write_ahead.ensures.same c.write_ahead.ensures.images c.write_ahead.ensures.held in
     let slots = c.write_ahead.new.contents in
     let placed : PlacesAll tells (held mid) change.settled.placed s.slots slots e = subst (λ (l : List Placed). PlacesAll tells (held mid) l s.slots slots e) c.as_slice.ensures c.in-Ok.ensures.placed in
     let framed : IsFrame e c.as_slice-3.result.now = entry_frame now p e c.as_slice-3.result.now has.consistent has.prepared has.same c.into_frame-entry-2.ensures.encoded (c.as_slice-3.ensures.value ∙ c.into_frame-entry-2.ensures.frame) in
@@ -307,7 +308,7 @@ returns-in_default-append-clause-changed g c works =
     let number = numbered_of i.log.number c.self.invariant.current in
     let logged = has_logged tells held moment images s now new change p e c.into_frame-entry-2.result.0 old mid end number.0 slots view p_view number.1 placed c.in-Ok.ensures.sizes c.in-Ok.ensures.events c.into_frame-entry-2.ensures.entry c.apply-2.ensures.kept refl (c.append.ensures.images number.0 e number.1 framed) (λ disk k c' image. laws.left_is_told disk k c' image) (λ disk told. laws.held_is_left disk told) in
     record {
-      change = has_change s now new change p c.write_ahead.new.entry c.into_frame-entry-2.result.0 view p_view c.write_ahead.ensures.same c.into_frame-entry-2.ensures.entry c.apply-2.ensures.kept refl refl (ap (λ (l : LogState). l.number) c.in_default-append.ensures.refusal.shown);
+      change = has_change s now new change p c.write_ahead.new.entry c.into_frame-entry-2.result.0 view p_view c.write_ahead.ensures.same (subst (λ (l : List Placed). AllZip StaysStored l (placed_in e)) c.as_slice.ensures c.write_ahead.ensures.stays) c.into_frame-entry-2.ensures.entry c.apply-2.ensures.kept refl refl (ap (λ (l : LogState). l.number) c.in_default-append.ensures.refusal.shown);
       holds = logged_images tells held moment images now new p e old mid end number.0 slots has logged;
       states = λ state stands. logged_states tells held moment images now new p e old mid end number.0 slots has logged state stands;
     }
@@ -328,7 +329,7 @@ returns-in_default-append-clause-touched g c =
     let images = g.D.Disk.images in
     let held = g.D.Disk.held in
     let tells = g.D.Disk.tells in
-    let has = has_placed tells held moment images s now change p e old mid view p_view (c.self.invariant.works c.if-self.false) c.if-self.false c.stored-stored.ensures.consistent c.stored-stored.ensures.no_batches c.requires.kept c.requires.prepared c.requires.contents c.write_ahead.ensures.same c.write_ahead.ensures.images c.write_ahead.ensures.held in
+    let has = has_placed tells held moment images s now change p e old mid view p_view (c.self.invariant.works c.if-self.false) c.if-self.false c.stored-stored.ensures.consistent c.stored-stored.ensures.no_batches c.requires.kept c.requires.prepared c.requires.contents c.requires.digests c.write_ahead.ensures.same c.write_ahead.ensures.images c.write_ahead.ensures.held in
     let slots = c.write_ahead.new.contents in
     let placed : PlacesAll tells (held mid) change.settled.placed s.slots slots e = subst (λ (l : List Placed). PlacesAll tells (held mid) l s.slots slots e) c.as_slice.ensures c.in-Ok.ensures.placed in
     let framed : IsFrame e c.as_slice-3.result.now = entry_frame now p e c.as_slice-3.result.now has.consistent has.prepared has.same c.into_frame-entry-2.ensures.encoded (c.as_slice-3.ensures.value ∙ c.into_frame-entry-2.ensures.frame) in
@@ -355,7 +356,7 @@ returns-clause-changed g c works =
     let images = g.D.Disk.images in
     let held = g.D.Disk.held in
     let tells = g.D.Disk.tells in
-    let has = has_placed tells held moment images s now change p e old mid view p_view (c.self.invariant.works c.if-self.false) c.if-self.false c.stored-stored.ensures.consistent c.stored-stored.ensures.no_batches c.requires.kept c.requires.prepared c.requires.contents c.write_ahead.ensures.same c.write_ahead.ensures.images c.write_ahead.ensures.held in
+    let has = has_placed tells held moment images s now change p e old mid view p_view (c.self.invariant.works c.if-self.false) c.if-self.false c.stored-stored.ensures.consistent c.stored-stored.ensures.no_batches c.requires.kept c.requires.prepared c.requires.contents c.requires.digests c.write_ahead.ensures.same c.write_ahead.ensures.images c.write_ahead.ensures.held in
     let slots = c.write_ahead.new.contents in
     let placed : PlacesAll tells (held mid) change.settled.placed s.slots slots e = subst (λ (l : List Placed). PlacesAll tells (held mid) l s.slots slots e) c.as_slice.ensures c.in-Ok.ensures.placed in
     let framed : IsFrame e c.as_slice-3.result.now = entry_frame now p e c.as_slice-3.result.now has.consistent has.prepared has.same c.into_frame-entry-2.ensures.encoded (c.as_slice-3.ensures.value ∙ c.into_frame-entry-2.ensures.frame) in
@@ -365,7 +366,7 @@ returns-clause-changed g c works =
     let number = numbered_of i.log.number c.self.invariant.current in
     let logged = has_logged tells held moment images s now new change p e c.into_frame-entry-2.result.0 old mid end number.0 slots view p_view number.1 placed c.in-Ok.ensures.sizes c.in-Ok.ensures.events c.into_frame-entry-2.ensures.entry c.apply-2.ensures.kept refl (c.append.ensures.images number.0 e number.1 framed) (λ disk k c' image. laws.left_is_told disk k c' image) (λ disk told. laws.held_is_left disk told) in
     record {
-      change = has_change s now new change p c.write_ahead.new.entry c.into_frame-entry-2.result.0 view p_view c.write_ahead.ensures.same c.into_frame-entry-2.ensures.entry c.apply-2.ensures.kept refl refl (ap (λ (l : LogState). l.number) c.in-Ok-append.ensures.acknowledged.1);
+      change = has_change s now new change p c.write_ahead.new.entry c.into_frame-entry-2.result.0 view p_view c.write_ahead.ensures.same (subst (λ (l : List Placed). AllZip StaysStored l (placed_in e)) c.as_slice.ensures c.write_ahead.ensures.stays) c.into_frame-entry-2.ensures.entry c.apply-2.ensures.kept refl refl (ap (λ (l : LogState). l.number) c.in-Ok-append.ensures.acknowledged.1);
       holds = logged_images tells held moment images now new p e old mid end number.0 slots has logged;
       states = λ state stands. logged_states tells held moment images now new p e old mid end number.0 slots has logged state stands;
     }
@@ -386,7 +387,7 @@ returns-clause-touched g c =
     let images = g.D.Disk.images in
     let held = g.D.Disk.held in
     let tells = g.D.Disk.tells in
-    let has = has_placed tells held moment images s now change p e old mid view p_view (c.self.invariant.works c.if-self.false) c.if-self.false c.stored-stored.ensures.consistent c.stored-stored.ensures.no_batches c.requires.kept c.requires.prepared c.requires.contents c.write_ahead.ensures.same c.write_ahead.ensures.images c.write_ahead.ensures.held in
+    let has = has_placed tells held moment images s now change p e old mid view p_view (c.self.invariant.works c.if-self.false) c.if-self.false c.stored-stored.ensures.consistent c.stored-stored.ensures.no_batches c.requires.kept c.requires.prepared c.requires.contents c.requires.digests c.write_ahead.ensures.same c.write_ahead.ensures.images c.write_ahead.ensures.held in
     let slots = c.write_ahead.new.contents in
     let placed : PlacesAll tells (held mid) change.settled.placed s.slots slots e = subst (λ (l : List Placed). PlacesAll tells (held mid) l s.slots slots e) c.as_slice.ensures c.in-Ok.ensures.placed in
     let framed : IsFrame e c.as_slice-3.result.now = entry_frame now p e c.as_slice-3.result.now has.consistent has.prepared has.same c.into_frame-entry-2.ensures.encoded (c.as_slice-3.ensures.value ∙ c.into_frame-entry-2.ensures.frame) in
@@ -417,7 +418,7 @@ returns-clause-kept g c =
     let images = g.D.Disk.images in
     let held = g.D.Disk.held in
     let tells = g.D.Disk.tells in
-    let has = has_placed tells held moment images s now change p e old mid view p_view (c.self.invariant.works c.if-self.false) c.if-self.false c.stored-stored.ensures.consistent c.stored-stored.ensures.no_batches c.requires.kept c.requires.prepared c.requires.contents c.write_ahead.ensures.same c.write_ahead.ensures.images c.write_ahead.ensures.held in
+    let has = has_placed tells held moment images s now change p e old mid view p_view (c.self.invariant.works c.if-self.false) c.if-self.false c.stored-stored.ensures.consistent c.stored-stored.ensures.no_batches c.requires.kept c.requires.prepared c.requires.contents c.requires.digests c.write_ahead.ensures.same c.write_ahead.ensures.images c.write_ahead.ensures.held in
     let slots = c.write_ahead.new.contents in
     let placed : PlacesAll tells (held mid) change.settled.placed s.slots slots e = subst (λ (l : List Placed). PlacesAll tells (held mid) l s.slots slots e) c.as_slice.ensures c.in-Ok.ensures.placed in
     let framed : IsFrame e c.as_slice-3.result.now = entry_frame now p e c.as_slice-3.result.now has.consistent has.prepared has.same c.into_frame-entry-2.ensures.encoded (c.as_slice-3.ensures.value ∙ c.into_frame-entry-2.ensures.frame) in
@@ -445,7 +446,7 @@ returns-clause-acknowledged g c =
     let images = g.D.Disk.images in
     let held = g.D.Disk.held in
     let tells = g.D.Disk.tells in
-    let has = has_placed tells held moment images s now change p e old mid view p_view (c.self.invariant.works c.if-self.false) c.if-self.false c.stored-stored.ensures.consistent c.stored-stored.ensures.no_batches c.requires.kept c.requires.prepared c.requires.contents c.write_ahead.ensures.same c.write_ahead.ensures.images c.write_ahead.ensures.held in
+    let has = has_placed tells held moment images s now change p e old mid view p_view (c.self.invariant.works c.if-self.false) c.if-self.false c.stored-stored.ensures.consistent c.stored-stored.ensures.no_batches c.requires.kept c.requires.prepared c.requires.contents c.requires.digests c.write_ahead.ensures.same c.write_ahead.ensures.images c.write_ahead.ensures.held in
     let slots = c.write_ahead.new.contents in
     let placed : PlacesAll tells (held mid) change.settled.placed s.slots slots e = subst (λ (l : List Placed). PlacesAll tells (held mid) l s.slots slots e) c.as_slice.ensures c.in-Ok.ensures.placed in
     let framed : IsFrame e c.as_slice-3.result.now = entry_frame now p e c.as_slice-3.result.now has.consistent has.prepared has.same c.into_frame-entry-2.ensures.encoded (c.as_slice-3.ensures.value ∙ c.into_frame-entry-2.ensures.frame) in
@@ -457,6 +458,8 @@ returns-clause-acknowledged g c =
     record {
       moment = c.in-Ok-append.ensures.acknowledged.0;
       events = events_counted s c.args.self.now change c.args.prepared c.write_ahead.new.events c.self.view_is c.prepared.view_is c.requires.prepared c.in-Ok.ensures.events.appended;
+      entries = (let more : new.entries ≡ min (i.entries + 1) (2 ^ 64 - 1) = omega (arith, c.saturating_add-self-inside.ensures) in more ∙ ap (λ (t : StoreState). min (t.entries + 1) (2 ^ 64 - 1)) view);
+      grown = claims_grown tells held moment images now new p e old mid end number.0 slots has logged c.give_up.new.contents c.give_up.ensures.sizes;
       shared = kept_shared tells held moment images now new p e old mid end number.0 slots has logged;
       states = λ state stands. state_of_acknowledged tells held moment images now new p e old mid end number.0 slots has logged state stands (c.in-Ok-append.ensures.added number.0 e number.1 framed);
     }
