@@ -19,6 +19,7 @@ use Rattle.engine_choice.specs.Choice.{next_choice}
 use Rattle.engine_choice.specs.Laws.{ChoicesAreSeen, ChoicesAreSessions}
 use Rattle.engine_choice.specs.Listing.{first_passed}
 use Rattle.engine_choice.specs.declared.choice.Choice.{Choice}
+use Rattle.engine_session.specs.Handing.{AreTaken}
 use Rattle.engine_session.specs.Laws.{MachinesFilesAreLive}
 use Rattle.flow_run.specs.Journal.{Takes}
 use Rattle.flow_run.specs.Run.{IsStateOf, StandsFor}
@@ -39,11 +40,12 @@ use Rattle.flow_engine.proofs.Ending.{none_expired}
 use Rattle.flow_engine.proofs.Chosen.{IsNext, job_receives, next_first, next_is_left, next_takes_it, next_there_is}
 use Rattle.flow_engine.proofs.Goes.{takes_received}
 use Rattle.flow_run.specs.Puts.{Outgoing, Start}
+use Rattle.flow_engine.proofs.Stands.{all_told}
 use Rattle.flow_engine.proofs.Steps.{next_there, step_so}
 
 module _ (tells : Bool) {D : Type 0} (held : D → Files) (moment : D → ℕ) (images : D → ℕ → Files → Type 0) (v e : EngineState) (is : v ≡ e) (disk : D) (ready : IsReady tells held moment images e disk)
-    (consistent : IsConsistent (kept_by v.store)) (telling : Type 0) (left : List NamedFile) (out : Outgoing) (done : Done)
-    (stands : StandsSo telling e (content_in (held disk)) left out.standing done) where
+    (consistent : IsConsistent (kept_by v.store)) (in_tells out_tells : Bool) (left : List NamedFile) (out : Outgoing) (done : Done)
+    (stands : StandsSo tells in_tells out_tells e (content_in (held disk)) left out.standing done) where
   abbrev pub job_in : Job
   job_in = stands.0
 
@@ -62,8 +64,12 @@ module _ (tells : Bool) {D : Type 0} (held : D → Files) (moment : D → ℕ) (
   pub handed_in : IsHanded (kept_by v.store) done.given.moment choice_at job_in
   handed_in = subst (λ (x : EngineState). IsHanded (kept_by x.store) done.given.moment choice_at job_in) (sym is) stands.1.handed
 
-  told_in : telling → IsHandedAs (kept_by v.store) (content_in (held disk)) left out.standing choice_at job_in
-  told_in told = subst (λ (x : EngineState). IsHandedAs (kept_by x.store) (content_in (held disk)) left out.standing choice_at job_in) (sym is) (stands.1.told told)
+  told_in : IsHandedAs tells in_tells out_tells (kept_by v.store) (content_in (held disk)) left out.standing choice_at job_in
+  told_in = subst (λ (x : EngineState). IsHandedAs tells in_tells out_tells (kept_by x.store) (content_in (held disk)) left out.standing choice_at job_in) (sym is) stands.1.told
+
+  -- where the disk tells, the files of the job stand so
+  pub read_in : IsTrue tells → AreTaken (kept_by v.store) job_in.connection job_in.numbers (content_in (held disk)) job_in.files job_in.contents
+  read_in = told_in.read
 
   pub next_in : QueuesShowKept → IsNext v.flow (kept_by v.store) v.listing.names done.given.moment choice_at
   next_in shown = next_there tells held moment images v e is disk ready consistent done.given.moment choice_at chosen_at shown
@@ -87,13 +93,13 @@ module _ (tells : Bool) {D : Type 0} (held : D → Files) (moment : D → ℕ) (
   -- what it makes is the step that comes next
   pub steps_in : QueuesShowKept → QueuesAreSeen → HeldContentsHaveSizes → ChoicesAreSessions → ChoicesAreSeen → MachinesFilesAreLive → (kept_by v.store).batches ≡ [] → Holds v.store (held disk)
       → ((flow : Flow) → IsAtWork flow tells held moment images v.store disk → (m : Machine) → InEach (images disk (moment disk)) (StandsFor flow v.store.lot m) → IsStateOf m (content_in (held disk)) (kept_by v.store))
-      → telling → (opened : Machine) (first : D) (start : Start) (time : ℕ) (run : IsRunning moment images e opened first start time disk left out) → (changed : Changed)
+      → IsTrue tells → IsTrue in_tells → IsTrue out_tells → (opened : Machine) (first : D) (start : Start) (time : ℕ) (run : IsRunning moment images e opened first start time disk left out) → (changed : Changed)
       → ((job : Job) → MayHand v.flow (kept_by v.store) job → IsWorkOn v.flow (kept_by v.store).store job done → MakesStep v.flow (kept_by v.store) job changed)
       → IsStepOf e.flow e.last (content_in (held disk)) run.reached job_in changed × IsStateOf run.reached (content_in (held disk)) (kept_by v.store)
-  steps_in shown seen sizes sessions choices live no_batches holds tied told opened first start time run changed makes =
+  steps_in shown seen sizes sessions choices live no_batches holds tied telling in_telling out_telling opened first start time run changed makes =
       step_so tells held moment images v e is disk ready consistent done.given.moment choice_at chosen_at shown seen sizes sessions choices live
       (none_expired e done.given.moment (nothing_due e done.given.moment choice_at stands.1.chosen)) no_batches holds tied v.store refl opened first start time left out run job_in changed
-      handed_in (told_in told) (makes job_in may_in work_in)
+      handed_in (all_told told_in telling in_telling out_telling) (makes job_in may_in work_in)
 
   -- ---- the file that it receives
 
@@ -110,9 +116,9 @@ module _ (tells : Bool) {D : Type 0} (held : D → Files) (moment : D → ℕ) (
       subst (λ (place : ℕ). IfSome received (λ name. (p : Processor) → slice_get among.processors place ≡ Some p → first_passed p.kind v.listing.names ≡ Some name)) (sym processor_in)
       (next_first v.flow among (kept_by v.store) v.listing.names done.given.moment choice_at received same (copy ∙ received_is) (next_in shown))
 
-  pub left_in : QueuesShowKept → (in_tells : Bool) → (IsTrue in_tells → AreTakeable left e.listing.names) → (received : Option (List ℕ)) → received ≡ done.given.file
+  pub left_in : QueuesShowKept → (IsTrue in_tells → AreTakeable left e.listing.names) → (received : Option (List ℕ)) → received ≡ done.given.file
       → IfSome received (λ name. IsTrue in_tells → IsSome (bytes_of left name))
-  left_in shown in_tells takeable received copy =
+  left_in shown takeable received copy =
       next_there_is in_tells left left choice_at.taking received refl (copy ∙ received_is)
       (λ told. next_is_left (kept_by v.store) left v.listing.names done.given.moment (next_in shown).processor.kind choice_at.taking
       (subst (λ (x : EngineState). AreTakeable left x.listing.names) (sym is) (takeable told)) (next_in shown).takes)

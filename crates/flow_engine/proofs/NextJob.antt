@@ -28,15 +28,15 @@ module _ (tells : Bool) {D : Type 0} (held : D → Files) (moment : D → ℕ) (
       (chosen_of v time choice (subst (λ (x : EngineState). session_in x time ≡ Some choice) (sym is) session))
 
 -- what it was handed is the next job
-pub next_job : (result : Result Job EngineError) (tells in_tells out_tells : Type 0) (v e : EngineState) → v ≡ e → (contents : ContentRef → List ℕ) (left : List NamedFile) (standing : List ℕ → Option (List ℕ)) (moment : ℕ) (choice : Choice)
+pub next_job : (result : Result Job EngineError) (tells in_tells out_tells : Bool) (v e : EngineState) → v ≡ e → (contents : ContentRef → List ℕ) (left : List NamedFile) (standing : List ℕ → Option (List ℕ)) (moment : ℕ) (choice : Choice)
     → session_in e moment ≡ Some choice → ((job : Job) → IsHanded (kept_by v.store) moment choice job → MayHand v.flow (kept_by v.store) job)
-    → IfOk result (IsHanded (kept_by v.store) moment choice) → IfOk result (λ job. tells → in_tells → out_tells → IsHandedAs (kept_by v.store) contents left standing choice job)
-    → IfOk result (IsNextJob (tells × in_tells × out_tells) e contents left standing moment)
+    → IfOk result (IsHanded (kept_by v.store) moment choice) → IfOk result (IsHandedAs tells in_tells out_tells (kept_by v.store) contents left standing choice)
+    → IfOk result (IsNextJob tells in_tells out_tells e contents left standing moment)
 next_job (Ok job) tells in_tells out_tells v e is contents left standing moment choice session may handed told = record {
   choice = choice;
   chosen = session;
   handed = subst (λ (x : EngineState). IsHanded (kept_by x.store) moment choice job) is handed;
-  told = λ all. subst (λ (x : EngineState). IsHandedAs (kept_by x.store) contents left standing choice job) is (told all.0 all.1 all.2);
+  told = subst (λ (x : EngineState). IsHandedAs tells in_tells out_tells (kept_by x.store) contents left standing choice job) is told;
   may = subst (λ (x : EngineState). MayHand x.flow (kept_by x.store) job) is (may job handed);
 }
 next_job (Err error) tells in_tells out_tells v e is contents left standing moment choice session may handed told = tt

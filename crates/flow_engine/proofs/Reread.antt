@@ -45,10 +45,10 @@ module _ (tells : Bool) {D : Type 0} (held : D → Files) (moment : D → ℕ) (
       (subst (λ (o : Outgoing). IsRunning moment images e opened first start later new left o) (sym stands) on))
 
   -- a work's job stands as it did
-  pub still_stands : (e f : EngineState) → f ≡ e → (telling : Type 0) (left now_left : List NamedFile) (out now_out : Outgoing) → now_left ≡ left → now_out ≡ out → (done : Done)
-      → StandsSo telling e (content_in (held old)) left out.standing done → StandsSo telling f (content_in (held new)) now_left now_out.standing done
-  still_stands e f same telling left now_left out now_out lies stands done so =
-      subst (λ (x : EngineState). StandsSo telling x (content_in (held new)) now_left now_out.standing done) (sym same)
-      (subst (λ (l : List NamedFile). StandsSo telling e (content_in (held new)) l now_out.standing done) (sym lies)
-      (subst (λ (o : Outgoing). StandsSo telling e (content_in (held new)) left o.standing done) (sym stands)
-      (subst (λ (files : Files). StandsSo telling e (content_in files) left out.standing done) (sym stays.files) so)))
+  pub still_stands : (e f : EngineState) → f ≡ e → (in_tells out_tells : Bool) (left now_left : List NamedFile) (out now_out : Outgoing) → now_left ≡ left → now_out ≡ out → (done : Done)
+      → StandsSo tells in_tells out_tells e (content_in (held old)) left out.standing done → StandsSo tells in_tells out_tells f (content_in (held new)) now_left now_out.standing done
+  still_stands e f same in_tells out_tells left now_left out now_out lies stands done so =
+      subst (λ (x : EngineState). StandsSo tells in_tells out_tells x (content_in (held new)) now_left now_out.standing done) (sym same)
+      (subst (λ (l : List NamedFile). StandsSo tells in_tells out_tells e (content_in (held new)) l now_out.standing done) (sym lies)
+      (subst (λ (o : Outgoing). StandsSo tells in_tells out_tells e (content_in (held new)) left o.standing done) (sym stands)
+      (subst (λ (files : Files). StandsSo tells in_tells out_tells e (content_in files) left out.standing done) (sym stays.files) so)))

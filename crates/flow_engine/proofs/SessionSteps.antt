@@ -3,6 +3,7 @@ use Rattle.std.proofs.Common.{◌≡◌, ℕ, zero, suc, List, [], ◌∷◌, le
 use Rattle.std.specs.Prelude.{All, Option, Some, option_and_then, option_map, slice_get}
 use Rattle.std.specs.Option.{option_map_or, option_to_list}
 use Rattle.std.proofs.lemmas.List.Elements.{All-head, All-tail}
+use Rattle.flowfile_record.specs.Ranges.{HaveRanges}
 use Rattle.flowfile_record.specs.Stored.{Kept}
 use Rattle.flowfile_record.specs.declared.change.Settled.{Settled}
 use Rattle.flowfile_record.specs.declared.content.ContentRef.{ContentRef}
@@ -27,10 +28,10 @@ use Rattle.process_session.specs.Bench.{source_of}
 use Rattle.process_session.specs.declared.file.Source.{Source}
 use Rattle.process_session.specs.declared.file.Taken.{Taken}
 use Rattle.processor_api.specs.Acts.{KeepsGiven, MayBeHanded}
-use Rattle.settlement.specs.Handed.{session_of}
+use Rattle.settlement.specs.Handed.{AreRead, session_of}
 use Rattle.settlement.specs.declared.handed.Ended.{Ended}
 use Rattle.store_core.specs.State.{state_with}
-use Rattle.engine_core.specs.Committing.{LeavesState, MayCommit}
+use Rattle.engine_core.specs.Committing.{LeavesDigests, LeavesState, MayCommit}
 use Rattle.engine_session.specs.Handing.{MayEnd, taken_from}
 use Rattle.engine_session.specs.Laws.{TakenFilesAreTheMachines, TakenFilesAreThere, TakenFilesMayBeHanded}
 use Rattle.engine_session.specs.Steps.{IsSession, SettledSessionsAreSteps, machine_in}
@@ -38,7 +39,7 @@ use Rattle.engine_session.specs.Working.{IsWorkAt, MayWork}
 use Rattle.flow_run.specs.Laws.{OtherSessionsLoseNone, OtherSessionsPutNone, PutsSendTheTakenBytes, ReceivingSessionsLoseAFile}
 use Rattle.flow_run.specs.Puts.{IsPutBy, files_sent, puts_of_step, session_at, session_puts}
 use Rattle.flow_run.specs.Run.{IsStateOf}
-use Rattle.flow_engine.specs.Change.{IsSentBy, IsStepOf, MakesStep, step_of, with_sending, without_bytes}
+use Rattle.flow_engine.specs.Change.{IsSentBy, IsStepOf, MakesStep, TellsDigests, step_of, with_sending, without_bytes}
 use Rattle.flow_engine.specs.Done.{IsWorkOn}
 use Rattle.flow_engine.specs.Job.{MayHand, StandsIn}
 use Rattle.flow_engine.specs.Sending.{sending_of, sources_left}
@@ -143,7 +144,7 @@ pub record IsChange (flow : Flow) (k : Kept) (job : Job) (outcome : Outcome) (le
   pub leaves : LeavesState flow left (left_of k job outcome) k settled
 
 module _ (laws : Laws) (flow : Flow) (k : Kept) (job : Job) (outcome : Outcome) (left : Given) (settled : Settled) (is : IsChange flow k job outcome left settled)
-    (contents : ContentRef → List ℕ) (before : Machine) (tied : IsStateOf before contents k) (last : Option ℕ) (stands : StandsIn flow last k contents before job) where
+    (contents : ContentRef → List ℕ) (ranges : HaveRanges contents) (before : Machine) (tied : IsStateOf before contents k) (last : Option ℕ) (stands : StandsIn flow last k contents before job) where
   abbrev state : State
   state = state_with contents before.state.events k
 
@@ -173,7 +174,7 @@ module _ (laws : Laws) (flow : Flow) (k : Kept) (job : Job) (outcome : Outcome) 
   goes : step flow before (step_of job) ≡ Some (behind before.state)
   goes = subst (λ (s : State). step flow (machine_in s before.world) (step_of job) ≡ Some (behind s)) tied.is
       (laws.steps flow before.world job.numbers job.given.moment (without_bytes job.given) job.given left (left_of k job outcome) stands.processor contents before.state.events k settled
-      is_session is.keeps is.leaves
+      is_session is.keeps is.leaves ranges
       (read_left contents job.files (sources_of k job) outcome.sent (laws.there k job.connection job.numbers contents job.files job.contents stands.read).read)
       tied.events)
 
@@ -240,8 +241,8 @@ module _ (laws : Laws) (flow : Flow) (k : Kept) (job : Job) (outcome : Outcome) 
 
 pub makes_step : Laws → (flow : Flow) (k : Kept) (job : Job) (outcome : Outcome) (left : Given) (changed : Changed) → IsChange flow k job outcome left changed.settled
     → changed.sending ≡ sending_of outcome.sent (sources_of k job) → MakesStep flow k job changed
-makes_step laws flow k job outcome left changed is sends last contents before tied valid stands =
-    is_step laws flow k job outcome left changed.settled is contents before tied last stands changed refl sends
+makes_step laws flow k job outcome left changed is sends last contents before ranges tied valid stands =
+    is_step laws flow k job outcome left changed.settled is contents ranges before tied last stands changed refl sends
 
 -- ---- what the calls of the function gave
 
@@ -293,6 +294,13 @@ module _ (flow : Flow) (k : Kept) (job : Job) (taken : List Taken) (done : Outco
       })
       (sends ∙ ap (λ (e : Ended). sending_of e.outcome.sent e.sources) is.whole_is ∙ ap (sending_of done.0.sent) sources_are)
 
+  -- the digests of what is placed hold where the job's files stand so
+  pub settled_tells_digests : TakenFilesAreThere → (changed : Changed) → LeavesDigests ended changed.settled → TellsDigests k job changed
+  settled_tells_digests there changed leaves contents ranges taken =
+      leaves contents ranges
+      (subst (λ (e : Ended). AreRead contents e.taken e.sources) (sym left_is)
+      (read_left contents job.files (sources_of k job) done.0.sent (there k job.connection job.numbers contents job.files job.contents taken).read))
+
 -- ---- the work on a job
 
 module _ (flow : Flow) (k : Kept) (job : Job) (done : Done) (whole ended : Ended) (sound : IsSound flow) (consistent : IsConsistent k) (hand : MayHand flow k job) (work : IsWorkOn flow k.store job done)
@@ -323,3 +331,7 @@ module _ (flow : Flow) (k : Kept) (job : Job) (done : Done) (whole ended : Ended
   pub makes_step_on : Laws → (changed : Changed) → LeavesState flow done.given ended k changed.settled → changed.sending ≡ sending_of whole.outcome.sent whole.sources → MakesStep flow k job changed
   makes_step_on laws changed leaves sends =
       settled_makes_step flow k job (taken_of k job) (done.outcome, done.sources) done.given whole ended worked_on laws changed leaves sends
+
+  pub tells_digests_on : TakenFilesAreThere → (changed : Changed) → LeavesDigests ended changed.settled → TellsDigests k job changed
+  tells_digests_on there changed leaves =
+      settled_tells_digests flow k job (taken_of k job) (done.outcome, done.sources) done.given whole ended worked_on there changed leaves

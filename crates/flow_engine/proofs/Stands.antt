@@ -1,6 +1,6 @@
 -- What the session that comes next is handed stands in the machine's state and world.
 use Rattle.std.proofs.Common.{◌≡◌, ℕ, Bool, true, false, cond, ◌≤◌, List, [], ◌∷◌, length, map, true≢false, refl, sym, ap, subst, ◌∙◌}
-use Rattle.std.specs.Prelude.{Option, None, Some, filter, slice_get, slice_index, bytes_eq, option_and_then}
+use Rattle.std.specs.Prelude.{IsTrue, Option, None, Some, filter, slice_get, slice_index, bytes_eq, option_and_then}
 use Rattle.std.specs.Option.{IsSomeAnd}
 use Rattle.std.proofs.lemmas.List.{length-map}
 use Rattle.std.proofs.lemmas.Slice.Eq.{bytes_eq-Decides}
@@ -113,6 +113,12 @@ module _ (k : Kept) (names : List (List ℕ)) (moment place : ℕ) (state : Stat
       sym (given_back kind place state world files (record given { bytes = None }) handed (ap (λ (g : Given). g.file) is) gives) ∙ (λ i. record given { bytes = sym has i })
   handed_so kind (Receive name) takes is has bytes gives = absurd (cc (takes.named.1))
 
+-- where all devices tell
+pub all_told : {tells in_tells out_tells : Bool} {k : Kept} {contents : ContentRef → List ℕ} {left : List NamedFile} {standing : List ℕ → Option (List ℕ)} {choice : Choice} {job : Job}
+    → IsHandedAs tells in_tells out_tells k contents left standing choice job → IsTrue tells → IsTrue in_tells → IsTrue out_tells → IsHandedAs true true true k contents left standing choice job
+all_told told telling in_telling out_telling =
+    record { read = λ all. told.read telling; received = λ all. told.received in_telling; there = λ all. told.there out_telling }
+
 moment_of : (moment : ℕ) (there : Bool) (taking : Taking) → (given_for moment there taking).moment ≡ moment
 moment_of moment there (Files connection numbers) = refl
 moment_of moment there (Generate index) = refl
@@ -123,7 +129,7 @@ module _ (sessions : ChoicesAreSessions) (choices : ChoicesAreSeen) (seen : Queu
   pub stands_in : IsConsistent k → k.batches ≡ [] → flow_in k ≡ identity_of flow → AreQueuesOf flow k queues → HaveSizes contents k
       → due_expiry flow (queue_seen queues) moment ≡ None → next_choice flow (queue_seen queues) k.counts names moment last ≡ Some choice → IsNext flow k names moment choice
       → IsStateOf m contents k → IsValid flow m.state → coming_of m.world ≡ names → left ≡ files_left m.world → standing ≡ m.world.outbox
-      → IsHanded k moment choice job → IsHandedAs k contents left standing choice job → StandsIn flow last k contents m job
+      → IsHanded k moment choice job → IsHandedAs true true true k contents left standing choice job → StandsIn flow last k contents m job
   stands_in consistent no_batches flow_is are sizes nothing chosen next tied valid coming lies stands handed told =
       let count = ap (λ (f : store.Flow). length f.connections) flow_is ∙ length-map flow.connections (λ c. c.id) in
       let sees : SeesTheSame flow (queue_seen queues) (queues_of m.state) =
@@ -142,10 +148,10 @@ module _ (sessions : ChoicesAreSessions) (choices : ChoicesAreSeen) (seen : Queu
       let files : at.files ≡ map (queued_file contents) job.files =
       are_live.are ∙ ap (map (queued_file contents)) (ap (live_files k) (sym handed.numbers) ∙ sym handed.taken.are) in
       let time : job.given.moment ≡ moment = ap (λ (g : Given). g.moment) handed.given ∙ moment_of moment job.given.there choice.taking in
-      let there : job.given.there ≡ is_there m.world at.files = told.there m.world (sym stands) ∙ ap (is_there m.world) (sym files) in
+      let there : job.given.there ≡ is_there m.world at.files = told.there refl m.world (sym stands) ∙ ap (is_there m.world) (sym files) in
       let gives : given_in at.processor.kind choice.processor m.state m.world at.files (record job.given { bytes = None }) ≡ Some at.handed =
       ap (given_in at.processor.kind choice.processor m.state m.world at.files) (handed.given ∙ ap (λ b. given_for moment b choice.taking) there) ∙ at.given in
-      let back = handed_so k names moment choice.processor m.state m.world at.files left lies job.given at.handed at.processor.kind choice.taking takes handed.given handed.has told.received gives in
+      let back = handed_so k names moment choice.processor m.state m.world at.files left lies job.given at.handed at.processor.kind choice.taking takes handed.given handed.has (told.received refl) gives in
       let turn : IsNextSession flow last m job.processor job.numbers job.given.moment (record job.given { bytes = None }) = record {
         expired = sym (sees.expiry job.given.moment) ∙ ap (due_expiry flow (queue_seen queues)) time ∙ nothing;
         choice = choice;
@@ -159,7 +165,7 @@ module _ (sessions : ChoicesAreSessions) (choices : ChoicesAreSeen) (seen : Queu
       record {
         processor = at.processor;
         found = ap (slice_get flow.processors) handed.processor ∙ at.found;
-        read = told.read;
+        read = told.read refl;
         taken = (λ i. taken_files flow m.state (handed.processor i) rule (handed.numbers i) (time i)) ∙ at.taken ∙ ap Some files;
         given = (λ i. given_in at.processor.kind (handed.processor i) m.state m.world (sym files i) (record job.given { bytes = None })) ∙ gives ∙ ap Some back;
         comes = turn;

@@ -1,11 +1,12 @@
 -- The session that comes next is a step of the machine that a run is at.
-use Rattle.std.proofs.Common.{◌≡◌, ℕ, ◌≤◌, Bool, List, [], sym, subst}
+use Rattle.std.proofs.Common.{◌≡◌, ℕ, ◌≤◌, Bool, true, List, [], sym, subst}
 use Rattle.std.specs.Prelude.{Option, None, Some}
 use Rattle.disk_trait.specs.Files.{Files}
 use Rattle.flowfile_record.specs.NamedFile.{NamedFile}
 use Rattle.flowfile_wal.specs.Calls.{InEach}
 use Rattle.checkpoint_store.specs.Consistent.{IsConsistent}
 use Rattle.content_repo.specs.Claims.{content_in}
+use Rattle.content_repo.proofs.Ranges.{contents-have-ranges}
 use Rattle.machine_model.specs.declared.flow.Flow.{Flow}
 use Rattle.machine_model.specs.Due.{due_expiry}
 use Rattle.machine_model.specs.State.{Machine}
@@ -42,10 +43,10 @@ module _ (tells : Bool) {D : Type 0} (held : D → Files) (moment : D → ℕ) (
       → (kept_by e.store).batches ≡ [] → Holds e.store (held disk)
       → (opened : Machine) (first : D) (start : Start) (since : ℕ) (left : List NamedFile) (out : Outgoing) (run : IsRunning moment images e opened first start since disk left out)
       → IsStateOf run.reached (content_in (held disk)) (kept_by e.store) → (job : Job) (changed : Changed)
-      → IsHanded (kept_by e.store) time choice job → IsHandedAs (kept_by e.store) (content_in (held disk)) left out.standing choice job
+      → IsHanded (kept_by e.store) time choice job → IsHandedAs true true true (kept_by e.store) (content_in (held disk)) left out.standing choice job
       → MakesStep e.flow (kept_by e.store) job changed → IsStepOf e.flow e.last (content_in (held disk)) run.reached job changed
   steps shown seen sizes sessions choices live nothing no_batches holds opened first start since left out run tied job changed handed told makes =
-      makes e.last (content_in (held disk)) run.reached tied run.to.run.valid
+      makes e.last (content_in (held disk)) run.reached (contents-have-ranges (held disk)) tied run.to.run.valid
       (stands_in sessions choices seen live e.flow (kept_by e.store) e.queues e.listing.names time e.last choice (content_in (held disk)) run.reached left out.standing job
       consistent no_batches ready.work.flow_is ready.queues (sizes e.store (held disk) holds) nothing chosen (next shown) tied run.to.run.valid run.to.coming run.to.run.lies run.to.run.stands.standing handed told)
 
@@ -81,7 +82,7 @@ module _ (tells : Bool) {D : Type 0} (held : D → Files) (moment : D → ℕ) (
       → (t : StoreState) → t ≡ v.store
       → (opened : Machine) (first : D) (start : Start) (since : ℕ) (left : List NamedFile) (out : Outgoing) (run : IsRunning moment images e opened first start since disk left out)
       → (job : Job) (changed : Changed)
-      → IsHanded (kept_by v.store) time choice job → IsHandedAs (kept_by v.store) (content_in (held disk)) left out.standing choice job
+      → IsHanded (kept_by v.store) time choice job → IsHandedAs true true true (kept_by v.store) (content_in (held disk)) left out.standing choice job
       → MakesStep v.flow (kept_by t) job changed
       → IsStepOf e.flow e.last (content_in (held disk)) run.reached job changed × IsStateOf run.reached (content_in (held disk)) (kept_by v.store)
   step_so shown seen sizes sessions choices live nothing no_batches holds tied t same opened first start since left out run job changed handed told makes =
@@ -91,7 +92,7 @@ module _ (tells : Bool) {D : Type 0} (held : D → Files) (moment : D → ℕ) (
             (subst (λ (x : EngineState). (kept_by x.store).batches ≡ []) is no_batches) (subst (λ (x : EngineState). Holds x.store (held disk)) is holds) opened first start since left out run
             (subst (λ (x : EngineState). IsStateOf run.reached (content_in (held disk)) (kept_by x.store)) is tie) job changed
             (subst (λ (x : EngineState). IsHanded (kept_by x.store) time choice job) is handed)
-            (subst (λ (x : EngineState). IsHandedAs (kept_by x.store) (content_in (held disk)) left out.standing choice job) is told)
+            (subst (λ (x : EngineState). IsHandedAs true true true (kept_by x.store) (content_in (held disk)) left out.standing choice job) is told)
             (subst (λ (x : EngineState). MakesStep x.flow (kept_by x.store) job changed) is (subst (λ (s : StoreState). MakesStep v.flow (kept_by s) job changed) same makes)),
         tie,
       )

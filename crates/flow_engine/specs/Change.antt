@@ -1,17 +1,19 @@
 -- What a session changes: the store's state, and what it sends.
 use Rattle.std.specs.Prelude.{◌≡◌, ⊤, ℕ, List, [], ◌∷◌, ◌++◌, Option, None, Some}
 use Rattle.flowfile_record.specs.NamedFile.{NamedFile, with_file, without}
+use Rattle.flowfile_record.specs.Ranges.{HaveRanges}
 use Rattle.flowfile_record.specs.Stored.{Kept}
 use Rattle.flowfile_record.specs.declared.content.ContentRef.{ContentRef}
 use Rattle.machine_model.specs.declared.flow.Flow.{Flow}
 use Rattle.machine_model.specs.declared.given.Given.{Given}
 use Rattle.machine_model.specs.declared.journal.Step.{Step}
 use Rattle.machine_model.specs.declared.journal.Step.TheVariants.{Session}
-use Rattle.machine_model.specs.Changing.{state_after}
+use Rattle.machine_model.specs.Changing.{HaveDigests, state_after}
 use Rattle.machine_model.specs.State.{Machine}
 use Rattle.machine_model.specs.Stepping.{step, without_name}
 use Rattle.machine_model.specs.Valid.{IsValid}
 use Rattle.engine_choice.specs.Choice.{coming_of}
+use Rattle.engine_session.specs.Handing.{AreTaken}
 use Rattle.flow_run.specs.Journal.{files_left}
 use Rattle.flow_run.specs.Puts.{IsPutBy, Outgoing}
 use Rattle.flow_run.specs.Run.{IsPut, IsStateOf}
@@ -65,9 +67,17 @@ pub record IsStepOf (flow : Flow) (last : Option ℕ) (contents : ContentRef →
       → IsPutBy flow before (step_of job) after out (with_sending changed.sending out)
   pub sent : IsSentBy flow before (step_of job) changed.sending
 
--- wherever what the session was handed stands so, it is such a step
+-- wherever what the session was handed stands so, and ranges of contents stand for ranges of their bytes, it is such a
+-- step
 abbrev pub MakesStep : Flow → Kept → Job → Changed → Type 0
 MakesStep flow k job changed =
-    (last : Option ℕ) (contents : ContentRef → List ℕ) (before : Machine) → IsStateOf before contents k
-    → IsValid flow before.state → StandsIn flow last k contents before job
+    (last : Option ℕ) (contents : ContentRef → List ℕ) (before : Machine) → HaveRanges contents
+    → IsStateOf before contents k → IsValid flow before.state → StandsIn flow last k contents before job
     → IsStepOf flow last contents before job changed
+
+-- where the files of its job stand so, each placed content that is in the store has the digest of its bytes
+abbrev pub TellsDigests : Kept → Job → Changed → Type 0
+TellsDigests k job changed =
+    (contents : ContentRef → List ℕ) → HaveRanges contents
+    → AreTaken k job.connection job.numbers contents job.files job.contents
+    → HaveDigests contents changed.settled.placed

@@ -23,18 +23,20 @@ use Rattle.flow_engine.specs.declared.error.EngineError.TheVariants.{Disk, Inbox
 use Rattle.flow_engine.specs.declared.job.Job.{Job}
 
 -- it is the work on the job that comes next at its moment
-abbrev pub StandsSo : (telling : Type 0) → EngineState → (ContentRef → List ℕ) → List NamedFile
+abbrev pub StandsSo : (tells in_tells out_tells : Bool) → EngineState → (ContentRef → List ℕ) → List NamedFile
     → (List ℕ → Option (List ℕ)) → Done → Type 0
-StandsSo telling e contents left standing done =
-    (job : Job) × IsNextJob telling e contents left standing done.given.moment job
+StandsSo tells in_tells out_tells e contents left standing done =
+    (job : Job) × IsNextJob tells in_tells out_tells e contents left standing done.given.moment job
     × IsWorkOn e.flow (kept_by e.store).store job done
 
 -- no job comes next at its moment, or another one than its processor worked on
-abbrev pub StandsOtherwise : (telling : Type 0) → EngineState → (ContentRef → List ℕ) → List NamedFile
+abbrev pub StandsOtherwise : (tells in_tells out_tells : Bool) → EngineState → (ContentRef → List ℕ)
+    → List NamedFile
     → (List ℕ → Option (List ℕ)) → Done → Type 0
-StandsOtherwise telling e contents left standing done =
+StandsOtherwise tells in_tells out_tells e contents left standing done =
     (session_in e done.given.moment ≡ None)
-    ⊎ ((job : Job) × IsNextJob telling e contents left standing done.given.moment job × (IsSame done job → ⊥))
+    ⊎ ((job : Job) × IsNextJob tells in_tells out_tells e contents left standing done.given.moment job
+    × (IsSame done job → ⊥))
 
 -- ---- what it leaves
 
@@ -106,11 +108,13 @@ pub record MakesEntry (result : Result Committed EngineError) (done : Done) (now
 
 -- Only what stands is made part of the run. Where something has changed, another job comes next at the session's moment,
 -- or none, and nothing is done.
-pub record TakesWhatStands {D : Type 0} (result : Result Committed EngineError) (telling : Type 0) (held : D → Files)
-    (moment : D → ℕ) (images : D → ℕ → Files → Type 0) (done : Done) (e_old e_new : EngineState) (old new : D)
+pub record TakesWhatStands {D : Type 0} (result : Result Committed EngineError) (tells in_tells out_tells : Bool)
+    (held : D → Files) (moment : D → ℕ) (images : D → ℕ → Files → Type 0) (done : Done) (e_old e_new : EngineState) (old new : D)
     (left : List NamedFile) (out now_out : Outgoing) : Type 0 where
-  pub stands : IsLeftOut result e_old e_new ⊎ StandsSo telling e_old (content_in (held old)) left out.standing done
-  pub changed : result ≡ Ok Changed → StandsOtherwise telling e_old (content_in (held old)) left out.standing done
+  pub stands : IsLeftOut result e_old e_new
+      ⊎ StandsSo tells in_tells out_tells e_old (content_in (held old)) left out.standing done
+  pub changed : result ≡ Ok Changed
+      → StandsOtherwise tells in_tells out_tells e_old (content_in (held old)) left out.standing done
       × (e_new ≡ e_old) × Stays held moment images old new × (now_out ≡ out)
 
 -- What stays: the run's constants and the number of the log. Only claims, files of events, the log and what may follow

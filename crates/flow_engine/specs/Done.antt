@@ -1,8 +1,7 @@
 -- The work on a job.
 use Rattle.std.specs.Prelude.{◌≡◌, ⊤, ℕ, List, Option, None, Some, map, slice_get}
 use Rattle.std.specs.Option.{option_and_then}
-use Rattle.flowfile_record.specs.declared.worked.Body.{Body}
-use Rattle.flowfile_record.specs.declared.worked.Body.TheVariants.{New}
+use Rattle.flowfile_record.specs.Outcome.{written_in}
 use Rattle.flowfile_record.specs.declared.worked.Outcome.{Outcome}
 use Rattle.machine_model.specs.declared.flow.Flow.{Flow}
 use Rattle.machine_model.specs.declared.given.Given.{Given}
@@ -39,14 +38,9 @@ pub record IsDone (flow : Flow) (store : ℕ) (done : Done) : Type 0 where
 abbrev pub IsGivenAs : (given other : Given) → Type 0
 IsGivenAs given other = record given { bytes = None } ≡ record other { bytes = None }
 
--- the bytes of a content that was made
-abbrev pub new_bytes : Body → Option (List ℕ)
-new_bytes (New bytes) = Some bytes
-new_bytes _ = None
-
--- those of the first file
+-- the bytes of the first file, where the session wrote them
 abbrev pub first_made : Outcome → Option (List ℕ)
-first_made outcome = option_and_then (λ file. new_bytes file.body) (slice_get outcome.files 0)
+first_made outcome = option_and_then (λ file. written_in file.body) (slice_get outcome.files 0)
 
 -- where a file is received, its bytes are those of the first file
 abbrev pub ReceivesAs : Outcome → Option (List ℕ) → Option (List ℕ) → Type 0

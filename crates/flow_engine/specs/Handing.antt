@@ -1,5 +1,5 @@
 -- What a session is handed that was chosen.
-use Rattle.std.specs.Prelude.{◌≡◌, ⊤, ℕ, ◌≤◌, Bool, true, List, Option, None, Some, length, map}
+use Rattle.std.specs.Prelude.{◌≡◌, ⊤, ℕ, ◌≤◌, Bool, IsTrue, true, List, Option, None, Some, length, map}
 use Rattle.std.specs.Option.{IsSomeAnd}
 use Rattle.flowfile_record.specs.NamedFile.{NamedFile, bytes_of}
 use Rattle.flowfile_record.specs.Stored.{Kept}
@@ -68,11 +68,11 @@ pub record IsHanded (k : Kept) (moment : ℕ) (choice : Choice) (job : Job) : Ty
   pub bytes : ContentRef → List ℕ
   pub taken : AreTaken k job.connection job.numbers bytes job.files job.contents
 
--- What was read are the bytes that references stand for, and those of the inbox's file; and what is said of the outbox
--- is so.
-pub record IsHandedAs (k : Kept) (contents : ContentRef → List ℕ) (left : List NamedFile)
-    (standing : List ℕ → Option (List ℕ)) (choice : Choice) (job : Job) : Type 0 where
-  pub read : AreTaken k job.connection job.numbers contents job.files job.contents
-  pub received : HasBytesOf left choice.taking job.given.bytes
-  pub there : (world : World) → world.outbox ≡ standing
+-- Of disk, inbox and outbox, as far as each tells: what was read are the bytes that references stand for, and those of
+-- the inbox's file; and what is said of the outbox is so.
+pub record IsHandedAs (tells in_tells out_tells : Bool) (k : Kept) (contents : ContentRef → List ℕ)
+    (left : List NamedFile) (standing : List ℕ → Option (List ℕ)) (choice : Choice) (job : Job) : Type 0 where
+  pub read : IsTrue tells → AreTaken k job.connection job.numbers contents job.files job.contents
+  pub received : IsTrue in_tells → HasBytesOf left choice.taking job.given.bytes
+  pub there : IsTrue out_tells → (world : World) → world.outbox ≡ standing
       → job.given.there ≡ is_there world (map (queued_file contents) job.files)

@@ -1,5 +1,5 @@
 -- What a session is handed.
-use Rattle.std.specs.Prelude.{◌≡◌, ℕ, ◌<◌, List, Option, None, Some, length, map, IsTrue, slice_get}
+use Rattle.std.specs.Prelude.{◌≡◌, ℕ, ◌<◌, Bool, List, Option, None, Some, length, map, IsTrue, slice_get}
 use Rattle.std.specs.Option.{option_to_list}
 use Rattle.flowfile_record.specs.NamedFile.{NamedFile}
 use Rattle.flowfile_record.specs.Stored.{Kept}
@@ -52,12 +52,12 @@ pub record StandsIn (flow : Flow) (last : Option ℕ) (k : Kept) (contents : Con
     pub comes : ComesNext flow last before
         (Session job.processor job.numbers job.given.moment (record job.given { bytes = None }))
 
--- It is the job of the session that comes next at the moment, as that is handed it; where the devices tell, by what they
--- hold.
-pub record IsNextJob (telling : Type 0) (e : EngineState) (contents : ContentRef → List ℕ) (left : List NamedFile)
-    (standing : List ℕ → Option (List ℕ)) (moment : ℕ) (job : Job) : Type 0 where
+-- It is the job of the session that comes next at the moment, as that is handed it: of disk, inbox and outbox, as far as
+-- each tells, what they hold.
+pub record IsNextJob (tells in_tells out_tells : Bool) (e : EngineState) (contents : ContentRef → List ℕ)
+    (left : List NamedFile) (standing : List ℕ → Option (List ℕ)) (moment : ℕ) (job : Job) : Type 0 where
   pub choice : Choice
   pub chosen : session_in e moment ≡ Some choice
   pub handed : IsHanded (kept_by e.store) moment choice job
-  pub told : telling → IsHandedAs (kept_by e.store) contents left standing choice job
+  pub told : IsHandedAs tells in_tells out_tells (kept_by e.store) contents left standing choice job
   pub may : MayHand e.flow (kept_by e.store) job

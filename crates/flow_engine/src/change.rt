@@ -7,7 +7,7 @@ ghost use Rattle.store_core.specs.Change.{HasLiveContents, MayChange};
 ghost use Rattle.store_core.specs.Flow.{flow_in};
 ghost use Rattle.store_core.specs.Store.{kept_by};
 ghost use Rattle.engine_core.specs.Committing.{identity_of};
-ghost use Rattle.flow_engine.specs.Change.{MakesStep};
+ghost use Rattle.flow_engine.specs.Change.{MakesStep, TellsDigests};
 ghost use Rattle.flow_engine.specs.Done.{IsWorkOn};
 ghost use Rattle.flow_engine.specs.Job.{MayHand};
 ghost use Rattle.flow_engine.specs.declared.job.Job.{Job as TheJob};
@@ -61,6 +61,9 @@ pub(crate) fn session_change(
     ensures step { IfOk result (λ changed. (job : TheJob) → MayHand flow.now (kept_by store.now) job
         → IsWorkOn flow.now (kept_by store.now).store job done
         → MakesStep flow.now (kept_by store.now) job changed) }
+    ensures digests { IfOk result (λ changed. (job : TheJob) → MayHand flow.now (kept_by store.now) job
+        → IsWorkOn flow.now (kept_by store.now).store job done
+        → TellsDigests (kept_by store.now) job changed) }
 {
     taken_files_are_handed();
     sessions_are_steps();

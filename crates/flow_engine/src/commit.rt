@@ -6,6 +6,7 @@ ghost use Rattle.disk_trait.specs.declared.damage.Damage.{Damage as TheDamage};
 ghost use Rattle.content_repo.specs.Claims.{content_in};
 ghost use Rattle.kept_state.specs.Fits.{are_active_in};
 ghost use Rattle.kept_state.specs.declared.limit.Limit.{Limit as TheLimit};
+ghost use Rattle.machine_model.specs.Changing.{HaveDigests};
 ghost use Rattle.machine_model.specs.State.{Machine};
 ghost use Rattle.machine_model.specs.declared.flow.Flow.{Flow as TheFlow};
 ghost use Rattle.store_core.specs.Change.{HasLiveContents, MayChange};
@@ -67,7 +68,7 @@ impl Engine<'_> {
         ensures entered { MakesEntry result done (D.moment disk.new) I.tells self.old self.new
             (I.left inbox.old) (I.left inbox.new) }
         // Only what stands is made part of the run.
-        ensures stands { TakesWhatStands result (IsTrue D.tells × IsTrue I.tells × IsTrue O.tells) D.held D.moment
+        ensures stands { TakesWhatStands result D.tells I.tells O.tells D.held D.moment
             D.images done self.old self.new disk.old disk.new (I.left inbox.old)
             (outgoing O.standing O.puts outbox.old) (outgoing O.standing O.puts outbox.new) }
         // The run goes on, unless a file that was received couldn't be removed, or it is stopped.
@@ -108,10 +109,10 @@ impl Engine<'_> {
         ensures inbox { IsTrue I.tells
             → IsInboxBehind result done.given.file (I.left inbox.old) (I.left inbox.new) }
         ensures stands { IsLeftOut result self.old self.new
-            ⊎ StandsSo (IsTrue D.tells × IsTrue I.tells × IsTrue O.tells) self.old (content_in (D.held disk.old))
+            ⊎ StandsSo D.tells I.tells O.tells self.old (content_in (D.held disk.old))
             (I.left inbox.old) (O.standing outbox.old) done }
         ensures changed { result ≡ Ok Committed.Changed
-            → StandsOtherwise (IsTrue D.tells × IsTrue I.tells × IsTrue O.tells) self.old (content_in (D.held disk.old))
+            → StandsOtherwise D.tells I.tells O.tells self.old (content_in (D.held disk.old))
             (I.left inbox.old) (O.standing outbox.old) done }
         ensures untouched { result ≡ Ok Committed.Changed → (self.new ≡ self.old)
             × Stays D.held D.moment D.images disk.old disk.new × (I.left inbox.new ≡ I.left inbox.old)
@@ -166,10 +167,10 @@ impl Engine<'_> {
         requires left { IsTrue I.tells → AreTakeable (I.left inbox.old) self.old.listing.names }
         requires done { IsDone self.old.flow (kept_by self.old.store).store done.now }
         ensures so { result ≡ Ok true
-            → StandsSo (IsTrue D.tells × IsTrue I.tells × IsTrue O.tells) self.old (content_in (D.held disk.old))
+            → StandsSo D.tells I.tells O.tells self.old (content_in (D.held disk.old))
             (I.left inbox.old) (O.standing outbox.old) done.now }
         ensures otherwise { result ≡ Ok false
-            → StandsOtherwise (IsTrue D.tells × IsTrue I.tells × IsTrue O.tells) self.old (content_in (D.held disk.old))
+            → StandsOtherwise D.tells I.tells O.tells self.old (content_in (D.held disk.old))
             (I.left inbox.old) (O.standing outbox.old) done.now }
         ensures store { IsReadBy result self.old.store self.new.store }
         ensures rest { self.new ≡ record self.old { store = self.new.store } }
@@ -203,7 +204,7 @@ impl Engine<'_> {
         requires ready { IsReady D.tells D.held D.moment D.images self.old disk.old }
         requires works { self.old.failed ≡ false }
         requires left { IsTrue I.tells → AreTakeable (I.left inbox.old) self.old.listing.names }
-        requires stands { StandsSo (IsTrue D.tells × IsTrue I.tells × IsTrue O.tells) self.old
+        requires stands { StandsSo D.tells I.tells O.tells self.old
             (content_in (D.held disk.old)) (I.left inbox.old) (O.standing outbox.old) done }
         ensures journal { IsEntered result done (D.moment disk.new) self.old self.new }
         ensures inbox { IsTrue I.tells → IsInboxLeft result done.given.file (I.left inbox.old) (I.left inbox.new) }
@@ -268,6 +269,7 @@ impl Engine<'_> {
             × IsQueued flow D.tells D.held D.moment D.images self.old.store self.old.queues disk.old }
         requires may { MayChange (kept_by self.old.store) changed.settled }
         requires live { HasLiveContents self.old.store changed.settled }
+        requires digests { IsTrue D.tells → HaveDigests (content_in (D.held disk.old)) changed.settled.placed }
         requires gone { are_active_in (kept_by self.old.store).files changed.connection changed.settled.gone ≡ true }
         ensures written { HasWritten result D.tells D.held D.moment D.images O.tells self.old.store self.new.store
             self.old.queues self.new.queues changed (outgoing O.standing O.puts outbox.old)

@@ -1,5 +1,5 @@
 //! What a session is handed: files of a queue with their contents, a file of the inbox, or an index.
-ghost use Rattle.std.specs.Prelude.{◌≡◌, ◌⊎◌, ◌≤◌, false, length, List, Option, Some, None, is_some, IfOk, OnOk, IfErr, IsErrOf, IsTrue, slice_get, []};
+ghost use Rattle.std.specs.Prelude.{◌≡◌, ◌⊎◌, ◌≤◌, Bool, false, length, List, Option, Some, None, is_some, IfOk, OnOk, IfErr, IsErrOf, IsTrue, slice_get, []};
 ghost use Rattle.std.specs.Option.{option_map_or};
 ghost use Rattle.disk_trait.specs.Faults.{CountsFaults};
 ghost use Rattle.disk_trait.specs.Images.{Stays};
@@ -63,7 +63,7 @@ impl Engine<'_> {
     ) -> Result<Job, EngineError>
         requires usable { IsUsableWith D.tells D.held D.moment D.images I.tells (I.left inbox.old) self.old disk.old }
         requires chosen { session_in self.old moment ≡ Some choice }
-        ensures job { IfOk result (λ job. IsNextJob (IsTrue D.tells × IsTrue I.tells × IsTrue O.tells) self.old
+        ensures job { IfOk result (λ job. IsNextJob D.tells I.tells O.tells self.old
             (content_in (D.held disk.old)) (I.left inbox.old) (O.standing outbox.old) moment job
             × MayWorkOn self.old.flow (kept_by self.old.store).store job) }
         ensures engine { OnlyReads result self.old self.new }
@@ -96,7 +96,7 @@ impl Engine<'_> {
         requires ready { IsReady D.tells D.held D.moment D.images self.old disk.old }
         requires chosen { session_in self.old moment ≡ Some choice }
         requires left { IsTrue I.tells → AreTakeable (I.left inbox.old) self.old.listing.names }
-        ensures job { IfOk result (IsNextJob (IsTrue D.tells × IsTrue I.tells × IsTrue O.tells) self.old
+        ensures job { IfOk result (IsNextJob D.tells I.tells O.tells self.old
             (content_in (D.held disk.old)) (I.left inbox.old) (O.standing outbox.old) moment) }
         ensures may { IfOk result (MayWorkOn self.old.flow (kept_by self.old.store).store) }
         ensures store { IsReadBy result self.old.store self.new.store }
@@ -132,9 +132,8 @@ fn hand<D: Disk, I: Inbox, O: Outbox>(
     requires taken { MayBeTaken (kept_by store.old) choice.taking }
     requires received { IsTrue I.tells → MayBeReceived (I.left inbox.old) choice.taking }
     ensures handed { IfOk result (IsHanded (kept_by store.old) moment choice) }
-    ensures told { IfOk result (λ job. IsTrue D.tells → IsTrue I.tells → IsTrue O.tells
-        → IsHandedAs (kept_by store.old) (content_in (D.held disk.old)) (I.left inbox.old) (O.standing outbox.old)
-        choice job) }
+    ensures told { IfOk result (IsHandedAs D.tells I.tells O.tells (kept_by store.old) (content_in (D.held disk.old))
+        (I.left inbox.old) (O.standing outbox.old) choice) }
     ensures store { IsReadBy result store.old store.new }
     ensures stays { Stays D.held D.moment D.images disk.old disk.new }
     ensures left { I.left inbox.new ≡ I.left inbox.old }
@@ -233,9 +232,9 @@ fn hand_files<D: Disk, O: Outbox>(
     requires taken { MayBeTaken (kept_by store.old) (Files connection numbers) }
     ensures handed { IfOk result (IsHanded (kept_by store.old) moment
         (record { processor = processor; taking = Files connection numbers })) }
-    ensures told { IfOk result (λ job. IsTrue D.tells → IsTrue O.tells → (left : List NamedFile)
-        → IsHandedAs (kept_by store.old) (content_in (D.held disk.old)) left (O.standing outbox.old)
-        (record { processor = processor; taking = Files connection numbers }) job) }
+    ensures told { IfOk result (λ job. (in_tells : Bool) (left : List NamedFile)
+        → IsHandedAs D.tells in_tells O.tells (kept_by store.old) (content_in (D.held disk.old)) left
+        (O.standing outbox.old) (record { processor = processor; taking = Files connection numbers }) job) }
     ensures store { IsReadBy result store.old store.new }
     ensures stays { Stays D.held D.moment D.images disk.old disk.new }
     ensures outbox { outgoing O.standing O.puts outbox.new ≡ outgoing O.standing O.puts outbox.old }

@@ -1,9 +1,11 @@
 //! How the change of a session becomes part of the outbox, the store and the inbox.
 ghost use Rattle.std.specs.Prelude.{◌≡◌, ◌⊎◌, ◌<◌, true, Some, OnOk, IfErr, IsErrOf, IsTrue, IsSome, IfSome, length, slice_get};
+ghost use Rattle.content_repo.specs.Claims.{content_in};
 ghost use Rattle.disk_trait.specs.Faults.{CountsFaults};
 ghost use Rattle.engine_choice.specs.Listing.{first_passed};
 ghost use Rattle.flowfile_record.specs.NamedFile.{bytes_of};
 ghost use Rattle.kept_state.specs.Fits.{are_active_in};
+ghost use Rattle.machine_model.specs.Changing.{HaveDigests};
 ghost use Rattle.machine_model.specs.declared.flow.Flow.{Flow as TheFlow};
 ghost use Rattle.machine_model.specs.declared.flow.Processor.{Processor as TheProcessor};
 ghost use Rattle.store_core.specs.Change.{HasLiveContents, MayChange};
@@ -35,6 +37,7 @@ pub(crate) fn commit<D: Disk, O: Outbox>(
     requires work { (flow : TheFlow) × IsQueued flow D.tells D.held D.moment D.images store.old queues.old disk.old }
     requires may { MayChange (kept_by store.old) changed.settled }
     requires live { HasLiveContents store.old changed.settled }
+    requires digests { IsTrue D.tells → HaveDigests (content_in (D.held disk.old)) changed.settled.placed }
     requires gone { are_active_in (kept_by store.old).files connection changed.settled.gone ≡ true }
     ensures written { HasWritten result D.tells D.held D.moment D.images O.tells store.old store.new queues.old
         queues.new changed (outgoing O.standing O.puts outbox.old)

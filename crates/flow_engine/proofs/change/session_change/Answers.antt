@@ -1,5 +1,5 @@
 use Rattle.store_core.specs.Store.{kept_by}
-use Rattle.flow_engine.proofs.SessionSteps.{Laws, makes_step_on, may_settle_on}
+use Rattle.flow_engine.proofs.SessionSteps.{Laws, makes_step_on, may_settle_on, tells_digests_on}
 use Rattle.flow_engine.proofs.change.session_change.Goals as goal
 
 pub settle_session-requires-clause-may : goal.settle_session-requires-clause-may
@@ -23,3 +23,9 @@ returns-clause-step c job hand work =
     makes_step_on c.args.flow.now (kept_by c.args.store.now) job c.args.done c.end_session-ended.result c.take_sending.new.ended c.requires.sound c.state-stored.ensures.consistent hand work
     c.end_session-ended.ensures.is c.in_ok-sending.ensures.left laws
     (record { settled = c.in_ok-settled.settled; connection = c.connection_of-connection.result; sending = c.in_ok-sending.sending }) c.in_ok-settled.ensures.leaves c.in_ok-sending.ensures.is
+
+pub returns-clause-digests : goal.returns-clause-digests
+returns-clause-digests c job hand work =
+    tells_digests_on c.args.flow.now (kept_by c.args.store.now) job c.args.done c.end_session-ended.result c.take_sending.new.ended c.requires.sound c.state-stored.ensures.consistent hand work
+    c.end_session-ended.ensures.is c.in_ok-sending.ensures.left c.taken_files_are_handed.ensures.there
+    (record { settled = c.in_ok-settled.settled; connection = c.connection_of-connection.result; sending = c.in_ok-sending.sending }) c.in_ok-settled.ensures.digests

@@ -13,8 +13,8 @@ returns-in-Files-clause-told g c =
     let contents = content_in (g.D.Disk.held c.args.disk.now) in
     let left = g.I.Inbox.left c.args.inbox.now in
     let standing = g.O.Outbox.standing c.args.outbox.now in
-    if_ok c.hand_files.result _ _ (λ (job : Job) told telling in_telling out_telling.
-    subst (λ (t : Taking). IsHandedAs k contents left standing (record { processor = c.args.choice.processor; taking = t }) job) (sym c.in-Files.is) (told telling out_telling left))
+    if_ok c.hand_files.result _ _ (λ (job : Job) told.
+    subst (λ (t : Taking). IsHandedAs g.D.Disk.tells g.I.Inbox.tells g.O.Outbox.tells k contents left standing (record { processor = c.args.choice.processor; taking = t }) job) (sym c.in-Files.is) (told g.I.Inbox.tells left))
     c.hand_files.ensures.told
 
 pub returns-in-Generate-clause-handed : goal.returns-in-Generate-clause-handed

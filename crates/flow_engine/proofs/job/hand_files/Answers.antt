@@ -41,16 +41,17 @@ returns-clause-handed g c =
     }
 
 pub returns-clause-told : goal.returns-clause-told
-returns-clause-told g c telling out_telling left =
+returns-clause-told g c in_tells left =
     let k = kept_by c.args.store.now in
     let contents = content_in (g.D.Disk.held c.args.disk.now) in
     let standing = g.O.Outbox.standing c.args.outbox.now in
     let are : c.in_ok-files.files ≡ live_files k c.args.numbers = c.in_ok-files.ensures ∙ ap (live_files k) c.as_slice.ensures in
     record {
-      read = taken_so k c.args.connection c.args.numbers c.requires.taken contents c.in_ok-files.files c.in_ok-contents.contents are
+      read = λ telling.
+          taken_so k c.args.connection c.args.numbers c.requires.taken contents c.in_ok-files.files c.in_ok-contents.contents are
           (subst (λ (files : List FlowFile). AreReadOf contents (fit_a_content files) files c.in_ok-contents.contents) c.as_slice-2.ensures (c.in_ok-contents.ensures.told telling));
-      received = tt;
-      there = λ world same. there_so world standing contents c.in_ok-files.files c.in_ok-there.there same
+      received = λ in_telling. tt;
+      there = λ out_telling world same. there_so world standing contents c.in_ok-files.files c.in_ok-there.there same
           (c.in_ok-there.ensures.there out_telling
           ∙ ap (λ (files : List FlowFile). option_map_or (λ (file : FlowFile). option_map_or (λ name. is_some (standing name)) (name_in file.attributes) false) (slice_get files 0) false) c.as_slice-3.ensures);
     }

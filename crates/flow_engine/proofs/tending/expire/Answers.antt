@@ -1,10 +1,15 @@
-use Rattle.std.proofs.Common.{◌≡◌, ℕ, List, length, ap, refl, subst, sym, ◌∙◌}
+use Rattle.std.proofs.Common.{◌≡◌, ℕ, true, List, length, ap, refl, subst, sym, ◌∙◌}
 use Rattle.std.specs.Prelude.{Err}
 use Rattle.std.proofs.lemmas.List.{length-map}
+use Rattle.std.proofs.lemmas.List.Elements.{All-nil}
 use Rattle.std.proofs.lemmas.Result.{err_from_is_err_and}
+use Rattle.sha2.specs.Sha256.{sha256}
+use Rattle.flowfile_record.specs.Shared.{is_stored}
+use Rattle.flowfile_record.specs.declared.change.Settled.{Settled}
+use Rattle.flowfile_record.specs.declared.stored.Placed.{Placed}
 use Rattle.content_repo.specs.Claims.{content_in}
 use Rattle.kept_state.specs.Applied.{left_after}
-use Rattle.machine_model.specs.Changing.{state_after}
+use Rattle.machine_model.specs.Changing.{HaveDigests, state_after}
 use Rattle.store_core.specs.Flow as store
 use Rattle.store_core.specs.Store.{kept_by}
 use Rattle.store_core.specs.declared.error.StoreError.{StoreError}
@@ -105,3 +110,9 @@ returns-in_err-moment-clause-alone g c = touches_log g.D.Disk.moment g.D.Disk.im
 
 pub returns-clause-alone : goal.returns-clause-alone
 returns-clause-alone g c = touches_log g.D.Disk.moment g.D.Disk.images c.args.store.now.log.number c.args.store.now.log.number c.args.disk.now c.commit.new.disk refl c.commit.ensures.touched.alone
+
+-- no file is placed
+pub commit-requires-clause-digests : goal.commit-requires-clause-digests
+commit-requires-clause-digests g c κs within telling =
+    subst (λ (s : Settled). HaveDigests (content_in (g.D.Disk.held c.args.disk.now)) s.placed) (sym (c.in_ok-prepared.ensures.prepared.0 ∙ c.in_ok-expiry.ensures.may.expires.as_session))
+    (All-nil (λ (p : Placed). is_stored p.fresh ≡ true → sha256 (content_in (g.D.Disk.held c.args.disk.now) p.file.content) ≡ p.file.content.digest))

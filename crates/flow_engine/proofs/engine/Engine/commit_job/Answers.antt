@@ -71,7 +71,7 @@ enter-requires-clause-stands g c κs within =
     let so : c.stands.result ≡ Ok true = cc in
     let same = as_read c.stands.result e c.stands.new.self c.stands.ensures.store c.stands.ensures.rest (λ disk. read_well true EngineError.Disk (sym so ∙ disk)) in
     still_stands D.tells D.held D.moment D.images c.args.disk.now c.stands.new.disk c.stands.ensures.stays e c.stands.new.self same
-    (IsTrue D.tells × IsTrue g.I.Inbox.tells × IsTrue g.O.Outbox.tells) left (g.I.Inbox.left c.stands.new.inbox) out (outgoing g.O.Outbox.standing g.O.Outbox.puts c.stands.new.outbox)
+    g.I.Inbox.tells g.O.Outbox.tells left (g.I.Inbox.left c.stands.new.inbox) out (outgoing g.O.Outbox.standing g.O.Outbox.puts c.stands.new.outbox)
     c.stands.ensures.left c.stands.ensures.outbox c.args.done (c.stands.ensures.so so)
 
 pub returns-in_err-moment-clause-goes_on : goal.returns-in_err-moment-clause-goes_on

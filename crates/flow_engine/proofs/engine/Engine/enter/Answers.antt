@@ -3,6 +3,7 @@ use Rattle.std.specs.Prelude.{Err, IfSome, IsErrOf, None, Option, Result, Some, 
 use Rattle.std.proofs.lemmas.Result.{err_from_is_err_and}
 use Rattle.flowfile_record.specs.NamedFile.{NamedFile}
 use Rattle.content_repo.specs.Claims.{content_in}
+use Rattle.content_repo.proofs.Ranges.{contents-have-ranges}
 use Rattle.machine_model.specs.declared.flow.Processor.{Processor}
 use Rattle.machine_model.specs.declared.journal.Entry.{Entry}
 use Rattle.machine_model.specs.declared.journal.Step.{Step}
@@ -18,7 +19,7 @@ use Rattle.flow_engine.specs.Journal.{journaled}
 use Rattle.flow_engine.specs.Ready.{KnowsDue}
 use Rattle.flow_engine.specs.Running.{Stops}
 use Rattle.flow_engine.specs.declared.error.EngineError.{EngineError}
-use Rattle.flow_engine.proofs.Entering.{file_in, first_in, job_in, left_in, may_in, step_in, steps_in, takes_in, within_in, work_in}
+use Rattle.flow_engine.proofs.Entering.{file_in, first_in, job_in, left_in, may_in, read_in, step_in, steps_in, takes_in, within_in, work_in}
 use Rattle.flow_engine.proofs.Goes.{enters_written, goes_on_unwritten, named_so, stops_at_limit, stops_unmoved, stops_unremoved, stops_written, waits}
 use Rattle.flow_engine.proofs.Left.{distinct_without, takeable_fewer, takeable_without}
 use Rattle.flow_engine.proofs.Readied.{as_many, knows_none, not_both, one_more, ready_by, the_error}
@@ -29,41 +30,50 @@ use Rattle.flow_engine.proofs.engine.Engine.enter.Goals as goal
 pub session_change-requires-clause-done : goal.session_change-requires-clause-done
 session_change-requires-clause-done g c =
     let D = g.D.Disk in
-    let telling = IsTrue D.tells × IsTrue g.I.Inbox.tells × IsTrue g.O.Outbox.tells in
     let left = g.I.Inbox.left c.args.inbox.now in
     let out = outgoing g.O.Outbox.standing g.O.Outbox.puts c.args.outbox.now in (
-      job_in D.tells D.held D.moment D.images _ c.args.self.now c.self.view_is c.args.disk.now c.requires.ready c.holds_its_state.ensures.kept.0 telling left out c.args.done c.requires.stands,
-      may_in D.tells D.held D.moment D.images _ c.args.self.now c.self.view_is c.args.disk.now c.requires.ready c.holds_its_state.ensures.kept.0 telling left out c.args.done c.requires.stands,
-      work_in D.tells D.held D.moment D.images _ c.args.self.now c.self.view_is c.args.disk.now c.requires.ready c.holds_its_state.ensures.kept.0 telling left out c.args.done c.requires.stands,
+      job_in D.tells D.held D.moment D.images _ c.args.self.now c.self.view_is c.args.disk.now c.requires.ready c.holds_its_state.ensures.kept.0 g.I.Inbox.tells g.O.Outbox.tells left out c.args.done c.requires.stands,
+      may_in D.tells D.held D.moment D.images _ c.args.self.now c.self.view_is c.args.disk.now c.requires.ready c.holds_its_state.ensures.kept.0 g.I.Inbox.tells g.O.Outbox.tells left out c.args.done c.requires.stands,
+      work_in D.tells D.held D.moment D.images _ c.args.self.now c.self.view_is c.args.disk.now c.requires.ready c.holds_its_state.ensures.kept.0 g.I.Inbox.tells g.O.Outbox.tells left out c.args.done c.requires.stands,
     )
+
+pub write-requires-clause-digests : goal.write-requires-clause-digests
+write-requires-clause-digests g c κs within telling =
+    let D = g.D.Disk in
+    let held = D.held c.args.disk.now in
+    let left = g.I.Inbox.left c.args.inbox.now in
+    let out = outgoing g.O.Outbox.standing g.O.Outbox.puts c.args.outbox.now in
+    c.in_ok-changed.ensures.digests
+    (job_in D.tells D.held D.moment D.images _ c.args.self.now c.self.view_is c.args.disk.now c.requires.ready c.holds_its_state.ensures.kept.0 g.I.Inbox.tells g.O.Outbox.tells left out c.args.done c.requires.stands)
+    (may_in D.tells D.held D.moment D.images _ c.args.self.now c.self.view_is c.args.disk.now c.requires.ready c.holds_its_state.ensures.kept.0 g.I.Inbox.tells g.O.Outbox.tells left out c.args.done c.requires.stands)
+    (work_in D.tells D.held D.moment D.images _ c.args.self.now c.self.view_is c.args.disk.now c.requires.ready c.holds_its_state.ensures.kept.0 g.I.Inbox.tells g.O.Outbox.tells left out c.args.done c.requires.stands)
+    (content_in held) (contents-have-ranges held)
+    (read_in D.tells D.held D.moment D.images _ c.args.self.now c.self.view_is c.args.disk.now c.requires.ready c.holds_its_state.ensures.kept.0 g.I.Inbox.tells g.O.Outbox.tells left out c.args.done c.requires.stands telling)
 
 pub remove-requires-clause-processor : goal.remove-requires-clause-processor
 remove-requires-clause-processor g c κs within =
     let D = g.D.Disk in
-    let telling = IsTrue D.tells × IsTrue g.I.Inbox.tells × IsTrue g.O.Outbox.tells in
     let rest : c.self-2.inside.listing ≡ c.args.self.now.listing = ap (λ (x : EngineState). x.listing) c.self-2.view_is ∙ ap (λ (x : EngineState). x.listing) c.write.ensures.rest in
     let same : c.self-2.inside.listing.flow ≡ c.self.inside.flow.now = ap (λ (l : Left). l.flow) rest ∙ c.requires.ready.listing ∙ sym (ap (λ (x : EngineState). x.flow) c.self.view_is) in
-    within_in D.tells D.held D.moment D.images _ c.args.self.now c.self.view_is c.args.disk.now c.requires.ready c.holds_its_state.ensures.kept.0 telling (g.I.Inbox.left c.args.inbox.now) (outgoing g.O.Outbox.standing g.O.Outbox.puts c.args.outbox.now) c.args.done c.requires.stands
+    within_in D.tells D.held D.moment D.images _ c.args.self.now c.self.view_is c.args.disk.now c.requires.ready c.holds_its_state.ensures.kept.0 g.I.Inbox.tells g.O.Outbox.tells (g.I.Inbox.left c.args.inbox.now) (outgoing g.O.Outbox.standing g.O.Outbox.puts c.args.outbox.now) c.args.done c.requires.stands
     c.what_is_kept_is_seen.ensures.shown c.self-2.inside.listing.flow same
 
 pub remove-requires-clause-first : goal.remove-requires-clause-first
 remove-requires-clause-first g c κs within =
     let D = g.D.Disk in
-    let telling = IsTrue D.tells × IsTrue g.I.Inbox.tells × IsTrue g.O.Outbox.tells in
     let rest : c.self-2.inside.listing ≡ c.args.self.now.listing = ap (λ (x : EngineState). x.listing) c.self-2.view_is ∙ ap (λ (x : EngineState). x.listing) c.write.ensures.rest in
     let before : c.self.inside.listing ≡ c.args.self.now.listing = ap (λ (x : EngineState). x.listing) c.self.view_is in
     let same : c.self-2.inside.listing.flow ≡ c.self.inside.flow.now = ap (λ (l : Left). l.flow) rest ∙ c.requires.ready.listing ∙ sym (ap (λ (x : EngineState). x.flow) c.self.view_is) in
     subst (λ (names : List (List ℕ)). IfSome c.in_ok-received.received (λ name. (p : Processor) → slice_get c.self-2.inside.listing.flow.processors c.args.done.processor ≡ Some p → first_passed p.kind names ≡ Some name))
     (ap (λ (l : Left). l.names) (before ∙ sym rest))
-    (first_in D.tells D.held D.moment D.images _ c.args.self.now c.self.view_is c.args.disk.now c.requires.ready c.holds_its_state.ensures.kept.0 telling (g.I.Inbox.left c.args.inbox.now) (outgoing g.O.Outbox.standing g.O.Outbox.puts c.args.outbox.now) c.args.done c.requires.stands
+    (first_in D.tells D.held D.moment D.images _ c.args.self.now c.self.view_is c.args.disk.now c.requires.ready c.holds_its_state.ensures.kept.0 g.I.Inbox.tells g.O.Outbox.tells (g.I.Inbox.left c.args.inbox.now) (outgoing g.O.Outbox.standing g.O.Outbox.puts c.args.outbox.now) c.args.done c.requires.stands
     c.what_is_kept_is_seen.ensures.shown c.self-2.inside.listing.flow same c.in_ok-received.received c.in_ok-received.ensures)
 
 pub remove-requires-clause-left : goal.remove-requires-clause-left
 remove-requires-clause-left g c κs within =
     let D = g.D.Disk in
-    let telling = IsTrue D.tells × IsTrue g.I.Inbox.tells × IsTrue g.O.Outbox.tells in
-    left_in D.tells D.held D.moment D.images _ c.args.self.now c.self.view_is c.args.disk.now c.requires.ready c.holds_its_state.ensures.kept.0 telling (g.I.Inbox.left c.args.inbox.now) (outgoing g.O.Outbox.standing g.O.Outbox.puts c.args.outbox.now) c.args.done c.requires.stands
-    c.what_is_kept_is_seen.ensures.shown g.I.Inbox.tells c.requires.left c.in_ok-received.received c.in_ok-received.ensures
+    left_in D.tells D.held D.moment D.images _ c.args.self.now c.self.view_is c.args.disk.now c.requires.ready c.holds_its_state.ensures.kept.0 g.I.Inbox.tells g.O.Outbox.tells (g.I.Inbox.left c.args.inbox.now) (outgoing g.O.Outbox.standing g.O.Outbox.puts c.args.outbox.now) c.args.done c.requires.stands
+    c.what_is_kept_is_seen.ensures.shown c.requires.left c.in_ok-received.received c.in_ok-received.ensures
 
 pub returns-in_err-received-clause-goes_on : goal.returns-in_err-received-clause-goes_on
 returns-in_err-received-clause-goes_on g c other works unmoved telling in_telling out_telling opened first start time le run =
@@ -133,14 +143,13 @@ returns-then-entries-self-clause-stopped g c error is telling in_telling out_tel
     let e = c.args.self.now in
     let left = g.I.Inbox.left c.args.inbox.now in
     let out = outgoing g.O.Outbox.standing g.O.Outbox.puts c.args.outbox.now in
-    let all = IsTrue D.tells × IsTrue g.I.Inbox.tells × IsTrue g.O.Outbox.tells in
     let old = c.args.disk.now in
     let laws = g.met.D.Disk g.world.𝓛 g.world.𝓜 g.world.𝓡 ((λ s x. x), (λ x. x), (λ x. x), λ x. x) in
-    let at = steps_in D.tells D.held D.moment D.images _ e c.self.view_is old c.requires.ready c.holds_its_state.ensures.kept.0 all left out c.args.done c.requires.stands
+    let at = steps_in D.tells D.held D.moment D.images _ e c.self.view_is old c.requires.ready c.holds_its_state.ensures.kept.0 g.I.Inbox.tells g.O.Outbox.tells left out c.args.done c.requires.stands
     c.what_is_kept_is_seen.ensures.shown c.what_is_kept_is_seen.ensures.queues c.what_is_kept_is_seen.ensures.sizes c.choices_are_sessions.ensures c.choices_are_seen.ensures c.taken_files_are_live.ensures c.holds_its_state.ensures.kept.1
-    (c.holds_its_state.ensures.held telling) (c.holds_its_state.ensures.tied telling) (telling, in_telling, out_telling) opened first start time run c.in_ok-changed.changed c.in_ok-changed.ensures.step in
+    (c.holds_its_state.ensures.held telling) (c.holds_its_state.ensures.tied telling) telling in_telling out_telling opened first start time run c.in_ok-changed.changed c.in_ok-changed.ensures.step in
     let job = c.requires.stands.0 in
-    let one = step_in D.tells D.held D.moment D.images _ e c.self.view_is old c.requires.ready c.holds_its_state.ensures.kept.0 all left out c.args.done c.requires.stands in
+    let one = step_in D.tells D.held D.moment D.images _ e c.self.view_is old c.requires.ready c.holds_its_state.ensures.kept.0 g.I.Inbox.tells g.O.Outbox.tells left out c.args.done c.requires.stands in
     let full : length e.journal ≡ e.most = omega (arith, c.if-entries-self.true, c.entries.ensures, c.requires.ready.entries, ap (λ (x : EngineState). x.most) c.self.view_is) in
     let told : EngineError.Limit (journal_full e.most) ≡ error = cc (is, c.journal_limit.ensures) in
     subst (λ (x : EngineError). Stops x D.tells D.held D.moment D.images e opened first start c.args.done.given.moment old left out) told
@@ -154,14 +163,13 @@ returns-in_err-moment-clause-goes_on g c other works unmoved telling in_telling 
     let e = c.args.self.now in
     let left = g.I.Inbox.left c.args.inbox.now in
     let out = outgoing g.O.Outbox.standing g.O.Outbox.puts c.args.outbox.now in
-    let all = IsTrue D.tells × IsTrue g.I.Inbox.tells × IsTrue g.O.Outbox.tells in
     let old = c.args.disk.now in
     let laws = g.met.D.Disk g.world.𝓛 g.world.𝓜 g.world.𝓡 ((λ s x. x), (λ x. x), (λ x. x), λ x. x) in
-    let at = steps_in D.tells D.held D.moment D.images _ e c.self.view_is old c.requires.ready c.holds_its_state.ensures.kept.0 all left out c.args.done c.requires.stands
+    let at = steps_in D.tells D.held D.moment D.images _ e c.self.view_is old c.requires.ready c.holds_its_state.ensures.kept.0 g.I.Inbox.tells g.O.Outbox.tells left out c.args.done c.requires.stands
     c.what_is_kept_is_seen.ensures.shown c.what_is_kept_is_seen.ensures.queues c.what_is_kept_is_seen.ensures.sizes c.choices_are_sessions.ensures c.choices_are_seen.ensures c.taken_files_are_live.ensures c.holds_its_state.ensures.kept.1
-    (c.holds_its_state.ensures.held telling) (c.holds_its_state.ensures.tied telling) (telling, in_telling, out_telling) opened first start time run c.in_ok-changed.changed c.in_ok-changed.ensures.step in
+    (c.holds_its_state.ensures.held telling) (c.holds_its_state.ensures.tied telling) telling in_telling out_telling opened first start time run c.in_ok-changed.changed c.in_ok-changed.ensures.step in
     let job = c.requires.stands.0 in
-    let one = step_in D.tells D.held D.moment D.images _ e c.self.view_is old c.requires.ready c.holds_its_state.ensures.kept.0 all left out c.args.done c.requires.stands in
+    let one = step_in D.tells D.held D.moment D.images _ e c.self.view_is old c.requires.ready c.holds_its_state.ensures.kept.0 g.I.Inbox.tells g.O.Outbox.tells left out c.args.done c.requires.stands in
     let p = err_from_is_err_and c.from_residual-in_err-moment.result c.from_residual-in_err-moment.ensures.1 in
     let was : c.write.result ≡ Err c.in_err-moment.field-0.0 = c.in_err-moment.was in
     let rest = c.write.ensures.rest in
@@ -179,14 +187,13 @@ returns-in_err-moment-clause-stopped g c error is telling in_telling out_telling
     let e = c.args.self.now in
     let left = g.I.Inbox.left c.args.inbox.now in
     let out = outgoing g.O.Outbox.standing g.O.Outbox.puts c.args.outbox.now in
-    let all = IsTrue D.tells × IsTrue g.I.Inbox.tells × IsTrue g.O.Outbox.tells in
     let old = c.args.disk.now in
     let laws = g.met.D.Disk g.world.𝓛 g.world.𝓜 g.world.𝓡 ((λ s x. x), (λ x. x), (λ x. x), λ x. x) in
-    let at = steps_in D.tells D.held D.moment D.images _ e c.self.view_is old c.requires.ready c.holds_its_state.ensures.kept.0 all left out c.args.done c.requires.stands
+    let at = steps_in D.tells D.held D.moment D.images _ e c.self.view_is old c.requires.ready c.holds_its_state.ensures.kept.0 g.I.Inbox.tells g.O.Outbox.tells left out c.args.done c.requires.stands
     c.what_is_kept_is_seen.ensures.shown c.what_is_kept_is_seen.ensures.queues c.what_is_kept_is_seen.ensures.sizes c.choices_are_sessions.ensures c.choices_are_seen.ensures c.taken_files_are_live.ensures c.holds_its_state.ensures.kept.1
-    (c.holds_its_state.ensures.held telling) (c.holds_its_state.ensures.tied telling) (telling, in_telling, out_telling) opened first start time run c.in_ok-changed.changed c.in_ok-changed.ensures.step in
+    (c.holds_its_state.ensures.held telling) (c.holds_its_state.ensures.tied telling) telling in_telling out_telling opened first start time run c.in_ok-changed.changed c.in_ok-changed.ensures.step in
     let job = c.requires.stands.0 in
-    let one = step_in D.tells D.held D.moment D.images _ e c.self.view_is old c.requires.ready c.holds_its_state.ensures.kept.0 all left out c.args.done c.requires.stands in
+    let one = step_in D.tells D.held D.moment D.images _ e c.self.view_is old c.requires.ready c.holds_its_state.ensures.kept.0 g.I.Inbox.tells g.O.Outbox.tells left out c.args.done c.requires.stands in
     let p = err_from_is_err_and c.from_residual-in_err-moment.result c.from_residual-in_err-moment.ensures.1 in
     let same : c.in_err-moment.field-0.0 ≡ error = cc (p.1, p.2, is) in
     let rest = c.write.ensures.rest in
@@ -224,13 +231,12 @@ returns-in_err-remove-clause-stopped g c error is telling in_telling out_telling
     let e = c.args.self.now in
     let left = g.I.Inbox.left c.args.inbox.now in
     let out = outgoing g.O.Outbox.standing g.O.Outbox.puts c.args.outbox.now in
-    let all = IsTrue D.tells × IsTrue g.I.Inbox.tells × IsTrue g.O.Outbox.tells in
     let old = c.args.disk.now in
-    let at = steps_in D.tells D.held D.moment D.images _ e c.self.view_is old c.requires.ready c.holds_its_state.ensures.kept.0 all left out c.args.done c.requires.stands
+    let at = steps_in D.tells D.held D.moment D.images _ e c.self.view_is old c.requires.ready c.holds_its_state.ensures.kept.0 g.I.Inbox.tells g.O.Outbox.tells left out c.args.done c.requires.stands
     c.what_is_kept_is_seen.ensures.shown c.what_is_kept_is_seen.ensures.queues c.what_is_kept_is_seen.ensures.sizes c.choices_are_sessions.ensures c.choices_are_seen.ensures c.taken_files_are_live.ensures c.holds_its_state.ensures.kept.1
-    (c.holds_its_state.ensures.held telling) (c.holds_its_state.ensures.tied telling) (telling, in_telling, out_telling) opened first start time run c.in_ok-changed.changed c.in_ok-changed.ensures.step in
+    (c.holds_its_state.ensures.held telling) (c.holds_its_state.ensures.tied telling) telling in_telling out_telling opened first start time run c.in_ok-changed.changed c.in_ok-changed.ensures.step in
     let job = c.requires.stands.0 in
-    let one = step_in D.tells D.held D.moment D.images _ e c.self.view_is old c.requires.ready c.holds_its_state.ensures.kept.0 all left out c.args.done c.requires.stands in
+    let one = step_in D.tells D.held D.moment D.images _ e c.self.view_is old c.requires.ready c.holds_its_state.ensures.kept.0 g.I.Inbox.tells g.O.Outbox.tells left out c.args.done c.requires.stands in
     let f : EngineState = record {
       flow = c.self-2.inside.flow.now;
       store = c.self-2.inside.store;
@@ -252,7 +258,7 @@ returns-in_err-remove-clause-stopped g c error is telling in_telling out_telling
     let failed = c.in_err-remove.ensures.failed in
     let told : EngineError.Inbox ≡ error = cc (p.1, p.2, is, failed.0) in
     let named = named_so c.in_ok-received.received failed.1 in
-    let takes = takes_in D.tells D.held D.moment D.images _ e c.self.view_is old c.requires.ready c.holds_its_state.ensures.kept.0 all left out c.args.done c.requires.stands
+    let takes = takes_in D.tells D.held D.moment D.images _ e c.self.view_is old c.requires.ready c.holds_its_state.ensures.kept.0 g.I.Inbox.tells g.O.Outbox.tells left out c.args.done c.requires.stands
     c.what_is_kept_is_seen.ensures.shown named.0 (sym c.in_ok-received.ensures ∙ named.1) in
     let either = ⊎_elim (λ (same : g.I.Inbox.left c.remove.new.inbox ≡ left). inl same)
     (λ (gone : g.I.Inbox.left c.remove.new.inbox ≡ without_received c.in_ok-received.received left). inr (gone ∙ ap (λ (o : Option (List ℕ)). without_received o left) named.1))
@@ -270,13 +276,12 @@ returns-clause-goes_on g c other works unmoved telling in_telling out_telling op
     let e = c.args.self.now in
     let left = g.I.Inbox.left c.args.inbox.now in
     let out = outgoing g.O.Outbox.standing g.O.Outbox.puts c.args.outbox.now in
-    let all = IsTrue D.tells × IsTrue g.I.Inbox.tells × IsTrue g.O.Outbox.tells in
     let old = c.args.disk.now in
-    let at = steps_in D.tells D.held D.moment D.images _ e c.self.view_is old c.requires.ready c.holds_its_state.ensures.kept.0 all left out c.args.done c.requires.stands
+    let at = steps_in D.tells D.held D.moment D.images _ e c.self.view_is old c.requires.ready c.holds_its_state.ensures.kept.0 g.I.Inbox.tells g.O.Outbox.tells left out c.args.done c.requires.stands
     c.what_is_kept_is_seen.ensures.shown c.what_is_kept_is_seen.ensures.queues c.what_is_kept_is_seen.ensures.sizes c.choices_are_sessions.ensures c.choices_are_seen.ensures c.taken_files_are_live.ensures c.holds_its_state.ensures.kept.1
-    (c.holds_its_state.ensures.held telling) (c.holds_its_state.ensures.tied telling) (telling, in_telling, out_telling) opened first start time run c.in_ok-changed.changed c.in_ok-changed.ensures.step in
+    (c.holds_its_state.ensures.held telling) (c.holds_its_state.ensures.tied telling) telling in_telling out_telling opened first start time run c.in_ok-changed.changed c.in_ok-changed.ensures.step in
     let job = c.requires.stands.0 in
-    let one = step_in D.tells D.held D.moment D.images _ e c.self.view_is old c.requires.ready c.holds_its_state.ensures.kept.0 all left out c.args.done c.requires.stands in
+    let one = step_in D.tells D.held D.moment D.images _ e c.self.view_is old c.requires.ready c.holds_its_state.ensures.kept.0 g.I.Inbox.tells g.O.Outbox.tells left out c.args.done c.requires.stands in
     let f : EngineState = record {
       flow = c.self-2.inside.flow.now;
       store = c.self-2.inside.store;
@@ -295,7 +300,7 @@ returns-clause-goes_on g c other works unmoved telling in_telling out_telling op
     let journal_is : f.journal ≡ journaled c.write.result (step_done c.args.done) e.journal =
     ap (λ (x : EngineState). x.journal) v ∙ c.write.ensures.journal ∙ ap (λ (x : Step). journaled c.write.result x e.journal) c.in_ok-step.ensures in
     let file : c.in_ok-received.received ≡ job.given.file =
-    c.in_ok-received.ensures ∙ file_in D.tells D.held D.moment D.images _ e c.self.view_is old c.requires.ready c.holds_its_state.ensures.kept.0 all left out c.args.done c.requires.stands in
+    c.in_ok-received.ensures ∙ file_in D.tells D.held D.moment D.images _ e c.self.view_is old c.requires.ready c.holds_its_state.ensures.kept.0 g.I.Inbox.tells g.O.Outbox.tells left out c.args.done c.requires.stands in
     let names : c.self-2.inside.listing.names ≡ e.listing.names = ap (λ (x : EngineState). x.listing.names) v ∙ ap (λ (x : EngineState). x.listing.names) c.write.ensures.rest in
     enters_written D.tells D.held D.moment D.images e opened first start time old c.write.new.disk left out (outgoing g.O.Outbox.standing g.O.Outbox.puts c.write.new.outbox) run
     job c.in_ok-changed.changed at.0 (step_done c.args.done) one le e.store c.write.new.self.store e.queues c.write.new.self.queues refl c.requires.ready.work

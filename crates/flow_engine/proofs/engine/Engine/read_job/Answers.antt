@@ -1,4 +1,4 @@
-use Rattle.std.proofs.Common.{sym, subst, IsTrue}
+use Rattle.std.proofs.Common.{sym, subst}
 use Rattle.std.proofs.lemmas.Result.{IfOk-weaker}
 use Rattle.content_repo.specs.Claims.{content_in}
 use Rattle.machine_model.specs.Sound.{IsSound}
@@ -28,7 +28,7 @@ pub returns-clause-job : goal.returns-clause-job
 returns-clause-job g c =
     let next = next_session g.D.Disk.tells g.D.Disk.held g.D.Disk.moment g.D.Disk.images _ c.args.self.now c.self.view_is c.args.disk.now c.requires.ready c.holds_its_state.ensures.kept.0 c.args.moment c.args.choice c.requires.chosen
     c.what_is_kept_is_seen.ensures.shown in
-    next_job c.hand.result (IsTrue g.D.Disk.tells) (IsTrue g.I.Inbox.tells) (IsTrue g.O.Outbox.tells) _ c.args.self.now c.self.view_is (content_in (g.D.Disk.held c.args.disk.now)) (g.I.Inbox.left c.args.inbox.now)
+    next_job c.hand.result g.D.Disk.tells g.I.Inbox.tells g.O.Outbox.tells _ c.args.self.now c.self.view_is (content_in (g.D.Disk.held c.args.disk.now)) (g.I.Inbox.left c.args.inbox.now)
     (g.O.Outbox.standing c.args.outbox.now) c.args.moment c.args.choice c.requires.chosen
     (λ job handed. may_hand c.self.inside.flow.now (kept_by c.self.inside.store) c.self.inside.listing.names c.args.moment c.args.choice job next handed)
     c.hand.ensures.handed c.hand.ensures.told
