@@ -4,3 +4,4 @@ pub mod Sorting
 pub mod Standing
 pub mod Without
 pub mod Once
+pub mod Indexing

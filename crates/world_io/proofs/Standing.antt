@@ -85,7 +85,7 @@ pub with_file-other : (files : List ℕ → Option (List ℕ)) (name bytes other
 with_file-other files name bytes other differs = cond-false _ _ _ (false_from_ne_true _ (λ e. differs ((bytes_eq-Decides other name).0 e)))
 
 -- a place that was found in what was read is the place in the files
-seen : (name : List ℕ) (files read : List Stored) (place found : Option ℕ) → read ≡ files → place ≡ position (is_of name) read → place ≡ found → position (is_of name) files ≡ found
+pub seen : (name : List ℕ) (files read : List Stored) (place found : Option ℕ) → read ≡ files → place ≡ position (is_of name) read → place ≡ found → position (is_of name) files ≡ found
 seen name files read place found same is was =
     let at : List Stored → Option ℕ = λ l. position (is_of name) l in ap at (sym same) ∙ sym is ∙ was
 

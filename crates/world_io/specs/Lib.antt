@@ -4,3 +4,4 @@ pub mod Memory
 pub mod MemoryInbox
 pub mod MemoryOutbox
 pub mod MemoryStream
+pub mod Places

@@ -1,6 +1,9 @@
 -- Files that stand in memory.
-use Rattle.std.specs.Prelude.{◌≡◌, ℕ, ◌<◌, true, false, List, [], ◌∷◌, Vec, length, map, slice_index_or, bytes_eq}
+use Rattle.std.specs.Prelude.{◌≡◌, ℕ, ◌<◌, true, false, List, [], ◌∷◌, Option, None, Some, Vec, length, map, position, slice_index_or, bytes_eq}
+use Rattle.std.specs.BTreeMap.{BTreeMap, get}
+use Rattle.std.specs.Cmp.Lexicographic.{slice_cmp}
 use Rattle.std.specs.List.{AllByRecursion}
+use Rattle.std.specs.Ordering.{nat_cmp}
 use Rattle.std.specs.declared.alloc.Global.{Global}
 use Rattle.flowfile_record.specs.NamedFile.{NamedFile}
 
@@ -22,3 +25,9 @@ pub record IsPlaceOf (name : List ℕ) (files : List (List ℕ × Vec ℕ Global
   pub within : place < length files
   pub here : (d : List ℕ × Vec ℕ Global) → bytes_eq (slice_index_or files place d).0 name ≡ true
   pub first : (k : ℕ) (d : List ℕ × Vec ℕ Global) → k < place → bytes_eq (slice_index_or files k d).0 name ≡ false
+
+-- the map, where there is one, has the place of the first file of each name
+abbrev pub Indexes : Option (BTreeMap (List ℕ) ℕ) → List (List ℕ × Vec ℕ Global) → Type 0
+Indexes None files = Unit {0}
+Indexes (Some places) files =
+    (name : List ℕ) → get (slice_cmp nat_cmp) places name ≡ position (λ file. bytes_eq file.0 name) files

@@ -5,6 +5,7 @@ mod files;
 mod gate;
 mod inbox;
 mod outbox;
+mod places;
 mod stream;
 
 pub use clock::MemoryClock;

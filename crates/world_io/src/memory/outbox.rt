@@ -4,21 +4,25 @@ ghost use Rattle.std.specs.List.{IsDistinct};
 ghost use Rattle.std.specs.Option.{option_copied};
 ghost use Rattle.std.proofs.lemmas.Map.Keys.{IsDistinct-prop};
 ghost use Rattle.flowfile_record.specs.NamedFile.{bytes_of, with_file};
-ghost use Rattle.world_io.specs.Memory.{EachOnce, file_of, names_of};
+ghost use Rattle.world_io.specs.Memory.{EachOnce, Indexes, file_of, names_of};
+ghost use Rattle.world_io.specs.Places.{Indexes-prop};
 
-use crate::memory::files::place_of;
+use crate::memory::places::{Places, note_place, place_among, places_of};
 use crate::{Name, Outbox};
 use disk_trait::{Calls, Failed};
 use std::alloc::AllocError;
 
-/// Keeps the files that are put into it, and a copy of each put. A call goes over them all.
+/// Keeps the files that are put into it, and a copy of each put.
 #[derive(Debug, Drop)]
 pub struct MemoryOutbox {
     files: Vec<(Name, Vec<u8>)>,
+    // Where each file stands. Without memory for it, a call goes over all files.
+    places: Option<Places>,
     puts: Vec<(Name, Vec<u8>)>,
     /// Its calls so far.
     pub calls: Calls,
     ghost once: { IsDistinct bytes_eq (names_of files.items) } by { IsDistinct-prop bytes_eq (names_of files.items) },
+    ghost indexed: { Indexes places files.items } by { Indexes-prop places files.items },
 }
 
 impl MemoryOutbox {
@@ -33,10 +37,11 @@ impl MemoryOutbox {
         ensures faults { ⟦<MemoryOutbox as Outbox>⟧.faults result ≡ 0 }
         ensures calls { result.calls ≡ record { failing = failing; count = 0; faults = 0 } }
     {
-        let puts = Vec::new(*files.allocator());
+        let alloc = *files.allocator();
         MemoryOutbox {
+            places: places_of(alloc, &files).ok(),
             files,
-            puts,
+            puts: Vec::new(alloc),
             calls: Calls::new(failing),
         }
     }
@@ -45,7 +50,7 @@ impl MemoryOutbox {
     pub fn standing(&self, name: &Name) -> Option<&[u8]>
         ensures { option_copied result ≡ ⟦<MemoryOutbox as Outbox>⟧.standing self.now name.now }
     {
-        let place = place_of(&self.files, name)?;
+        let place = place_among(&self.files, &self.places, name)?;
         Some(&self.files[place].1)
     }
 
@@ -87,7 +92,7 @@ impl Outbox for MemoryOutbox {
         ensures called { Called self.old.calls self.new.calls (IsErr result) }
     {
         self.calls.begin()?;
-        Ok(place_of(&self.files, name).is_some())
+        Ok(place_among(&self.files, &self.places, name).is_some())
     }
 
     /// Where memory refuses to grow, the call fails. A failed call leaves the files that stand there.
@@ -104,7 +109,7 @@ impl Outbox for MemoryOutbox {
         let Ok(()) = note_file(&mut self.puts, name, bytes) else {
             return Err(self.calls.fault());
         };
-        match put_file(&mut self.files, name, bytes) {
+        match put_file(&mut self.files, &mut self.places, name, bytes) {
             Ok(()) => Ok(()),
             Err(_) => Err(self.calls.fault()),
         }
@@ -123,20 +128,32 @@ fn note_file(puts: &mut Vec<(Name, Vec<u8>)>, name: &Name, bytes: &[u8]) -> Resu
 }
 
 // Puts a file in place of the one of its name, or behind the others.
-fn put_file(files: &mut Vec<(Name, Vec<u8>)>, name: &Name, bytes: &[u8]) -> Result<(), AllocError>
-    requires { IsDistinct bytes_eq (names_of files.old.items) }
+fn put_file(
+    files: &mut Vec<(Name, Vec<u8>)>,
+    places: &mut Option<Places>,
+    name: &Name,
+    bytes: &[u8],
+) -> Result<(), AllocError>
+    requires once { IsDistinct bytes_eq (names_of files.old.items) }
+    requires places { Indexes places.old files.old.items }
     ensures put { OnOk result (bytes_of (map file_of files.new.items)
         ≡ with_file (bytes_of (map file_of files.old.items)) name.now bytes.now) }
     ensures once { IsDistinct bytes_eq (names_of files.new.items) }
+    ensures places { Indexes places.new files.new.items }
     ensures err { OnErr result (files.new.items ≡ files.old.items) }
 {
     let copy = Vec::from_slice(*files.allocator(), bytes)?;
-    match place_of(files, name) {
+    match place_among(files, places, name) {
         Some(place) => {
             let file = &mut files[place];
             file.1 = copy;
         }
-        None => files.push((name.clone()?, copy))?,
+        None => {
+            let file = (name.clone()?, copy);
+            files.reserve(1)?;
+            note_place(places, name, files.len())?;
+            files.push_reserved(file);
+        }
     }
     Ok(())
 }

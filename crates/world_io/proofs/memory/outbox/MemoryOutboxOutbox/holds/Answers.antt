@@ -6,4 +6,4 @@ use Rattle.world_io.proofs.memory.outbox.MemoryOutboxOutbox.holds.Goals as goal
 pub returns-clause-holds : goal.returns-clause-holds
 returns-clause-holds c =
     let place : List Stored → Option ℕ = λ files. position (is_of c.args.name.now) files in
-    c.is_some.ensures ∙ found-stands c.args.name.now c.args.self.now.files.items c.place_of.result (c.place_of.ensures ∙ ap place c.deref.ensures.value)
+    c.is_some.ensures ∙ found-stands c.args.name.now c.args.self.now.files.items c.place_among.result (c.place_among.ensures ∙ ap place c.deref.ensures.value)
