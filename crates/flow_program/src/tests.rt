@@ -21,7 +21,9 @@ fn a_source_a_sink_and_a_clock_do_as_the_machine_does(rt: HostRuntime) -> Result
     assert_eq!(rt; piece, *b"cb");
     fs::remove_file(&rt, path.as_str())?;
 
-    assert_eq!(rt; OutputSink::new(&rt).write(b"a\n"), Ok(2));
+    let mut sink = OutputSink::new(&rt, rt.alloc());
+    assert_eq!(rt; sink.write(b"a\n"), Ok(2));
+    assert_eq!(rt; sink.finish(), Ok(()));
 
     let mut clock = MachineClock::new(&rt);
     let start = clock.now();

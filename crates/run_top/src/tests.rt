@@ -343,51 +343,79 @@ fn ends_at_its_limit(alloc: Global) -> Result<(), Fail> {
     Ok(())
 }
 
-// A gate that counts the sessions that come to it in turn, by their numbers, and those that go.
+// A gate that counts the sessions that come to it one after another, in the order of their numbers, and those that go.
 #[derive(Drop)]
 struct CountingGate {
     came: AtomicU64,
     went: AtomicU64,
 }
 
+impl CountingGate {
+    fn new() -> CountingGate {
+        CountingGate {
+            came: AtomicU64::new(0),
+            went: AtomicU64::new(0),
+        }
+    }
+
+    // How many came, and how many went.
+    fn counts(&self) -> (u64, u64) {
+        (
+            self.came.load(Ordering::SeqCst),
+            self.went.load(Ordering::SeqCst),
+        )
+    }
+}
+
 impl Gate for CountingGate {
+    // Who comes while another session is inside isn't counted.
     fn enter(&self, session: u64) {
-        if session == self.came.load(Ordering::SeqCst) {
+        if self.counts() == (session, session) {
             self.came.fetch_add(1, Ordering::SeqCst);
         }
     }
 
     fn leave(&self, session: u64) {
-        if session == self.went.load(Ordering::SeqCst) {
+        if self.counts() == (session.saturating_add(1), session) {
             self.went.fetch_add(1, Ordering::SeqCst);
         }
     }
 }
 
-// Runs the flow of four files: each of its eight sessions passes the gate.
-fn passes_the_gate(alloc: Global) -> Result<(), Fail> {
+// Runs the flow of four files.
+fn delivers_four(alloc: Global, gate: &CountingGate) -> Result<(), Fail> {
     let flow = beat(alloc, 4)?;
     let mut disk = MemoryDisk::new(Vec::new(alloc));
-    let gate = CountingGate {
-        came: AtomicU64::new(0),
-        went: AtomicU64::new(0),
-    };
     let ended = goes_on(
         alloc,
         &mut disk,
         &flow,
         DEFAULT_COMMITS,
         DEFAULT_CHECKPOINT,
-        &gate,
+        gate,
     )?;
     if ended != (Ended::Quiet, 4) {
         return Err("a run that doesn't deliver its files")?;
     }
-    let passed = (
-        gate.came.load(Ordering::SeqCst),
-        gate.went.load(Ordering::SeqCst),
-    );
-    if passed != (8, 8) {
+    Ok(())
+}
+
+// Tries twenty files out.
+fn tries_twenty(alloc: Global, gate: &CountingGate) -> Result<(), Fail> {
+    let mut sink = MemorySink::new(Vec::new(alloc));
+    if trial(alloc, 20, 0, &mut sink, gate) != DONE {
+        return Err("a trial that doesn't come to its end")?;
+    }
+    Ok(())
+}
+
+// The sessions of a run, and those of a trial, pass the gate one after another: eight, and 64.
+fn passes_the_gate(alloc: Global) -> Result<(), Fail> {
+    let run = CountingGate::new();
+    delivers_four(alloc, &run)?;
+    let tried = CountingGate::new();
+    tries_twenty(alloc, &tried)?;
+    if (run.counts(), tried.counts()) != ((8, 8), (64, 64)) {
         return Err("a session that doesn't pass the gate")?;
     }
     Ok(())

@@ -1,9 +1,11 @@
 //! A file as a source of bytes, and standard output as a sink.
-ghost use Rattle.std.specs.Prelude.{◌≡◌, ◌<◌, ◌≤◌, false, [], length, IfOk};
+ghost use Rattle.std.specs.Prelude.{◌≡◌, ◌<◌, ◌≤◌, false, [], length, IfOk, IsErr};
+ghost use Rattle.disk_trait.specs.Faults.{CountsFaults};
 
 use crate::faults::counted;
 use crate::open_file::{for_reading, open_named};
 use disk_trait::Failed;
+use std::alloc::Global;
 use std::fs::{self, File};
 use std::io::{self, ErrorKind, Read, Write};
 use std::rt::Files;
@@ -88,19 +90,37 @@ fn read_on(file: &mut File, into: &mut [u8]) -> io::Result<usize>
     Err(ErrorKind::Interrupted.into())
 }
 
-/// Standard output.
+/// How many bytes of a text are gathered before they are written, at most, in bytes: 64 KiB.
+const GATHERED_MAX: usize = 65_536;
+
+/// Standard output. It gathers what it takes, and writes that in pieces: the last one at `finish`.
 #[derive(Drop)]
 pub struct OutputSink<'r, R> {
     rt: &'r R,
+    /// What was taken and isn't written yet.
+    gathered: Vec<u8>,
     faults: u64,
 }
 
 impl<'r, R: Print> OutputSink<'r, R> {
     /// Standard output, with no fault.
-    pub fn new(rt: &'r R) -> OutputSink<'r, R>
+    pub fn new(rt: &'r R, alloc: Global) -> OutputSink<'r, R>
         ensures { ⟦<OutputSink<'r, R> as Sink>⟧.faults result ≡ 0 }
     {
-        OutputSink { rt, faults: 0 }
+        OutputSink {
+            rt,
+            gathered: Vec::new(alloc),
+            faults: 0,
+        }
+    }
+
+    /// Writes what is left of a text, at its end.
+    pub fn finish(&mut self) -> Result<(), Failed>
+        ensures { CountsFaults (⟦<OutputSink<'r, R> as Sink>⟧.faults self.old)
+            (⟦<OutputSink<'r, R> as Sink>⟧.faults self.new) (IsErr result) }
+    {
+        let answer = write_gathered(self.rt, &mut self.gathered);
+        counted(&mut self.faults, answer)
     }
 }
 
@@ -111,10 +131,38 @@ impl<'r, R: Print> Sink for OutputSink<'r, R> {
 
     ghost faults = { λ sink. sink.faults };
 
+    /// Takes all of a piece, or writes some of one that is too long to be gathered. A call that fails takes nothing,
+    /// but may have written of what was taken before.
     fn write(&mut self, bytes: &[u8]) -> Result<usize, Failed> {
-        let answer = write_some(self.rt, bytes);
+        let answer = gather(self.rt, &mut self.gathered, bytes);
         counted(&mut self.faults, answer)
     }
+}
+
+/// Puts a piece behind what is gathered, which is written first where both are too long together.
+fn gather<R: Print>(rt: &R, gathered: &mut Vec<u8>, bytes: &[u8]) -> io::Result<usize>
+    requires { 0 < length bytes.now }
+    ensures some { IfOk result (λ n. 0 < n) }
+    ensures count { IfOk result (λ n. n ≤ length bytes.now) }
+{
+    if gathered.len().saturating_add(bytes.len()) > GATHERED_MAX {
+        write_gathered(rt, gathered)?;
+    }
+    if bytes.len() <= GATHERED_MAX && gathered.extend_from_slice(bytes).is_ok() {
+        return Ok(bytes.len());
+    }
+    // The piece is too long, or there is no memory for it.
+    write_gathered(rt, gathered)?;
+    write_some(rt, bytes)
+}
+
+/// Writes all that is gathered. After a failure the rest is still there.
+fn write_gathered<R: Print>(rt: &R, gathered: &mut Vec<u8>) -> io::Result<()> {
+    while !gathered.is_empty() {
+        let count = write_some(rt, gathered)?;
+        gathered.drain(..count);
+    }
+    Ok(())
 }
 
 /// Writes once, at least a byte. A signal that comes first is no failure.
