@@ -3,7 +3,8 @@
 
 Each run is of a flow of its own in a new folder: a source or a generator, the processor, and a put. What is told is the
 peak of the process's resident memory, as the system counts it (VmHWM), in MiB and as a multiple of the largest content,
-16 MiB. It prints a table; with `--limit N` it ends with 1 where a peak is more than N times the largest content.
+16 MiB. It prints a table, which docs/PROCESSORS.md has; with `--limit N` it ends with 1 where a peak is more than N times
+the largest content.
 """
 
 import pathlib
@@ -13,6 +14,7 @@ sys.path.insert(0, str(pathlib.Path(__file__).resolve().parent.parent / "tests")
 sys.dont_write_bytecode = True
 
 from flow_texts import flow, let_go, processor, queue, source
+from machine import machine
 from support import DONE, find_program, in_memory, need_status, options, run, work_folder, write_files
 
 MOST = 16_777_216
@@ -64,6 +66,8 @@ def cases():
         "ReplaceText", {"Search Value": "x", "Replacement Value": "0123456789abcdef"}, {"a": b"x" * MIB}, *fails)
     yield "ReplaceText", "60 kB that would make 3.6 GB", one(
         "ReplaceText", {"Search Value": ".", "Replacement Value": "x" * 60_000}, {"a": b"a" * 60_000}, *fails)
+    yield "ReplaceText", "400 kB that would make 24 GB", one(
+        "ReplaceText", {"Search Value": ".", "Replacement Value": "x" * 60_000}, {"a": b"a" * 400_000}, *fails)
     yield "ReplaceText", "16 MiB that would make 480 GB", one(
         "ReplaceText", {"Search Value": "(?s).*", "Replacement Value": "$0" * 30_000}, FULL, *fails)
     yield "ReplaceText", "a text in 16 MiB by one as long", one(
@@ -84,6 +88,7 @@ def main():
     given = parser.parse_args()
     program = find_program(given.program)
     worst = 0
+    print(f"{machine()}\n")
     print("| type | with | MiB | times the largest content |\n|---|---|---|---|")
     for kind, what, (text, files) in cases():
         with work_folder(in_memory(given.folder), text) as folder:

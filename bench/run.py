@@ -8,10 +8,14 @@ each file and its folder, and by the same calls within one process, which is the
 process for each file. Ratios are of figures of one run, and so are the megabytes that each second of the processor
 moves. Two other flows are timed: a put whose failures come back to it, and a source that leads into eight queues.
 
+`--table` prints the main table of bench/README.md as Markdown, and what stands below it, in a few minutes: the copies,
+twice the files, syncs and calls, without the other flows.
+
 Figures depend on the machine: this is no test, and isn't run by one. It ends with 1 where a count or a growth isn't
 what is demanded.
 """
 
+import contextlib
 import json
 import os
 import pathlib
@@ -22,6 +26,7 @@ import shutil
 import statistics
 import subprocess
 import sys
+import textwrap
 import time
 
 sys.path.insert(0, str(pathlib.Path(__file__).resolve().parent.parent / "tests"))
@@ -144,7 +149,27 @@ def middle(runs):
     return sorted(runs, key=lambda ended: ended.seconds)[len(runs) // 2]
 
 
-def compare(program, parent, times, text, files):
+class Page:
+    """The main table of bench/README.md and the lines below it, as they are measured."""
+
+    def __init__(self, parent, times):
+        self.head = [f"{machine(parent)}, load {os.getloadavg()[0]:.1f} at the start, the median of {times} runs:", "",
+                     "| | flow | `cp` and `sync` | the same calls in one process |", "|---|---|---|---|"]
+        self.notes = []
+
+    def row(self, text, count, total, ours, commands, process):
+        each = f"{count / ours:.0f} files/s" if count > 100 else f"{total / ours:.0f} MB/s"
+        copies = " | ".join(f"{it:.2f} s, ratio {ours / it:.{1 if ours / it >= 10 else 2}f}" for it in (commands, process))
+        self.head.append(f"| {text} | {ours:.2f} s, {each} | {copies} |")
+
+    def note(self, text):
+        self.notes.append(textwrap.fill(f"- {text}", 120, subsequent_indent="  "))
+
+    def text(self):
+        return "\n".join([*self.head, "", *self.notes])
+
+
+def compare(program, parent, times, text, files, page):
     total = sum(map(len, files.values())) / 1e6
     ours, commands, process = [], [], []
     # In turn, so that what else the machine does meets all three.
@@ -158,7 +183,7 @@ def compare(program, parent, times, text, files):
     def line(name, seconds):
         print(f"  {name:32} {seconds:8.2f} s {count / seconds:9.0f} files/s {total / seconds:8.1f} MB/s")
 
-    print(f"{text}: {count} files, {total:.1f} MB")
+    print(text)
     line("flow run", ours.seconds)
     line("cp and sync, commands", commands)
     line("the same calls in one process", process)
@@ -166,6 +191,9 @@ def compare(program, parent, times, text, files):
           f"{ours.seconds / process:.2f} to the calls in one process")
     print(f"  {ours.busy:.2f} s of the processor: {total / ours.busy:.0f} MB for each of them; "
           f"peak of memory {ours.peak / 1e6:.1f} MB", flush=True)
+    page.row(text, count, total, ours.seconds, commands, process)
+    page.note(f"{text}: {ours.busy:.2f} s of the processor, {total / ours.busy:.0f} MB for each of them; the peak of "
+              f"memory is {ours.peak / 1e6:.1f} MB.")
 
 
 def traced(program, folder, *asked):
@@ -199,7 +227,7 @@ def calls(program, parent, count):
         return {name: int(number) for number, name in rows if name != "total"}
 
 
-def count_syncs(program, parent):
+def count_syncs(program, parent, page):
     none, kinds = syncs(program, parent, 0)
     print(f"syncs with no file: {none} ({told(kinds)}): three folders made, a store made", flush=True)
     few, _ = syncs(program, parent, FEW)
@@ -209,16 +237,21 @@ def count_syncs(program, parent):
     print(f"  for each further file: {slope:g}, {SYNCS_OF_A_FILE} are demanded; beside them "
           f"{few - FEW * SYNCS_OF_A_FILE}: {none} for the opening, and for the first claim and the closing "
           f"{few - FEW * SYNCS_OF_A_FILE - none}", flush=True)
+    page.note(f"{slope:g} syncs for each further file, between {FEW} and {MORE} files (the plain copy makes two), {none} "
+              f"for a run that makes its folders and its store and has no file, and "
+              f"{few - FEW * SYNCS_OF_A_FILE - none} for the first claim and the closing.")
     one, _ = syncs(program, parent, 1000)
     two, kinds = syncs(program, parent, 2000)
     print(f"syncs with 1,000 files: {one}; with 2,000 files: {two} ({told(kinds)}): "
           f"{(two - one) / 1000:g} for each further file, with the claims that are made anew", flush=True)
+    page.note(f"{(two - one) / 1000:g} syncs for each further file between 1,000 and 2,000, with the claims that are made "
+              "anew.")
     clones = (syncs(program, parent, 2 * FEW, fan(QUEUES))[0] - syncs(program, parent, FEW, fan(QUEUES))[0]) / FEW
     print(f"syncs of a file that goes into {QUEUES} queues: {clones:g}, {SYNCS_OF_CLONES} are demanded", flush=True)
     return slope == SYNCS_OF_A_FILE and clones == SYNCS_OF_CLONES
 
 
-def count_calls(program, parent):
+def count_calls(program, parent, page):
     one, two = calls(program, parent, 1000), calls(program, parent, 2000)
     each = {name: (two[name] - one.get(name, 0)) / 1000 for name in two}
     total = sum(each.values())
@@ -226,6 +259,8 @@ def count_calls(program, parent):
                           if number >= 0.01)
     print(f"calls of the system with 1,000 files: {sum(one.values())}; with 2,000 files: {sum(two.values())}")
     print(f"  for each further file: {total:.2f}, at most {CALLS_OF_A_FILE} are demanded: {told_each}", flush=True)
+    page.note(f"{total:.2f} system calls for each further small file, between 1,000 and 2,000 files: {told_each}. Counts "
+              "don't depend on the machine.")
     return total <= CALLS_OF_A_FILE
 
 
@@ -233,7 +268,7 @@ def told(kinds):
     return ", ".join(f"{count} {kind}" for kind, count in sorted(kinds.items()))
 
 
-def grows(program, parent, times):
+def grows(program, parent, times, page):
     once, twice = many(2000, 4096), many(4000, 4096)
     one, two = [], []
     for _ in range(times):
@@ -246,6 +281,8 @@ def grows(program, parent, times):
           f"of the processor {one.busy:.2f} s and {two.busy:.2f} s: ratio {busy:.2f}")
     print(f"  peak of memory {one.peak / 1e6:.2f} and {two.peak / 1e6:.2f} MB: {file:.0f} bytes for each further "
           "file, all of 4,096 bytes", flush=True)
+    page.note(f"Twice the files (2,000 and 4,000) take {ratio:.2f} times as long, and {busy:.2f} times the processor; each "
+              f"further file takes {file:.0f} bytes of memory.")
     return LEAST_TIME <= ratio <= MOST_TIME and file <= MEMORY_OF_A_FILE
 
 
@@ -308,25 +345,39 @@ def main():
     parser = options(__doc__)
     parser.add_argument("--times", type=int, default=3, help="runs of each, the median counts (default 3)")
     parser.add_argument("--no-strace", action="store_true", help="leave out the counts of syncs and of calls")
+    parser.add_argument("--table", action="store_true",
+                        help="print the main table alone, as Markdown; what is said on the way goes to standard error")
     given = parser.parse_args()
     if not given.no_strace and shutil.which("strace") is None:
         sys.exit("strace is missing: install it (on Debian: apt-get install -y strace), or give --no-strace")
     program = find_program(given.program)
     random.seed(1)
-    print(machine(given.folder))
-    print(f"bench/run.py --times {given.times}")
-    good = True
-    compare(program, given.folder, given.times, "small files", many(2000, 4096))
-    compare(program, given.folder, given.times, "large files", many(12, 16 * 1024 * 1024))
-    good &= grows(program, given.folder, given.times)
-    good &= grows_far(program, given.folder, given.times)
-    good &= comes_back(program, given.folder)
-    fans_out(program, given.folder, given.times)
-    if not given.no_strace:
-        good &= count_syncs(program, given.folder)
-        good &= count_calls(program, given.folder)
-    print("as demanded" if good else "NOT as demanded")
+    with contextlib.redirect_stdout(sys.stderr if given.table else sys.stdout):
+        print(machine(given.folder))
+        print(f"bench/run.py --times {given.times}")
+        page = Page(given.folder, given.times)
+        good = measured(program, given, page)
+        print("as demanded" if good else "NOT as demanded")
+    if given.table:
+        print(page.text())
     sys.exit(0 if good else 1)
 
 
-main()
+def measured(program, given, page):
+    """Whether all that is measured is as demanded."""
+    folder, times = given.folder, given.times
+    compare(program, folder, times, "2,000 files, 8.2 MB", many(2000, 4096), page)
+    compare(program, folder, times, "12 files of 16 MiB", many(12, 16 * 1024 * 1024), page)
+    good = grows(program, folder, times, page)
+    if not given.table:
+        good &= grows_far(program, folder, times)
+        good &= comes_back(program, folder)
+        fans_out(program, folder, times)
+    if not given.no_strace:
+        good &= count_syncs(program, folder, page)
+        good &= count_calls(program, folder, page)
+    return good
+
+
+if __name__ == "__main__":
+    main()

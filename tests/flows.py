@@ -13,7 +13,7 @@ import time
 
 import printed
 import store_format
-from flow_texts import flow, generator, kinds, let_go, put, queue, source, state_of, told
+from flow_texts import flow, generator, kinds, let_go, processor, put, queue, source, state_of, told
 from store_format import CLONE, CREATE, DROP, EXPIRED, RECEIVE, SEND, Expire, Writer
 from support import (BLOCKED, DAMAGED, DONE, LIMIT, REFUSED, SOURCE, THE_TEXT, USAGE, Report, find_program,
                      in_memory, names, need, need_status, new_folder, none_aside, options, parse_seeded, photo,
@@ -26,6 +26,12 @@ TEXT_MAX = 4_194_304
 
 
 # ---- flows
+
+# The own patterns of processors, and how many bytes of memory a run may take for each of them, itself included.
+MANY = [{f"p{one:02}": f"name=([a-z]+);x={place:03}{one:02}" for one in range(64)} for place in range(40)]
+PATTERNS = sum(map(len, MANY))
+MOST_OF_A_PATTERN = 30_000
+
 
 def ring(penalty=0, more=(), **fields):
     """A put that fails where its name stands, and whose failures go back to it."""
@@ -48,6 +54,7 @@ def most_in_queues(folder, text):
 
 def claims(folder):
     return store_format.claims_in(store_format.files_in(folder / "store"))
+
 
 
 class Cases:
@@ -451,6 +458,22 @@ class Cases:
             self.ends_with(folder, {"a": b"one"})
         return f"{len(texts)} texts"
 
+    def many_patterns(self):
+        """A text of many patterns of which one can't be read: 3, in little time and memory, wherever that stands."""
+        peaks = []
+        for place in (0, len(MANY) - 1):
+            finders = [processor(f"f{number}", "ExtractText", dict(own), ["matched", "unmatched"])
+                       for number, own in enumerate(MANY)]
+            finders[place]["properties"]["p00"] = "("
+            with self.folder(flow([source("get"), *finders, let_go("put", "fail")],
+                                  [queue("c1", "get", "put")])) as folder:
+                ended = self.run(folder, REFUSED)
+                need(ended.said == b"flow refused: rule 8 at /processors/%d/properties/p00\n" % (place + 1),
+                     f"it printed {ended.said!r}")
+                need(ended.peak < MOST_OF_A_PATTERN * PATTERNS, f"it takes {ended.peak:,} bytes")
+                peaks.append(ended.peak)
+        return f"{PATTERNS} patterns, {max(peaks) / 1e6:.0f} MB"
+
     def which_is_told(self):
         """Of several causes the words come first, then the text, its rules, the store, the inbox."""
         damaged = {**Writer().get("w", b"waits").files(), "claim-0": b"waitz"}
@@ -583,6 +606,7 @@ def main():
             ("a changed text, or a store of the fixed flow of before: 3, nothing written", cases.other_text),
             ("no flow.json: 8, nothing touched", cases.no_text),
             ("texts that break a rule: 3, nothing touched", cases.refused_texts),
+            ("many patterns in a text that is refused", cases.many_patterns),
             ("which of several causes is told", cases.which_is_told),
             ("a flow with clones, killed at random moments", cases.killed),
             ("a generator, killed at random moments", cases.generates_killed)):

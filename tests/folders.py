@@ -12,8 +12,9 @@ import time
 import printed
 import store_format
 from support import (DISK, DONE, INBOX, MARK, MARKER, MEMORY, OUTBOX, SINK, SOURCE, THE_TEXT, USAGE, Report,
-                     find_program, names, need, need_status, new_folder, none_aside, options, parse_seeded, photo,
-                     process_state, put_flow, read_files, run, run_for, start, wait_for, work_folder, write_files)
+                     find_program, make_foreign_aside, names, need, need_status, new_folder, none_aside, options,
+                     parse_seeded, photo, process_state, put_flow, read_files, run, run_for, start, wait_for,
+                     work_folder, write_files)
 
 CONTENT_MAX = 16_777_216
 
@@ -368,44 +369,9 @@ class Cases:
 
     def others_aside(self):
         """Whatever has the name of a folder aside and isn't one stays as it is, whoever made it."""
-        def a_folder(path):
-            path.mkdir()
-
-        def with_files(path):
-            path.mkdir()
-            write_files(path, {"mine": b"1", "part-1": b"2"})
-            (path / "link").symlink_to("mine")
-            (path / "folder").mkdir()
-            write_files(path / "folder", {"inner": b"3"})
-
-        def with_another_marker(path):
-            path.mkdir()
-            write_files(path, {MARKER: MARK + b"!", "part-1": b"4"})
-
-        def with_an_empty_marker(path):
-            path.mkdir()
-            write_files(path, {MARKER: b""})
-
-        def with_a_link(path):
-            path.mkdir()
-            write_files(path, {"whole": MARK, "part-1": b"5"})
-            (path / MARKER).symlink_to("whole")
-
-        def with_a_pipe(path):
-            path.mkdir()
-            os.mkfifo(path / MARKER)
-
-        def with_a_folder(path):
-            (path / MARKER).mkdir(parents=True)
-
-        makers = (a_folder, with_files, with_another_marker, with_an_empty_marker, with_a_link, with_a_pipe,
-                  with_a_folder, lambda path: path.write_bytes(MARK), lambda path: path.symlink_to(".flow-aside-1"),
-                  lambda path: path.symlink_to("nowhere"), os.mkfifo)
         with self.folder() as folder:
             (folder / "out").mkdir()
-            paths = [folder / "out" / f".flow-aside-{number}" for number in range(len(makers))]
-            for path, make in zip(paths, makers):
-                make(path)
+            paths = make_foreign_aside(folder / "out")
             before = photo(*paths)
             for round_ in range(2):
                 write_files(folder / "in", THREE)

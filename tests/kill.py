@@ -5,8 +5,9 @@ After each kill the store's files stand for a state, and each file is in the inb
 with its bytes; besides, `out` has one folder aside at most. At the end every file's bytes have to be in `out` and
 nothing else, `in` and the store have to be empty, no claim may be left, and no start may end with a status but 0: the
 store opens every time. That is done in new folders until there were so many kills. Two flows that put into one outbox
-are killed so too, each of them alone or both at once: none may end with a status but 0. A kill ends the process and not the
-machine, so this tries the order of the program's steps, and not what a power cut leaves of pending writes.
+are killed so too, each of them alone or both at once: none may end with a status but 0, and what others have there under
+the names of folders aside stays as it is. A kill ends the process and not the machine, so this tries the order of the
+program's steps, and not what a power cut leaves of pending writes.
 """
 
 import random
@@ -14,8 +15,8 @@ import statistics
 import time
 
 import store_format
-from support import (DONE, MARKER, Report, find_program, names, need, options, parse_seeded, read_files, run_for, start,
-                     unmarked_aside, work_folder, write_files)
+from support import (DONE, MARKER, Report, find_program, make_foreign_aside, names, need, options, parse_seeded, photo,
+                     read_files, run_for, start, unmarked_aside, work_folder, write_files)
 
 LARGEST = 200_000
 
@@ -111,10 +112,12 @@ class Pairs:
         self.program, self.parent, self.count, self.files = program, parent, count, files
         self.kills = 0
 
-    def one(self, kills):
+    def one(self, kills, foreign):
         with work_folder(self.parent) as first, work_folder(self.parent) as second:
             (first / "out").mkdir()
             (second / "out").symlink_to(first / "out")
+            foreign = make_foreign_aside(first / "out") if foreign else []
+            before = photo(*foreign)
             files = {}
             for folder, letter in ((first, "a"), (second, "b")):
                 own = {f"{letter}-{n:04}": random.randbytes(random.randint(0, 5000)) for n in range(self.files)}
@@ -132,14 +135,17 @@ class Pairs:
                 kills = kills - 1 if kills else 0
                 waits = [folder for folder, status in ended if status != DONE]
             need(names(first / "in") == [] and names(second / "in") == [], "a file is left")
-            need(names(first / "out") == sorted([*files, *unmarked_aside(first / "out")]),
-                 f"out holds {sorted(set(names(first / 'out')) - set(files))} besides")
-            need(read_files(first / "out") == files, "a file of out has other bytes than were sent, or is missing")
+            need(photo(*foreign) == before, "what isn't a run's was touched")
+            others = {path.name for path in foreign}
+            besides = set(names(first / "out")) - set(files) - others - set(unmarked_aside(first / "out"))
+            need(not besides, f"out holds {sorted(besides)} besides")
+            put = {name: content for name, content in read_files(first / "out").items() if name not in others}
+            need(put == files, "a file of out has other bytes than were sent, or is missing")
 
     def all(self):
         for number in range(self.count):
-            self.one(0 if number % 2 else random.randint(1, 6))
-        return f"{self.count} pairs, {self.kills} kills"
+            self.one(random.randint(0, 6), number % 2 == 0)
+        return f"{self.count} pairs, {self.kills} kills; beside others' folders of such names: {(self.count + 1) // 2}"
 
 
 def main():

@@ -282,6 +282,8 @@ DAMAGE = {
     "a file of arrival 0": (changed(1, arrival=0), ended(at=ATS[2])),
     "a slot past the last": (changed(1, content=FILES[1].content._replace(slot=65_536)), ended(at=ATS[2])),
     "a content of more than 16 MiB": (changed(1, content=FILES[1].content._replace(size=2**24 + 1)), ended(at=ATS[2])),
+    "a content that ends at 2^62": (changed(1, content=FILES[1].content._replace(offset=2**62 - FILES[1].content.size)),
+                                    ended(at=ATS[2])),
     "the attribute uuid": (changed(1, attributes=(("uuid", "x"),)), ended(at=ATS[2])),
     "an empty key": (changed(1, attributes=(("", "x"),)), ended(at=ATS[2])),
     "a key of 256 bytes": (changed(1, attributes=(("k" * 256, "x"),)), ended(at=ATS[2])),

@@ -461,7 +461,7 @@ class Fields:
         if slot >= SLOTS:
             raise Unreadable
         offset, size = self.number(), self.uint(8)
-        if size > CONTENT_MAX:
+        if size > CONTENT_MAX or offset + size >= NUMBER_LIMIT:
             raise Unreadable
         return Content(slot, offset, size, self.raw(DIGEST))
 

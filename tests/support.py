@@ -267,6 +267,36 @@ def unmarked_aside(out):
             if not (path / MARKER).is_file() or (path / MARKER).read_bytes() != MARK]
 
 
+def make_foreign_aside(out):
+    """Makes what has the name of a folder aside and isn't a run's: folders with and without files, links, folders and
+    such a marker as no run makes, and what is no folder. The paths."""
+    def folder(path, files=()):
+        path.mkdir()
+        write_files(path, dict(files))
+
+    def with_all(path):
+        folder(path, {"mine": b"1", "part-1": b"2"})
+        (path / "link").symlink_to("mine")
+        folder(path / "folder", {"inner": b"3"})
+
+    def with_a_link(path):
+        folder(path, {"whole": MARK, "part-1": b"5"})
+        (path / MARKER).symlink_to("whole")
+
+    def with_a_pipe(path):
+        folder(path)
+        os.mkfifo(path / MARKER)
+
+    makers = (folder, with_all, lambda path: folder(path, {MARKER: MARK + b"!", "part-1": b"4"}),
+              lambda path: folder(path, {MARKER: b""}), with_a_link, with_a_pipe,
+              lambda path: (path / MARKER).mkdir(parents=True), lambda path: path.write_bytes(MARK),
+              lambda path: path.symlink_to(".flow-aside-1"), lambda path: path.symlink_to("nowhere"), os.mkfifo)
+    paths = [out / f".flow-aside-{number}" for number in range(len(makers))]
+    for path, make in zip(paths, makers):
+        make(path)
+    return paths
+
+
 def none_aside(folder):
     """No folder aside is left in `out` by a run that ended by itself, whatever its status."""
     out = folder / "out"

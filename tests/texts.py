@@ -94,7 +94,8 @@ class Cases(processors.Cases):
         """What would be made is longer than a content may be: the file goes to failure as it was, and no memory is taken
         for what isn't made. Up to the limit it is made."""
         for search, value, content in (
-                (".", "x" * 60_000, b"a" * 60_000), ("(?s).*", "$0" * 30_000, b"a" * 60_000),
+                (".", "x" * 60_000, b"a" * 60_000), (".", "x" * 60_000, b"a" * 400_000),
+                ("(?s).*", "$0" * 30_000, b"a" * 60_000),
                 ("(a)(b)?", "$2$1$1$2" * 10_000, b"ab" * 30_000), ("(?P<all>(?s:.+))", "${all}$$" * 300, b"a" * 60_000),
                 ("", "y" * 300, b"a" * 60_000), ("a|(b)|$", "${1}" * 20 + "x" * 280, b"a" * 60_000)):
             self.goes_to_failure(search, value, content)
